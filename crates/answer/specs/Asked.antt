@@ -1,0 +1,27 @@
+-- A list of questions, asked in order: all passed, with what was learned, or the number and place of the first no.
+use mathlib.Core.Bool.{Bool, true, false}
+use Prim.Native.Nat.{ℕ}
+
+pub data Asked (A : Type 0) : Type 0 where
+  passed : A → Asked A
+  refused : (number place : ℕ) → Asked A
+
+infixl 20 _>>=_
+unfoldable pub _>>=_ : {A B : Type 0} → Asked A → (A → Asked B) → Asked B
+passed a >>= f = f a
+refused q p >>= f = refused q p
+
+infixl 20 _>>_
+unfoldable pub _>>_ : {A B : Type 0} → Asked A → Asked B → Asked B
+passed a >> b = b
+refused q p >> b = refused q p
+
+-- One question: is it so? If not, this number and place.
+unfoldable pub is : Bool → ℕ → ℕ → Asked (Unit {0})
+is true q p = passed tt
+is false q p = refused q p
+
+-- What a buffer holds after a call: what the call makes of it when all has passed, else what it held before.
+unfoldable pub after : {A B : Type 0} → Asked A → (A → B) → B → B
+after (passed a) made before = made a
+after (refused q p) made before = before

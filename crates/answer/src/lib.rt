@@ -1,0 +1,132 @@
+// The answer of a call: done, or a refusal with number and place ("The calls" of document 01).
+ghost use mathlib.Core.Path.{_≡_};
+ghost use Rattle.answer.specs.Answers.{refusalNumber, refusalPlace, answerNumber, answerPlace};
+
+// What is wrong, a case for each number of "The questions, in order", each with its place.
+pub enum Refusal {
+    // 1: the sheet is not 8,704 bytes long
+    SheetLength { place: usize },
+    // 2: a block's check bytes are wrong; the place is the block
+    CheckBytes { place: usize },
+    // 3: bytes 0 to 2 of a block are wrong, or n is not 1 to 60
+    BlockHead { place: usize },
+    // 4: a byte or bit of a block that must be zero is not
+    NotZero { place: usize },
+    // 5: a blank sheet of no such n
+    NodeCount { place: usize },
+    // 7: a label, arrow or node number that the sheet does not have
+    BitRange { place: usize },
+    // 11: the book is longer than 4,096 bytes
+    BookLength { place: usize },
+    // 12: the book ends where a byte is wanted; the place is its length
+    BookEnds { place: usize },
+    // 13: no code of the sort wanted; the place of this and the next two is that byte
+    BookCode { place: usize },
+    // 14: a code below level 32
+    BookLevel { place: usize },
+    // 15: a number out of range
+    BookNumber { place: usize },
+    // 16: a 33rd rule; the place is its first byte
+    BookRules { place: usize },
+    // 21: the same of an edit
+    EditLength { place: usize },
+    EditEnds { place: usize },
+    EditCode { place: usize },
+    EditLevel { place: usize },
+    EditNumber { place: usize },
+    // 26: bytes behind the edit; the place is the first of them
+    EditExtra { place: usize },
+    // 31: the carried book is longer than 16,384 bytes
+    CarriedLength { place: usize },
+    // 32: the carried book is deeper than 255 levels
+    CarriedLevels { place: usize },
+    // 33: the scratch or the output is too short; the place is the length needed
+    OutputLength { place: usize },
+    // 41: a rule does not hold; the place is the first such rule, from 0
+    RuleBroken { place: usize },
+}
+
+pub enum Answer {
+    Done,
+    Refused(Refusal),
+}
+
+// The number that document 01 gives a refusal.
+pub fn refusal_number(r: Refusal) -> usize
+    ensures { λ x. ⌜ x ≡ refusalNumber r ⌝ }
+{
+    match r {
+        Refusal::SheetLength { place: _ } => 1,
+        Refusal::CheckBytes { place: _ } => 2,
+        Refusal::BlockHead { place: _ } => 3,
+        Refusal::NotZero { place: _ } => 4,
+        Refusal::NodeCount { place: _ } => 5,
+        Refusal::BitRange { place: _ } => 7,
+        Refusal::BookLength { place: _ } => 11,
+        Refusal::BookEnds { place: _ } => 12,
+        Refusal::BookCode { place: _ } => 13,
+        Refusal::BookLevel { place: _ } => 14,
+        Refusal::BookNumber { place: _ } => 15,
+        Refusal::BookRules { place: _ } => 16,
+        Refusal::EditLength { place: _ } => 21,
+        Refusal::EditEnds { place: _ } => 22,
+        Refusal::EditCode { place: _ } => 23,
+        Refusal::EditLevel { place: _ } => 24,
+        Refusal::EditNumber { place: _ } => 25,
+        Refusal::EditExtra { place: _ } => 26,
+        Refusal::CarriedLength { place: _ } => 31,
+        Refusal::CarriedLevels { place: _ } => 32,
+        Refusal::OutputLength { place: _ } => 33,
+        Refusal::RuleBroken { place: _ } => 41,
+    }
+}
+
+// Its place.
+pub fn refusal_place(r: Refusal) -> usize
+    ensures { λ x. ⌜ x ≡ refusalPlace r ⌝ }
+{
+    match r {
+        Refusal::SheetLength { place } => place,
+        Refusal::CheckBytes { place } => place,
+        Refusal::BlockHead { place } => place,
+        Refusal::NotZero { place } => place,
+        Refusal::NodeCount { place } => place,
+        Refusal::BitRange { place } => place,
+        Refusal::BookLength { place } => place,
+        Refusal::BookEnds { place } => place,
+        Refusal::BookCode { place } => place,
+        Refusal::BookLevel { place } => place,
+        Refusal::BookNumber { place } => place,
+        Refusal::BookRules { place } => place,
+        Refusal::EditLength { place } => place,
+        Refusal::EditEnds { place } => place,
+        Refusal::EditCode { place } => place,
+        Refusal::EditLevel { place } => place,
+        Refusal::EditNumber { place } => place,
+        Refusal::EditExtra { place } => place,
+        Refusal::CarriedLength { place } => place,
+        Refusal::CarriedLevels { place } => place,
+        Refusal::OutputLength { place } => place,
+        Refusal::RuleBroken { place } => place,
+    }
+}
+
+// The number that document 01 gives an answer, 0 for done.
+pub fn number(a: Answer) -> usize
+    ensures { λ x. ⌜ x ≡ answerNumber a ⌝ }
+{
+    match a {
+        Answer::Done => 0,
+        Answer::Refused(r) => refusal_number(r),
+    }
+}
+
+// Its place, 0 for done.
+pub fn place(a: Answer) -> usize
+    ensures { λ x. ⌜ x ≡ answerPlace a ⌝ }
+{
+    match a {
+        Answer::Done => 0,
+        Answer::Refused(r) => refusal_place(r),
+    }
+}

@@ -1,0 +1,142 @@
+-- On a graph within the limits no value reaches beyond the graph's nodes, taking away is the difference of Definition 3.2,
+-- and an edit leaves a graph within the limits.
+use mathlib.Core.Path.{_≡_, refl, _∙_, ap, fun-ext}
+use mathlib.Core.Bool.{Bool, true, false, not, _&&_, _||_, cond, and-false}
+use Prim.Native.Nat.{ℕ, zero, suc, _≤_, _<_}
+use native.Mathlib.Omega.{arith}
+use lib.Dec.{T, ltb, eqb, ltb→lt, eqb→eq}
+use borrow.Author.Tests.{le-ltb}
+use Rattle.logic.specs.Syntax.{Sort, node, arrow, rule, Expr, all, none, label, nominal, complement, and, or, some, every, atLeast, atMost, arrowKind, reversed, union, common, minus, endingIn, pair, subNodes, subArrows, nodeIn, pairIn, both, either, notRule, Edit, finish, addLabel, takeLabel, addArrow, takeArrow, choose}
+use Rattle.logic.specs.Graph.{Graph, Nodes, Pairs, isNode, anyBelow}
+use Rattle.logic.specs.Meaning.{Value, value}
+use Rattle.logic.specs.Steps.{update, relabel, rejoin, run}
+use Rattle.logic.specs.Limits.{NodesIn, PairsIn, Within, Ranges, InRange, EditInRange, labelCount, arrowCount}
+
+-- what is no node of the graph is in no value of any sort
+abbrev pub Inside : (s : Sort) (g : Graph) → Value s → Type 0
+Inside node g v = NodesIn g v
+Inside arrow g v = PairsIn g v
+Inside rule g v = Unit {0}
+
+-- numbers from n on are no nodes
+pub no-node : (g : Graph) (i : ℕ) → g .n ≤ i → isNode g i ≡ false
+unfolding isNode
+no-node g i h = le-ltb i (g .n) h
+
+any-none : (n : ℕ) (v : Nodes) → ((j : ℕ) → v j ≡ false) → anyBelow n v ≡ false
+unfolding anyBelow
+any-none zero v h = refl
+any-none (suc n) v h = rw (any-none n v h, h n)
+
+module _ (g : Graph) (w : Within g) where
+  pub value-in : {s : Sort} (e : Expr s) → Inside s g (value g e)
+  unfolding value
+  value-in all = λ i h. h
+  value-in none = λ i h. refl
+  value-in (label k) = w .labels-in k
+  value-in (nominal j) = λ i h. rw h
+  value-in (complement E) = λ i h. rw h
+  value-in (and E F) = λ i h. ap (_&& value g F i) (value-in E i h)
+  value-in (or E F) = λ i h. ap (_|| value g F i) (value-in E i h) ∙ value-in F i h
+  value-in (some R E) = λ i h. any-none (g .n) (λ j. value g R i j && value g E j) (λ j. ap (_&& value g E j) (value-in R .starts i j h))
+  value-in (every R E) = λ i h. rw h
+  value-in (atLeast m R E) = λ i h. rw h
+  value-in (atMost m R E) = λ i h. rw h
+  value-in (arrowKind a) = w .arrows-in a
+  value-in (reversed R) = record { starts = λ i j h. value-in R .ends j i h; ends = λ i j h. value-in R .starts j i h }
+  value-in (union R S) =
+      record {
+        starts = λ i j h. ap (_|| value g S i j) (value-in R .starts i j h) ∙ value-in S .starts i j h;
+        ends = λ i j h. ap (_|| value g S i j) (value-in R .ends i j h) ∙ value-in S .ends i j h;
+      }
+  value-in (common R S) = record { starts = λ i j h. ap (_&& value g S i j) (value-in R .starts i j h); ends = λ i j h. ap (_&& value g S i j) (value-in R .ends i j h) }
+  value-in (minus R S) = record { starts = λ i j h. ap (_&& not (value g S i j)) (value-in R .starts i j h); ends = λ i j h. ap (_&& not (value g S i j)) (value-in R .ends i j h) }
+  value-in (endingIn R E) = record { starts = λ i j h. ap (_&& value g E j) (value-in R .starts i j h); ends = λ i j h. ap (_&& value g E j) (value-in R .ends i j h) }
+  value-in (pair k l) = record { starts = λ i j h. rw h; ends = λ i j h. rw (h, and-false) }
+  value-in (subNodes E F) = tt
+  value-in (subArrows R S) = tt
+  value-in (nodeIn i E) = tt
+  value-in (pairIn i j R) = tt
+  value-in (both K L) = tt
+  value-in (either K L) = tt
+  value-in (notRule K) = tt
+
+  -- What 32 and 34 take away is the difference.
+  pub taken-label : (k : ℕ) (E : Expr node) (Z : Edit) → run (takeLabel k E Z) g ≡ run Z (relabel g k (λ i. g .labelled k i && not (value g E i)))
+  unfolding run
+  taken-label k E Z = ap (λ v. run Z (relabel g k v)) (fun-ext (λ i. go i (isNode g i) (g .labelled k i) (w .labels-in k i)))
+    where
+      go : (i : ℕ) (b l : Bool) → (b ≡ false → l ≡ false) → (l && (b && not (value g E i))) ≡ (l && not (value g E i))
+      go i true l h = refl
+      go i false l h = rw (h refl)
+
+pub taken-arrow : (g : Graph) (a : ℕ) (R : Expr arrow) (Z : Edit) → run (takeArrow a R Z) g ≡ run Z (rejoin g a (λ i j. g .joined a i j && not (value g R i j)))
+unfolding run
+taken-arrow g a R Z = refl
+
+-- what holds of each entry of a table and of v holds of the table with v at k
+update-all : {A : Type 0} (P : A → Type 0) (f : ℕ → A) (k : ℕ) (v : A) → ((x : ℕ) → P (f x)) → P v → (x : ℕ) → P (update f k v x)
+unfolding update
+update-all P f k v h p x = go (eqb x k)
+  where
+    go : (b : Bool) → P (cond b v (f x))
+    go true = p
+    go false = h x
+
+-- and beyond k nothing changes
+update-beyond : {A : Type 0} (P : A → Type 0) (f : ℕ → A) (k m : ℕ) (v : A) → T (ltb k m) → ((x : ℕ) → m ≤ x → P (f x)) → (x : ℕ) → m ≤ x → P (update f k v x)
+unfolding update
+update-beyond P f k m v b h x l = go (eqb x k) (eqb→eq x k) (ltb→lt k m b)
+  where
+    go : (c : Bool) → (T c → x ≡ k) → k < m → P (cond c v (f x))
+    go true e s = let q : x ≡ k = e tt in absurd (omega arith)
+    go false e s = h x l
+
+module _ (g : Graph) (w : Within g) where
+  pub relabel-within : (k : ℕ) (v : Nodes) → T (ltb k labelCount) → NodesIn g v → Within (relabel g k v)
+  unfolding isNode
+  relabel-within k v b h =
+      record {
+        some-node = w .some-node;
+        few-nodes = w .few-nodes;
+        labels-in = update-all (NodesIn g) (g .labelled) k v (w .labels-in) h;
+        arrows-in = λ a. record { starts = w .arrows-in a .starts; ends = w .arrows-in a .ends };
+        no-more-labels = λ x i l. update-beyond (λ u. (i : ℕ) → u i ≡ false) (g .labelled) k labelCount v b (λ x l i. w .no-more-labels x i l) x l i;
+        no-more-arrows = w .no-more-arrows;
+      }
+
+  pub rejoin-within : (a : ℕ) (v : Pairs) → T (ltb a arrowCount) → PairsIn g v → Within (rejoin g a v)
+  unfolding isNode
+  rejoin-within a v b h =
+      record {
+        some-node = w .some-node;
+        few-nodes = w .few-nodes;
+        labels-in = w .labels-in;
+        arrows-in = λ x. let q : PairsIn g (update (g .joined) a v x) = update-all (PairsIn g) (g .joined) a v (w .arrows-in) h x in record { starts = q .starts; ends = q .ends };
+        no-more-labels = w .no-more-labels;
+        no-more-arrows = λ x i j l. update-beyond (λ u. (i j : ℕ) → u i j ≡ false) (g .joined) a arrowCount v b (λ x l i j. w .no-more-arrows x i j l) x l i j;
+      }
+
+cond-both : {A : Type 0} (P : A → Type 0) (b : Bool) (x y : A) → P x → P y → P (cond b x y)
+cond-both P true x y p q = p
+cond-both P false x y p q = q
+
+-- An edit changes no nodes,
+pub run-n : (Z : Edit) (g : Graph) → (run Z g) .n ≡ g .n
+unfolding run
+run-n finish g = refl
+run-n (addLabel k E Z) g = run-n Z _
+run-n (takeLabel k E Z) g = run-n Z _
+run-n (addArrow a R Z) g = run-n Z _
+run-n (takeArrow a R Z) g = run-n Z _
+run-n (choose K P Q Z) g = run-n Z _ ∙ cond-both (λ h. h .n ≡ g .n) (value g K) (run P g) (run Q g) (run-n P g) (run-n Q g)
+
+-- and keeps a graph within the limits.
+pub run-within : (r : Ranges) (Z : Edit) → EditInRange r Z → (g : Graph) → Within g → Within (run Z g)
+unfolding run EditInRange value
+run-within r finish q g w = w
+run-within r (addLabel k E Z) q g w = run-within r Z (q .2) _ (relabel-within g w k (value g (or (label k) E)) (q .0) (value-in g w (or (label k) E)))
+run-within r (takeLabel k E Z) q g w = run-within r Z (q .2) _ (relabel-within g w k (value g (and (label k) (complement E))) (q .0) (value-in g w (and (label k) (complement E))))
+run-within r (addArrow a R Z) q g w = run-within r Z (q .2) _ (rejoin-within g w a (value g (union (arrowKind a) R)) (q .0) (value-in g w (union (arrowKind a) R)))
+run-within r (takeArrow a R Z) q g w = run-within r Z (q .2) _ (rejoin-within g w a (value g (minus (arrowKind a) R)) (q .0) (value-in g w (minus (arrowKind a) R)))
+run-within r (choose K P Q Z) q g w = run-within r Z (q .3) _ (cond-both Within (value g K) (run P g) (run Q g) (run-within r P (q .1) g w) (run-within r Q (q .2) g w))

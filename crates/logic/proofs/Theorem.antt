@@ -1,0 +1,116 @@
+-- Theorem 4.2 of document 004, that the carried rule is the weakest condition, and the laws of joined edits.
+use mathlib.Core.Path.{_≡_, refl, sym, _∙_, ap, ap₂, fun-ext, subst}
+use mathlib.Core.Bool.{Bool, true, false, not, _&&_, _||_, cond}
+use Prim.Native.Nat.{ℕ}
+use lib.Dec.{T, leb, eqb}
+use Rattle.logic.specs.Syntax.{Sort, node, arrow, rule, Expr, all, none, label, nominal, complement, and, or, some, every, atLeast, atMost, arrowKind, reversed, union, common, minus, endingIn, pair, subNodes, subArrows, nodeIn, pairIn, both, either, notRule, Edit, finish, addLabel, takeLabel, addArrow, takeArrow, choose}
+use Rattle.logic.specs.Graph.{Graph, isNode, allBelow, anyBelow, countBelow, implies}
+use Rattle.logic.specs.Meaning.{value}
+use Rattle.logic.specs.Steps.{update, relabel, rejoin, run}
+use Rattle.logic.specs.Carry.{replace, putLabel, putArrow, carry, followedBy}
+
+-- the graph on which label k is f k and arrow a is h a, as g has them
+abbrev through : Graph → (ℕ → Expr node) → (ℕ → Expr arrow) → Graph
+through g f h = record { n = g .n; labelled = λ k. value g (f k); joined = λ a. value g (h a) }
+
+-- each constructor's meaning, along the paths that its operands give
+module _ (g : Graph) (f : ℕ → Expr node) (h : ℕ → Expr arrow) where
+  value-replace : {s : Sort} (e : Expr s) → value g (replace f h e) ≡ value (through g f h) e
+  unfolding value replace isNode
+  value-replace all = refl
+  value-replace none = refl
+  value-replace (label k) = refl
+  value-replace (nominal i) = refl
+  value-replace (complement E) = λ t i. isNode g i && not (value-replace E t i)
+  value-replace (and E F) = λ t i. value-replace E t i && value-replace F t i
+  value-replace (or E F) = λ t i. value-replace E t i || value-replace F t i
+  value-replace (some R E) = λ t i. anyBelow (g .n) (λ j. value-replace R t i j && value-replace E t j)
+  value-replace (every R E) = λ t i. isNode g i && allBelow (g .n) (λ j. implies (value-replace R t i j) (value-replace E t j))
+  value-replace (atLeast m R E) = λ t i. isNode g i && leb m (countBelow (g .n) (λ j. value-replace R t i j && value-replace E t j))
+  value-replace (atMost m R E) = λ t i. isNode g i && leb (countBelow (g .n) (λ j. value-replace R t i j && value-replace E t j)) m
+  value-replace (arrowKind a) = refl
+  value-replace (reversed R) = λ t i j. value-replace R t j i
+  value-replace (union R S) = λ t i j. value-replace R t i j || value-replace S t i j
+  value-replace (common R S) = λ t i j. value-replace R t i j && value-replace S t i j
+  value-replace (minus R S) = λ t i j. value-replace R t i j && not (value-replace S t i j)
+  value-replace (endingIn R E) = λ t i j. value-replace R t i j && value-replace E t j
+  value-replace (pair i j) = refl
+  value-replace (subNodes E F) = λ t. allBelow (g .n) (λ i. implies (value-replace E t i) (value-replace F t i))
+  value-replace (subArrows R S) = λ t. allBelow (g .n) (λ i. allBelow (g .n) (λ j. implies (value-replace R t i j) (value-replace S t i j)))
+  value-replace (nodeIn i E) = λ t. value-replace E t i
+  value-replace (pairIn i j R) = λ t. value-replace R t i j
+  value-replace (both K L) = λ t. value-replace K t && value-replace L t
+  value-replace (either K L) = λ t. value-replace K t || value-replace L t
+  value-replace (notRule K) = λ t. not (value-replace K t)
+
+-- to update a table of expressions is to update the table of their values
+value-update : (g : Graph) {s : Sort} (f : ℕ → Expr s) (k : ℕ) (F : Expr s) → (λ x. value g (update f k F x)) ≡ update (λ x. value g (f x)) k (value g F)
+unfolding update
+value-update g f k F = fun-ext (λ x. go x (eqb x k))
+  where
+    go : (x : ℕ) (b : Bool) → value g (cond b F (f x)) ≡ cond b (value g F) (value g (f x))
+    go x true = refl
+    go x false = refl
+
+-- a rule in which label k is replaced by F says what the rule says where label k is F
+value-putLabel : (g : Graph) (k : ℕ) (F : Expr node) (K : Expr rule) → value g (putLabel k F K) ≡ value (relabel g k (value g F)) K
+unfolding putLabel value
+value-putLabel g k F K = value-replace g (update label k F) arrowKind K ∙ ap (λ l. value (record { n = g .n; labelled = l; joined = g .joined }) K) (value-update g label k F)
+
+value-putArrow : (g : Graph) (a : ℕ) (S : Expr arrow) (K : Expr rule) → value g (putArrow a S K) ≡ value (rejoin g a (value g S)) K
+unfolding putArrow value
+value-putArrow g a S K = value-replace g label (update arrowKind a S) K ∙ ap (λ l. value (record { n = g .n; labelled = g .labelled; joined = l }) K) (value-update g arrowKind a S)
+
+-- (not x or p) and (x or q) is p where x holds, else q
+choice : (x p q : Bool) → ((not x || p) && (x || q)) ≡ cond x p q
+choice true true q = refl
+choice true false q = refl
+choice false p q = refl
+
+cond-run : (x : Bool) (g h : Graph) (K : Expr rule) → cond x (value g K) (value h K) ≡ value (cond x g h) K
+cond-run true g h K = refl
+cond-run false g h K = refl
+
+-- Theorem 4.2: the carried rule says of a sheet what the rule says of the sheet that the edit leaves.
+pub carried : (Z : Edit) (K : Expr rule) (g : Graph) → value g (carry Z K) ≡ value (run Z g) K
+unfolding carry run value
+carried finish K g = refl
+carried (addLabel k E Z) K g = value-putLabel g k (or (label k) E) (carry Z K) ∙ carried Z K (relabel g k (value g (or (label k) E)))
+carried (takeLabel k E Z) K g = value-putLabel g k (and (label k) (complement E)) (carry Z K) ∙ carried Z K (relabel g k (value g (and (label k) (complement E))))
+carried (addArrow a R Z) K g = value-putArrow g a (union (arrowKind a) R) (carry Z K) ∙ carried Z K (rejoin g a (value g (union (arrowKind a) R)))
+carried (takeArrow a R Z) K g = value-putArrow g a (minus (arrowKind a) R) (carry Z K) ∙ carried Z K (rejoin g a (value g (minus (arrowKind a) R)))
+carried (choose K₁ P Q Z) K g =
+    choice (value g K₁) (value g (carry P (carry Z K))) (value g (carry Q (carry Z K)))
+    ∙ ap₂ (cond (value g K₁)) (carried P (carry Z K) g) (carried Q (carry Z K) g)
+    ∙ cond-run (value g K₁) (run P g) (run Q g) (carry Z K)
+    ∙ carried Z K (cond (value g K₁) (run P g) (run Q g))
+
+-- Doc 01's wording: through P with its end replaced by Z.
+pub carry-followedBy : (P Z : Edit) (K : Expr rule) → carry (followedBy P Z) K ≡ carry P (carry Z K)
+unfolding carry followedBy
+carry-followedBy finish Z K = refl
+carry-followedBy (addLabel k E P) Z K = ap (putLabel k (or (label k) E)) (carry-followedBy P Z K)
+carry-followedBy (takeLabel k E P) Z K = ap (putLabel k (and (label k) (complement E))) (carry-followedBy P Z K)
+carry-followedBy (addArrow a R P) Z K = ap (putArrow a (union (arrowKind a) R)) (carry-followedBy P Z K)
+carry-followedBy (takeArrow a R P) Z K = ap (putArrow a (minus (arrowKind a) R)) (carry-followedBy P Z K)
+carry-followedBy (choose K₁ P Q P′) Z K = ap (λ L. both (either (notRule K₁) (carry P L)) (either K₁ (carry Q L))) (carry-followedBy P′ Z K)
+
+pub carry-choose : (K₁ : Expr rule) (P Q Z : Edit) (K : Expr rule) → carry (choose K₁ P Q Z) K ≡ both (either (notRule K₁) (carry (followedBy P Z) K)) (either K₁ (carry (followedBy Q Z) K))
+unfolding carry
+carry-choose K₁ P Q Z K = rw (carry-followedBy P Z K, carry-followedBy Q Z K)
+
+pub run-followedBy : (P Z : Edit) (g : Graph) → run (followedBy P Z) g ≡ run Z (run P g)
+unfolding run followedBy
+run-followedBy finish Z g = refl
+run-followedBy (addLabel k E P) Z g = run-followedBy P Z _
+run-followedBy (takeLabel k E P) Z g = run-followedBy P Z _
+run-followedBy (addArrow a R P) Z g = run-followedBy P Z _
+run-followedBy (takeArrow a R P) Z g = run-followedBy P Z _
+run-followedBy (choose K P Q P′) Z g = run-followedBy P′ Z _
+
+-- It is the weakest such condition: it ensures the rule after, and whatever ensures the rule after implies it.
+pub ensures-after : (Z : Edit) (K : Expr rule) (g : Graph) → T (value g (carry Z K)) → T (value (run Z g) K)
+ensures-after Z K g t = subst T (carried Z K g) t
+
+pub weakest : (Z : Edit) (K : Expr rule) (C : Graph → Type 0) → ((g : Graph) → C g → T (value (run Z g) K)) → (g : Graph) → C g → T (value g (carry Z K))
+weakest Z K C ensures g c = subst T (sym (carried Z K g)) (ensures g c)

@@ -1,0 +1,38 @@
+-- Labelled graphs (document 004, Section 3: an interpretation with a finite domain), sets by membership.
+use mathlib.Core.Bool.{Bool, true, false, not, _&&_, _||_, cond}
+use Prim.Native.Nat.{ℕ, zero, suc}
+use lib.Dec.{ltb}
+
+-- A set of nodes, and a set of pairs of nodes.
+abbrev pub Nodes : Type 0
+Nodes = ℕ → Bool
+
+abbrev pub Pairs : Type 0
+Pairs = ℕ → ℕ → Bool
+
+-- A graph: how many nodes it has, which nodes have label k, which pairs arrow a joins.
+pub record Graph : Type 0 where
+  pub n : ℕ
+  pub labelled : ℕ → Nodes
+  pub joined : ℕ → Pairs
+
+-- Whether i is a node of the graph: nodes are numbered from 0.
+unfoldable pub isNode : Graph → Nodes
+isNode g i = ltb i (g .n)
+
+-- Of the numbers below n: is one in the set, are all, how many are.
+unfoldable pub anyBelow : ℕ → Nodes → Bool
+anyBelow zero v = false
+anyBelow (suc n) v = anyBelow n v || v n
+
+unfoldable pub allBelow : ℕ → Nodes → Bool
+allBelow zero v = true
+allBelow (suc n) v = allBelow n v && v n
+
+unfoldable pub countBelow : ℕ → Nodes → ℕ
+countBelow zero v = zero
+countBelow (suc n) v = cond (v n) (suc (countBelow n v)) (countBelow n v)
+
+-- x implies y
+abbrev pub implies : Bool → Bool → Bool
+implies x y = not x || y
