@@ -1,0 +1,91 @@
+-- Every code of document 01 alike: a name (03 k or 11 a), or a head (the code byte with its number bytes) with no, one or two operands.
+use mathlib.Core.List.{List, [], _∷_, _++_}
+use mathlib.Core.Bool.{Bool, cond, _&&_}
+use Prim.Native.Nat.{ℕ, zero, suc, _+_, _*_, max}
+use lib.Dec.{eqb}
+use lib.ListN.{length}
+use Rattle.logic.specs.Syntax.{Sort, node, arrow, rule, Expr, all, none, label, nominal, complement, and, or, some, every, atLeast, atMost, arrowKind, reversed, union, common, minus, endingIn, pair, subNodes, subArrows, nodeIn, pairIn, both, either, notRule, Edit, finish, addLabel, takeLabel, addArrow, takeArrow, choose}
+
+pub data Tree : Type 0 where
+  name : (c k : ℕ) → Tree
+  leaf : (h : List ℕ) → Tree
+  one : (h : List ℕ) (x : Tree) → Tree
+  two : (h : List ℕ) (x y : Tree) → Tree
+
+unfoldable pub bytes : Tree → List ℕ
+bytes (name c k) = c ∷ k ∷ []
+bytes (leaf h) = h
+bytes (one h x) = h ++ bytes x
+bytes (two h x y) = h ++ bytes x ++ bytes y
+
+-- every name replaced
+unfoldable pub graft : (ℕ → ℕ → Tree) → Tree → Tree
+graft f (name c k) = f c k
+graft f (leaf h) = leaf h
+graft f (one h x) = one h (graft f x)
+graft f (two h x y) = two h (graft f x) (graft f y)
+
+abbrev pub same : ℕ → ℕ → ℕ → ℕ → Bool
+same c k c′ k′ = eqb c c′ && eqb k k′
+
+-- one name replaced by F
+unfoldable pub only : ℕ → ℕ → Tree → ℕ → ℕ → Tree
+only c k F c′ k′ = cond (same c′ k′ c k) F (name c′ k′)
+
+-- the bytes, the levels, how often a name stands there, and its deepest level (0: nowhere)
+unfoldable pub size : Tree → ℕ
+size (name c k) = 2
+size (leaf h) = length h
+size (one h x) = length h + size x
+size (two h x y) = length h + (size x + size y)
+
+unfoldable pub height : Tree → ℕ
+height (name c k) = 1
+height (leaf h) = 1
+height (one h x) = suc (height x)
+height (two h x y) = suc (max (height x) (height y))
+
+unfoldable pub count : Tree → ℕ → ℕ → ℕ
+count (name c k) c′ k′ = cond (same c k c′ k′) 1 0
+count (leaf h) c′ k′ = 0
+count (one h x) c′ k′ = count x c′ k′
+count (two h x y) c′ k′ = count x c′ k′ + count y c′ k′
+
+-- the level of what is on level x of a thing whose first code is on level d; level 0 is nowhere
+unfoldable pub under : ℕ → ℕ → ℕ
+under zero x = zero
+under (suc d) zero = zero
+under (suc d) (suc x) = suc (d + x)
+
+unfoldable pub deep : Tree → ℕ → ℕ → ℕ
+deep (name c k) c′ k′ = cond (same c k c′ k′) 1 0
+deep (leaf h) c′ k′ = 0
+deep (one h x) c′ k′ = under 2 (deep x c′ k′)
+deep (two h x y) c′ k′ = under 2 (max (deep x c′ k′) (deep y c′ k′))
+
+unfoldable pub tree : {s : Sort} → Expr s → Tree
+tree (label k) = name 0x03 k
+tree (arrowKind a) = name 0x11 a
+tree all = leaf (0x01 ∷ [])
+tree none = leaf (0x02 ∷ [])
+tree (nominal i) = leaf (0x04 ∷ i ∷ [])
+tree (complement E) = one (0x05 ∷ []) (tree E)
+tree (and E F) = two (0x06 ∷ []) (tree E) (tree F)
+tree (or E F) = two (0x07 ∷ []) (tree E) (tree F)
+tree (some R E) = two (0x08 ∷ []) (tree R) (tree E)
+tree (every R E) = two (0x09 ∷ []) (tree R) (tree E)
+tree (atLeast m R E) = two (0x0A ∷ m ∷ []) (tree R) (tree E)
+tree (atMost m R E) = two (0x0B ∷ m ∷ []) (tree R) (tree E)
+tree (reversed R) = one (0x12 ∷ []) (tree R)
+tree (union R S) = two (0x13 ∷ []) (tree R) (tree S)
+tree (common R S) = two (0x14 ∷ []) (tree R) (tree S)
+tree (minus R S) = two (0x15 ∷ []) (tree R) (tree S)
+tree (endingIn R E) = two (0x16 ∷ []) (tree R) (tree E)
+tree (pair i j) = leaf (0x17 ∷ i ∷ j ∷ [])
+tree (subNodes E F) = two (0x21 ∷ []) (tree E) (tree F)
+tree (subArrows R S) = two (0x22 ∷ []) (tree R) (tree S)
+tree (nodeIn i E) = one (0x23 ∷ i ∷ []) (tree E)
+tree (pairIn i j R) = one (0x24 ∷ i ∷ j ∷ []) (tree R)
+tree (both K L) = two (0x25 ∷ []) (tree K) (tree L)
+tree (either K L) = two (0x26 ∷ []) (tree K) (tree L)
+tree (notRule K) = one (0x27 ∷ []) (tree K)
