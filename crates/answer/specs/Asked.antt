@@ -25,3 +25,17 @@ is false q p = refused q p
 unfoldable pub after : {A B : Type 0} → Asked A → (A → B) → B → B
 after (passed a) made before = made a
 after (refused q p) made before = before
+
+-- The number and place that a call answers: 0 and 0 for done.
+unfoldable pub askedNumber : {A : Type 0} → Asked A → ℕ
+askedNumber (passed a) = 0
+askedNumber (refused q p) = q
+
+unfoldable pub askedPlace : {A : Type 0} → Asked A → ℕ
+askedPlace (passed a) = 0
+askedPlace (refused q p) = p
+
+-- What the questions answer, whatever was learned.
+unfoldable pub outcome : {A : Type 0} → Asked A → Asked (Unit {0})
+outcome (passed a) = passed tt
+outcome (refused q p) = refused q p
