@@ -3,8 +3,9 @@ ghost use mathlib.Core.Path.{_≡_};
 ghost use mathlib.Core.Bool.{not, _&&_, _||_};
 ghost use Prim.Native.Nat.{ℕ, _+_, _<_, _≤_};
 ghost use lib.Dec.{eqb, ltb};
+ghost use lib.ListN.{length};
 ghost use Rattle.logic.specs.Graph.{countBelow};
-ghost use Rattle.words.specs.Words.{setOf, member, combined};
+ghost use Rattle.words.specs.Words.{setOf, member, combined, wordAt, putWord};
 
 // Whether node i is in the set x. Inner: i is the number of a bit.
 pub fn member(x: u64, i: usize) -> bool
@@ -63,4 +64,41 @@ pub fn count_common(x: u64, y: u64) -> u32
     ensures { λ r. ⌜ r ≡ countBelow 64 (λ i. member x i && member y i) ⌝ }
 {
     u64::count_ones(x & y)
+}
+
+// A byte as a word. Inner: says beside its value that it is below 256.
+fn wide(x: u8) -> u64
+    ensures { λ r. ⌜ (r ≡ x) × (r < 256) ⌝ }
+{
+    x as u64
+}
+
+// The word in the 8 bytes from `at` on. Inner: they are there.
+pub fn load(s: &[u8], at: usize) -> u64
+    requires { ⌜ at + 8 ≤ length (now s) ⌝ }
+    ensures { λ r. ⌜ r ≡ wordAt (now (s .entry)) at ⌝ }
+{
+    wide(s[at])
+        + wide(s[at + 1]) * 0x100
+        + wide(s[at + 2]) * 0x1_0000
+        + wide(s[at + 3]) * 0x100_0000
+        + wide(s[at + 4]) * 0x1_0000_0000
+        + wide(s[at + 5]) * 0x100_0000_0000
+        + wide(s[at + 6]) * 0x1_0000_0000_0000
+        + wide(s[at + 7]) * 0x100_0000_0000_0000
+}
+
+// Puts x into the 8 bytes from `at` on. Inner: they are there.
+pub fn store(s: &mut [u8], at: usize, x: u64)
+    requires { ⌜ at + 8 ≤ length (now s) ⌝ }
+    ensures { λ _. ⌜ now (s .exit) ≡ putWord (now (s .entry)) at x ⌝ }
+{
+    s[at] = (x % 0x100) as u8;
+    s[at + 1] = (x / 0x100 % 0x100) as u8;
+    s[at + 2] = (x / 0x1_0000 % 0x100) as u8;
+    s[at + 3] = (x / 0x100_0000 % 0x100) as u8;
+    s[at + 4] = (x / 0x1_0000_0000 % 0x100) as u8;
+    s[at + 5] = (x / 0x100_0000_0000 % 0x100) as u8;
+    s[at + 6] = (x / 0x1_0000_0000_0000 % 0x100) as u8;
+    s[at + 7] = (x / 0x100_0000_0000_0000 % 0x100) as u8;
 }
