@@ -1,7 +1,7 @@
-// Sets of nodes as u64.
+// Sets of nodes as u64, a u64 in 8 bytes, and rows and columns of 64 of them exchanged.
 ghost use mathlib.Core.Path.{_≡_};
 ghost use mathlib.Core.Bool.{not, _&&_, _||_, cond};
-ghost use Prim.Native.Nat.{ℕ, _+_, _-_, _<_, _≤_};
+ghost use Prim.Native.Nat.{_+_, _-_, _<_, _≤_};
 ghost use lib.Dec.{eqb, ltb};
 ghost use lib.ListN.{length};
 ghost use Rattle.logic.specs.Graph.{countBelow};

@@ -51,4 +51,14 @@ returns c = record { rows = λ i h. c .before .loop .inv .2 .rows i (omega arith
 pub exchange-blocks-spec : {M : Type 1} → statement M
 exchange-blocks-spec =
     tie.close
-    (tie.spec Inv-loop μ-loop loop-holds (λ c. search needs) (λ c. search needs) (λ c. search needs) (λ c. search needs) (λ c. search needs) array-read-low-row-2 (λ c κs. search needs) (λ c. search needs) (λ c. search needs) sub-high-row (λ c. search needs) (λ c. search needs) (λ c. search needs) (λ c. search needs) (λ c κs. search needs) (λ c. search needs) (λ c. search needs) (λ c. search needs) (λ c. search needs) loop-again returns)
+    (tie.spec
+    Inv-loop
+    μ-loop
+    loop-holds
+    (λ c. search needs)
+    (λ c. search needs) (λ c. search needs) (λ c. search needs) (λ c. search needs) array-read-low-row-2 (λ c κs. search needs) (λ c. search needs) (λ c. search needs)
+    sub-high-row (λ c. search needs) (λ c. search needs) (λ c. search needs) (λ c. search needs) (λ c κs. search needs) (λ c. search needs) (λ c. search needs)
+    (λ c. search needs)
+    (λ c. search needs)
+    loop-again
+    returns)
