@@ -7,21 +7,16 @@ use Prim.Native.Nat.{ℕ, _+_, _-_, _*_, _/_, _%_, _^_, _≤_, _<_}
 use native.Mathlib.Nat.{eq-or-lt-of-le, le-of-suc-le-suc, mod-lt}
 use native.Mathlib.Numerals.{add-one}
 use native.Mathlib.Omega.{arith}
-use lib.Dec.{leb, lit<}
+use lib.Dec.{leb}
 use lib.Bits.{bitAnd, bitOr, and-lt, or-lt}
 use lib.ListN.{length, getD, set}
 use lib.Pow.{pow-pos, shr-le}
 use lib.Seq.{getD-set-same, getD-set-other}
 use borrow.Author.Tests.{eq-eqb, ne-eqb, leb-true}
-use Rattle.logic.specs.Graph.{Nodes}
 use Rattle.words.specs.Words.{setOf, member}
 use Rattle.words.specs.Transpose.{lowHalf, fromRow, fromColumn, Blocks}
-use Rattle.words.proofs.SetLaws.{setOf-cong, setOf-member-lt, member-setOf}
+use Rattle.words.proofs.SetLaws.{setOf-cong, is-setOf, member-setOf}
 use Rattle.words.proofs.BitLaws.{member-and, member-or, member-shr, member-shl}
-
--- a word is the set of its bits
-by-bits : (x : ℕ) (p : Nodes) → x < 2 ^ 64 → ((j : ℕ) → j < 64 → member x j ≡ p j) → x ≡ setOf 64 p
-by-bits x p h e = sym (setOf-member-lt 64 x h) ∙ setOf-cong 64 (member x) p e
 
 either-half : (x y n : Bool) → ((x && not n) || (y && n)) ≡ cond (not n) x y
 either-half true true true = refl
@@ -70,11 +65,11 @@ module _ (x y s m : ℕ) (B : Blocks s m) (j : ℕ) (h : j < 64) where
 -- and the row
 module _ (x y s m : ℕ) (B : Blocks s m) (hx : x < 2 ^ 64) (hy : y < 2 ^ 64) (hm : m < 2 ^ 64) where
   pub low-word : bitOr (bitAnd x m) (bitAnd y m * 2 ^ s % 2 ^ 64) ≡ setOf 64 (λ j. cond (lowHalf s j) (member x j) (member y (j - s)))
-  low-word = by-bits _ _ (or-lt 64 _ _ (and-lt 64 x m hx hm) (mod-lt (bitAnd y m * 2 ^ s) (pow-pos 64))) (low-bit x y s m B)
+  low-word = is-setOf 64 _ _ (or-lt 64 _ _ (and-lt 64 x m hx hm) (mod-lt (bitAnd y m * 2 ^ s) (pow-pos 64))) (low-bit x y s m B)
 
   pub high-word : bitOr (bitAnd (x / 2 ^ s) m) (bitAnd y (m * 2 ^ s % 2 ^ 64)) ≡ setOf 64 (λ j. cond (lowHalf s j) (member x (j + s)) (member y j))
   high-word =
-      by-bits _ _ (or-lt 64 _ _ (and-lt 64 (x / 2 ^ s) m (omega (arith, shr-le x s)) hm) (and-lt 64 y (m * 2 ^ s % 2 ^ 64) hy (mod-lt (m * 2 ^ s) (pow-pos 64))))
+      is-setOf 64 _ _ (or-lt 64 _ _ (and-lt 64 (x / 2 ^ s) m (omega (arith, shr-le x s)) hm) (and-lt 64 y (m * 2 ^ s % 2 ^ 64) hy (mod-lt (m * 2 ^ s) (pow-pos 64))))
       (high-bit x y s m B)
 
 -- the rows below i of r are as the exchange leaves them
