@@ -1,0 +1,46 @@
+-- Carrying a book back into an output: its size, its questions 31 to 33, and the bytes ("Carrying back" and "The questions" of document 01).
+use mathlib.Core.List.{List, [], _∷_, _++_, map}
+use Prim.Native.Nat.{ℕ, max}
+use lib.Dec.{leb}
+use lib.ListN.{length, drop}
+use Rattle.answer.specs.Asked.{Asked, passed, _>>=_, _>>_, is}
+use Rattle.logic.specs.Syntax.{Expr, rule, Edit}
+use Rattle.logic.specs.Carry.{carry}
+use Rattle.logic.specs.Limits.{maxNodes}
+use Rattle.text.specs.Code.{levels, bookCode}
+use Rattle.text.specs.Reading.{textLimits}
+use Rattle.text.specs.Questions.{askBook, askEdit}
+
+-- A book is carried rule by rule.
+abbrev pub carriedBook : Edit → List (Expr rule) → List (Expr rule)
+carriedBook Z book = map (carry Z) book
+
+-- The levels of a book: those of its deepest rule.
+unfoldable pub bookLevels : List (Expr rule) → ℕ
+bookLevels [] = 0
+bookLevels (K ∷ book) = max (levels K) (bookLevels book)
+
+abbrev pub longestCarried : ℕ
+longestCarried = 16384
+
+abbrev pub deepestCarried : ℕ
+deepestCarried = 255
+
+-- 31, 32, 33 of a carried book and the room that there is for it.
+unfoldable pub askSize : List (Expr rule) → ℕ → Asked (Unit {0})
+askSize book room = do
+  is (leb (length (bookCode book)) longestCarried) 31 0
+  is (leb (bookLevels book) deepestCarried) 32 0
+  is (leb (length (bookCode book)) room) 33 (length (bookCode book))
+
+-- Carry back: book, then edit, with n as 60, then the size. What is learned are the bytes to write.
+unfoldable pub askCarry : List ℕ → List ℕ → ℕ → Asked (List ℕ)
+askCarry bookText editText room = do
+  book ← askBook (textLimits maxNodes) bookText
+  Z ← askEdit (textLimits maxNodes) editText
+  askSize (carriedBook Z book) room
+  passed (bookCode (carriedBook Z book))
+
+-- A buffer with bytes written at its start, the rest of it unchanged.
+abbrev pub writtenAtStart : List ℕ → List ℕ → List ℕ
+writtenAtStart bytes buffer = bytes ++ drop (length bytes) buffer

@@ -1,0 +1,1 @@
+// Carrying a book back through an edit.

@@ -1,0 +1,1 @@
+// Evaluating expressions and judging books.

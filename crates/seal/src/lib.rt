@@ -1,0 +1,1 @@
+// The check bytes of a block.

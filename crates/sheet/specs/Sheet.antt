@@ -1,0 +1,65 @@
+-- The sheet: 17 blocks of 512 bytes ("The sheet" of document 01), as the bytes that store a graph and the graph that bytes store.
+use mathlib.Core.Path.{_≡_}
+use mathlib.Core.Bool.{false, _&&_}
+use mathlib.Core.List.{List, [], _∷_, _++_}
+use Prim.Native.Nat.{ℕ, zero, suc, _+_, _*_, _/_, _%_, _<_}
+use lib.Dec.{ltb}
+use lib.ListN.{getD, replicate}
+use Rattle.logic.specs.Graph.{Graph, Nodes, Pairs}
+use Rattle.words.specs.Words.{setOf, member, bytes}
+use Rattle.seal.specs.Seal.{sealed}
+
+abbrev pub sheetBytes : ℕ
+sheetBytes = 8704
+
+-- Words start at byte 16 of a block; behind them zeros fill the body: 48 words in block 0, 60 in the others.
+abbrev pub wordsStart : ℕ
+wordsStart = 16
+
+abbrev pub labelPad : ℕ
+labelPad = 110
+
+abbrev pub arrowPad : ℕ
+arrowPad = 14
+
+-- f i, f (i + 1), .. one behind the other: m of them
+unfoldable pub chunks : ℕ → ℕ → (ℕ → List ℕ) → List ℕ
+chunks zero i f = []
+chunks (suc m) i f = f i ++ chunks m (suc i) f
+
+-- A block: bytes 0 to 2, 13 zeros, words, zeros, check bytes.
+unfoldable pub block : List ℕ → List ℕ → ℕ → List ℕ
+block head words pad = sealed (head ++ replicate 13 0 ++ words ++ replicate pad 0)
+
+-- Block 0: label k is 8 bytes at 16 + 8k, little-endian; bit i is node i.
+unfoldable pub labelBlock : Graph → List ℕ
+labelBlock g = block (1 ∷ 0 ∷ g .n ∷ []) (chunks 48 0 (λ k. bytes 8 (setOf (g .n) (g .labelled k)))) labelPad
+
+-- Block a + 1: row i of arrow a is 8 bytes at 16 + 8i; bit j is an arrow from i to j.
+unfoldable pub arrowBlock : Graph → ℕ → List ℕ
+arrowBlock g a = block (2 ∷ suc a ∷ 0 ∷ []) (chunks 60 0 (λ i. bytes 8 (setOf (g .n) (g .joined a i)))) arrowPad
+
+-- The sheet that stores a graph.
+unfoldable pub store : Graph → List ℕ
+store g = labelBlock g ++ chunks 16 0 (arrowBlock g)
+
+-- Bit i of the 8 bytes at p.
+abbrev pub bitIn : List ℕ → ℕ → Nodes
+bitIn t p i = ltb i 64 && member (getD t (p + i / 8) 0) (i % 8)
+
+-- The graph that a sheet stores.
+unfoldable pub graphOf : List ℕ → Graph
+graphOf t =
+    record {
+      n = getD t 2 0;
+      labelled = λ k i. ltb k 48 && bitIn t (16 + 8 * k) i;
+      joined = λ a i j. ltb a 16 && (ltb i 60 && bitIn t (512 * (a + 1) + (16 + 8 * i)) j);
+    }
+
+-- The graph of n nodes with no label and no arrow.
+abbrev pub blank : ℕ → Graph
+blank n = record { n = n; labelled = λ k i. false; joined = λ a i j. false }
+
+-- Words that hold the rows of a set of pairs: row i is the word of v i, for i below n. What lies behind is free.
+pub record Rows (n : ℕ) (v : Pairs) (rows : List ℕ) : Type 0 where
+  pub row : (i : ℕ) → i < n → getD rows i 0 ≡ setOf n (v i)

@@ -1,0 +1,4 @@
+pub mod Code
+pub mod Reading
+pub mod Questions
+pub mod Stands

@@ -1,0 +1,70 @@
+-- The questions that a book, the first rule of a text, and an edit are asked: 11 to 16, 11 to 15, 21 to 26.
+use mathlib.Core.Bool.{Bool}
+use mathlib.Core.List.{List, [], _∷_}
+use Prim.Native.Nat.{ℕ, zero, suc, _+_}
+use lib.Dec.{leb}
+use lib.ListN.{length}
+use Rattle.answer.specs.Asked.{Asked, passed, refused, _>>=_, _>>_, is, after}
+use Rattle.logic.specs.Syntax.{Expr, rule, Edit}
+use Rattle.logic.specs.Limits.{maxNodes}
+use Rattle.text.specs.Code.{code}
+use Rattle.text.specs.Reading.{Limits, textLimits, expr, edit, Fault, missing, wrongSort, tooDeep, outOfRange, Read, got, fault, readAs}
+
+-- The number of a fault: 12 to 15 in a book (base 10), 22 to 25 in an edit (base 20).
+abbrev pub faultNumber : ℕ → Fault → ℕ
+faultNumber base missing = base + 2
+faultNumber base wrongSort = base + 3
+faultNumber base tooDeep = base + 4
+faultNumber base outOfRange = base + 5
+
+-- At most so many rules.
+abbrev pub mostRules : ℕ
+mostRules = 32
+
+-- what is read at the start of a text, whatever follows
+unfoldable pub first : {A : Type 0} → Read A → Asked A
+first (got a rest p) = passed a
+first (fault why p) = refused (faultNumber 10 why) p
+
+-- what is read, if the bytes have then ended: 26
+unfoldable pub whole : {A : Type 0} → Read A → Asked A
+whole (got a [] p) = passed a
+whole (got a (x ∷ t) p) = refused 26 p
+whole (fault why p) = refused (faultNumber 20 why) p
+
+module _ (l : Limits) where
+  -- The rules of a text, at most m of them: 12 to 15 of each, and 16 before one too many.
+  unfoldable pub rulesOf : (m : ℕ) → List ℕ → ℕ → Asked (List (Expr rule))
+  rulesOf zero [] at = passed []
+  rulesOf zero (c ∷ t) at = refused 16 at
+  rulesOf (suc m) [] at = passed []
+  rulesOf (suc m) (c ∷ t) at =
+      elim (readAs l (expr rule) (c ∷ t) at) [
+        | got K rest p ↦ rulesOf m rest p >>= (λ book. passed (K ∷ book))
+        | fault why p ↦ refused (faultNumber 10 why) p
+      ]
+
+  -- A book: 11 to 16.
+  unfoldable pub askBook : List ℕ → Asked (List (Expr rule))
+  askBook t = do
+    is (leb (length t) (l .longest)) 11 0
+    rulesOf mostRules t 0
+
+  -- The first rule of a text: 11, then 12 to 15 for it alone.
+  unfoldable pub askFirst : List ℕ → Asked (Expr rule)
+  askFirst t = do
+    is (leb (length t) (l .longest)) 11 0
+    first (readAs l (expr rule) t 0)
+
+  -- An edit: 21 to 26.
+  unfoldable pub askEdit : List ℕ → Asked Edit
+  askEdit t = do
+    is (leb (length t) (l .longest)) 21 0
+    whole (readAs l edit t 0)
+
+-- Rule end: n as 60. The part of the text that holds the first rule, empty when refused.
+abbrev pub askRuleEnd : List ℕ → Asked (Expr rule)
+askRuleEnd t = askFirst (textLimits maxNodes) t
+
+unfoldable pub firstRule : List ℕ → List ℕ
+firstRule t = after (askRuleEnd t) code []

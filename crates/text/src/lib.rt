@@ -1,0 +1,1 @@
+// Reading rules, books and edits.
