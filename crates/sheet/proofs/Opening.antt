@@ -24,12 +24,12 @@ use Rattle.sheet.specs.Questions.{blockOf, nodeCountRight, headRight, fr
 use Rattle.sheet.proofs.Blocks.{wordsOf, bodyOf, byteOf, bit-of-byte, length-body, body-at, head-at, front-zero, pad-zero, word-bit, word-byte, labelHead, labelWord, arrowHead, rowWord}
 use Rattle.sheet.proofs.Passes.{no-bit}
 
-is-yes : (b : Bool) (q p : ℕ) → is b q p ≡ passed tt → b ≡ true
+pub is-yes : (b : Bool) (q p : ℕ) → is b q p ≡ passed tt → b ≡ true
 unfolding is
 is-yes true q p e = refl
 is-yes false q p e = let z : _≡_ {A = ℕ} 0 1 = cc in absurd (omega arith)
 
-both-yes : (x r : Asked (Unit {0})) → (x >> r) ≡ passed tt → (x ≡ passed tt) × (r ≡ passed tt)
+pub both-yes : (x r : Asked (Unit {0})) → (x >> r) ≡ passed tt → (x ≡ passed tt) × (r ≡ passed tt)
 unfolding _>>_
 both-yes (passed u) r e = (refl, e)
 both-yes (refused q p) r e = let z : _≡_ {A = ℕ} 0 1 = cc in absurd (omega arith)
