@@ -1,0 +1,87 @@
+-- The questions as the code asks them, one by one and block by block.
+use mathlib.Core.Path.{_≡_, refl, sym, ap, ap₂, _∙_}
+use mathlib.Core.Bool.{Bool, true, false, _&&_}
+use mathlib.Core.List.{List}
+use Prim.Native.Nat.{ℕ, zero, suc, _+_, _-_, _*_, _≤_, _<_}
+use native.Mathlib.Omega.{arith}
+use borrow.Author.Tests.{eq-eqb, ne-eqb}
+use lib.Dec.{eqb, leb}
+use lib.ListN.{length, getD, take, drop}
+use lib.Seq.{getD-take}
+use Rattle.answer.specs.declared.Refusal.{Refusal}
+use Rattle.answer.specs.declared.Answer.{Answer}
+use Rattle.answer.specs.declared.Answer.the-variants.{Done, Refused}
+use Rattle.answer.specs.Answers.{asked}
+use Rattle.answer.specs.Asked.{Asked, passed, refused, _>>_, is}
+use Rattle.logic.specs.Limits.{maxNodes}
+use Rattle.seal.specs.Seal.{sealRight}
+use Rattle.sheet.specs.Sheet.{sheetBytes}
+use Rattle.sheet.specs.Questions.{blockOf, nodeCountRight, headRight, zeroRight, askBlock, askBlocks, askSheet}
+use Rattle.sheet.proofs.Opening.{n-range, block-ok}
+
+-- 3, of block 0 and of a later block
+pub head-first : (k : List ℕ) (b : ℕ) → b ≡ 0 → headRight b k ≡ (eqb (getD k 0 0) 1 && (eqb (getD k 1 0) 0 && nodeCountRight (getD k 2 0)))
+unfolding headRight
+head-first k b e = ap (λ x. headRight x k) e
+
+pub head-later : (k : List ℕ) (b : ℕ) → (b ≡ 0 → ⊥) → headRight b k ≡ (eqb (getD k 0 0) 2 && (eqb (getD k 1 0) b && eqb (getD k 2 0) 0))
+unfolding headRight
+head-later k zero e = absurd (e refl)
+head-later k (suc a) e = refl
+
+-- 2 to 4 of a block, up to the first no
+module _ (n b : ℕ) (k : List ℕ) where
+  pub ask-2 : sealRight k ≡ false → askBlock n b k ≡ refused 2 b
+  unfolding askBlock is _>>_
+  ask-2 e = rw e
+
+  pub ask-3 : sealRight k ≡ true → headRight b k ≡ false → askBlock n b k ≡ refused 3 b
+  unfolding askBlock is _>>_
+  ask-3 e f = rw (e, f)
+
+  pub ask-4 : sealRight k ≡ true → headRight b k ≡ true → zeroRight n b k ≡ false → askBlock n b k ≡ refused 4 b
+  unfolding askBlock is _>>_
+  ask-4 e f h = rw (e, f, h)
+
+  pub ask-none : sealRight k ≡ true → headRight b k ≡ true → zeroRight n b k ≡ true → askBlock n b k ≡ passed tt
+  unfolding askBlock is _>>_
+  ask-none e f h = rw (e, f, h)
+
+module _ (t : List ℕ) where
+  -- 1
+  pub wrong-length : (length t ≡ sheetBytes → ⊥) → refused 1 0 ≡ askSheet t
+  unfolding askSheet is _>>_
+  wrong-length h = sym (rw (ne-eqb _ _ h))
+
+  pub right-length : length t ≡ sheetBytes → askSheet t ≡ askBlocks t 17 0
+  unfolding askSheet is _>>_
+  right-length h = rw (eq-eqb _ _ h)
+
+  -- the blocks in turn
+  module _ (n : ℕ) (n-is : n ≡ getD t 2 0) where
+    block-cons : (b : ℕ) → b < 17 → askBlocks t (17 - b) b ≡ (askBlock n b (blockOf t b) >> askBlocks t (17 - (b + 1)) (b + 1))
+    unfolding askBlocks
+    block-cons b h =
+        let m : 17 - b ≡ suc (17 - (b + 1)) = omega arith in
+        let j : suc b ≡ b + 1 = omega arith in
+        ap (λ x. askBlocks t x b) m ∙ ap₂ (λ y x. askBlock y b (blockOf t b) >> askBlocks t (17 - (b + 1)) x) (sym n-is) j
+
+    pub block-next : (b : ℕ) (a : Answer) → b < 17 → asked a ≡ askBlock n b (blockOf t b) → a ≡ Done → askBlocks t (17 - b) b ≡ askBlocks t (17 - (b + 1)) (b + 1)
+    unfolding _>>_
+    block-next b a h e d = block-cons b h ∙ ap (_>> askBlocks t (17 - (b + 1)) (b + 1)) (sym e ∙ ap asked d)
+
+    pub block-stop : (b : ℕ) (a : Answer) (r : Refusal) → b < 17 → asked a ≡ askBlock n b (blockOf t b) → a ≡ Refused r → asked a ≡ askBlocks t (17 - b) b
+    unfolding _>>_
+    block-stop b a r h e d = ap asked d ∙ sym (block-cons b h ∙ ap (_>> askBlocks t (17 - (b + 1)) (b + 1)) (sym e ∙ ap asked d))
+
+    -- n is in range once block 0 has its head
+    pub few : (b : ℕ) → (0 < b → n ≤ maxNodes) → headRight b (blockOf t b) ≡ true → n ≤ maxNodes
+    few zero h e = let l : getD (blockOf t 0) 2 0 ≤ 60 = n-range (blockOf t 0) e .1 in omega (arith, n-is, getD-take 512 t 2 0 (omega arith))
+    few (suc b) h e = h (omega arith)
+
+    pub few-after : (b : ℕ) (a : Answer) → (0 < b → n ≤ maxNodes) → asked a ≡ askBlock n b (blockOf t b) → a ≡ Done → n ≤ maxNodes
+    few-after b a h e d = few b h (block-ok n b (blockOf t b) (sym e ∙ ap asked d) .heads)
+
+  pub blocks-end : (b : ℕ) → 17 ≤ b → askBlocks t (17 - b) b ≡ passed tt
+  unfolding askBlocks
+  blocks-end b h = let m : 17 - b ≡ 0 = omega arith in ap (λ x. askBlocks t x b) m

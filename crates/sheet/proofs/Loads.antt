@@ -1,0 +1,50 @@
+-- What stands in a sound sheet: its n, its labels and its rows.
+use mathlib.Core.Path.{_≡_, refl, sym, ap, ap₂, _∙_, subst}
+use mathlib.Core.Bool.{true}
+use mathlib.Core.List.{List}
+use Prim.Native.Nat.{ℕ, _+_, _*_, _^_, _≤_, _<_}
+use native.Mathlib.Nat.{lt-of-lt-of-le}
+use native.Mathlib.Omega.{arith}
+use borrow.Author.Tests.{eqb-true, lt-ltb}
+use lib.Dec.{eqb, ltb}
+use lib.ListN.{length, getD}
+use lib.Pow.{pow-mono}
+use Rattle.answer.specs.Asked.{passed, is, _>>_}
+use Rattle.logic.specs.Graph.{Graph, Nodes, isNode}
+use Rattle.logic.specs.Limits.{Within, maxNodes, labelCount, arrowCount}
+use Rattle.words.specs.Words.{setOf, wordAt}
+use Rattle.words.proofs.SetLaws.{setOf-lt, setOf-cong, setOf-lowest}
+use Rattle.words.proofs.WordLaws.{wordAt-of}
+use Rattle.sheet.specs.Sheet.{sheetBytes, store, graphOf}
+use Rattle.sheet.specs.Questions.{askBlocks, askSheet, Sound}
+use Rattle.sheet.proofs.Blocks.{labelWord, rowWord, label-byte, arrow-byte, length-store}
+use Rattle.sheet.proofs.Opening.{is-yes, both-yes, opening}
+
+pub sound-length : (t : List ℕ) → Sound t → length t ≡ sheetBytes
+unfolding askSheet
+sound-length t e = eqb-true (length t) sheetBytes (is-yes _ 1 0 (both-yes (is (eqb (length t) sheetBytes) 1 0) (askBlocks t 17 0) e .0))
+
+small : (n : ℕ) (v : Nodes) → n ≤ maxNodes → setOf n v < 2 ^ 64
+small n v h = let m : n ≤ 64 = omega arith in lt-of-lt-of-le (setOf-lt n v) (pow-mono m)
+
+stored-label : (g : Graph) (k : ℕ) → g .n ≤ maxNodes → k < labelCount → wordAt (store g) (16 + 8 * k) ≡ labelWord g k
+stored-label g k s h = wordAt-of (store g) (16 + 8 * k) (labelWord g k) (omega (arith, length-store g)) (small (g .n) (g .labelled k) s) (λ j l. label-byte g k j h l)
+
+stored-row : (g : Graph) (a i : ℕ) → g .n ≤ maxNodes → a < arrowCount → i < maxNodes → wordAt (store g) (512 * (a + 1) + (16 + 8 * i)) ≡ rowWord g a i
+stored-row g a i s h l =
+    wordAt-of (store g) (512 * (a + 1) + (16 + 8 * i)) (rowWord g a i) (omega (arith, length-store g)) (small (g .n) (g .joined a i) s) (λ j b. arrow-byte g a i j h l b)
+
+module _ (t : List ℕ) (bytes : (p : ℕ) → getD t p 0 < 256) (sound : Sound t) where
+  pub sound-n : (1 ≤ graphOf t .n) × (graphOf t .n ≤ maxNodes)
+  sound-n = let w : Within (graphOf t) = opening t bytes sound .within in (w .some-node, w .few-nodes)
+
+  pub sound-label : (k : ℕ) → k < labelCount → wordAt t (16 + 8 * k) ≡ labelWord (graphOf t) k
+  sound-label k h = ap (λ s. wordAt s (16 + 8 * k)) (opening t bytes sound .stored) ∙ stored-label (graphOf t) k (sound-n .1) h
+
+  pub sound-row : (a i : ℕ) → a < arrowCount → i < graphOf t .n → wordAt t (512 * (a + 1) + (16 + 8 * i)) ≡ rowWord (graphOf t) a i
+  sound-row a i h l = ap (λ s. wordAt s (512 * (a + 1) + (16 + 8 * i))) (opening t bytes sound .stored) ∙ stored-row (graphOf t) a i (sound-n .1) h (omega (arith, sound-n .1))
+
+-- the nodes below n are all nodes
+pub lowest-nodes : (g : Graph) → g .n ≤ maxNodes → setOf 64 (λ i. ltb i (g .n)) ≡ setOf (g .n) (isNode g)
+unfolding isNode
+lowest-nodes g h = setOf-lowest (g .n) 64 (omega arith) ∙ setOf-cong (g .n) (λ i. true) (λ i. ltb i (g .n)) (λ i l. sym (lt-ltb i (g .n) l))

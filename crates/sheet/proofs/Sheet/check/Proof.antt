@@ -1,0 +1,90 @@
+use mathlib.Core.Path.{_≡_, refl, sym, ap, _∙_}
+use mathlib.Core.List.{List}
+use Prim.Native.Nat.{ℕ, _+_, _-_, _*_, _≤_, _<_}
+use native.Mathlib.Omega.{arith}
+use borrow.Author.Needs.{needs}
+use lib.ListN.{length, take, drop, length-take, length-drop}
+use Rattle.logic.specs.Limits.{maxNodes}
+use Rattle.sheet.specs.Questions.{blockOf, headRight, askBlock, askBlocks}
+use Rattle.sheet.proofs.Asks.{wrong-length, right-length, block-next, block-stop, few, few-after, blocks-end}
+use Rattle.sheet.proofs.Sheet.check.Statement.{statement}
+use Rattle.sheet.proofs.Sheet.check.Tie as tie
+
+-- the part that is block b
+part : (t : List ℕ) (b : ℕ) → take (512 * b + 512 - 512 * b) (drop (512 * b) t) ≡ blockOf t b
+part t b = let e : 512 * b + 512 - 512 * b ≡ 512 = omega arith in ap (λ (x : ℕ). take x (drop (512 * b) t)) e
+
+abbrev Inv-loop : tie.InvT-loop
+Inv-loop sheet n b₀ b = (b ≤ 17) × (0 < b → n ≤ maxNodes) × (askBlocks sheet 17 0 ≡ askBlocks sheet (17 - b) b)
+
+abbrev μ-loop : tie.MeasureT-loop
+μ-loop sheet n b₀ b = 17 - b
+
+returns : tie.Need-returns Inv-loop μ-loop
+returns c = wrong-length (c .before .before .args .sheet .now) (c .if1 .taken)
+
+loop-holds : tie.Need-loop-holds Inv-loop μ-loop
+loop-holds c = (omega arith, λ h. absurd (omega arith), refl)
+
+ask-block-requires : tie.Need-ask-block-requires Inv-loop μ-loop
+ask-block-requires c κs =
+    let st = c .before .before .before .before .before .before .before in
+    let t = st .args .sheet .now in
+    let l = c .before .before .loop in
+    let i = c .before .before .before .index in (
+      ap length (part t (l .b)) ∙ length-take 512 (drop (512 * l .b) t) ∙ omega (arith, length-drop (512 * l .b) t, c .before .before .before .before .before .if1 .left, c .before .loop-test .taken),
+      λ e. few t (i .result) (i .ensures) (l .b) (l .inv .1) (ap (headRight (l .b)) (sym (part t (l .b))) ∙ e),
+    )
+
+returns-2 : tie.Need-returns-2 Inv-loop μ-loop
+returns-2 c =
+    let st = c .before .before .before .before .before .before .before .before .before .before in
+    let t = st .args .sheet .now in
+    let l = c .before .before .before .before .before .loop in
+    let i = c .before .before .before .before .before .before .index in
+    let a = c .before .before .ask-block in
+    let e = a .ensures ∙ ap (askBlock (i .result) (l .b)) (part t (l .b)) in
+    block-stop t (i .result) (i .ensures) (l .b) (a .result) _ (c .before .before .before .before .loop-test .taken) e (c .enum-told2 .given .1)
+    ∙ sym (right-length t (c .before .before .before .before .before .before .before .before .if1 .left) ∙ l .inv .2)
+
+loop-again : tie.Need-loop-again Inv-loop μ-loop
+loop-again c =
+    let st = c .before .before .before .before .before .before .before .before .before .before in
+    let t = st .args .sheet .now in
+    let l = c .before .before .before .before .before .loop in
+    let i = c .before .before .before .before .before .before .index in
+    let a = c .before .before .ask-block in
+    let e = a .ensures ∙ ap (askBlock (i .result) (l .b)) (part t (l .b)) in (
+      search needs,
+      λ h. few-after t (i .result) (i .ensures) (l .b) (a .result) (l .inv .1) e (c .enum-told .given .1),
+      l .inv .2 ∙ block-next t (i .result) (i .ensures) (l .b) (a .result) (c .before .before .before .before .loop-test .taken) e (c .enum-told .given .1),
+    )
+
+returns-3 : tie.Need-returns-3 Inv-loop μ-loop
+returns-3 c =
+    let t = c .before .before .before .before .before .before .args .sheet .now in
+    sym (right-length t (c .before .before .before .before .if1 .left) ∙ c .before .loop .inv .2 ∙ blocks-end t (c .before .loop .b) (c .loop-test .left))
+
+pub check-spec : {M : Type 1} → statement M
+check-spec =
+    tie.close
+    (tie.spec
+    Inv-loop
+    μ-loop
+    returns
+    (λ c. search needs)
+    (λ c κs. search needs)
+    loop-holds
+    (λ c. search needs)
+    (λ c. search needs)
+    (λ c. search needs)
+    (λ c. search needs)
+    (λ c. search needs)
+    ask-block-requires
+    (λ c. search needs)
+    (λ c. search needs)
+    returns-2
+    (λ c. search needs)
+    (λ c. search needs)
+    loop-again
+    returns-3)

@@ -1,0 +1,151 @@
+// One block of a sheet: its questions, and the writing of its words. Inner: each function is lent a whole block.
+ghost use mathlib.Core.Path.{_≡_};
+ghost use mathlib.Core.Bool.{true, cond};
+ghost use Prim.Native.Nat.{ℕ, _+_, _*_, _-_, _<_, _≤_};
+ghost use lib.ListN.{length, replicate};
+ghost use Rattle.answer.specs.Answers.{asked};
+ghost use Rattle.logic.specs.Graph.{allBelow};
+ghost use Rattle.logic.specs.Limits.{maxNodes};
+ghost use Rattle.words.specs.Words.{member, putWord};
+ghost use Rattle.seal.specs.Seal.{blockBytes, reseal};
+ghost use Rattle.sheet.specs.Questions.{headRight, zeroRight, askBlock};
+ghost use Rattle.sheet.specs.Masks.{zerosAt, masked, zeroBut};
+ghost use Rattle.sheet.specs.Writes.{putRows, bareBlock};
+use answer::Answer;
+use answer::Refusal;
+
+// A byte as a number.
+pub fn index(x: u8) -> usize
+    ensures { λ r. ⌜ r ≡ x ⌝ }
+{
+    x as usize
+}
+
+// Question 3: are bytes 0 to 2 of block b right, n from 1 to 60?
+fn head_right(block: &[u8], b: usize) -> bool
+    requires { ⌜ length (now block) ≡ blockBytes ⌝ }
+    ensures { λ r. ⌜ r ≡ headRight b (now (block .entry)) ⌝ }
+{
+    if b == 0 {
+        if block[0] == 1 {
+            if block[1] == 0 {
+                if 1 <= block[2] {
+                    return block[2] <= 60;
+                }
+            }
+        }
+        return false;
+    }
+    if block[0] == 2 {
+        if index(block[1]) == b {
+            return block[2] == 0;
+        }
+    }
+    false
+}
+
+// Are the m bytes from `at` on zero?
+fn zeros_at(block: &[u8], at: usize, m: usize) -> bool
+    requires { ⌜ at + m ≤ length (now block) ⌝ }
+    ensures { λ r. ⌜ r ≡ zerosAt (now (block .entry)) at m ⌝ }
+{
+    let mut j = 0;
+    while j < m {
+        if block[at + j] != 0 {
+            return false;
+        }
+        j += 1;
+    }
+    true
+}
+
+// What word j may have: `all` where j is in `rows`, else nothing.
+fn mask_of(rows: u64, j: usize, all: u64) -> u64
+    requires { ⌜ j < 64 ⌝ }
+    ensures { λ r. ⌜ r ≡ cond (member rows j) all 0 ⌝ }
+{
+    if words::member(rows, j) {
+        return all;
+    }
+    0
+}
+
+// Is each of the first m words within its mask?
+fn masked_words(block: &[u8], m: usize, rows: u64, all: u64) -> bool
+    requires { ⌜ (m ≤ 60) × (length (now block) ≡ blockBytes) ⌝ }
+    ensures { λ r. ⌜ r ≡ allBelow m (masked (now (block .entry)) rows all) ⌝ }
+{
+    let mut j = 0;
+    while j < m {
+        let w = words::load(block, 16 + 8 * j);
+        if words::minus(w, mask_of(rows, j, all)) != 0 {
+            return false;
+        }
+        j += 1;
+    }
+    true
+}
+
+// Is all zero but the m words within their masks, and bytes 0 to 2?
+fn zero_but(block: &[u8], m: usize, rows: u64, all: u64) -> bool
+    requires { ⌜ (m ≤ 60) × (length (now block) ≡ blockBytes) ⌝ }
+    ensures { λ r. ⌜ r ≡ zeroBut m rows all (now (block .entry)) ⌝ }
+{
+    if zeros_at(block, 3, 13) {
+        if masked_words(block, m, rows, all) {
+            return zeros_at(block, 16 + 8 * m, 494 - 8 * m);
+        }
+    }
+    false
+}
+
+// Question 4: is all zero that must be zero in block b?
+fn zero_right(block: &[u8], b: usize, n: usize) -> bool
+    requires { ⌜ (n ≤ maxNodes) × (length (now block) ≡ blockBytes) ⌝ }
+    ensures { λ r. ⌜ r ≡ zeroRight n b (now (block .entry)) ⌝ }
+{
+    let all = words::lowest(n);
+    if b == 0 {
+        return zero_but(block, 48, words::lowest(48), all);
+    }
+    zero_but(block, 60, all, all)
+}
+
+// Questions 2 to 4 of block b. A right head of block 0 says that n is in range.
+pub fn ask_block(block: &[u8], b: usize, n: usize) -> Answer
+    requires { ⌜ (length (now block) ≡ blockBytes) × (headRight b (now block) ≡ true → n ≤ maxNodes) ⌝ }
+    ensures { λ r. ⌜ asked r ≡ askBlock n b (now (block .entry)) ⌝ }
+{
+    if !seal::seal_right(block) {
+        return Answer::Refused(Refusal::CheckBytes { place: b });
+    }
+    if !head_right(block, b) {
+        return Answer::Refused(Refusal::BlockHead { place: b });
+    }
+    if !zero_right(block, b, n) {
+        return Answer::Refused(Refusal::NotZero { place: b });
+    }
+    Answer::Done
+}
+
+// Puts x into word k, and seals the block.
+pub fn put_word(block: &mut [u8], k: usize, x: u64)
+    requires { ⌜ (length (now block) ≡ blockBytes) × (k < 60) ⌝ }
+    ensures { λ _. ⌜ now (block .exit) ≡ reseal (putWord (now (block .entry)) (16 + 8 * k) x) ⌝ }
+{
+    words::store(block, 16 + 8 * k, x);
+    seal::seal(block);
+}
+
+// Puts the first n of the rows into the block's words, and seals it.
+pub fn put_words(block: &mut [u8], n: usize, rows: [u64; 64])
+    requires { ⌜ (length (now block) ≡ blockBytes) × (n ≤ 60) ⌝ }
+    ensures { λ _. ⌜ now (block .exit) ≡ reseal (putRows n rows (now (block .entry))) ⌝ }
+{
+    let mut i = 0;
+    while i < n {
+        words::store(block, 16 + 8 * i, rows[i]);
+        i += 1;
+    }
+    seal::seal(block);
+}
