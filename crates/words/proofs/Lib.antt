@@ -1,1 +1,3 @@
 pub mod SetLaws
+pub mod BitLaws
+pub mod WordLaws

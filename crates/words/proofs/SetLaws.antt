@@ -1,6 +1,6 @@
 -- The laws of sets of nodes as words.
 use mathlib.Core.Path.{_≡_, refl, sym, ap, ap₂, _∙_, subst}
-use mathlib.Core.Bool.{Bool, true, false, not, _&&_, _||_, cond, or-true, or-false, and-false}
+use mathlib.Core.Bool.{Bool, true, false, not, _&&_, _||_, cond, or-true, or-false, and-true}
 use Prim.Native.Nat.{ℕ, zero, suc, _+_, _-_, _*_, _/_, _%_, _^_, _≤_, _<_, min, max}
 use native.Mathlib.Nat.{le-refl, lt-trans, pow-suc, one-mul, zero-mul, zero-add, add-zero, mod-lt, mod-one, lt-suc-self, mod-eq-of-lt, eq-or-lt-of-le, le-of-suc-le-suc, div-eq-of-lt, lt-of-lt-of-le}
 use native.Mathlib.Omega.{arith}
@@ -137,6 +137,24 @@ setOf-member (suc n) x =
 pub setOf-member-lt : (n x : ℕ) → x < 2 ^ n → setOf n (member x) ≡ x
 setOf-member-lt n x h = setOf-member n x ∙ mod-eq-of-lt h
 
+-- an operation on sets of the nodes below n, on any words below 2 ^ n
+module _ (op : ℕ → ℕ → ℕ) (f : Bool → Bool → Bool) (n : ℕ)
+    (of-sets : (p q : Nodes) → op (setOf n p) (setOf n q) ≡ setOf n (λ i. f (p i) (q i))) where
+  words-op : (x y : ℕ) → x < 2 ^ n → y < 2 ^ n → op x y ≡ setOf n (λ i. f (member x i) (member y i))
+  words-op x y h l = sym (ap₂ op (setOf-member-lt n x h) (setOf-member-lt n y l)) ∙ of-sets (member x) (member y)
+
+pub words-and : (x y : ℕ) → x < 2 ^ 64 → y < 2 ^ 64 → bitAnd x y ≡ combined _&&_ x y
+words-and = words-op bitAnd _&&_ 64 (setOf-and 64)
+
+pub words-or : (x y : ℕ) → x < 2 ^ 64 → y < 2 ^ 64 → bitOr x y ≡ combined _||_ x y
+words-or = words-op bitOr _||_ 64 (setOf-or 64)
+
+pub words-minus : (x y : ℕ) → x < 2 ^ 64 → y < 2 ^ 64 → bitAnd x (bitXor x y) ≡ combined (λ a b. a && not b) x y
+words-minus = words-op (λ x y. bitAnd x (bitXor x y)) (λ a b. a && not b) 64 (setOf-minus 64)
+
+pub words-not : (x : ℕ) → x < 2 ^ 64 → bitXor (2 ^ 64 - 1) x ≡ setOf 64 (λ i. not (member x i))
+words-not x h = sym (ap (bitXor (2 ^ 64 - 1)) (setOf-member-lt 64 x h)) ∙ setOf-not 64 (member x)
+
 -- two sets with the same members are equal
 pub ext : (n x y : ℕ) → x < 2 ^ n → y < 2 ^ n → ((i : ℕ) → i < n → member x i ≡ member y i) → x ≡ y
 ext n x y hx hy h = sym (setOf-member-lt n x hx) ∙ setOf-cong n (member x) (member y) h ∙ setOf-member-lt n y hy
@@ -227,6 +245,10 @@ setOf-wide n (suc m) p h = ⊎-elim
     (λ (l : n < suc m). rw (le-ltb m n (omega arith), setOf-wide n m p (omega arith)) (omega arith))
     (eq-or-lt-of-le h)
 
+-- the set of the n lowest, in a wider word
+pub setOf-lowest : (n m : ℕ) → n ≤ m → setOf m (λ i. ltb i n) ≡ setOf n (λ i. true)
+setOf-lowest n m h = setOf-cong m _ _ (λ i l. sym (and-true (ltb i n))) ∙ setOf-wide n m (λ i. true) h
+
 pub member-beyond : (n : ℕ) (p : Nodes) (i : ℕ) → n ≤ i → member (setOf n p) i ≡ false
 unfolding member
 member-beyond n p i h = ap (λ (x : ℕ). eqb (x % 2) 1) (div-eq-of-lt (lt-of-lt-of-le (setOf-lt n p) (pow-mono h)))
@@ -248,3 +270,7 @@ combined-sets f z n p q h =
     go : (b x y : Bool) → f (b && x) (b && y) ≡ (b && f x y)
     go true x y = refl
     go false x y = z
+
+-- so what two words have in common is counted in the sets
+pub common-sets : (n : ℕ) (p q : Nodes) → n ≤ 64 → countBelow 64 (λ i. member (setOf n p) i && member (setOf n q) i) ≡ countBelow n (λ i. p i && q i)
+common-sets n p q h = sym (ones-setOf 64 _) ∙ ap ones (combined-sets _&&_ refl n p q h) ∙ ones-setOf n _
