@@ -1,3 +1,5 @@
 pub mod SetLaws
 pub mod BitLaws
 pub mod WordLaws
+mod BlockLaws
+mod ExchangeLaws

@@ -1,14 +1,13 @@
 -- The laws of sets of nodes as words.
-use mathlib.Core.Path.{_≡_, refl, sym, ap, ap₂, _∙_, subst}
+use mathlib.Core.Path.{_≡_, refl, sym, ap, ap₂, _∙_}
 use mathlib.Core.Bool.{Bool, true, false, not, _&&_, _||_, cond, or-true, or-false, and-true}
-use Prim.Native.Nat.{ℕ, zero, suc, _+_, _-_, _*_, _/_, _%_, _^_, _≤_, _<_, min, max}
-use native.Mathlib.Nat.{le-refl, lt-trans, pow-suc, one-mul, zero-mul, zero-add, add-zero, mod-lt, mod-one, lt-suc-self, mod-eq-of-lt, eq-or-lt-of-le, le-of-suc-le-suc, div-eq-of-lt, lt-of-lt-of-le}
+use Prim.Native.Nat.{ℕ, zero, suc, _+_, _-_, _*_, _/_, _%_, _^_, _≤_, _<_}
+use native.Mathlib.Nat.{le-refl, pow-suc, one-mul, mod-lt, mod-one, lt-suc-self, mod-eq-of-lt, eq-or-lt-of-le, le-of-suc-le-suc, div-eq-of-lt, lt-of-lt-of-le}
 use native.Mathlib.Omega.{arith}
 use native.Mathlib.Numerals.{add-one, one-add}
 use mathlib.Core.Logic.{⊎-elim}
 use borrow.Author.Tests.{ne-eqb, eq-eqb, lt-ltb, le-ltb, ltb-true, ltb-false}
 use lib.Dec.{eqb, ltb, lit<, lit≤}
-use lib.Arith.{digits-lt}
 use lib.Bits.{bitAnd, bitOr, bitXor, or-shifted-r, and-block, or-block, xor-block, and-mask}
 use lib.Count.{ones, ones-cat}
 use lib.Pow.{pow-pos, pow-mono, shl-exact, high, low, mod-pow-add, field, mod-mod-pow}
@@ -50,11 +49,12 @@ or-digit false b = refl
 or-digit true false = refl
 or-digit true true = refl
 
-abbrev pub other : Bool → Bool → Bool
-other false b = b
-other true b = not b
+-- one and not the other
+abbrev pub differ : Bool → Bool → Bool
+differ false b = b
+differ true b = not b
 
-xor-digit : (a b : Bool) → bitXor (digit a) (digit b) ≡ digit (other a b)
+xor-digit : (a b : Bool) → bitXor (digit a) (digit b) ≡ digit (differ a b)
 xor-digit false b = refl
 xor-digit true false = refl
 xor-digit true true = refl
@@ -65,18 +65,18 @@ setOf-and = setOf-op bitAnd _&&_ and-block refl and-digit
 pub setOf-or : (n : ℕ) (p q : Nodes) → bitOr (setOf n p) (setOf n q) ≡ setOf n (λ i. p i || q i)
 setOf-or = setOf-op bitOr _||_ or-block refl or-digit
 
-pub setOf-xor : (n : ℕ) (p q : Nodes) → bitXor (setOf n p) (setOf n q) ≡ setOf n (λ i. other (p i) (q i))
-setOf-xor = setOf-op bitXor other xor-block refl xor-digit
+pub setOf-xor : (n : ℕ) (p q : Nodes) → bitXor (setOf n p) (setOf n q) ≡ setOf n (λ i. differ (p i) (q i))
+setOf-xor = setOf-op bitXor differ xor-block refl xor-digit
 
-without : (a b : Bool) → (a && other a b) ≡ (a && not b)
-without false b = refl
-without true b = refl
+and-differ : (a b : Bool) → (a && differ a b) ≡ (a && not b)
+and-differ false b = refl
+and-differ true b = refl
 
 -- x & (x ^ y)
 pub setOf-minus : (n : ℕ) (p q : Nodes) → bitAnd (setOf n p) (bitXor (setOf n p) (setOf n q)) ≡ setOf n (λ i. p i && not (q i))
 setOf-minus n p q =
-    ap (bitAnd (setOf n p)) (setOf-xor n p q) ∙ setOf-and n p (λ i. other (p i) (q i))
-    ∙ setOf-cong n _ _ (λ i l. without (p i) (q i))
+    ap (bitAnd (setOf n p)) (setOf-xor n p q) ∙ setOf-and n p (λ i. differ (p i) (q i))
+    ∙ setOf-cong n _ _ (λ i l. and-differ (p i) (q i))
 
 pub setOf-all : (n : ℕ) → setOf n (λ i. true) ≡ 2 ^ n - 1
 unfolding setOf
@@ -155,9 +155,9 @@ words-minus = words-op (λ x y. bitAnd x (bitXor x y)) (λ a b. a && not b) 64 (
 pub words-not : (x : ℕ) → x < 2 ^ 64 → bitXor (2 ^ 64 - 1) x ≡ setOf 64 (λ i. not (member x i))
 words-not x h = sym (ap (bitXor (2 ^ 64 - 1)) (setOf-member-lt 64 x h)) ∙ setOf-not 64 (member x)
 
--- two sets with the same members are equal
-pub ext : (n x y : ℕ) → x < 2 ^ n → y < 2 ^ n → ((i : ℕ) → i < n → member x i ≡ member y i) → x ≡ y
-ext n x y hx hy h = sym (setOf-member-lt n x hx) ∙ setOf-cong n (member x) (member y) h ∙ setOf-member-lt n y hy
+-- a word is the set of its members
+pub is-setOf : (n x : ℕ) (p : Nodes) → x < 2 ^ n → ((i : ℕ) → i < n → member x i ≡ p i) → x ≡ setOf n p
+is-setOf n x p h e = sym (setOf-member-lt n x h) ∙ setOf-cong n (member x) p e
 
 top-bit : (n r : ℕ) (b : Bool) → r < 2 ^ n → member (digit b * 2 ^ n + r) n ≡ b
 unfolding member
@@ -213,10 +213,6 @@ setOf-same n p r q e = rw (add-one, e) (omega arith)
 -- at a loop's end i is n
 pub setOf-end : (n i : ℕ) (p : Nodes) (r : ℕ) → i ≤ n → n ≤ i → r ≡ setOf i p → r ≡ setOf n p
 setOf-end n i p r h l e = let q : i ≡ n = omega arith in e ∙ ap (λ (k : ℕ). setOf k p) q
-
-pub member-digit : (x i : ℕ) → bitAnd (x / 2 ^ i) 1 ≡ digit (member x i)
-unfolding member
-member-digit x i = and-mask (x / 2 ^ i) 1 ∙ sym (digit-bit (x / 2 ^ i % 2) (mod-lt (x / 2 ^ i) (lit< tt)))
 
 pub setOf-zero : (p : Nodes) → 0 ≡ setOf 0 p
 unfolding setOf

@@ -1,17 +1,17 @@
 -- The laws of words in bytes.
 use mathlib.Core.Path.{_≡_, refl, sym, ap, ap₂, _∙_}
 use mathlib.Core.Bool.{Bool, true, false}
-use mathlib.Core.List.{List, [], _∷_, _++_, append-assoc}
+use mathlib.Core.List.{List, [], _∷_, _++_}
 use mathlib.Core.Logic.{_⊎_, inl, inr, ⊎-elim}
 use Prim.Native.Nat.{ℕ, zero, suc, _+_, _-_, _*_, _/_, _%_, _^_, _≤_, _<_}
-use native.Mathlib.Nat.{pow-suc, mod-one, mod-lt, mod-eq-of-lt, add-zero, zero-div}
+use native.Mathlib.Nat.{pow-suc, mod-one, mod-eq-of-lt, zero-div}
 use native.Mathlib.Omega.{arith}
 use lib.Arith.{mod-mul}
 use lib.Dec.{eqb, ltb, lit<}
 use borrow.Author.Tests.{ltb-true, ltb-false}
 use lib.ListN.{length, getD, take, drop, set, length-append, length-take, length-drop, List·getD-append, List·getD-eq-default}
-use lib.Pow.{shr-shr, pow-pos}
-use lib.Seq.{sets, sets-eq, drop-cons, drop-at, take-at, length-take-le, getD-take, getD-drop, getD-append-add, ext-getD}
+use lib.Pow.{shr-shr}
+use lib.Seq.{sets, sets-eq, drop-cons, length-take-le, getD-take, getD-drop, getD-append-add, ext-getD}
 use Rattle.words.specs.Words.{member, bytes, numberOf, wordAt, putWord}
 use Rattle.words.proofs.SetLaws.{member-low}
 use Rattle.words.proofs.BitLaws.{member-shr}

@@ -1,10 +1,12 @@
 // Sets of nodes as u64.
 ghost use mathlib.Core.Path.{_≡_};
-ghost use mathlib.Core.Bool.{not, _&&_, _||_};
-ghost use Prim.Native.Nat.{ℕ, _+_, _<_, _≤_};
+ghost use mathlib.Core.Bool.{not, _&&_, _||_, cond};
+ghost use Prim.Native.Nat.{ℕ, _+_, _-_, _<_, _≤_};
 ghost use lib.Dec.{eqb, ltb};
+ghost use lib.ListN.{length};
 ghost use Rattle.logic.specs.Graph.{countBelow};
-ghost use Rattle.words.specs.Words.{setOf, member, combined};
+ghost use Rattle.words.specs.Words.{setOf, member, combined, wordAt, putWord};
+ghost use Rattle.words.specs.Transpose.{Transposed, lowHalf, fromRow, fromColumn, Blocks, Moved};
 
 // Whether node i is in the set x. Inner: i is the number of a bit.
 pub fn member(x: u64, i: usize) -> bool
@@ -63,4 +65,87 @@ pub fn count_common(x: u64, y: u64) -> u32
     ensures { λ r. ⌜ r ≡ countBelow 64 (λ i. member x i && member y i) ⌝ }
 {
     u64::count_ones(x & y)
+}
+
+// A byte as a word. Inner: says beside its value that it is below 256.
+fn wide(x: u8) -> u64
+    ensures { λ r. ⌜ (r ≡ x) × (r < 256) ⌝ }
+{
+    x as u64
+}
+
+// The word in the 8 bytes from `at` on. Inner: they are there.
+pub fn load(s: &[u8], at: usize) -> u64
+    requires { ⌜ at + 8 ≤ length (now s) ⌝ }
+    ensures { λ r. ⌜ r ≡ wordAt (now (s .entry)) at ⌝ }
+{
+    wide(s[at])
+        + wide(s[at + 1]) * 0x100
+        + wide(s[at + 2]) * 0x1_0000
+        + wide(s[at + 3]) * 0x100_0000
+        + wide(s[at + 4]) * 0x1_0000_0000
+        + wide(s[at + 5]) * 0x100_0000_0000
+        + wide(s[at + 6]) * 0x1_0000_0000_0000
+        + wide(s[at + 7]) * 0x100_0000_0000_0000
+}
+
+// Puts x into the 8 bytes from `at` on. Inner: they are there.
+pub fn store(s: &mut [u8], at: usize, x: u64)
+    requires { ⌜ at + 8 ≤ length (now s) ⌝ }
+    ensures { λ _. ⌜ now (s .exit) ≡ putWord (now (s .entry)) at x ⌝ }
+{
+    s[at] = (x % 0x100) as u8;
+    s[at + 1] = (x / 0x100 % 0x100) as u8;
+    s[at + 2] = (x / 0x1_0000 % 0x100) as u8;
+    s[at + 3] = (x / 0x100_0000 % 0x100) as u8;
+    s[at + 4] = (x / 0x1_0000_0000 % 0x100) as u8;
+    s[at + 5] = (x / 0x100_0000_0000 % 0x100) as u8;
+    s[at + 6] = (x / 0x1_0000_0000_0000 % 0x100) as u8;
+    s[at + 7] = (x / 0x100_0000_0000_0000 % 0x100) as u8;
+}
+
+// A row in the low half of its blocks, from the row x there was and the row y that is s further on. Inner: m is the mask of s.
+fn low_row(x: u64, y: u64, s: usize, m: u64) -> u64
+    requires { ⌜ Blocks s m ⌝ }
+    ensures { λ r. ⌜ r ≡ setOf 64 (λ j. cond (lowHalf s j) (member x j) (member y (j - s))) ⌝ }
+{
+    (x & m) | (y & m) << s
+}
+
+// A row in the high half, from the row x that is s before and the row y there was. Inner: m is the mask of s.
+fn high_row(x: u64, y: u64, s: usize, m: u64) -> u64
+    requires { ⌜ Blocks s m ⌝ }
+    ensures { λ r. ⌜ r ≡ setOf 64 (λ j. cond (lowHalf s j) (member x (j + s)) (member y j)) ⌝ }
+{
+    (x >> s & m) | (y & m << s)
+}
+
+// Exchanges blocks of s rows and s columns. Inner: m is the mask of s.
+fn exchange_blocks(a: [u64; 64], s: usize, m: u64) -> [u64; 64]
+    requires { ⌜ Blocks s m ⌝ }
+    ensures { λ r. ⌜ Moved a r (fromRow s) (fromColumn s) ⌝ }
+{
+    let mut r = [0u64; 64];
+    let mut i = 0;
+    while i < 64 {
+        if i / s % 2 == 0 {
+            r[i] = low_row(a[i], a[i + s], s, m);
+        } else {
+            r[i] = high_row(a[i - s], a[i], s, m);
+        }
+        i += 1;
+    }
+    r
+}
+
+// Exchanges rows and columns: by halves, then by quarters, and so on down to single bits.
+pub fn transposed(rows: [u64; 64]) -> [u64; 64]
+    ensures { λ r. ⌜ Transposed rows r ⌝ }
+{
+    let by32 = exchange_blocks(rows, 32, 0x0000_0000_FFFF_FFFF);
+    let by16 = exchange_blocks(by32, 16, 0x0000_FFFF_0000_FFFF);
+    let by8 = exchange_blocks(by16, 8, 0x00FF_00FF_00FF_00FF);
+    let by4 = exchange_blocks(by8, 4, 0x0F0F_0F0F_0F0F_0F0F);
+    let by2 = exchange_blocks(by4, 2, 0x3333_3333_3333_3333);
+    exchange_blocks(by2, 1, 0x5555_5555_5555_5555)
 }
