@@ -1,0 +1,198 @@
+-- The operations on words and on rows of words are those on the sets and relations that they stand for.
+use mathlib.Core.Path.{_≡_, refl, sym, ap, ap₂, _∙_}
+use mathlib.Core.Bool.{Bool, true, false, not, _&&_, _||_, cond, and-true, and-false}
+use mathlib.Core.List.{List}
+use mathlib.Core.Logic.{⊎-elim}
+use Prim.Native.Nat.{ℕ, zero, suc, _+_, _<_, _≤_}
+use native.Mathlib.Nat.{eq-or-lt-of-le, le-of-suc-le-suc}
+use native.Mathlib.Numerals.{add-one}
+use native.Mathlib.Omega.{arith}
+use lib.Dec.{eqb, ltb, leb}
+use lib.ListN.{length, getD, set, replicate}
+use lib.Seq.{getD-set-same, getD-set-other}
+use borrow.Author.Tests.{eq-eqb, ne-eqb, eqb-true, eqb-false}
+use Rattle.logic.specs.Graph.{Nodes, Pairs, anyBelow, allBelow, countBelow, implies}
+use Rattle.words.specs.Words.{setOf, member, combined}
+use Rattle.words.proofs.SetLaws.{setOf-cong, setOf-empty, setOf-none, setOf-wide, member-of, member-setOf, combined-sets, common-sets}
+use Rattle.sheet.specs.Sheet.{Rows}
+use Rattle.words.specs.Transpose.{Transposed}
+use Rattle.rows.specs.Operations.{nodeOperation, arrowOperation, quantified, quantifiedNodes, Masked}
+
+-- The rows of l below i are f: what a loop that fills rows from the front has done.
+pub record Filled (i : ℕ) (l : List ℕ) (f : ℕ → ℕ) : Type 0 where
+  pub row : (k : ℕ) → k < i → getD l k 0 ≡ f k
+
+pub filled-none : {l : List ℕ} {f : ℕ → ℕ} → Filled 0 l f
+filled-none = record { row = λ k h. absurd (omega arith) }
+
+pub filled-more : {i : ℕ} {l : List ℕ} {f : ℕ → ℕ} {v : ℕ} → i < length l → Filled i l f → v ≡ f i → Filled (i + 1) (set l i v) f
+filled-more {i} {l} {f} {v} h all e =
+    record {
+      row = λ k lt. ⊎-elim
+          (λ (q : k ≡ i). ap (λ (j : ℕ). getD (set l i v) j 0) q ∙ getD-set-same l i v 0 h ∙ e ∙ ap f (sym q))
+          (λ (q : k < i). getD-set-other l i k v 0 (λ z. omega arith) ∙ all .row k q)
+          (eq-or-lt-of-le (le-of-suc-le-suc (rw add-one at lt)));
+    }
+
+-- what is at each index of zeros
+pub zeros-at : (n k : ℕ) → _≡_ {A = ℕ} (getD (replicate n 0) k 0) 0
+zeros-at zero k = refl
+zeros-at (suc n) zero = refl
+zeros-at (suc n) (suc k) = zeros-at n k
+
+-- Not one outside: all inside.
+pub none-outside : (n : ℕ) (v w : Nodes) → not (anyBelow n (λ i. v i && not (w i))) ≡ allBelow n (λ i. implies (v i) (w i))
+unfolding anyBelow allBelow
+none-outside zero v w = refl
+none-outside (suc n) v w = go (anyBelow n (λ i. v i && not (w i))) (v n) (w n) ∙ ap (_&& implies (v n) (w n)) (none-outside n v w)
+  where
+    go : (a x y : Bool) → not (a || (x && not y)) ≡ (not a && implies x y)
+    go true x y = refl
+    go false true true = refl
+    go false true false = refl
+    go false false y = refl
+
+pub minus-empty : (n : ℕ) (v w : Nodes) → n ≤ 64 → eqb (combined (λ a b. a && not b) (setOf n v) (setOf n w)) 0 ≡ allBelow n (λ i. implies (v i) (w i))
+minus-empty n v w h = ap (λ (x : ℕ). eqb x 0) (combined-sets (λ a b. a && not b) refl n v w h) ∙ setOf-empty n (λ i. v i && not (w i)) ∙ none-outside n v w
+
+-- The operations put nothing where nothing is.
+pub node-operation-none : (c : ℕ) → nodeOperation c false false ≡ false
+node-operation-none c = go (eqb c 0x06)
+  where
+    go : (b : Bool) → cond b (false && false) (false || false) ≡ false
+    go true = refl
+    go false = refl
+
+pub arrow-operation-none : (c : ℕ) → arrowOperation c false false ≡ false
+arrow-operation-none c = go (eqb c 0x13) (eqb c 0x14)
+  where
+    go : (b d : Bool) → cond b (false || false) (cond d (false && false) (false && not false)) ≡ false
+    go true d = refl
+    go false true = refl
+    go false false = refl
+
+-- The four quantifiers by their codes.
+module _ (c m n : ℕ) (v w : Nodes) where
+  pub quantified-some : c ≡ 0x08 → quantified c m n v w ≡ anyBelow n (λ j. v j && w j)
+  unfolding quantified
+  quantified-some e = rw (eq-eqb c 0x08 e)
+
+  pub quantified-every : (c ≡ 0x08 → ⊥) → c ≡ 0x09 → quantified c m n v w ≡ allBelow n (λ j. implies (v j) (w j))
+  unfolding quantified
+  quantified-every a e = rw (ne-eqb c 0x08 a, eq-eqb c 0x09 e)
+
+  pub quantified-least : (c ≡ 0x08 → ⊥) → (c ≡ 0x09 → ⊥) → c ≡ 0x0A → quantified c m n v w ≡ leb m (countBelow n (λ j. v j && w j))
+  unfolding quantified
+  quantified-least a b e = rw (ne-eqb c 0x08 a, ne-eqb c 0x09 b, eq-eqb c 0x0A e)
+
+  pub quantified-most : (c ≡ 0x08 → ⊥) → (c ≡ 0x09 → ⊥) → (c ≡ 0x0A → ⊥) → quantified c m n v w ≡ leb (countBelow n (λ j. v j && w j)) m
+  unfolding quantified
+  quantified-most a b d = rw (ne-eqb c 0x08 a, ne-eqb c 0x09 b, ne-eqb c 0x0A d)
+
+pub not-is : (a b : Bool) → not a ≡ b → a ≡ not b
+not-is true b e = ap not e
+not-is false b e = ap not e
+
+not-not : (b : Bool) → not (not b) ≡ b
+not-not true = refl
+not-not false = refl
+
+module _ (n : ℕ) (v w : Nodes) (row e : ℕ) (h : n ≤ 64) (p : row ≡ setOf n v) (q : e ≡ setOf n w) where
+  -- a common member
+  pub some-common : (x : ℕ) → x ≡ combined _&&_ row e → not (eqb x 0) ≡ anyBelow n (λ j. v j && w j)
+  some-common x s =
+      ap (λ (y : ℕ). not (eqb y 0)) (s ∙ ap₂ (combined _&&_) p q ∙ combined-sets _&&_ refl n v w h)
+      ∙ ap not (setOf-empty n (λ j. v j && w j)) ∙ not-not (anyBelow n (λ j. v j && w j))
+
+  -- how many
+  pub count-common : (x : ℕ) → x ≡ countBelow 64 (λ i. member row i && member e i) → x ≡ countBelow n (λ j. v j && w j)
+  count-common x s = s ∙ ap₂ (λ (y z : ℕ). countBelow 64 (λ i. member y i && member z i)) p q ∙ common-sets n v w h
+
+-- The loop over the nodes and the mask after it.
+module _ (c m n : ℕ) (nodes : Nodes) (v : Pairs) (w : Nodes) (r : ℕ) (s : r ≡ setOf n (λ k. quantified c m n (v k) w)) where
+  pub quantified-unmasked : c ≡ 0x08 → r ≡ setOf n (quantifiedNodes c m n nodes v w)
+  unfolding quantifiedNodes
+  quantified-unmasked e = s ∙ setOf-cong n _ _ (λ i l. sym (rw (eq-eqb c 0x08 e)))
+
+  pub quantified-masked : (all : ℕ) → (c ≡ 0x08 → ⊥) → n ≤ 64 → all ≡ setOf n nodes → combined _&&_ all r ≡ setOf n (quantifiedNodes c m n nodes v w)
+  unfolding quantifiedNodes
+  quantified-masked all e h a =
+      ap₂ (combined _&&_) a s ∙ combined-sets _&&_ refl n nodes (λ k. quantified c m n (v k) w) h
+      ∙ setOf-cong n _ _ (λ i l. sym (rw (ne-eqb c 0x08 e)))
+
+-- A set among n and a set of the whole word.
+pub combined-wide : (n : ℕ) (p q : Nodes) → n ≤ 64 → combined _&&_ (setOf n p) (setOf 64 q) ≡ setOf n (λ i. p i && q i)
+combined-wide n p q h =
+    setOf-cong 64 _ (λ i. ltb i n && (p i && q i)) (λ i l. ap₂ _&&_ (member-of n p i) (member-setOf 64 q i l) ∙ go (ltb i n) (p i) (q i))
+    ∙ setOf-wide n 64 (λ i. p i && q i) h
+  where
+    go : (a b c : Bool) → ((a && b) && c) ≡ (a && (b && c))
+    go true b c = refl
+    go false b c = refl
+
+module _ {n : ℕ} {v w : Pairs} {a b r : List ℕ} where
+  pub rows-combined : (c : ℕ) → n ≤ 64 → Rows n v a → Rows n w b → Filled n r (λ i. combined (arrowOperation c) (getD a i 0) (getD b i 0)) → Rows n (λ i j. arrowOperation c (v i j) (w i j)) r
+  rows-combined c h p q f =
+      record { row = λ i l. f .row i l ∙ ap₂ (combined (arrowOperation c)) (p .row i l) (q .row i l) ∙ combined-sets (arrowOperation c) (arrow-operation-none c) n (v i) (w i) h }
+
+module _ {n : ℕ} {v : Pairs} {a r : List ℕ} where
+  pub rows-ending : (w : Nodes) (e : ℕ) → n ≤ 64 → Rows n v a → e ≡ setOf n w → Masked n a e r → Rows n (λ i j. v i j && w j) r
+  rows-ending w e h p q f = record { row = λ i l. f .row i l ∙ ap₂ (combined _&&_) (p .row i l) q ∙ combined-sets _&&_ refl n (v i) w h }
+
+  pub rows-reversed : (t : List ℕ) (e : ℕ) → n ≤ 64 → Rows n v a → Transposed a t → e ≡ setOf 64 (λ j. ltb j n) → Masked n t e r → Rows n (λ i j. v j i) r
+  rows-reversed t e h p q s f =
+      record {
+        row = λ i l.
+            f .row i l
+            ∙ ap₂ (combined _&&_) (q .rows i (omega arith)) s
+            ∙ combined-sets _&&_ refl 64 (λ j. member (getD a j 0) i) (λ j. ltb j n) (omega arith)
+            ∙ setOf-cong 64 _ (λ j. ltb j n && member (getD a j 0) i) (λ j k. swap (member (getD a j 0) i) (ltb j n))
+            ∙ setOf-wide n 64 (λ j. member (getD a j 0) i) h
+            ∙ setOf-cong n _ _ (λ j k. ap (λ (x : ℕ). member x i) (p .row j k) ∙ member-setOf n (v j) i l);
+      }
+    where
+      swap : (x y : Bool) → (x && y) ≡ (y && x)
+      swap true true = refl
+      swap true false = refl
+      swap false true = refl
+      swap false false = refl
+
+-- 17
+module _ (n i j all : ℕ) (nodes : Nodes) (small : i < n) (a : all ≡ setOf n nodes) where
+  pub pair-there : (x : ℕ) → member all i ≡ true → x ≡ setOf n (λ l. nodes l && eqb l j) → x ≡ setOf n (λ l. nodes i && (nodes l && eqb l j))
+  pair-there x e f = f ∙ setOf-cong n _ _ (λ l k. ap (_&& (nodes l && eqb l j)) (sym (sym (member-setOf n nodes i small) ∙ ap (λ (y : ℕ). member y i) (sym a) ∙ e)))
+
+  pub pair-gone : member all i ≡ false → 0 ≡ setOf n (λ l. nodes i && (nodes l && eqb l j))
+  pair-gone e = sym (setOf-none n) ∙ setOf-cong n _ _ (λ l k. ap (_&& (nodes l && eqb l j)) (sym (sym (member-setOf n nodes i small) ∙ ap (λ (y : ℕ). member y i) (sym a) ∙ e)))
+
+pub rows-pair : (n : ℕ) (nodes : Nodes) (i j k x : ℕ) → k ≡ i → i < 64 → (i < n → x ≡ setOf n (λ l. nodes i && (nodes l && eqb l j))) → Rows n (λ s l. (nodes s && eqb s i) && (nodes l && eqb l j)) (set (replicate 64 0) k x)
+rows-pair n nodes i j k x e h f = record { row = λ s l. go s l (eqb s i) refl }
+  where
+    go : (s : ℕ) → s < n → (b : Bool) → eqb s i ≡ b → getD (set (replicate 64 0) k x) s 0 ≡ setOf n (λ l. (nodes s && eqb s i) && (nodes l && eqb l j))
+    go s l true d =
+        let q : s ≡ i = eqb-true s i d in
+        ap (λ (y : ℕ). getD (set (replicate 64 0) k x) y 0) (q ∙ sym e) ∙ getD-set-same (replicate 64 0) k x 0 (omega arith) ∙ f (omega arith)
+        ∙ setOf-cong n _ _ (λ t z. ap (_&& (nodes t && eqb t j)) (ap nodes (sym q) ∙ sym (and-true (nodes s)) ∙ ap (nodes s &&_) (sym d)))
+    go s l false d =
+        getD-set-other (replicate 64 0) k s x 0 (λ z. eqb-false s i d (z ∙ e)) ∙ zeros-at 64 s ∙ sym (setOf-none n)
+        ∙ setOf-cong n _ _ (λ t z. ap (_&& (nodes t && eqb t j)) (sym (ap (nodes s &&_) d ∙ and-false (nodes s))))
+
+-- 22
+pub all-below-none : (p : Nodes) → allBelow 0 p ≡ true
+unfolding allBelow
+all-below-none p = refl
+
+pub all-below-more : (i : ℕ) (p : Nodes) → allBelow i p ≡ true → p i ≡ true → allBelow (i + 1) p ≡ true
+unfolding allBelow
+all-below-more i p e f = ap (λ (k : ℕ). allBelow k p) (add-one i) ∙ ap₂ _&&_ e f
+
+pub all-below-end : (n i : ℕ) (p : Nodes) → i ≤ n → n ≤ i → allBelow i p ≡ true → true ≡ allBelow n p
+all-below-end n i p h l e = let q : n ≡ i = omega arith in sym (ap (λ (k : ℕ). allBelow k p) q ∙ e)
+
+pub all-below-broken : (n : ℕ) (p : Nodes) (i : ℕ) → i < n → p i ≡ false → allBelow n p ≡ false
+unfolding allBelow
+all-below-broken zero p i h e = absurd (omega arith)
+all-below-broken (suc n) p i h e = ⊎-elim
+    (λ (q : i ≡ n). ap (allBelow n p &&_) (ap p (sym q) ∙ e) ∙ and-false (allBelow n p))
+    (λ (l : i < n). ap (_&& p n) (all-below-broken n p i l e))
+    (eq-or-lt-of-le (le-of-suc-le-suc h))
