@@ -1,1 +1,60 @@
 // The check bytes of a block.
+ghost use mathlib.Core.Path.{_≡_};
+ghost use Prim.Native.Nat.{ℕ, _<_, _≤_};
+ghost use lib.ListN.{length, take};
+ghost use Rattle.seal.specs.Seal.{blockBytes, bodyBytes, sums, sealRight, reseal};
+
+// The sums s and t of document 01, each below 255.
+pub struct Sums {
+    pub s: u32,
+    pub t: u32,
+}
+
+// A byte as a number to sum. Inner: says beside its value that it is below 256.
+fn wide(x: u8) -> u32
+    ensures { λ r. ⌜ (r ≡ x) × (r < 256) ⌝ }
+{
+    x as u32
+}
+
+// The sums of a block's body: plain totals, and one remainder each at the end. Inner: the body is there.
+pub fn sums_of(block: &[u8]) -> Sums
+    requires { ⌜ bodyBytes ≤ length (now block) ⌝ }
+    ensures { λ r. ⌜ (r .s ≡ sums (take bodyBytes (now (block .entry))) .s) × (r .t ≡ sums (take bodyBytes (now (block .entry))) .t) ⌝ }
+    ensures { λ r. ⌜ (r .s < 255) × (r .t < 255) ⌝ }
+{
+    let mut s = 0;
+    let mut t = 0;
+    let mut i = 0;
+    while i < 510 {
+        s += wide(block[i]);
+        t += s;
+        i += 1;
+    }
+    Sums {
+        s: s % 255,
+        t: t % 255,
+    }
+}
+
+// Whether a block's check bytes are right. Inner: it is a block.
+pub fn seal_right(block: &[u8]) -> bool
+    requires { ⌜ length (now block) ≡ blockBytes ⌝ }
+    ensures { λ r. ⌜ r ≡ sealRight (now (block .entry)) ⌝ }
+{
+    let c = sums_of(block);
+    if wide(block[510]) == c.s {
+        return wide(block[511]) == c.t;
+    }
+    false
+}
+
+// Makes a block's check bytes right. Inner: it is a block.
+pub fn seal(block: &mut [u8])
+    requires { ⌜ length (now block) ≡ blockBytes ⌝ }
+    ensures { λ _. ⌜ now (block .exit) ≡ reseal (now (block .entry)) ⌝ }
+{
+    let c = sums_of(block);
+    block[510] = c.s as u8;
+    block[511] = c.t as u8;
+}

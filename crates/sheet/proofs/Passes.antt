@@ -1,0 +1,148 @@
+-- The sheet that stores a graph within the limits passes the questions.
+use mathlib.Core.Path.{_≡_, refl, sym, _∙_, ap, ap₂}
+use mathlib.Core.Bool.{Bool, true, false, _&&_, _||_, or-true}
+use mathlib.Core.List.{List, [], _∷_, _++_}
+use Prim.Native.Nat.{ℕ, zero, suc, _+_, _-_, _*_, _/_, _%_, _^_, _≤_, _<_}
+use native.Mathlib.Nat.{mul-zero, mul-suc, zero-div}
+use native.Mathlib.Omega.{arith}
+use native.Mathlib.Decide.{decLt}
+use borrow.Author.Tests.{eq-eqb, lt-ltb, le-leb}
+use lib.Dec.{eqb, leb, ltb}
+use lib.ListN.{length, getD, take, drop}
+use lib.Seq.{drop-append-add, take-at}
+use Rattle.answer.specs.Asked.{Asked, passed, _>>_, is}
+use Rattle.logic.specs.Graph.{Graph, Nodes, allBelow, implies}
+use Rattle.logic.specs.Limits.{Within, maxNodes}
+use Rattle.logic.proofs.Inside.{no-node}
+use Rattle.words.specs.Words.{setOf, member}
+use Rattle.words.proofs.SetLaws.{member-setOf, member-beyond}
+use Rattle.seal.specs.Seal.{blockBytes, bodyBytes, sealRight}
+use Rattle.seal.proofs.SealLaws.{sealed-right}
+use Rattle.sheet.specs.Sheet.{sheetBytes, labelPad, arrowPad, chunks, block, labelBlock, arrowBlock, store}
+use Rattle.sheet.specs.Questions.{blockOf, nodeCountRight, headRight, free, zeroRight, askBlock, askBlocks, askSheet, Sound}
+use Rattle.sheet.proofs.Blocks.{wordsOf, bodyOf, length-body, head-at, front-zero, pad-zero, word-bit, labelHead, labelWord, arrowHead, rowWord, length-labelBlock, length-arrowBlock, length-store, n-is}
+
+pub all-true : (n : ℕ) (f : Nodes) → ((i : ℕ) → i < n → f i ≡ true) → allBelow n f ≡ true
+unfolding allBelow
+all-true zero f h = refl
+all-true (suc n) f h = ap₂ _&&_ (all-true n f (λ i l. h i (omega arith))) (h n (omega arith))
+
+pub if-clear : (b c : Bool) → b ≡ false → implies b c ≡ true
+if-clear b c e = rw e
+
+pub if-free : (b c : Bool) → c ≡ true → implies b c ≡ true
+if-free b c e = rw (e, or-true)
+
+pub no-bit : (i : ℕ) → member 0 i ≡ false
+unfolding member
+no-bit i = ap (λ x. eqb (x % 2) 1) (zero-div (2 ^ i))
+
+-- a block of m words, each a set of nodes below n, has nothing where nothing may be
+module _ (head : List ℕ) (m : ℕ) (f : ℕ → ℕ) (pad : ℕ) (h : length head ≡ 3) (fits : 8 * m + pad ≡ 494) (n b : ℕ)
+    (heads : (p i : ℕ) → p < 3 → free n b p i ≡ true)
+    (inside : (p i : ℕ) → 16 ≤ p → p < 16 + 8 * m → i < 8 → implies (member (f ((p - 16) / 8)) (p % 8 * 8 + i)) (free n b p i) ≡ true) where
+  bit-right : (p i : ℕ) → p < bodyBytes → i < 8 → Dec (p < 3) → Dec (p < 16) → Dec (p < 16 + 8 * m) → implies (member (getD (block head (wordsOf m f) pad) p 0) i) (free n b p i) ≡ true
+  bit-right p i l s (yes x) d e = if-free (member (getD (block head (wordsOf m f) pad) p 0) i) _ (heads p i x)
+  bit-right p i l s (no x) (yes d) e = if-clear _ _ (ap (λ x. member x i) (front-zero head m f pad h fits p (omega arith) d) ∙ no-bit i)
+  bit-right p i l s (no x) (no d) (yes e) = ap (λ y. implies y (free n b p i)) (word-bit head m f pad h fits p i (omega arith) e s) ∙ inside p i (omega arith) e s
+  bit-right p i l s (no x) (no d) (no e) = if-clear _ _ (ap (λ x. member x i) (pad-zero head m f pad h fits p (omega arith) l) ∙ no-bit i)
+
+  block-zeros : zeroRight n b (block head (wordsOf m f) pad) ≡ true
+  unfolding zeroRight
+  block-zeros = all-true bodyBytes _ (λ p l. all-true 8 _ (λ i s. bit-right p i l s (decLt p 3) (decLt p 16) (decLt p (16 + 8 * m))))
+
+  block-sealed : sealRight (block head (wordsOf m f) pad) ≡ true
+  unfolding block
+  block-sealed = sealed-right (bodyOf head (wordsOf m f) pad) (length-body head m f pad h fits)
+
+-- the three questions of a block, answered
+block-right : (n b : ℕ) (k : List ℕ) → sealRight k ≡ true → headRight b k ≡ true → zeroRight n b k ≡ true → askBlock n b k ≡ passed tt
+unfolding askBlock is _>>_
+block-right n b k e f h = rw (e, f, h)
+
+module _ (g : Graph) (w : Within g) where
+  labels-pass : askBlock (g .n) 0 (labelBlock g) ≡ passed tt
+  unfolding labelBlock headRight free
+  labels-pass =
+      block-right (g .n) 0 (labelBlock g)
+      (block-sealed (labelHead g) 48 (labelWord g) labelPad refl refl (g .n) 0 heads inside)
+      (rw (at 0 (omega arith), at 1 (omega arith), at 2 (omega arith)) (ap₂ _&&_ (le-leb 1 (g .n) (w .some-node)) (le-leb (g .n) 60 (w .few-nodes))))
+      (block-zeros (labelHead g) 48 (labelWord g) labelPad refl refl (g .n) 0 heads inside)
+    where
+      at : (p : ℕ) → p < 3 → getD (block (labelHead g) (wordsOf 48 (labelWord g)) labelPad) p 0 ≡ getD (labelHead g) p 0
+      at p l = head-at (labelHead g) 48 (labelWord g) labelPad refl refl p l
+
+      heads : (p i : ℕ) → p < 3 → free (g .n) 0 p i ≡ true
+      heads p i l = rw (lt-ltb p 3 l)
+
+      go : (p i : ℕ) → 16 ≤ p → p < 400 → Dec (p % 8 * 8 + i < g .n) → implies (member (labelWord g ((p - 16) / 8)) (p % 8 * 8 + i)) (free (g .n) 0 p i) ≡ true
+      go p i l u (yes s) = if-free (member (labelWord g ((p - 16) / 8)) (p % 8 * 8 + i)) _ (rw (le-leb 16 p l, lt-ltb p 400 u, lt-ltb (p % 8 * 8 + i) (g .n) s, or-true))
+      go p i l u (no s) = if-clear _ _ (member-beyond (g .n) (g .labelled ((p - 16) / 8)) (p % 8 * 8 + i) (omega arith))
+
+      inside : (p i : ℕ) → 16 ≤ p → p < 16 + 8 * 48 → i < 8 → implies (member (labelWord g ((p - 16) / 8)) (p % 8 * 8 + i)) (free (g .n) 0 p i) ≡ true
+      inside p i l u s = go p i l (omega arith) (decLt (p % 8 * 8 + i) (g .n))
+
+  arrows-pass : (a : ℕ) → askBlock (g .n) (suc a) (arrowBlock g a) ≡ passed tt
+  unfolding arrowBlock headRight free
+  arrows-pass a =
+      block-right (g .n) (suc a) (arrowBlock g a)
+      (block-sealed (arrowHead a) 60 (rowWord g a) arrowPad refl refl (g .n) (suc a) heads inside)
+      (rw (at 0 (omega arith), at 1 (omega arith), at 2 (omega arith)) (rw (eq-eqb (suc a) (suc a) refl)))
+      (block-zeros (arrowHead a) 60 (rowWord g a) arrowPad refl refl (g .n) (suc a) heads inside)
+    where
+      at : (p : ℕ) → p < 3 → getD (block (arrowHead a) (wordsOf 60 (rowWord g a)) arrowPad) p 0 ≡ getD (arrowHead a) p 0
+      at p l = head-at (arrowHead a) 60 (rowWord g a) arrowPad refl refl p l
+
+      heads : (p i : ℕ) → p < 3 → free (g .n) (suc a) p i ≡ true
+      heads p i l = rw (lt-ltb p 3 l)
+
+      row-clear : (r j : ℕ) → g .n ≤ r → Dec (j < g .n) → member (rowWord g a r) j ≡ false
+      row-clear r j l (yes s) = member-setOf (g .n) (g .joined a r) j s ∙ w .arrows-in a .starts r j (no-node g r l)
+      row-clear r j l (no s) = member-beyond (g .n) (g .joined a r) j (omega arith)
+
+      go : (p i : ℕ) → 16 ≤ p → p < 496 → Dec ((p - 16) / 8 < g .n) → Dec (p % 8 * 8 + i < g .n) → implies (member (rowWord g a ((p - 16) / 8)) (p % 8 * 8 + i)) (free (g .n) (suc a) p i) ≡ true
+      go p i l u (yes r) (yes s) =
+          if-free (member (rowWord g a ((p - 16) / 8)) (p % 8 * 8 + i)) _
+          (rw (le-leb 16 p l, lt-ltb p 496 u, lt-ltb ((p - 16) / 8) (g .n) r, lt-ltb (p % 8 * 8 + i) (g .n) s, or-true))
+      go p i l u (yes r) (no s) = if-clear _ _ (member-beyond (g .n) (g .joined a ((p - 16) / 8)) (p % 8 * 8 + i) (omega arith))
+      go p i l u (no r) d = if-clear _ _ (row-clear ((p - 16) / 8) (p % 8 * 8 + i) (omega arith) d)
+
+      inside : (p i : ℕ) → 16 ≤ p → p < 16 + 8 * 60 → i < 8 → implies (member (rowWord g a ((p - 16) / 8)) (p % 8 * 8 + i)) (free (g .n) (suc a) p i) ≡ true
+      inside p i l u s = go p i l (omega arith) (decLt ((p - 16) / 8) (g .n)) (decLt (p % 8 * 8 + i) (g .n))
+
+-- the blocks of the stored sheet
+take-chunk : (w : ℕ) (f : ℕ → List ℕ) → ((i : ℕ) → length (f i) ≡ w) → (m i k : ℕ) → k < m → take w (drop (w * k) (chunks m i f)) ≡ f (i + k)
+unfolding chunks
+take-chunk w f len zero i k h = absurd (omega arith)
+take-chunk w f len (suc m) i zero h = ap (λ p. take w (drop p (f i ++ chunks m (suc i) f))) (mul-zero w) ∙ take-at (f i) (chunks m (suc i) f) w (len i) ∙ ap f (omega arith)
+take-chunk w f len (suc m) i (suc k) h =
+    let e : w * suc k ≡ length (f i) + w * k = omega (arith, mul-suc w k, len i) in
+    ap (λ p. take w (drop p (f i ++ chunks m (suc i) f))) e
+    ∙ ap (take w) (drop-append-add (f i) (chunks m (suc i) f) (w * k)) ∙ take-chunk w f len m (suc i) k (omega arith) ∙ ap f (omega arith)
+
+first-block : (g : Graph) → blockOf (store g) 0 ≡ labelBlock g
+unfolding store
+first-block g = take-at (labelBlock g) (chunks 16 0 (arrowBlock g)) blockBytes (length-labelBlock g)
+
+later-block : (g : Graph) (a : ℕ) → a < 16 → blockOf (store g) (suc a) ≡ arrowBlock g a
+unfolding store
+later-block g a h =
+    let e : 512 * suc a ≡ length (labelBlock g) + 512 * a = omega (arith, length-labelBlock g) in
+    ap (λ p. take 512 (drop p (labelBlock g ++ chunks 16 0 (arrowBlock g)))) e
+    ∙ ap (take 512) (drop-append-add (labelBlock g) (chunks 16 0 (arrowBlock g)) (512 * a))
+    ∙ take-chunk 512 (arrowBlock g) (length-arrowBlock g) 16 0 a h ∙ ap (arrowBlock g) (omega arith)
+
+module _ (g : Graph) (w : Within g) where
+  later-pass : (m a : ℕ) → a + m ≤ 16 → askBlocks (store g) m (suc a) ≡ passed tt
+  unfolding askBlocks _>>_
+  later-pass zero a h = refl
+  later-pass (suc m) a h =
+      ap₂ (λ n k. askBlock n (suc a) k >> askBlocks (store g) m (suc (suc a))) (n-is g) (later-block g a (omega arith))
+      ∙ ap (_>> askBlocks (store g) m (suc (suc a))) (arrows-pass g w a) ∙ later-pass m (suc a) (omega arith)
+
+  pub stored-passes : Sound (store g)
+  unfolding askSheet askBlocks is _>>_
+  stored-passes =
+      rw (length-store g)
+      (ap₂ (λ n k. askBlock n 0 k >> askBlocks (store g) 16 1) (n-is g) (first-block g)
+      ∙ ap (_>> askBlocks (store g) 16 1) (labels-pass g w) ∙ later-pass 16 0 (omega arith))

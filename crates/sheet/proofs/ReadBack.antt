@@ -1,0 +1,46 @@
+-- The sheet that stores a graph reads back as that graph.
+use mathlib.Core.Path.{_≡_, refl, sym, _∙_, ap, fun-ext}
+use mathlib.Core.Bool.{Bool, true, false, not, _&&_}
+use mathlib.Core.List.{List}
+use Prim.Native.Nat.{ℕ, zero, suc, _+_, _*_, _/_, _%_, _≤_, _<_}
+use native.Mathlib.Omega.{arith}
+use native.Mathlib.Decide.{decLt}
+use lib.Dec.{T, ltb, ltb→lt, nltb→le}
+use lib.ListN.{getD}
+use Rattle.logic.specs.Graph.{Graph, Nodes}
+use Rattle.logic.specs.Limits.{NodesIn, Within}
+use Rattle.logic.proofs.Inside.{no-node}
+use Rattle.words.specs.Words.{setOf, member}
+use Rattle.words.proofs.SetLaws.{member-setOf, member-beyond}
+use Rattle.sheet.specs.Sheet.{store, bitIn, graphOf}
+use Rattle.sheet.proofs.Blocks.{byteOf, bit-of-byte, n-is, label-byte, arrow-byte}
+
+-- where a test fails, the set it guards has nothing
+guarded : (i m : ℕ) (b c : Bool) → (i < m → b ≡ c) → (m ≤ i → c ≡ false) → (ltb i m && b) ≡ c
+guarded i m b c h l = go (ltb i m) (ltb→lt i m) (nltb→le i m)
+  where
+    go : (d : Bool) → (T d → i < m) → (T (not d) → m ≤ i) → (d && b) ≡ c
+    go true p q = h (p tt)
+    go false p q = sym (l (q tt))
+
+module _ (g : Graph) (w : Within g) where
+  bits-back : (t : List ℕ) (p : ℕ) (v : Nodes) → NodesIn g v → ((j : ℕ) → j < 8 → getD t (p + j) 0 ≡ byteOf (setOf (g .n) v) j) → (i : ℕ) → bitIn t p i ≡ v i
+  bits-back t p v inside bytes i =
+      guarded i 64 _ (v i) (λ l. ap (λ x. member x (i % 8)) (bytes (i / 8) (omega arith)) ∙ bit-of-byte (setOf (g .n) v) i ∙ go (decLt i (g .n))) (λ l. inside i (no-node g i (omega (arith, w .few-nodes))))
+    where
+      go : Dec (i < g .n) → member (setOf (g .n) v) i ≡ v i
+      go (yes l) = member-setOf (g .n) v i l
+      go (no l) = member-beyond (g .n) v i (omega arith) ∙ sym (inside i (no-node g i (omega arith)))
+
+  labels-back : (λ k i. ltb k 48 && bitIn (store g) (16 + 8 * k) i) ≡ g .labelled
+  labels-back = fun-ext (λ k. fun-ext (λ i. guarded k 48 _ (g .labelled k i) (λ l. bits-back (store g) (16 + 8 * k) (g .labelled k) (w .labels-in k) (λ j. label-byte g k j l) i) (w .no-more-labels k i)))
+
+  arrows-back : (λ a i j. ltb a 16 && (ltb i 60 && bitIn (store g) (512 * (a + 1) + (16 + 8 * i)) j)) ≡ g .joined
+  arrows-back =
+      fun-ext (λ a. fun-ext (λ i. fun-ext (λ j. guarded a 16 _ (g .joined a i j)
+      (λ l. guarded i 60 _ (g .joined a i j) (λ l′. bits-back (store g) (512 * (a + 1) + (16 + 8 * i)) (g .joined a i) (w .arrows-in a .ends i) (λ j. arrow-byte g a i j l l′) j) (λ m. w .arrows-in a .starts i j (no-node g i (omega (arith, w .few-nodes)))))
+      (w .no-more-arrows a i j))))
+
+  pub read-back : graphOf (store g) ≡ g
+  unfolding graphOf
+  read-back = λ t. record { n = n-is g t; labelled = labels-back t; joined = arrows-back t }
