@@ -1,0 +1,4 @@
+-- The theorems of reading and writing, and what the proofs of several functions use.
+pub mod Places
+pub mod Converse
+pub mod ReadBack
