@@ -2,3 +2,6 @@
 pub mod Places
 pub mod Converse
 pub mod ReadBack
+pub mod Books
+pub mod Carried
+pub mod Marked

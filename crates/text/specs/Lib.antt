@@ -2,3 +2,4 @@ pub mod Code
 pub mod Reading
 pub mod Questions
 pub mod Stands
+pub mod Marked

@@ -16,6 +16,10 @@ pub record Limits : Type 0 where
 abbrev pub textLimits : ℕ → Limits
 textLimits n = record { longest = 4096; deepest = 32; numbers = ranges n }
 
+-- Those of a carried book.
+abbrev pub carriedLimits : ℕ → Limits
+carriedLimits n = record { longest = 16384; deepest = 255; numbers = ranges n }
+
 -- What can be wanted at a place: an expression of a sort, or an edit.
 pub data Want : Type 0 where
   expr : Sort → Want

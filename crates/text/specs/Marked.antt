@@ -1,0 +1,212 @@
+-- Marked examples 1 to 10 of document 01 on sheet T, and texts with faults: from the bytes as printed, through reading, meaning,
+-- carrying and running, to what is printed.
+use mathlib.Core.Bool.{Bool, true, false, _&&_, _||_, cond}
+use mathlib.Core.List.{List, [], _∷_, _++_}
+use Prim.Native.Nat.{ℕ, zero, suc}
+use lib.Dec.{ltb, eqb}
+use Rattle.answer.specs.Asked.{Asked, passed, refused, _>>=_}
+use Rattle.logic.specs.Syntax.{node, rule, Expr}
+use Rattle.logic.specs.Graph.{Graph, Nodes}
+use Rattle.logic.specs.Meaning.{value}
+use Rattle.logic.specs.Steps.{run}
+use Rattle.logic.specs.Carry.{carry}
+use Rattle.text.specs.Code.{code}
+use Rattle.text.specs.Reading.{textLimits, expr, readAs}
+use Rattle.text.specs.Questions.{first, whole, askBook, askFirst, askEdit, askRuleEnd}
+
+-- Sheet T: 3 nodes, label 0 has nodes 0 and 1, label 1 has node 2, arrow 0 goes from 0 to 2 and from 1 to 2.
+unfoldable pub sheetT : Graph
+sheetT = record { n = 3; labelled = λ k i. (eqb k 0 && ltb i 2) || (eqb k 1 && eqb i 2); joined = λ a i j. eqb a 0 && (ltb i 2 && eqb j 2) }
+
+-- The nodes below n in a set, as the examples print them.
+unfoldable pub members : ℕ → Nodes → List ℕ
+members zero v = []
+members (suc n) v = members n v ++ cond (v n) (n ∷ []) []
+
+-- What an example shows: nodes; whether a rule holds; the carried text, whether it holds on T, and whether the rule holds after the edit.
+pub data Shown : Type 0 where
+  nodes : List ℕ → Shown
+  holds : Bool → Shown
+  carried : (text : List ℕ) (before after : Bool) → Shown
+
+-- A node expression, a rule, and a rule through an edit, each from its bytes.
+unfoldable pub onT : List ℕ → Asked Shown
+onT t = do
+  E ← whole (readAs (textLimits 3) (expr node) t 0)
+  passed (nodes (members 3 (value sheetT E)))
+
+unfoldable pub judgedOnT : List ℕ → Asked Shown
+judgedOnT t = do
+  K ← askFirst (textLimits 3) t
+  passed (holds (value sheetT K))
+
+unfoldable pub throughOnT : List ℕ → List ℕ → Asked Shown
+throughOnT t z = do
+  Z ← askEdit (textLimits 3) z
+  K ← askFirst (textLimits 3) t
+  passed (carried (code (carry Z K)) (value sheetT (carry Z K)) (value (run Z sheetT) K))
+
+abbrev pub B : List ℕ
+B = 0x21 ∷ 0x03 ∷ 0x00 ∷ 0x08 ∷ 0x11 ∷ 0x00 ∷ 0x03 ∷ 0x01 ∷ []
+
+unfoldable pub examples : List (Asked Shown)
+examples =
+    onT (0x05 ∷ 0x03 ∷ 0x00 ∷ [])
+    ∷ onT (0x08 ∷ 0x11 ∷ 0x00 ∷ 0x03 ∷ 0x01 ∷ [])
+    ∷ onT (0x09 ∷ 0x11 ∷ 0x00 ∷ 0x02 ∷ [])
+    ∷ onT (0x0A ∷ 0x02 ∷ 0x12 ∷ 0x11 ∷ 0x00 ∷ 0x01 ∷ [])
+    ∷ onT (0x0B ∷ 0x00 ∷ 0x11 ∷ 0x00 ∷ 0x01 ∷ [])
+    ∷ onT (0x0A ∷ 0x00 ∷ 0x11 ∷ 0x00 ∷ 0x02 ∷ [])
+    ∷ judgedOnT B
+    ∷ throughOnT B (0x32 ∷ 0x01 ∷ 0x04 ∷ 0x02 ∷ 0x30 ∷ [])
+    ∷ throughOnT B (0x32 ∷ 0x01 ∷ 0x04 ∷ 0x02 ∷ 0x31 ∷ 0x01 ∷ 0x04 ∷ 0x02 ∷ 0x30 ∷ [])
+    ∷ throughOnT (0x21 ∷ 0x03 ∷ 0x01 ∷ 0x03 ∷ 0x00 ∷ []) (0x35 ∷ 0x23 ∷ 0x00 ∷ 0x03 ∷ 0x01 ∷ 0x31 ∷ 0x00 ∷ 0x04 ∷ 0x02 ∷ 0x30 ∷ 0x30 ∷ 0x30 ∷ [])
+    ∷ []
+
+unfoldable pub printed : List (Asked Shown)
+printed =
+    passed (nodes (2 ∷ []))
+    ∷ passed (nodes (0 ∷ 1 ∷ []))
+    ∷ passed (nodes (2 ∷ []))
+    ∷ passed (nodes (2 ∷ []))
+    ∷ passed (nodes (2 ∷ []))
+    ∷ passed (nodes (0 ∷ 1 ∷ 2 ∷ []))
+    ∷ passed (holds true)
+    ∷ passed (carried (0x21 ∷ 0x03 ∷ 0x00 ∷ 0x08 ∷ 0x11 ∷ 0x00 ∷ 0x06 ∷ 0x03 ∷ 0x01 ∷ 0x05 ∷ 0x04 ∷ 0x02 ∷ []) false false)
+    ∷ passed (carried (0x21 ∷ 0x03 ∷ 0x00 ∷ 0x08 ∷ 0x11 ∷ 0x00 ∷ 0x07 ∷ 0x06 ∷ 0x03 ∷ 0x01 ∷ 0x05 ∷ 0x04 ∷ 0x02 ∷ 0x04 ∷ 0x02 ∷ []) true true)
+    ∷ passed (carried (0x25 ∷ 0x26 ∷ 0x27 ∷ 0x23 ∷ 0x00 ∷ 0x03 ∷ 0x01 ∷ 0x21 ∷ 0x03 ∷ 0x01 ∷ 0x07 ∷ 0x03 ∷ 0x00 ∷ 0x04 ∷ 0x02 ∷ 0x26 ∷ 0x23 ∷ 0x00 ∷ 0x03 ∷ 0x01 ∷ 0x21 ∷ 0x03 ∷ 0x01 ∷ 0x03 ∷ 0x00 ∷ []) false false)
+    ∷ []
+
+-- so many times the same bytes, and then others
+unfoldable pub times : ℕ → List ℕ → List ℕ → List ℕ
+times zero bytes rest = rest
+times (suc m) bytes rest = bytes ++ times m bytes rest
+
+-- What is asked of a text, without what is learned: a book, an edit, and the first rule of a text with its part, all for n.
+pub data Found : Type 0 where
+  sound : Found
+  no : (number place : ℕ) → Found
+
+unfoldable pub found : {A : Type 0} → Asked A → Found
+found (passed a) = sound
+found (refused q p) = no q p
+
+abbrev pub bookOf : ℕ → List ℕ → Found
+bookOf n t = found (askBook (textLimits n) t)
+
+abbrev pub editOf : ℕ → List ℕ → Found
+editOf n t = found (askEdit (textLimits n) t)
+
+abbrev pub firstOf : List ℕ → Found
+firstOf t = found (askRuleEnd t)
+
+-- Texts that tell the places and the order of the questions apart, each with what is found.
+unfoldable pub texts : List Found
+texts =
+    -- an empty book is sound, an empty edit is 22, an empty text has no first rule
+    bookOf 3 []
+    ∷ editOf 3 []
+    ∷ firstOf []
+    -- 12: the place is the length
+    ∷ bookOf 3 (0x21 ∷ 0x01 ∷ [])
+    ∷ bookOf 3 (0x24 ∷ 0x00 ∷ [])
+    -- 13: 01 is no rule, 03 no arrow, 30 and 00 nothing that a book has
+    ∷ bookOf 3 (0x01 ∷ [])
+    ∷ bookOf 3 (0x23 ∷ 0x02 ∷ 0x08 ∷ 0x03 ∷ [])
+    ∷ bookOf 3 (0x30 ∷ [])
+    ∷ bookOf 3 (0x23 ∷ 0x02 ∷ 0x01 ∷ 0x00 ∷ [])
+    ∷ bookOf 3 (0x0C ∷ 0x18 ∷ 0x20 ∷ 0x28 ∷ 0x2F ∷ 0x36 ∷ [])
+    -- 15 of a number before the next byte is looked at; label 47 against 48, arrow 15 against 16, node below n
+    ∷ bookOf 3 (0x24 ∷ 0x3C ∷ [])
+    ∷ bookOf 3 (0x23 ∷ 0x03 ∷ [])
+    ∷ bookOf 4 (0x23 ∷ 0x03 ∷ 0x01 ∷ [])
+    ∷ bookOf 3 (0x23 ∷ 0x00 ∷ 0x03 ∷ 0x30 ∷ [])
+    ∷ bookOf 3 (0x23 ∷ 0x00 ∷ 0x03 ∷ 0x2F ∷ [])
+    ∷ bookOf 3 (0x22 ∷ 0x11 ∷ 0x0F ∷ 0x11 ∷ 0x10 ∷ [])
+    -- the byte of a count is no code
+    ∷ bookOf 3 (0x23 ∷ 0x00 ∷ 0x0A ∷ 0xFF ∷ 0x11 ∷ 0x00 ∷ 0x01 ∷ [])
+    ∷ bookOf 3 (0x23 ∷ 0x00 ∷ 0x0A ∷ 0x03 ∷ 0x11 ∷ 0x00 ∷ 0x01 ∷ [])
+    -- level 32 against 33; 13 before 14 before 15; 12 before all
+    ∷ bookOf 3 (times 31 (0x27 ∷ []) (0x23 ∷ 0x00 ∷ 0x01 ∷ []))
+    ∷ bookOf 3 (times 30 (0x27 ∷ []) (0x23 ∷ 0x00 ∷ 0x01 ∷ []))
+    ∷ bookOf 3 (times 32 (0x27 ∷ []) (0x01 ∷ []))
+    ∷ bookOf 3 (times 32 (0x27 ∷ []) (0x23 ∷ 0x03 ∷ []))
+    ∷ bookOf 3 (times 32 (0x27 ∷ []) [])
+    ∷ bookOf 3 (0x23 ∷ 0x01 ∷ times 31 (0x05 ∷ []) [])
+    -- Z is at the level of its step: forty steps
+    ∷ editOf 3 (times 40 (0x32 ∷ 0x01 ∷ 0x04 ∷ 0x02 ∷ []) (0x30 ∷ []))
+    -- P is one level deeper
+    ∷ editOf 3 (times 30 (0x35 ∷ 0x23 ∷ 0x00 ∷ 0x01 ∷ []) (0x30 ∷ []))
+    ∷ editOf 3 (times 31 (0x35 ∷ 0x23 ∷ 0x00 ∷ 0x01 ∷ []) (0x30 ∷ []))
+    -- K of a 35 is at level 2
+    ∷ editOf 3 (0x35 ∷ times 30 (0x27 ∷ []) (0x23 ∷ 0x00 ∷ 0x01 ∷ 0x30 ∷ 0x30 ∷ 0x30 ∷ []))
+    ∷ editOf 3 (0x35 ∷ times 29 (0x27 ∷ []) (0x23 ∷ 0x00 ∷ 0x01 ∷ 0x30 ∷ 0x30 ∷ 0x30 ∷ []))
+    -- 16 before the first byte of a 33rd rule is read, after the faults of rules 0 to 31
+    ∷ bookOf 3 (times 32 (0x23 ∷ 0x00 ∷ 0x01 ∷ []) [])
+    ∷ bookOf 3 (times 32 (0x23 ∷ 0x00 ∷ 0x01 ∷ []) (0xFF ∷ []))
+    ∷ bookOf 3 (times 31 (0x23 ∷ 0x00 ∷ 0x01 ∷ []) (0x23 ∷ 0x00 ∷ 0x02 ∷ 0x23 ∷ []))
+    ∷ bookOf 3 (times 31 (0x23 ∷ 0x00 ∷ 0x01 ∷ []) (0x23 ∷ 0x03 ∷ 0x02 ∷ 0x23 ∷ []))
+    -- 26: the first byte behind the edit
+    ∷ editOf 3 (0x30 ∷ 0x30 ∷ [])
+    ∷ editOf 3 (0x31 ∷ 0x00 ∷ 0x01 ∷ 0x30 ∷ 0xFF ∷ [])
+    -- the same questions of an edit are 21 to 25
+    ∷ editOf 3 (0x31 ∷ 0x30 ∷ [])
+    ∷ editOf 3 (0x21 ∷ 0x01 ∷ 0x01 ∷ [])
+    -- the first rule alone is read, n as 60, and 12 has the whole length
+    ∷ firstOf (0x23 ∷ 0x3B ∷ 0x01 ∷ 0xFF ∷ [])
+    ∷ firstOf (0x23 ∷ 0x3C ∷ 0x01 ∷ 0xFF ∷ [])
+    ∷ firstOf (0x21 ∷ 0x01 ∷ [])
+    -- 11 and 21 before all
+    ∷ bookOf 3 (times 4097 (0x01 ∷ []) [])
+    ∷ editOf 3 (times 4097 (0x01 ∷ []) [])
+    ∷ firstOf (0x23 ∷ 0x00 ∷ 0x01 ∷ times 4094 (0x01 ∷ []) [])
+    ∷ bookOf 3 (times 4096 (0x01 ∷ []) [])
+    ∷ []
+
+unfoldable pub findings : List Found
+findings =
+    sound
+    ∷ no 22 0
+    ∷ no 12 0
+    ∷ no 12 2
+    ∷ no 12 2
+    ∷ no 13 0
+    ∷ no 13 3
+    ∷ no 13 0
+    ∷ no 13 3
+    ∷ no 13 0
+    ∷ no 15 1
+    ∷ no 15 1
+    ∷ sound
+    ∷ no 15 3
+    ∷ sound
+    ∷ no 15 4
+    ∷ sound
+    ∷ sound
+    ∷ no 14 33
+    ∷ sound
+    ∷ no 13 32
+    ∷ no 14 32
+    ∷ no 12 32
+    ∷ no 12 33
+    ∷ sound
+    ∷ no 22 121
+    ∷ no 24 123
+    ∷ no 24 33
+    ∷ sound
+    ∷ sound
+    ∷ no 16 96
+    ∷ no 16 96
+    ∷ no 15 94
+    ∷ no 26 1
+    ∷ no 26 4
+    ∷ no 25 1
+    ∷ no 23 0
+    ∷ sound
+    ∷ no 15 1
+    ∷ no 12 2
+    ∷ no 11 0
+    ∷ no 21 0
+    ∷ no 11 0
+    ∷ no 13 0
+    ∷ []
