@@ -45,10 +45,14 @@ clerkAsks rules g c = do
 unfoldable pub clerkGraph : List (Expr rule) → Graph → Fed → Graph
 clerkGraph rules g c = after (clerkAsks rules g c) (λ copy. copy) g
 
--- His log from a graph on. His sheet is the one that stores his graph.
+-- His line of the log. His sheet is the one that stores his graph.
+abbrev pub clerkLine : List (Expr rule) → Graph → Fed → Line
+clerkLine rules g c = record { edit = c .edit; answer = clerkAsks rules g c >> passed tt; sheet = store (clerkGraph rules g c) }
+
+-- His log from a graph on.
 unfoldable pub clerkLog : List (Expr rule) → Graph → List Fed → List Line
 clerkLog rules g [] = []
-clerkLog rules g (c ∷ cs) = record { edit = c .edit; answer = clerkAsks rules g c >> passed tt; sheet = store (clerkGraph rules g c) } ∷ clerkLog rules (clerkGraph rules g c) cs
+clerkLog rules g (c ∷ cs) = clerkLine rules g c ∷ clerkLog rules (clerkGraph rules g c) cs
 
 -- At first his graph is the opening sheet's.
 unfoldable pub clerk : (opening book : List ℕ) → List Fed → List Line
