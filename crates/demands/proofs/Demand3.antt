@@ -28,12 +28,15 @@ use Rattle.demands.specs.Run.{Hold, Keeps, Call, fed, log, enteredAfterE
 use Rattle.demands.specs.Demand3.{Each, RunRight, Demand3}
 use Rattle.demands.proofs.Passing.{then-passed, hold-carried, carried-hold}
 use Rattle.demands.proofs.OneCall.{askSteps, enter-asks, Entered, when-passed, so-passed}
-use Rattle.demands.proofs.Runs.{steps-within, Kept, kept-each, log-clerk, alone-each}
+use Rattle.demands.proofs.Runs.{steps-within, Kept, keeps, kept-each, log-clerk, alone-each}
 
 module _ {book edit sheet : List ℕ} (i : Given book edit sheet) where
   -- The sheet that the steps leave stores the graph that they leave.
+  within : Within (run (i .steps) (graphOf sheet))
+  within = steps-within (graphOf sheet) edit (i .steps) (opening sheet (i .bytes) (i .sound) .within) (i .edit-read)
+
   left : graphOf (afterSteps (i .steps) sheet) ≡ run (i .steps) (graphOf sheet)
-  left = read-back (run (i .steps) (graphOf sheet)) (steps-within (graphOf sheet) edit (i .steps) (opening sheet (i .bytes) (i .sound) .within) (i .edit-read))
+  left = read-back (run (i .steps) (graphOf sheet)) within
 
   carried-before-after : (K : Expr rule) → value (graphOf sheet) (carry (i .steps) K) ≡ value (graphOf (afterSteps (i .steps) sheet)) K
   carried-before-after K = carried (i .steps) K (graphOf sheet) ∙ ap (λ g. value g K) (sym left)
@@ -45,6 +48,11 @@ module _ {book edit sheet : List ℕ} (i : Given book edit sheet) where
       let read : askBook (textLimits (graphOf sheet .n)) book ≡ passed (k .rules) = subst (λ n. askBook (textLimits n) book ≡ passed (k .rules)) n-same (k .book-read) in
       let same : k .rules ≡ i .rules = cc in
       hold-carried (i .steps) (i .rules) (graphOf sheet) (subst (λ g. Hold g (i .rules)) left (subst (Hold (graphOf (afterSteps (i .steps) sheet))) same (k .hold)))
+
+  carried-keeps : Hold (graphOf sheet) (carriedBook (i .steps) (i .rules)) → Keeps book (afterSteps (i .steps) sheet)
+  carried-keeps h =
+      keeps book (i .rules) (run (i .steps) (graphOf sheet))
+      (record { within = within; book-read = rw (run-n (i .steps) (graphOf sheet)) (i .book-read); hold = carried-hold (i .steps) (i .rules) (graphOf sheet) h })
 
   sheet-and-book : askSheetAndBook sheet book ≡ passed (i .rules)
   unfolding askSheetAndBook _>>_
@@ -93,6 +101,7 @@ demand-3 =
     record {
       carried-holds = λ i K. (subst T (carried-before-after i K), subst T (sym (carried-before-after i K)));
       weakest = λ C h sheet c. kept-after (C .given sheet c) (h sheet c);
+      carried-ensure = λ i h. carried-keeps i h;
       entered-when = λ i. entered-iff i;
       entered-leaves = λ i. leaves i;
       every-run = run-right;

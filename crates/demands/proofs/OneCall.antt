@@ -93,15 +93,15 @@ clerk-line rules g c = ap (λ q. record { edit = c .edit; answer = q >> passed t
     go (refused n p) = refl
 
 -- A sheet that stores a graph passes, and its book is read for the graph's n.
-pub asked-of-stored : (g : Graph) (book : List ℕ) (rules : List (Expr rule)) → Within g → askBook (textLimits (g .n)) book ≡ passed rules → askSheetAndBook (store g) book ≡ passed rules
+pub asked-of-stored : (g : Graph) (book : List ℕ) → Within g → askSheetAndBook (store g) book ≡ askBook (textLimits (g .n)) book
 unfolding askSheetAndBook _>>_
-asked-of-stored g book rules w e = ap (_>> askBook (textLimits (graphOf (store g) .n)) book) (stored-passes g w) ∙ ap (λ h. askBook (textLimits (h .n)) book) (read-back g w) ∙ e
+asked-of-stored g book w = ap (_>> askBook (textLimits (graphOf (store g) .n)) book) (stored-passes g w) ∙ ap (λ h. askBook (textLimits (h .n)) book) (read-back g w)
 
 -- Enter on the sheet that stores a graph: the clerk's line.
 pub enter-line : (g : Graph) (book : List ℕ) (rules : List (Expr rule)) (c : Call) → Within g → askBook (textLimits (g .n)) book ≡ passed rules → enterLine book (store g) c ≡ clerkLine rules g (fed c)
 unfolding enterAnswer enterSheet after
 enter-line g book rules c w e =
-    ap (line (graphOf (store g))) (enter-asks (store g) book rules (fed c) (asked-of-stored g book rules w e)) ∙ ap (λ h. line h (askSteps rules h (fed c))) (read-back g w) ∙ go (askSteps rules g (fed c)) ∙ sym (clerk-line rules g (fed c))
+    ap (line (graphOf (store g))) (enter-asks (store g) book rules (fed c) (asked-of-stored g book w ∙ e)) ∙ ap (λ h. line h (askSteps rules h (fed c))) (read-back g w) ∙ go (askSteps rules g (fed c)) ∙ sym (clerk-line rules g (fed c))
   where
     line : Graph → Asked Edit → Line
     line h q = record { edit = c .edit; answer = q >> passed tt; sheet = after q (λ Z. store (run Z h)) (store g) }

@@ -34,6 +34,8 @@ pub record Demand3 : Type 1 where
   pub carried-holds : {book edit sheet : List ℕ} (i : Given book edit sheet) (K : Expr rule) → T (value (graphOf sheet) (carry (i .steps) K)) ↔ T (value (graphOf (afterSteps (i .steps) sheet)) K)
   -- Whatever condition on the sheet before ensures the rules after, it holds only where all carried rules do.
   pub weakest : {book edit : List ℕ} (C : Condition book edit) → Ensures C → (sheet : List ℕ) (c : C .has sheet) → Hold (graphOf sheet) (carriedBook (C .given sheet c .steps) (C .given sheet c .rules))
+  -- They are such a condition themselves: where they all hold, the steps leave a sheet that keeps the book.
+  pub carried-ensure : {book edit sheet : List ℕ} (i : Given book edit sheet) → Hold (graphOf sheet) (carriedBook (i .steps) (i .rules)) → Keeps book (afterSteps (i .steps) sheet)
   -- The edit is entered exactly when all of them hold; the sheet is then the one that its steps leave.
   pub entered-when : {book edit sheet : List ℕ} (i : Given book edit sheet) (room : ℕ) → askSize (carriedBook (i .steps) (i .rules)) room ≡ passed tt → (enterAnswer sheet book edit room ≡ passed tt) ↔ Hold (graphOf sheet) (carriedBook (i .steps) (i .rules))
   pub entered-leaves : {book edit sheet : List ℕ} (i : Given book edit sheet) (room : ℕ) → enterAnswer sheet book edit room ≡ passed tt → enterSheet sheet book edit room ≡ afterSteps (i .steps) sheet
