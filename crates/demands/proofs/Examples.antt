@@ -1,0 +1,82 @@
+-- Enter on the bytes of sheet T, by computation. That these bytes pass the sheet's questions and store T comes from the laws of sheets.
+use mathlib.Core.Path.{_≡_, refl, sym, _∙_, ap}
+use mathlib.Core.Bool.{Bool, true, false, _&&_, _||_, and-false}
+use mathlib.Core.List.{List, [], _∷_}
+use Prim.Native.Nat.{ℕ, _≤_}
+use native.Mathlib.Omega.{arith}
+use lib.Dec.{eqb, ltb}
+use lib.ListN.{length, getD, replicate, length-replicate}
+use borrow.Author.Tests.{ne-eqb, le-ltb, ltb-false}
+use Rattle.answer.specs.Asked.{Asked, passed, refused, _>>=_, _>>_, is, after}
+use Rattle.logic.specs.Syntax.{Expr, rule, Edit}
+use Rattle.logic.specs.Graph.{Graph, isNode, anyBelow, allBelow, countBelow}
+use Rattle.logic.specs.Meaning.{value}
+use Rattle.logic.specs.Steps.{update, run}
+use Rattle.logic.specs.Carry.{replace, putLabel, putArrow, carry}
+use Rattle.logic.specs.Limits.{Within}
+use Rattle.words.specs.Words.{setOf, bytes}
+use Rattle.seal.specs.Seal.{sealed, seal, sumsFrom}
+use Rattle.sheet.specs.Sheet.{store, graphOf, block, labelBlock, arrowBlock, chunks}
+use Rattle.sheet.proofs.ReadBack.{read-back}
+use Rattle.text.specs.Code.{code, levels, bookCode}
+use Rattle.text.specs.Reading.{textLimits, codes, choice, follow}
+use Rattle.text.specs.Reading as reading
+use Rattle.text.specs.Questions.{whole, rulesOf, askBook, askEdit}
+use Rattle.text.specs.Marked.{sheetT, B}
+use Rattle.eval.specs.Judge.{askRules}
+use Rattle.carry.specs.Carrying.{carriedBook, bookLevels, askSize, writtenAtStart}
+use Rattle.demands.specs.Enter.{Carried, askCarried, askEnter, enterAnswer, enterSheet, enterScratch}
+use Rattle.demands.specs.Examples.{Shown, scratchOf, onT, calls, shown}
+use Rattle.demands.proofs.OneCall.{asked-of-stored}
+
+not-node : (i : ℕ) → isNode sheetT i ≡ false → 3 ≤ i
+unfolding sheetT isNode
+not-node i h = ltb-false i 3 h
+
+T-within : Within sheetT
+unfolding sheetT
+T-within =
+    record {
+      some-node = omega arith;
+      few-nodes = omega arith;
+      labels-in = λ k i h. let l : 3 ≤ i = not-node i h in rw (le-ltb i 2 (omega arith), ne-eqb i 2 (omega arith), and-false (eqb k 0), and-false (eqb k 1));
+      arrows-in = λ a. record {
+        starts = λ i j h. let l : 3 ≤ i = not-node i h in rw (le-ltb i 2 (omega arith), and-false);
+        ends = λ i j h. let l : 3 ≤ j = not-node j h in rw (ne-eqb j 2 (omega arith), and-false, and-false);
+      };
+      no-more-labels = λ k i l. rw (ne-eqb k 0 (omega arith), ne-eqb k 1 (omega arith));
+      no-more-arrows = λ a i j l. rw (ne-eqb a 0 (omega arith));
+    }
+
+-- What enter asks before 41, of a graph.
+askOf : Graph → List ℕ → List ℕ → ℕ → Asked Carried
+askOf g book edit room = do
+  rules ← askBook (textLimits (g .n)) book
+  Z ← askEdit (textLimits (g .n)) edit
+  askSize (carriedBook Z rules) room
+  passed (record { edit = Z; rules = carriedBook Z rules })
+
+carried-of : (g : Graph) (book edit : List ℕ) (room : ℕ) → Within g → askCarried (store g) book edit room ≡ askOf g book edit room
+unfolding askCarried askOf
+carried-of g book edit room w = ap (_>>= size (graphOf (store g))) (asked-of-stored g book w) ∙ ap (λ h. askBook (textLimits (g .n)) book >>= size h) (read-back g w)
+  where
+    size : Graph → List (Expr rule) → Asked Carried
+    size h rules = askEdit (textLimits (h .n)) edit >>= (λ Z. askSize (carriedBook Z rules) room >> passed (record { edit = Z; rules = carriedBook Z rules }))
+
+-- What is shown, from what is asked of T.
+shownBy : Graph → Asked Carried → Asked Carried → ℕ → Shown
+shownBy g a b room =
+    let q : Asked Edit = a >>= (λ c. askRules g (c .rules) 0 >> passed (c .edit)) in
+    record {
+      answer = q >> passed tt;
+      sheet = after q (λ Z. store (run Z g)) (store sheetT);
+      scratch = after b (λ c. writtenAtStart (bookCode (c .rules)) (scratchOf room)) (scratchOf room);
+    }
+
+on-graph : (edit : List ℕ) (room : ℕ) → onT edit room ≡ shownBy sheetT (askOf sheetT B edit room) (askOf sheetT B edit (length (scratchOf room))) room
+unfolding onT enterAnswer enterSheet enterScratch askEnter shownBy
+on-graph edit room = λ t. shownBy (read-back sheetT T-within t) (carried-of sheetT B edit room T-within t) (carried-of sheetT B edit (length (scratchOf room)) T-within t) room
+
+pub examples : calls onT ≡ shown
+unfolding calls shown shownBy askOf sheetT store block labelBlock arrowBlock chunks setOf bytes sealed seal sumsFrom value isNode anyBelow allBelow countBelow update run replace putLabel putArrow carry code bookCode levels bookLevels askSize whole rulesOf askBook askEdit askRules after _>>=_ _>>_ is codes choice follow reading._>>=_
+examples = (λ t. calls (λ edit room. on-graph edit room t)) ∙ refl

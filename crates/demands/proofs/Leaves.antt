@@ -1,0 +1,90 @@
+-- What enter leaves in sheet and scratch.
+use mathlib.Core.Path.{_≡_, refl, sym, _∙_, ap, subst}
+use mathlib.Core.Logic.{_≢_, _⊎_, inl, inr}
+use mathlib.Core.Bool.{Bool, true, false}
+use mathlib.Core.List.{List, [], _∷_}
+use Prim.Native.Nat.{ℕ, suc, _<_}
+use native.Mathlib.Omega.{arith}
+use lib.ListN.{length}
+use Rattle.answer.specs.Asked.{Asked, passed, refused, _>>=_, _>>_, after}
+use Rattle.logic.specs.Syntax.{Expr, rule, Edit}
+use Rattle.logic.specs.Graph.{Graph}
+use Rattle.logic.specs.Meaning.{value}
+use Rattle.sheet.specs.Sheet.{graphOf}
+use Rattle.text.specs.Code.{bookCode}
+use Rattle.text.specs.Reading.{textLimits}
+use Rattle.text.specs.Questions.{askEdit}
+use Rattle.eval.specs.Judge.{askSheetAndBook, askRules}
+use Rattle.carry.specs.Carrying.{carriedBook, askSize, writtenAtStart}
+use Rattle.demands.specs.Enter.{afterSteps, Carried, askCarried, askEnter, enterAnswer, enterSheet, enterScratch}
+use Rattle.demands.specs.Run.{Call, enterLine, log}
+use Rattle.demands.specs.Demand3.{Each}
+use Rattle.demands.specs.Leaves.{Written, Leaves}
+use Rattle.demands.proofs.Numbers.{Below41, carried-below}
+
+stays : (sheet book edit : List ℕ) (room q p : ℕ) → enterAnswer sheet book edit room ≡ refused q p → enterSheet sheet book edit room ≡ sheet
+unfolding enterAnswer enterSheet _>>_ after
+stays sheet book edit room q p e = go (askEnter sheet book edit room) e
+  where
+    go : (a : Asked Edit) → (a >> passed (tt {0})) ≡ refused q p → after a (λ Z. afterSteps Z sheet) sheet ≡ sheet
+    go (passed Z) e = let z : _≡_ {A = ℕ} 0 1 = cc in absurd (omega arith)
+    go (refused n m) e = refl
+
+-- Rules are refused with 41 alone.
+abbrev Only41 : Asked (Unit {0}) → Type 0
+Only41 (passed u) = Unit {0}
+Only41 (refused q p) = q ≡ 41
+
+rules-41 : (g : Graph) (rules : List (Expr rule)) (i : ℕ) → Only41 (askRules g rules i)
+unfolding askRules
+rules-41 g [] i = tt
+rules-41 g (K ∷ rules) i = go (value g K) (rules-41 g rules (suc i))
+  where
+    go : (b : Bool) → Only41 (askRules g rules (suc i)) → Only41 (elim b [ true ↦ askRules g rules (suc i) | false ↦ refused 41 i ])
+    go true h = h
+    go false h = refl
+
+module _ (sheet book edit scratch : List ℕ) where
+  abbrev carriedHere : Asked Carried
+  carriedHere = askCarried sheet book edit (length scratch)
+
+  -- after the questions before 41 have been asked
+  abbrev judged : Asked Carried → Asked (Unit {0})
+  judged a = (a >>= (λ c. askRules (graphOf sheet) (c .rules) 0 >> passed (c .edit))) >> passed tt
+
+  scratch-same : (q p : ℕ) → enterAnswer sheet book edit (length scratch) ≡ refused q p → q ≢ 41 → enterScratch sheet book edit scratch ≡ scratch
+  unfolding enterAnswer askEnter enterScratch after _>>=_ _>>_
+  scratch-same q p e other = go carriedHere e
+    where
+      by-rules : (c : Carried) (r : Asked (Unit {0})) → Only41 r → ((r >> passed (c .edit)) >> passed (tt {0})) ≡ refused q p → q ≡ 41
+      by-rules c (passed u) h e = let z : _≡_ {A = ℕ} 0 1 = cc in absurd (omega arith)
+      by-rules c (refused n m) h e = cc
+
+      go : (a : Asked Carried) → judged a ≡ refused q p → after a (λ c. writtenAtStart (bookCode (c .rules)) scratch) scratch ≡ scratch
+      go (passed c) e = absurd (other (by-rules c (askRules (graphOf sheet) (c .rules) 0) (rules-41 (graphOf sheet) (c .rules) 0) e))
+      go (refused n m) e = refl
+
+  done-or-41 : (p : ℕ) → (enterAnswer sheet book edit (length scratch) ≡ passed tt) ⊎ (enterAnswer sheet book edit (length scratch) ≡ refused 41 p) → Written sheet book edit scratch
+  unfolding enterAnswer askEnter enterScratch after _>>=_ _>>_
+  done-or-41 p e = go carriedHere refl (carried-below sheet book edit (length scratch)) e
+    where
+      go : (a : Asked Carried) → carriedHere ≡ a → Below41 a → (judged a ≡ passed tt) ⊎ (judged a ≡ refused 41 p) → Written sheet book edit scratch
+      go (passed c) f b e = record { what = c; carried = f; written = ap (λ a. after a (λ c. writtenAtStart (bookCode (c .rules)) scratch) scratch) f }
+      go (refused n m) f b (inl e) = let z : _≡_ {A = ℕ} 0 1 = cc in absurd (omega arith)
+      go (refused n m) f b (inr e) = let z : n ≡ 41 = cc in absurd (omega arith)
+
+-- A sheet or book that is refused, through all calls.
+answers : (sheet book edit : List ℕ) (room q p : ℕ) → askSheetAndBook sheet book ≡ refused q p → enterAnswer sheet book edit room ≡ refused q p
+unfolding enterAnswer askEnter askCarried _>>=_ _>>_
+answers sheet book edit room q p e = rw e
+
+others : (opening book : List ℕ) (calls : List Call) (q p : ℕ) → askSheetAndBook opening book ≡ refused q p → Each (λ l. (l .answer ≡ refused q p) × (l .sheet ≡ opening)) (log book opening calls)
+unfolding Each log
+others opening book [] q p e = tt
+others opening book (c ∷ cs) q p e =
+    let answer : enterAnswer opening book (c .edit) (length (c .scratch)) ≡ refused q p = answers opening book (c .edit) (length (c .scratch)) q p e in
+    let same : enterSheet opening book (c .edit) (length (c .scratch)) ≡ opening = stays opening book (c .edit) (length (c .scratch)) q p answer in
+    ((answer, same), subst (λ s. Each (λ l. (l .answer ≡ refused q p) × (l .sheet ≡ opening)) (log book s cs)) (sym same) (others opening book cs q p e))
+
+pub leaves : Leaves
+leaves = record { sheet-stays = stays; scratch-stays = scratch-same; scratch-written = done-or-41; others-stay = others }

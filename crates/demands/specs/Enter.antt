@@ -1,0 +1,49 @@
+-- Enter on bytes: its answer, and what sheet and scratch hold after it, for every input ("The questions, in order" of document 01).
+use mathlib.Core.List.{List}
+use Prim.Native.Nat.{ℕ}
+use lib.ListN.{length}
+use Rattle.answer.specs.Asked.{Asked, passed, _>>=_, _>>_, after}
+use Rattle.logic.specs.Syntax.{Expr, rule, Edit}
+use Rattle.logic.specs.Steps.{run}
+use Rattle.sheet.specs.Sheet.{store, graphOf}
+use Rattle.text.specs.Code.{bookCode}
+use Rattle.text.specs.Reading.{textLimits}
+use Rattle.text.specs.Questions.{askEdit}
+use Rattle.eval.specs.Judge.{askSheetAndBook, askRules}
+use Rattle.carry.specs.Carrying.{carriedBook, askSize, writtenAtStart}
+
+-- The sheet that the steps of an edit leave.
+abbrev pub afterSteps : Edit → List ℕ → List ℕ
+afterSteps Z sheet = store (run Z (graphOf sheet))
+
+-- The edit, and the rules of the book carried back through it.
+pub record Carried : Type 0 where
+  pub edit : Edit
+  pub rules : List (Expr rule)
+
+-- Sheet, then book, then edit, then scratch, of which there is so much room: 1 to 33.
+unfoldable pub askCarried : (sheet book edit : List ℕ) (room : ℕ) → Asked Carried
+askCarried sheet book edit room = do
+  rules ← askSheetAndBook sheet book
+  Z ← askEdit (textLimits (graphOf sheet .n)) edit
+  askSize (carriedBook Z rules) room
+  passed (record { edit = Z; rules = carriedBook Z rules })
+
+-- Then 41: does each rule hold after the edit? It is asked of the carried rules, on the sheet as it is. What is learned is the edit.
+unfoldable pub askEnter : (sheet book edit : List ℕ) (room : ℕ) → Asked Edit
+askEnter sheet book edit room = do
+  c ← askCarried sheet book edit room
+  askRules (graphOf sheet) (c .rules) 0
+  passed (c .edit)
+
+-- The answer.
+unfoldable pub enterAnswer : (sheet book edit : List ℕ) (room : ℕ) → Asked (Unit {0})
+enterAnswer sheet book edit room = askEnter sheet book edit room >> passed tt
+
+-- The sheet after it: only done changes the sheet.
+unfoldable pub enterSheet : (sheet book edit : List ℕ) (room : ℕ) → List ℕ
+enterSheet sheet book edit room = after (askEnter sheet book edit room) (λ Z. afterSteps Z sheet) sheet
+
+-- The scratch after it: after done or 41, which is when 1 to 33 have passed, the carried book at its start.
+unfoldable pub enterScratch : (sheet book edit scratch : List ℕ) → List ℕ
+enterScratch sheet book edit scratch = after (askCarried sheet book edit (length scratch)) (λ c. writtenAtStart (bookCode (c .rules)) scratch) scratch

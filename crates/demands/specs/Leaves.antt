@@ -1,0 +1,29 @@
+-- What enter leaves in sheet and scratch, by its answer, for every input (demand 1, and "The questions, in order" of document 01).
+-- proofs/Leaves proves it.
+use mathlib.Core.Path.{_≡_}
+use mathlib.Core.Logic.{_≢_, _⊎_}
+use mathlib.Core.List.{List}
+use Prim.Native.Nat.{ℕ}
+use lib.ListN.{length}
+use Rattle.answer.specs.Asked.{Asked, passed, refused}
+use Rattle.text.specs.Code.{bookCode}
+use Rattle.eval.specs.Judge.{askSheetAndBook}
+use Rattle.carry.specs.Carrying.{writtenAtStart}
+use Rattle.demands.specs.Enter.{Carried, askCarried, enterAnswer, enterSheet, enterScratch}
+use Rattle.demands.specs.Run.{Call, log}
+use Rattle.demands.specs.Demand3.{Each}
+
+-- The scratch after done or 41: the carried book at its start, the rest of it unchanged.
+pub record Written (sheet book edit scratch : List ℕ) : Type 0 where
+  pub what : Carried
+  pub carried : askCarried sheet book edit (length scratch) ≡ passed what
+  pub written : enterScratch sheet book edit scratch ≡ writtenAtStart (bookCode (what .rules)) scratch
+
+pub record Leaves : Type 0 where
+  -- Only done changes the sheet.
+  pub sheet-stays : (sheet book edit : List ℕ) (room q p : ℕ) → enterAnswer sheet book edit room ≡ refused q p → enterSheet sheet book edit room ≡ sheet
+  -- After every refusal but 41 the scratch is as it was.
+  pub scratch-stays : (sheet book edit scratch : List ℕ) (q p : ℕ) → enterAnswer sheet book edit (length scratch) ≡ refused q p → q ≢ 41 → enterScratch sheet book edit scratch ≡ scratch
+  pub scratch-written : (sheet book edit scratch : List ℕ) (p : ℕ) → (enterAnswer sheet book edit (length scratch) ≡ passed tt) ⊎ (enterAnswer sheet book edit (length scratch) ≡ refused 41 p) → Written sheet book edit scratch
+  -- A sheet that is not sound, or whose book is not within the limits, stays as it is through all calls, each refused alike.
+  pub others-stay : (opening book : List ℕ) (calls : List Call) (q p : ℕ) → askSheetAndBook opening book ≡ refused q p → Each (λ l. (l .answer ≡ refused q p) × (l .sheet ≡ opening)) (log book opening calls)

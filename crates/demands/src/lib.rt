@@ -1,0 +1,1 @@
+// What enter promises, and demand 3: definitions and theorems only.
