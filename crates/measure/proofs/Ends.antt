@@ -9,7 +9,7 @@ use Rattle.text.specs.Code.{editCode}
 use Rattle.tree.specs.Tree.{Tree, size}
 use Rattle.measure.specs.Shapes.{At}
 use Rattle.measure.specs.Edits.{EditAt, SomeEdit, behindStep, NextAt}
-use Rattle.measure.proofs.Steps.{IsStep, IsChoose, as-step, as-choose, as-finish, finish-long, code-some}
+use Rattle.measure.proofs.Steps.{IsStep, IsChoose, as-step, as-choose, as-finish, finish-long, code-pos}
 
 pub record Tail (text : List ℕ) (p end : ℕ) : Type 0 where
   pub tail : Edit

@@ -42,11 +42,8 @@ holds-same e h = record {
 pub holds-is : {l : List ℕ} {M N : Measure} → M ≡ N → Holds l M → Holds l N
 holds-is {l} e h = subst (Holds l) e h
 
-cell-lt : (c k : ℕ) → Named c k → cell c k < 64
-cell-lt c k n = ⊎-elim (λ (p : (c ≡ 0x03) × (k < 48)). omega (arith, p .0, p .1)) (λ (p : (c ≡ 0x11) × (k < 16)). omega (arith, p .0, p .1)) n
-
 pub named-lt : (c k : ℕ) → Named c k → cell c k < 64
-named-lt = cell-lt
+named-lt c k n = ⊎-elim (λ (p : (c ≡ 0x03) × (k < 48)). omega (arith, p .0, p .1)) (λ (p : (c ≡ 0x11) × (k < 16)). omega (arith, p .0, p .1)) n
 
 -- different names have different cells
 cell-inj : (c k c′ k′ : ℕ) → Named c k → Named c′ k′ → cell c k ≡ cell c′ k′ → (c ≡ c′) × (k ≡ k′)
@@ -65,8 +62,8 @@ pub holds-rise : (l : List ℕ) (M : Measure) (v : ℕ) → length l ≡ 130 →
 holds-rise l M v e b h = record {
   len-at = other l 129 128 _ (λ q. omega arith) ∙ h .len-at;
   tall-at = getD-set-same l 129 _ 0 (omega arith) ∙ omega (arith, h .tall-at);
-  count-at = λ c k n. other l 129 (cell c k) _ (λ q. omega (arith, cell-lt c k n)) ∙ h .count-at c k n;
-  deep-at = λ c k n. other l 129 (64 + cell c k) _ (λ q. omega (arith, cell-lt c k n)) ∙ h .deep-at c k n;
+  count-at = λ c k n. other l 129 (cell c k) _ (λ q. omega (arith, named-lt c k n)) ∙ h .count-at c k n;
+  deep-at = λ c k n. other l 129 (64 + cell c k) _ (λ q. omega (arith, named-lt c k n)) ∙ h .deep-at c k n;
 }
 
 abbrev pub marked : (c k w v : ℕ) → Measure → Measure
@@ -92,9 +89,9 @@ under-1 (suc v) = omega arith
 pub holds-touch : (l : List ℕ) (M : Measure) (c k w v : ℕ) → length l ≡ 130 → v ≤ 16385 → Named c k → Holds l M
     → Holds (set (set l (cell c k) (cut (getD l (cell c k) 0 + w))) (64 + cell c k) (max (getD l (64 + cell c k) 0) v)) (marked c k w v M)
 holds-touch l M c k w v e b n h = record {
-  len-at = other m (64 + i) 128 y (λ q. omega (arith, cell-lt c k n)) ∙ other l i 128 x (λ q. omega (arith, cell-lt c k n)) ∙ h .len-at;
-  tall-at = other m (64 + i) 129 y (λ q. omega (arith, cell-lt c k n)) ∙ other l i 129 x (λ q. omega (arith, cell-lt c k n)) ∙ h .tall-at;
-  count-at = λ c′ k′ n′. other m (64 + i) (cell c′ k′) y (λ q. omega (arith, cell-lt c k n, cell-lt c′ k′ n′)) ∙ counts c′ k′ n′ (same c k c′ k′) refl;
+  len-at = other m (64 + i) 128 y (λ q. omega (arith, named-lt c k n)) ∙ other l i 128 x (λ q. omega (arith, named-lt c k n)) ∙ h .len-at;
+  tall-at = other m (64 + i) 129 y (λ q. omega (arith, named-lt c k n)) ∙ other l i 129 x (λ q. omega (arith, named-lt c k n)) ∙ h .tall-at;
+  count-at = λ c′ k′ n′. other m (64 + i) (cell c′ k′) y (λ q. omega (arith, named-lt c k n, named-lt c′ k′ n′)) ∙ counts c′ k′ n′ (same c k c′ k′) refl;
   deep-at = λ c′ k′ n′. deeps c′ k′ n′ (same c k c′ k′) refl;
 }
   where
@@ -113,19 +110,19 @@ holds-touch l M c k w v e b n h = record {
     counts : (c′ k′ : ℕ) → Named c′ k′ → (b : Bool) → same c k c′ k′ ≡ b → getD m (cell c′ k′) 0 ≡ cut (M .counts c′ k′ + w * cond b 1 0)
     counts c′ k′ n′ true q =
         let j : cell c′ k′ ≡ i = alike c k c′ k′ q in
-        ap (λ (u : ℕ). getD m u 0) j ∙ getD-set-same l i x 0 (omega (arith, cell-lt c k n)) ∙ ap (λ (u : ℕ). cut (u + w)) (ap (λ (u : ℕ). getD l u 0) (sym j) ∙ h .count-at c′ k′ n′) ∙ omega arith
+        ap (λ (u : ℕ). getD m u 0) j ∙ getD-set-same l i x 0 (omega (arith, named-lt c k n)) ∙ ap (λ (u : ℕ). cut (u + w)) (ap (λ (u : ℕ). getD l u 0) (sym j) ∙ h .count-at c′ k′ n′) ∙ omega arith
     counts c′ k′ n′ false q = other l i (cell c′ k′) x (apart c k c′ k′ n n′ q) ∙ h .count-at c′ k′ n′ ∙ omega arith
 
     deeps : (c′ k′ : ℕ) → Named c′ k′ → (b : Bool) → same c k c′ k′ ≡ b → getD (set m (64 + i) y) (64 + cell c′ k′) 0 ≡ cut (max (M .deeps c′ k′) (under v (cond b 1 0)))
     deeps c′ k′ n′ true q =
         let j : cell c′ k′ ≡ i = alike c k c′ k′ q in
         let z : getD l (64 + i) 0 ≡ cut (M .deeps c′ k′) = ap (λ (u : ℕ). getD l (64 + u) 0) (sym j) ∙ h .deep-at c′ k′ n′ in
-        ap (λ (u : ℕ). getD (set m (64 + i) y) (64 + u) 0) j ∙ getD-set-same m (64 + i) y 0 (omega (arith, cell-lt c k n, length-set l i x)) ∙ ap (λ (u : ℕ). max u v) z ∙ both (M .deeps c′ k′) ∙ sym (ap (λ (u : ℕ). cut (max (M .deeps c′ k′) u)) (under-1 v))
+        ap (λ (u : ℕ). getD (set m (64 + i) y) (64 + u) 0) j ∙ getD-set-same m (64 + i) y 0 (omega (arith, named-lt c k n, length-set l i x)) ∙ ap (λ (u : ℕ). max u v) z ∙ both (M .deeps c′ k′) ∙ sym (ap (λ (u : ℕ). cut (max (M .deeps c′ k′) u)) (under-1 v))
       where
         both : (d : ℕ) → max (cut d) v ≡ cut (max d v)
         both d = omega arith
     deeps c′ k′ n′ false q =
-        other m (64 + i) (64 + cell c′ k′) y (λ r. apart c k c′ k′ n n′ q (omega (arith, r))) ∙ other l i (64 + cell c′ k′) x (λ r. omega (arith, cell-lt c k n)) ∙ h .deep-at c′ k′ n′
+        other m (64 + i) (64 + cell c′ k′) y (λ r. apart c k c′ k′ n n′ q (omega (arith, r))) ∙ other l i (64 + cell c′ k′) x (λ r. omega (arith, named-lt c k n)) ∙ h .deep-at c′ k′ n′
         ∙ (let z : M .deeps c′ k′ ≡ max (M .deeps c′ k′) (under v 0) = omega (arith, under-nothing v) in ap cut z)
 
 -- a tree's codes one by one
@@ -188,9 +185,9 @@ lowered c k M = record { len = M .len; tall = M .tall; counts = M .counts; deeps
 
 pub holds-lower : (l : List ℕ) (M : Measure) (c k x : ℕ) → length l ≡ 130 → Named c k → x ≡ cut (under (getD l (64 + cell c k) 0) 2) → Holds l M → Holds (set l (64 + cell c k) x) (lowered c k M)
 holds-lower l M c k x e n f h = record {
-  len-at = other l j 128 x (λ q. omega (arith, cell-lt c k n)) ∙ h .len-at;
-  tall-at = other l j 129 x (λ q. omega (arith, cell-lt c k n)) ∙ h .tall-at;
-  count-at = λ c′ k′ n′. other l j (cell c′ k′) x (λ q. omega (arith, cell-lt c k n, cell-lt c′ k′ n′)) ∙ h .count-at c′ k′ n′;
+  len-at = other l j 128 x (λ q. omega (arith, named-lt c k n)) ∙ h .len-at;
+  tall-at = other l j 129 x (λ q. omega (arith, named-lt c k n)) ∙ h .tall-at;
+  count-at = λ c′ k′ n′. other l j (cell c′ k′) x (λ q. omega (arith, named-lt c k n, named-lt c′ k′ n′)) ∙ h .count-at c′ k′ n′;
   deep-at = λ c′ k′ n′. deeps c′ k′ n′ (same c′ k′ c k) refl;
 }
   where
@@ -199,7 +196,7 @@ holds-lower l M c k x e n f h = record {
 
     deeps : (c′ k′ : ℕ) → Named c′ k′ → (b : Bool) → same c′ k′ c k ≡ b → getD (set l j x) (64 + cell c′ k′) 0 ≡ cut (cond b (under (M .deeps c k) 2) (M .deeps c′ k′))
     deeps c′ k′ n′ true q =
-        ap (λ (u : ℕ). getD (set l j x) (64 + u) 0) (sym (alike c′ k′ c k q)) ∙ getD-set-same l j x 0 (omega (arith, cell-lt c k n)) ∙ f ∙ ap (λ (u : ℕ). cut (under u 2)) (h .deep-at c k n) ∙ cut-under (M .deeps c k) 2
+        ap (λ (u : ℕ). getD (set l j x) (64 + u) 0) (sym (alike c′ k′ c k q)) ∙ getD-set-same l j x 0 (omega (arith, named-lt c k n)) ∙ f ∙ ap (λ (u : ℕ). cut (under u 2)) (h .deep-at c k n) ∙ cut-under (M .deeps c k) 2
     deeps c′ k′ n′ false q = other l j (64 + cell c′ k′) x (λ r. apart c′ k′ c k n′ n q (omega (arith, r))) ∙ h .deep-at c′ k′ n′
 
 -- x bytes more
@@ -210,8 +207,8 @@ pub holds-longer : (l : List ℕ) (M : Measure) (x y : ℕ) → length l ≡ 130
 holds-longer l M x y e f h = record {
   len-at = getD-set-same l 128 y 0 (omega arith) ∙ f ∙ ap (λ (u : ℕ). cut (u + x)) (h .len-at) ∙ omega arith;
   tall-at = other l 128 129 y (λ q. omega arith) ∙ h .tall-at;
-  count-at = λ c k n. other l 128 (cell c k) y (λ q. omega (arith, cell-lt c k n)) ∙ h .count-at c k n;
-  deep-at = λ c k n. other l 128 (64 + cell c k) y (λ q. omega (arith, cell-lt c k n)) ∙ h .deep-at c k n;
+  count-at = λ c k n. other l 128 (cell c k) y (λ q. omega (arith, named-lt c k n)) ∙ h .count-at c k n;
+  deep-at = λ c k n. other l 128 (64 + cell c k) y (λ q. omega (arith, named-lt c k n)) ∙ h .deep-at c k n;
 }
 
 -- the parts of a step together

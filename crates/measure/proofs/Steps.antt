@@ -38,7 +38,7 @@ tag-edit text at (addArrow a R Z) h = byte-at text at _ _ (h .place .here)
 tag-edit text at (takeArrow a R Z) h = byte-at text at _ _ (h .place .here)
 tag-edit text at (choose K P Q Z) h = byte-at text at _ _ (h .place .here)
 
-code-pos : (Z : Edit) → 0 < length (editCode Z)
+pub code-pos : (Z : Edit) → 0 < length (editCode Z)
 unfolding editCode
 code-pos finish = omega arith
 code-pos (addLabel k E Z) = omega arith
@@ -205,9 +205,6 @@ as-choose text at (choose K P Q Z) h m = record {
 
 pub edit-long : (text : List ℕ) (at : ℕ) (Z : Edit) → EditAt text at Z → length (editCode Z) ≤ length text - at
 edit-long text at Z h = omega (arith, within text at (editCode Z) (h .place .rest) (h .place .here))
-
-pub code-some : (Z : Edit) → 0 < length (editCode Z)
-code-some = code-pos
 
 -- the end of an edit
 pub as-finish : (text : List ℕ) (at : ℕ) (Z : Edit) → EditAt text at Z → getD text at 0 ≡ 0x30 → Z ≡ finish

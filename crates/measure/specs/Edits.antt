@@ -4,11 +4,10 @@ use mathlib.Core.List.{List, _++_}
 use Prim.Native.Nat.{ℕ, zero, suc, _+_, _<_, _≤_, max}
 use Rattle.tree.specs.Tree.{Tree, under}
 use lib.ListN.{length, getD, drop}
-use Rattle.logic.specs.Syntax.{rule, Expr, Edit, finish, addLabel, takeLabel, addArrow, takeArrow, choose}
-use Rattle.logic.specs.Carry.{carry}
+use Rattle.logic.specs.Syntax.{Edit, finish, addLabel, takeLabel, addArrow, takeArrow, choose}
 use Rattle.logic.specs.Limits.{Ranges}
-use Rattle.text.specs.Stands.{Stands, EditStands}
-use Rattle.text.specs.Code.{code, levels, editCode}
+use Rattle.text.specs.Stands.{EditStands}
+use Rattle.text.specs.Code.{editCode}
 use Rattle.tree.specs.Sizes.{Measure, measure, chosen, back, cut}
 use Rattle.measure.specs.State.{Holds}
 
@@ -76,17 +75,3 @@ pub record Kept (top : ℕ) (l l′ : List ℕ) : Type 0 where
 -- the numbers of a choice on K
 pub record Joined (rules : ℕ) (K : Tree) (t l l′ : List ℕ) : Type 0 where
   pub holds : (T U : Measure) → Holds t T → Holds l U → Holds l′ (chosen rules (measure K) T U)
-
--- a rule likewise
-pub record RuleAt (text : List ℕ) (at : ℕ) (K : Expr rule) : Type 0 where
-  pub limits : Ranges
-  pub place : Stands limits text at K
-
-pub record SomeRule (text : List ℕ) (at : ℕ) : Type 0 where
-  pub what : Expr rule
-  pub stands : RuleAt text at what
-
--- the length and the levels of a carried rule, cut at 16,385
-pub record Sized (Z : Edit) (K : Expr rule) (len tall : ℕ) : Type 0 where
-  pub len-is : len ≡ cut (length (code (carry Z K)))
-  pub tall-is : tall ≡ cut (levels (carry Z K))

@@ -1,7 +1,8 @@
 // Measuring a carried book: one walk back over the edit, nothing written.
 ghost use mathlib.Core.Path.{_≡_};
 ghost use Prim.Native.Nat.{ℕ, _+_, _*_, _/_, _<_, _≤_, max};
-ghost use lib.ListN.{length, getD, set};
+ghost use lib.ListN.{length, getD, set, replicate};
+ghost use mathlib.Core.List.{List};
 ghost use Rattle.tree.specs.Sizes.{cut};
 ghost use Rattle.tree.specs.Tree.{Tree, under, size};
 ghost use Rattle.text.specs.Code.{editCode};
@@ -10,7 +11,8 @@ ghost use Rattle.measure.specs.State.{Scanned};
 ghost use mathlib.Core.Bool.{cond};
 ghost use lib.Dec.{eqb, ltb};
 ghost use Rattle.logic.specs.Syntax.{Edit, Expr, rule};
-ghost use Rattle.measure.specs.Edits.{EditAt, SomeEdit, Held, Stepped, Backed, NextAt, Pushed, Merged, Kept, Joined, RuleAt, SomeRule, Sized};
+ghost use Rattle.measure.specs.Edits.{EditAt, SomeEdit, Held, Stepped, Backed, NextAt, Pushed, Merged, Kept, Joined};
+ghost use Rattle.measure.specs.Book.{RuleAt, SomeRule, BookIs, SomeBook, RuleAdded, BookAdded, RuleSized, BookSized};
 
 const SHAPES: [usize; 40] = [
     0,
@@ -89,7 +91,7 @@ fn deeper(v: usize) -> usize
     if v < 16385 { v + 1 } else { 16385 }
 }
 
-fn place(code: u8, number: u8) -> usize
+fn cell_of(code: u8, number: u8) -> usize
     ensures { λ r. ⌜ r ≡ cell code number ⌝ }
 {
     code as usize / 16 * 48 + number as usize
@@ -120,7 +122,7 @@ pub fn scan(text: &[u8], at: usize, w: usize, v: usize, state: &mut [usize]) -> 
     let s = shape(c);
     rise(state, v);
     if s == 16 {
-        touch(state, place(c, text[at + 1]), w, v);
+        touch(state, cell_of(c, text[at + 1]), w, v);
         return at + 2;
     }
     let first = at + s % 4;
@@ -162,7 +164,7 @@ fn step_back(text: &[u8], at: usize, state: &mut [usize])
     ensures { λ r. ⌜ ((Z : Edit) → EditAt (now (text .entry)) at Z → (rules : ℕ) → Stepped rules Z (now (state .entry)) (now (state .exit))) ⌝ }
 {
     let op = text[at];
-    let i = place(name_code(op), text[at + 1]);
+    let i = cell_of(name_code(op), text[at + 1]);
     let w = state[i];
     let d = deeper(state[64 + i]);
     state[64 + i] = d;
@@ -324,21 +326,67 @@ pub fn back(
     }
 }
 
-#[repr(C)]
+// The measure of the rule at `at`, joined to that in `state`; answers the place behind the rule.
+// Inner: the text was read before.
+fn add_rule(book: &[u8], at: usize, state: &mut [usize]) -> usize
+    requires { ⌜ SomeRule (now book) at × (length (now state) ≡ 130) ⌝ }
+    ensures { λ r. ⌜ ((K : Expr rule) → RuleAt (now (book .entry)) at K → RuleAdded at K r (now (state .entry)) (now (state .exit))) ⌝ }
+{
+    let next = scan(book, at, 1, 1, state);
+    state[128] = sum(state[128], next - at);
+    next
+}
+
+// The measure of a book, into numbers that are 0; answers how many rules it has.
+// Inner: the book was read before.
+fn add_book(book: &[u8], state: &mut [usize]) -> usize
+    requires { ⌜ SomeBook (now book) × (now state ≡ replicate 130 0) ⌝ }
+    ensures { λ r. ⌜ ((rules : List (Expr rule)) → BookIs (now (book .entry)) rules → BookAdded rules r (now (state .exit))) ⌝ }
+{
+    let mut at = 0;
+    let mut n = 0;
+    while at < book.len() {
+        at = add_rule(book, at, state);
+        n += 1;
+    }
+    n
+}
+
+// A length in bytes and a number of levels, each 16,385 where it is more than 16,384.
 pub struct Size {
     pub len: usize,
     pub levels: usize,
 }
 
-// The length and the levels of a rule carried through an edit, each 16,385 where it is more than 16,384.
-pub fn size_of(book: &[u8], at: usize, edit: &[u8], stack: &mut [usize]) -> Size
-    requires { ⌜ SomeRule (now book) at × SomeEdit (now edit) 0 × (length (now edit) ≤ length (now stack)) × (length (now edit) ≤ 4096) ⌝ }
-    ensures { λ r. ⌜ ((K : Expr rule) (Z : Edit) → RuleAt (now (book .entry)) at K → EditAt (now (edit .entry)) 0 Z → Sized Z K (r .len) (r .levels)) ⌝ }
+// The size of the rule at `at` carried through the edit at `from`.
+// Inner: both texts were read before.
+pub fn size_of_rule(book: &[u8], at: usize, edit: &[u8], from: usize) -> Size
+    requires { ⌜ SomeRule (now book) at × SomeEdit (now edit) from × (length (now edit) ≤ 4096) ⌝ }
+    ensures { λ r. ⌜ ((K : Expr rule) (Z : Edit) → RuleAt (now (book .entry)) at K → EditAt (now (edit .entry)) from Z → RuleSized Z K (r .len) (r .levels)) ⌝ }
 {
     let mut state = [0usize; 130];
-    let next = scan(book, at, 1, 1, &mut state);
-    state[128] = sum(state[128], next - at);
-    back(edit, 0, 1, stack, 0, &mut state);
+    add_rule(book, at, &mut state);
+    let mut stack = [0usize; 4096];
+    back(edit, from, 1, &mut stack, 0, &mut state);
+    Size {
+        len: state[128],
+        levels: state[129],
+    }
+}
+
+// The size of a book carried through an edit, in one walk over the edit.
+// Inner: both texts were read before.
+pub fn size_of_book(book: &[u8], edit: &[u8]) -> Size
+    requires { ⌜ SomeBook (now book) × SomeEdit (now edit) 0 × (length (now edit) ≤ 4096) ⌝ }
+    ensures { λ r. ⌜ ((rules : List (Expr rule)) (Z : Edit) → BookIs (now (book .entry)) rules → EditAt (now (edit .entry)) 0 Z → BookSized Z rules (r .len) (r .levels)) ⌝ }
+{
+    if book.len() == 0 {
+        return Size { len: 0, levels: 0 };
+    }
+    let mut state = [0usize; 130];
+    let rules = add_book(book, &mut state);
+    let mut stack = [0usize; 4096];
+    back(edit, 0, rules, &mut stack, 0, &mut state);
     Size {
         len: state[128],
         levels: state[129],

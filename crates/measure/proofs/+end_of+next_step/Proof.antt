@@ -7,7 +7,7 @@ use borrow.Author.Needs.{needs}
 use Rattle.text.specs.Code.{editCode}
 use Rattle.tree.specs.Tree.{size}
 use Rattle.measure.proofs.Places.{inside, fits}
-use Rattle.measure.proofs.Steps.{as-step, as-choose, edit-inside, code-some}
+use Rattle.measure.proofs.Steps.{as-step, as-choose, edit-inside, code-pos}
 use Rattle.measure.proofs.Ends.{Rest, rest-first, rest-more, rest-end, step-next, choose-next}
 use borrow.Fn.Kinds.{In}
 use borrow.Fn.PlainCycle.{Measures, is, falls, and}

@@ -14,7 +14,7 @@ use Rattle.measure.proofs.scan.Reads as scan
 use Rattle.measure.proofs.scan.Kinds as scan-kinds
 use Rattle.measure.proofs.+scan.Lts-scan as scan-lts
 use Rattle.measure.proofs.deeper.Reads as deeper-reads
-use Rattle.measure.proofs.place.Reads as place-reads
+use Rattle.measure.proofs.cell_of.Reads as cell-of-reads
 use Rattle.measure.proofs.rise.Reads as rise-reads
 use Rattle.measure.proofs.shape.Reads as shape-reads
 use Rattle.measure.proofs.touch.Reads as touch-reads
@@ -32,17 +32,17 @@ scan-below t = and 2 scan-kinds.ps (falls 2 scan-kinds.ps _<_ μ-scan t) scan.Pr
 
 pub +scan-spec : {M : Type 1} → statement M
 +scan-spec = close μ-scan
-    (λ t. scan-lts.spec (shape-reads.Asked, shape-reads.Learnt, rise-reads.Asked, rise-reads.Learnt, place-reads.Asked, place-reads.Learnt, touch-reads.Asked, touch-reads.Learnt, deeper-reads.Asked, deeper-reads.Learnt, scan-below t, scan.Post) (scan-at t) scan.Post
+    (λ t. scan-lts.spec (shape-reads.Asked, shape-reads.Learnt, rise-reads.Asked, rise-reads.Learnt, cell-of-reads.Asked, cell-of-reads.Learnt, touch-reads.Asked, touch-reads.Learnt, deeper-reads.Asked, deeper-reads.Learnt, scan-below t, scan.Post) (scan-at t) scan.Post
     (λ c. let s = c .before .before .before in omega (arith, inside _ _ (s .pre .1 .0 .what) (s .pre .1 .0 .stands)))
     (λ c κs. search needs)
     (λ c κs. search needs)
     (λ c. let s = c .before .before .before .before .before .before .before .before .before .before in let q = as-name _ _ (s .pre .1 .0 .what) (s .pre .1 .0 .stands) (sym (c .before .before .before .before .before .before .shape .ensures) ∙ c .before .if1 .taken) in omega (arith, q .room, s .good .0 .0))
     (λ c. let s = c .before .before .before .before .before .before .before .before .before .before .before in let q = as-name _ _ (s .pre .1 .0 .what) (s .pre .1 .0 .stands) (sym (c .before .before .before .before .before .before .before .shape .ensures) ∙ c .before .before .if1 .taken) in omega (arith, q .room))
     (λ c κs. search needs)
-    (λ c κs. let s = c .before .before .before .before .before .before .before .before .before .before .before .before in let q = as-name _ _ (s .pre .1 .0 .what) (s .pre .1 .0 .stands) (sym (c .before .before .before .before .before .before .before .before .shape .ensures) ∙ c .before .before .before .if1 .taken) in (search needs, place-lt _ _ 0 0 _ q _ (c .place .ensures)))
+    (λ c κs. let s = c .before .before .before .before .before .before .before .before .before .before .before .before in let q = as-name _ _ (s .pre .1 .0 .what) (s .pre .1 .0 .stands) (sym (c .before .before .before .before .before .before .before .before .shape .ensures) ∙ c .before .before .before .if1 .taken) in (search needs, place-lt _ _ 0 0 _ q _ (c .cell-of .ensures)))
     (λ c. let s = c .before .before .before .before .before .before .before .before .before .before .before .before .before .before .before in let q = as-name _ _ (s .pre .1 .0 .what) (s .pre .1 .0 .stands) (sym (c .before .before .before .before .before .before .before .before .before .before .before .shape .ensures) ∙ c .before .before .before .before .before .before .if1 .taken) in omega (arith, q .room, s .good .0 .0))
     (λ c. search needs)
-    (λ c. λ t h. name-scanned _ _ _ _ _ _ (c .before .before .before .before .before .before .before .before .before .before .before .before .before .before .before .pre .1 .2) (c .before .before .before .before .before .before .before .before .before .before .before .before .before .before .before .pre .1 .1) (c .before .before .before .before .before .before .before .before .before .rise .ensures) t (as-name _ _ t h (sym (c .before .before .before .before .before .before .before .before .before .before .before .shape .ensures) ∙ c .before .before .before .before .before .before .if1 .taken)) _ (c .before .before .before .place .ensures) _ (c .before .before .touch .ensures))
+    (λ c. λ t h. name-scanned _ _ _ _ _ _ (c .before .before .before .before .before .before .before .before .before .before .before .before .before .before .before .pre .1 .2) (c .before .before .before .before .before .before .before .before .before .before .before .before .before .before .before .pre .1 .1) (c .before .before .before .before .before .before .before .before .before .rise .ensures) t (as-name _ _ t h (sym (c .before .before .before .before .before .before .before .before .before .before .before .shape .ensures) ∙ c .before .before .before .before .before .before .if1 .taken)) _ (c .before .before .before .cell-of .ensures) _ (c .before .before .touch .ensures))
     (λ c. let s = c .before .before .before .before .before .before .before .before .before in omega (arith, inside _ _ (s .pre .1 .0 .what) (s .pre .1 .0 .stands), s .good .0 .0))
     (λ c. search needs)
     (λ c. λ t h. leaf-scanned _ _ _ _ _ _ (c .before .before .before .before .before .before .before .before .before .before .pre .1 .2) (c .before .before .before .before .before .before .before .before .before .before .pre .1 .1) (c .before .before .before .before .rise .ensures) t (as-leaf _ _ t h (λ e. c .before .if1 .left (c .before .before .before .before .before .before .shape .ensures ∙ e)) (omega (arith, c .if2 .taken, c .before .before .before .before .before .before .shape .ensures))) _ _ (c .before .before .before .before .before .before .shape .ensures) refl)
