@@ -1,24 +1,16 @@
 -- Carrying a book back into an output: its size, its questions 31 to 33, and the bytes ("Carrying back" and "The questions" of document 01).
-use mathlib.Core.List.{List, [], _∷_, _++_, map}
-use Prim.Native.Nat.{ℕ, max}
+use mathlib.Core.List.{List, _++_}
+use Prim.Native.Nat.{ℕ}
 use lib.Dec.{leb}
 use lib.ListN.{length, drop}
 use Rattle.answer.specs.Asked.{Asked, passed, _>>=_, _>>_, is}
-use Rattle.logic.specs.Syntax.{Expr, rule, Edit}
-use Rattle.logic.specs.Carry.{carry}
+use Rattle.logic.specs.Syntax.{Expr, rule}
+pub use Rattle.logic.specs.Carry.{carriedBook}
 use Rattle.logic.specs.Limits.{maxNodes}
-use Rattle.text.specs.Code.{levels, bookCode}
+use Rattle.text.specs.Code.{bookCode}
+unfoldable pub use Rattle.text.specs.Code.{bookLevels}
 use Rattle.text.specs.Reading.{textLimits}
 use Rattle.text.specs.Questions.{askBook, askEdit}
-
--- A book is carried rule by rule.
-abbrev pub carriedBook : Edit → List (Expr rule) → List (Expr rule)
-carriedBook Z book = map (carry Z) book
-
--- The levels of a book: those of its deepest rule.
-unfoldable pub bookLevels : List (Expr rule) → ℕ
-bookLevels [] = 0
-bookLevels (K ∷ book) = max (levels K) (bookLevels book)
 
 abbrev pub longestCarried : ℕ
 longestCarried = 16384

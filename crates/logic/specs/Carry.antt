@@ -1,4 +1,5 @@
 -- Carrying a rule back through an edit ("Carrying back" of document 01; document 004, Definition 4.1).
+use mathlib.Core.List.{List, map}
 use Prim.Native.Nat.{ℕ}
 use Rattle.logic.specs.Syntax.{Sort, node, arrow, rule, Expr, all, none, label, nominal, complement, and, or, some, every, atLeast, atMost, arrowKind, reversed, union, common, minus, endingIn, pair, subNodes, subArrows, nodeIn, pairIn, both, either, notRule, Edit, finish, addLabel, takeLabel, addArrow, takeArrow, choose}
 use Rattle.logic.specs.Steps.{update}
@@ -47,6 +48,10 @@ carry (takeLabel k E Z) K = putLabel k (and (label k) (complement E)) (carry Z K
 carry (addArrow a R Z) K = putArrow a (union (arrowKind a) R) (carry Z K)
 carry (takeArrow a R Z) K = putArrow a (minus (arrowKind a) R) (carry Z K)
 carry (choose K₁ P Q Z) K = both (either (notRule K₁) (carry P (carry Z K))) (either K₁ (carry Q (carry Z K)))
+
+-- A book is carried rule by rule.
+abbrev pub carriedBook : Edit → List (Expr rule) → List (Expr rule)
+carriedBook Z book = map (carry Z) book
 
 -- P with its end replaced by Z; the end is the 30 reached through the Z parts alone.
 unfoldable pub followedBy : Edit → Edit → Edit

@@ -79,3 +79,8 @@ editLevels (choose K P Q Z) = max (suc (max (levels K) (max (editLevels P) (edit
 unfoldable pub bookCode : List (Expr rule) → List ℕ
 bookCode [] = []
 bookCode (K ∷ book) = code K ++ bookCode book
+
+-- The levels of a book: those of its deepest rule.
+unfoldable pub bookLevels : List (Expr rule) → ℕ
+bookLevels [] = 0
+bookLevels (K ∷ book) = max (levels K) (bookLevels book)

@@ -8,13 +8,14 @@ use native.Mathlib.Nat.{add-mul}
 use lib.ListN.{length, length-append}
 use Rattle.logic.specs.Syntax.{Sort, rule, Expr, Edit, finish, addLabel, takeLabel, addArrow, takeArrow, choose}
 use Rattle.logic.specs.Carry.{carry}
-use Rattle.text.specs.Code.{code, bookCode}
+use Rattle.text.specs.Code.{code, bookCode, bookLevels}
 use Rattle.tree.specs.Tree.{Tree, same, size, height, under, tree}
 use Rattle.tree.proofs.Trees.{bytes-tree, height-tree, size-is}
 use Rattle.tree.specs.Sizes.{Measure, measure, passed, chosen, back, join, nothing, measures}
 use Rattle.tree.proofs.Measured.{under-max, max-under, under-under, measured}
 
-join-nothing : (M : Measure) → join M nothing ≡ M
+-- Joining is a sum, and a maximum, in each number.
+pub join-nothing : (M : Measure) → join M nothing ≡ M
 unfolding join nothing
 join-nothing M = λ i. record { len = sum (M .len) i; tall = top (M .tall) i; counts = λ c k. sum (M .counts c k) i; deeps = λ c k. top (M .deeps c k) i }
   where
@@ -23,6 +24,31 @@ join-nothing M = λ i. record { len = sum (M .len) i; tall = top (M .tall) i; co
 
     top : (x : ℕ) → max x 0 ≡ x
     top x = omega arith
+
+pub join-comm : (M N : Measure) → join M N ≡ join N M
+unfolding join
+join-comm M N = λ i. record { len = sum (M .len) (N .len) i; tall = top (M .tall) (N .tall) i; counts = λ c k. sum (M .counts c k) (N .counts c k) i; deeps = λ c k. top (M .deeps c k) (N .deeps c k) i }
+  where
+    sum : (x y : ℕ) → x + y ≡ y + x
+    sum x y = omega arith
+
+    top : (x y : ℕ) → max x y ≡ max y x
+    top x y = omega arith
+
+pub join-assoc : (M N O : Measure) → join (join M N) O ≡ join M (join N O)
+unfolding join
+join-assoc M N O = λ i. record {
+  len = sum (M .len) (N .len) (O .len) i;
+  tall = top (M .tall) (N .tall) (O .tall) i;
+  counts = λ c k. sum (M .counts c k) (N .counts c k) (O .counts c k) i;
+  deeps = λ c k. top (M .deeps c k) (N .deeps c k) (O .deeps c k) i;
+}
+  where
+    sum : (x y z : ℕ) → x + y + z ≡ x + (y + z)
+    sum x y z = omega arith
+
+    top : (x y z : ℕ) → max (max x y) z ≡ max x (max y z)
+    top x y z = omega arith
 
 pub passed-join : (c k more : ℕ) (E M N : Measure) → passed c k more E (join M N) ≡ join (passed c k more E M) (passed c k more E N)
 unfolding passed join
@@ -106,3 +132,9 @@ pub len-codes : (Ks : List (Expr rule)) → measures Ks .len ≡ length (bookCod
 unfolding measures join nothing measure bookCode
 len-codes [] = refl
 len-codes (K ∷ Ks) = omega (arith, size-is (tree K), ap length (bytes-tree K), len-codes Ks, length-append (code K) (bookCode Ks))
+
+-- its levels are those of the deepest rule
+pub tall-levels : (Ks : List (Expr rule)) → measures Ks .tall ≡ bookLevels Ks
+unfolding measures join nothing measure bookLevels
+tall-levels [] = refl
+tall-levels (K ∷ Ks) = ap₂ max (height-tree K) (tall-levels Ks)

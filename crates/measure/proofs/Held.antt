@@ -1,0 +1,238 @@
+-- A measure in numbers: what writing one of them does.
+use mathlib.Core.Path.{_≡_, refl, sym, ap, ap₂, _∙_, subst}
+use mathlib.Core.Bool.{Bool, true, false, cond, _&&_}
+use mathlib.Core.List.{List, [], _∷_, _++_}
+use mathlib.Core.Logic.{_⊎_, inl, inr, ⊎-elim}
+use Prim.Native.Nat.{ℕ, zero, suc, _+_, _*_, _/_, max, _≤_, _<_}
+use native.Mathlib.Omega.{arith}
+use borrow.Author.Tests.{eq-eqb, ne-eqb, eqb-true, eqb-false}
+use lib.Dec.{eqb}
+use lib.ListN.{length, getD, set, length-set}
+use lib.Seq.{getD-set-same, getD-set-other}
+use Rattle.tree.specs.Tree.{Tree, name, leaf, one, two, size, height, count, deep, same, under}
+use Rattle.tree.specs.Sizes.{Measure, measure, passed, cut, cutM}
+use Rattle.tree.proofs.Measured.{under-max, max-under, under-under, under-one, under-nothing, same-eq}
+use Rattle.tree.proofs.Cut.{cut-cut, cut-max, cut-under, cut-under-under, cut-mul}
+use Rattle.measure.specs.Shapes.{Named, cell}
+use Rattle.measure.specs.State.{Holds, added}
+
+pub deeper-none : (v : ℕ) → v ≡ 0 → 0 ≡ cut (under v 2)
+unfolding under
+deeper-none v e = sym (ap (λ (u : ℕ). cut (under u 2)) e)
+
+pub deeper-some : (v : ℕ) → (v ≡ 0 → ⊥) → v < 16385 → v + 1 ≡ cut (under v 2)
+unfolding under
+deeper-some zero n l = absurd (n refl)
+deeper-some (suc v) n l = omega arith
+
+pub deeper-cut : (v : ℕ) → 16385 ≤ v → 16385 ≡ cut (under v 2)
+unfolding under
+deeper-cut zero l = absurd (omega arith)
+deeper-cut (suc v) l = omega arith
+
+pub holds-same : {l : List ℕ} {M N : Measure} → cutM M ≡ cutM N → Holds l M → Holds l N
+unfolding cutM
+holds-same e h = record {
+  len-at = h .len-at ∙ ap (λ (X : Measure). X .len) e;
+  tall-at = h .tall-at ∙ ap (λ (X : Measure). X .tall) e;
+  count-at = λ c k n. h .count-at c k n ∙ ap (λ (X : Measure). X .counts c k) e;
+  deep-at = λ c k n. h .deep-at c k n ∙ ap (λ (X : Measure). X .deeps c k) e;
+}
+
+pub holds-is : {l : List ℕ} {M N : Measure} → M ≡ N → Holds l M → Holds l N
+holds-is {l} e h = subst (Holds l) e h
+
+pub named-lt : (c k : ℕ) → Named c k → cell c k < 64
+named-lt c k n = ⊎-elim (λ (p : (c ≡ 0x03) × (k < 48)). omega (arith, p .0, p .1)) (λ (p : (c ≡ 0x11) × (k < 16)). omega (arith, p .0, p .1)) n
+
+-- different names have different cells
+cell-inj : (c k c′ k′ : ℕ) → Named c k → Named c′ k′ → cell c k ≡ cell c′ k′ → (c ≡ c′) × (k ≡ k′)
+cell-inj c k c′ k′ n m e = ⊎-elim
+    (λ (p : (c ≡ 0x03) × (k < 48)). ⊎-elim (λ (q : (c′ ≡ 0x03) × (k′ < 48)). (omega (arith, p .0, q .0), omega (arith, p .0, q .0, e))) (λ (q : (c′ ≡ 0x11) × (k′ < 16)). absurd (omega (arith, p .0, p .1, q .0, q .1, e))) m)
+    (λ (p : (c ≡ 0x11) × (k < 16)). ⊎-elim (λ (q : (c′ ≡ 0x03) × (k′ < 48)). absurd (omega (arith, p .0, p .1, q .0, q .1, e))) (λ (q : (c′ ≡ 0x11) × (k′ < 16)). (omega (arith, p .0, q .0), omega (arith, p .0, q .0, e))) m)
+    n
+
+abbrev pub risen : ℕ → Measure → Measure
+risen v M = record { len = M .len; tall = max (M .tall) v; counts = M .counts; deeps = M .deeps }
+
+other : (l : List ℕ) (i j x : ℕ) → (i ≡ j → ⊥) → getD (set l i x) j 0 ≡ getD l j 0
+other l i j x n = getD-set-other l i j x 0 (λ e. n (sym e))
+
+pub holds-rise : (l : List ℕ) (M : Measure) (v : ℕ) → length l ≡ 130 → v ≤ 16385 → Holds l M → Holds (set l 129 (max (getD l 129 0) v)) (risen v M)
+holds-rise l M v e b h = record {
+  len-at = other l 129 128 _ (λ q. omega arith) ∙ h .len-at;
+  tall-at = getD-set-same l 129 _ 0 (omega arith) ∙ omega (arith, h .tall-at);
+  count-at = λ c k n. other l 129 (cell c k) _ (λ q. omega (arith, named-lt c k n)) ∙ h .count-at c k n;
+  deep-at = λ c k n. other l 129 (64 + cell c k) _ (λ q. omega (arith, named-lt c k n)) ∙ h .deep-at c k n;
+}
+
+abbrev pub marked : (c k w v : ℕ) → Measure → Measure
+marked c k w v M = record { len = M .len; tall = M .tall; counts = λ c′ k′. M .counts c′ k′ + w * cond (same c k c′ k′) 1 0; deeps = λ c′ k′. max (M .deeps c′ k′) (under v (cond (same c k c′ k′) 1 0)) }
+
+same-refl : (c k : ℕ) → same c k c k ≡ true
+same-refl c k = ap₂ _&&_ (eq-eqb c c refl) (eq-eqb k k refl)
+
+false-true : {b : Bool} → b ≡ false → b ≡ true → ⊥
+false-true e f = let z : _≡_ {A = ℕ} 0 1 = ap {B = ℕ} (λ (x : Bool). cond x 1 0) (sym e ∙ f) in omega (arith, z)
+
+apart : (c k c′ k′ : ℕ) → Named c k → Named c′ k′ → same c k c′ k′ ≡ false → cell c k ≡ cell c′ k′ → ⊥
+apart c k c′ k′ n m e q = let p = cell-inj c k c′ k′ n m q in false-true e (ap₂ (λ (u v : ℕ). same c k u v) (sym (p .0)) (sym (p .1)) ∙ same-refl c k)
+
+alike : (c k c′ k′ : ℕ) → same c k c′ k′ ≡ true → cell c′ k′ ≡ cell c k
+alike c k c′ k′ e = let p = same-eq c k c′ k′ e in ap₂ cell (sym (p .0)) (sym (p .1))
+
+pub under-1 : (v : ℕ) → under v 1 ≡ v
+unfolding under
+under-1 zero = refl
+under-1 (suc v) = omega arith
+
+pub holds-touch : (l : List ℕ) (M : Measure) (c k w v : ℕ) → length l ≡ 130 → v ≤ 16385 → Named c k → Holds l M
+    → Holds (set (set l (cell c k) (cut (getD l (cell c k) 0 + w))) (64 + cell c k) (max (getD l (64 + cell c k) 0) v)) (marked c k w v M)
+holds-touch l M c k w v e b n h = record {
+  len-at = other m (64 + i) 128 y (λ q. omega (arith, named-lt c k n)) ∙ other l i 128 x (λ q. omega (arith, named-lt c k n)) ∙ h .len-at;
+  tall-at = other m (64 + i) 129 y (λ q. omega (arith, named-lt c k n)) ∙ other l i 129 x (λ q. omega (arith, named-lt c k n)) ∙ h .tall-at;
+  count-at = λ c′ k′ n′. other m (64 + i) (cell c′ k′) y (λ q. omega (arith, named-lt c k n, named-lt c′ k′ n′)) ∙ counts c′ k′ n′ (same c k c′ k′) refl;
+  deep-at = λ c′ k′ n′. deeps c′ k′ n′ (same c k c′ k′) refl;
+}
+  where
+    i : ℕ
+    i = cell c k
+
+    x : ℕ
+    x = cut (getD l i 0 + w)
+
+    y : ℕ
+    y = max (getD l (64 + i) 0) v
+
+    m : List ℕ
+    m = set l i x
+
+    counts : (c′ k′ : ℕ) → Named c′ k′ → (b : Bool) → same c k c′ k′ ≡ b → getD m (cell c′ k′) 0 ≡ cut (M .counts c′ k′ + w * cond b 1 0)
+    counts c′ k′ n′ true q =
+        let j : cell c′ k′ ≡ i = alike c k c′ k′ q in
+        ap (λ (u : ℕ). getD m u 0) j ∙ getD-set-same l i x 0 (omega (arith, named-lt c k n)) ∙ ap (λ (u : ℕ). cut (u + w)) (ap (λ (u : ℕ). getD l u 0) (sym j) ∙ h .count-at c′ k′ n′) ∙ omega arith
+    counts c′ k′ n′ false q = other l i (cell c′ k′) x (apart c k c′ k′ n n′ q) ∙ h .count-at c′ k′ n′ ∙ omega arith
+
+    deeps : (c′ k′ : ℕ) → Named c′ k′ → (b : Bool) → same c k c′ k′ ≡ b → getD (set m (64 + i) y) (64 + cell c′ k′) 0 ≡ cut (max (M .deeps c′ k′) (under v (cond b 1 0)))
+    deeps c′ k′ n′ true q =
+        let j : cell c′ k′ ≡ i = alike c k c′ k′ q in
+        let z : getD l (64 + i) 0 ≡ cut (M .deeps c′ k′) = ap (λ (u : ℕ). getD l (64 + u) 0) (sym j) ∙ h .deep-at c′ k′ n′ in
+        ap (λ (u : ℕ). getD (set m (64 + i) y) (64 + u) 0) j ∙ getD-set-same m (64 + i) y 0 (omega (arith, named-lt c k n, length-set l i x)) ∙ ap (λ (u : ℕ). max u v) z ∙ both (M .deeps c′ k′) ∙ sym (ap (λ (u : ℕ). cut (max (M .deeps c′ k′) u)) (under-1 v))
+      where
+        both : (d : ℕ) → max (cut d) v ≡ cut (max d v)
+        both d = omega arith
+    deeps c′ k′ n′ false q =
+        other m (64 + i) (64 + cell c′ k′) y (λ r. apart c k c′ k′ n n′ q (omega (arith, r))) ∙ other l i (64 + cell c′ k′) x (λ r. omega (arith, named-lt c k n)) ∙ h .deep-at c′ k′ n′
+        ∙ (let z : M .deeps c′ k′ ≡ max (M .deeps c′ k′) (under v 0) = omega (arith, under-nothing v) in ap cut z)
+
+-- a tree's codes one by one
+pub added-name : (w v c k : ℕ) (M : Measure) → marked c k w v (risen v M) ≡ added w v (measure (name c k)) M
+unfolding added measure height count deep
+added-name w v c k M = λ i. record { len = M .len; tall = max (M .tall) (sym (under-1 v) i); counts = λ c′ k′. M .counts c′ k′ + w * cond (same c k c′ k′) 1 0; deeps = λ c′ k′. max (M .deeps c′ k′) (under v (cond (same c k c′ k′) 1 0)) }
+
+pub added-leaf : (w v : ℕ) (h : List ℕ) (M : Measure) → risen v M ≡ added w v (measure (leaf h)) M
+unfolding added measure height count deep
+added-leaf w v h M = λ i. record { len = M .len; tall = max (M .tall) (sym (under-1 v) i); counts = λ c k. none (M .counts c k) i; deeps = λ c k. flat (M .deeps c k) i }
+  where
+    none : (x : ℕ) → x ≡ x + w * 0
+    none x = omega arith
+
+    flat : (x : ℕ) → x ≡ max x (under v 0)
+    flat x = omega (arith, under-nothing v)
+
+-- one level on
+on : (v x : ℕ) → max v (under (under v 2) x) ≡ under v (suc x)
+unfolding under
+on zero x = omega arith
+on (suc v) zero = omega (arith, under-nothing (under (suc v) 2))
+on (suc v) (suc x) = omega arith
+
+pub added-one : (w v : ℕ) (h : List ℕ) (x : Tree) (M : Measure) → added w (under v 2) (measure x) (risen v M) ≡ added w v (measure (one h x)) M
+unfolding added measure height count deep
+added-one w v h x M = λ i. record { len = M .len; tall = tops (M .tall) (height x) i; counts = λ c k. M .counts c k + w * count x c k; deeps = λ c k. max (M .deeps c k) (under-under v 2 (deep x c k) i) }
+  where
+    tops : (m y : ℕ) → max (max m v) (under (under v 2) y) ≡ max m (under v (suc y))
+    tops m y = omega (arith, on v y)
+
+pub added-two : (w v : ℕ) (h : List ℕ) (x y : Tree) (M : Measure) → added w (under v 2) (measure y) (added w (under v 2) (measure x) (risen v M)) ≡ added w v (measure (two h x y)) M
+unfolding added measure height count deep
+added-two w v h x y M = λ i. record { len = M .len; tall = tops (M .tall) (height x) (height y) i; counts = λ c k. sums (M .counts c k) (count x c k) (count y c k) i; deeps = λ c k. tips (M .deeps c k) (deep x c k) (deep y c k) i }
+  where
+    sums : (m p q : ℕ) → m + w * p + w * q ≡ m + w * (p + q)
+    sums m p q = omega arith
+
+    tops : (m p q : ℕ) → max (max (max m v) (under (under v 2) p)) (under (under v 2) q) ≡ max m (under v (suc (max p q)))
+    tops m p q =
+        let a : max (max (max m v) (under (under v 2) p)) (under (under v 2) q) ≡ max m (max v (max (under (under v 2) p) (under (under v 2) q))) = omega arith in
+        a ∙ ap (λ (u : ℕ). max m (max v u)) (sym (under-max (under v 2) p q)) ∙ ap (max m) (on v (max p q))
+
+    tips : (m p q : ℕ) → max (max m (under (under v 2) p)) (under (under v 2) q) ≡ max m (under v (under 2 (max p q)))
+    tips m p q =
+        let a : max (max m (under (under v 2) p)) (under (under v 2) q) ≡ max m (max (under (under v 2) p) (under (under v 2) q)) = omega arith in
+        a ∙ ap (max m) (sym (under-max (under v 2) p q) ∙ under-under v 2 (max p q))
+
+-- a level cut beforehand
+pub added-cut : (w v : ℕ) (E M : Measure) → cutM (added w (cut v) E M) ≡ cutM (added w v E M)
+unfolding added cutM
+added-cut w v E M = λ i. record { len = cut (M .len); tall = tips (M .tall) (E .tall) i; counts = λ c k. cut (M .counts c k + w * E .counts c k); deeps = λ c k. tips (M .deeps c k) (E .deeps c k) i }
+  where
+    tips : (m e : ℕ) → cut (max m (under (cut v) e)) ≡ cut (max m (under v e))
+    tips m e = cut-max m (under (cut v) e) ∙ ap (max (cut m)) (cut-under v e) ∙ sym (cut-max m (under v e))
+
+-- a name's deepest level one lower
+abbrev pub lowered : (c k : ℕ) → Measure → Measure
+lowered c k M = record { len = M .len; tall = M .tall; counts = M .counts; deeps = λ c′ k′. cond (same c′ k′ c k) (under (M .deeps c k) 2) (M .deeps c′ k′) }
+
+pub holds-lower : (l : List ℕ) (M : Measure) (c k x : ℕ) → length l ≡ 130 → Named c k → x ≡ cut (under (getD l (64 + cell c k) 0) 2) → Holds l M → Holds (set l (64 + cell c k) x) (lowered c k M)
+holds-lower l M c k x e n f h = record {
+  len-at = other l j 128 x (λ q. omega (arith, named-lt c k n)) ∙ h .len-at;
+  tall-at = other l j 129 x (λ q. omega (arith, named-lt c k n)) ∙ h .tall-at;
+  count-at = λ c′ k′ n′. other l j (cell c′ k′) x (λ q. omega (arith, named-lt c k n, named-lt c′ k′ n′)) ∙ h .count-at c′ k′ n′;
+  deep-at = λ c′ k′ n′. deeps c′ k′ n′ (same c′ k′ c k) refl;
+}
+  where
+    j : ℕ
+    j = 64 + cell c k
+
+    deeps : (c′ k′ : ℕ) → Named c′ k′ → (b : Bool) → same c′ k′ c k ≡ b → getD (set l j x) (64 + cell c′ k′) 0 ≡ cut (cond b (under (M .deeps c k) 2) (M .deeps c′ k′))
+    deeps c′ k′ n′ true q =
+        ap (λ (u : ℕ). getD (set l j x) (64 + u) 0) (sym (alike c′ k′ c k q)) ∙ getD-set-same l j x 0 (omega (arith, named-lt c k n)) ∙ f ∙ ap (λ (u : ℕ). cut (under u 2)) (h .deep-at c k n) ∙ cut-under (M .deeps c k) 2
+    deeps c′ k′ n′ false q = other l j (64 + cell c′ k′) x (λ r. apart c′ k′ c k n′ n q (omega (arith, r))) ∙ h .deep-at c′ k′ n′
+
+-- x bytes more
+abbrev pub longer : ℕ → Measure → Measure
+longer x M = record { len = M .len + x; tall = M .tall; counts = M .counts; deeps = M .deeps }
+
+pub holds-longer : (l : List ℕ) (M : Measure) (x y : ℕ) → length l ≡ 130 → y ≡ cut (getD l 128 0 + x) → Holds l M → Holds (set l 128 y) (longer x M)
+holds-longer l M x y e f h = record {
+  len-at = getD-set-same l 128 y 0 (omega arith) ∙ f ∙ ap (λ (u : ℕ). cut (u + x)) (h .len-at) ∙ omega arith;
+  tall-at = other l 128 129 y (λ q. omega arith) ∙ h .tall-at;
+  count-at = λ c k n. other l 128 (cell c k) y (λ q. omega (arith, named-lt c k n)) ∙ h .count-at c k n;
+  deep-at = λ c k n. other l 128 (64 + cell c k) y (λ q. omega (arith, named-lt c k n)) ∙ h .deep-at c k n;
+}
+
+-- the parts of a step together
+pub together : (c k more : ℕ) (E M : Measure) → cutM (longer (cut (M .counts c k) * (more + E .len)) (added (cut (M .counts c k)) (cut (under (M .deeps c k) (suc more))) E (lowered c k M))) ≡ cutM (passed c k more E M)
+unfolding cutM added passed
+together c k more E M = λ i. record {
+  len = sums (M .len) (more + E .len) i;
+  tall = tips (M .tall) (E .tall) i;
+  counts = λ c′ k′. sums (M .counts c′ k′) (E .counts c′ k′) i;
+  deeps = λ c′ k′. tips (cond (same c′ k′ c k) (under (M .deeps c k) 2) (M .deeps c′ k′)) (E .deeps c′ k′) i;
+}
+  where
+    d : ℕ
+    d = under (M .deeps c k) (suc more)
+
+    w : ℕ
+    w = M .counts c k
+
+    sums : (x y : ℕ) → cut (x + cut w * y) ≡ cut (x + w * y)
+    sums x y = (let a : cut (x + cut w * y) ≡ cut (cut x + cut w * y) = omega arith in a) ∙ cut-mul x w y
+
+    tips : (m e : ℕ) → cut (max m (under (cut d) e)) ≡ cut (max m (under d e))
+    tips m e = cut-max m (under (cut d) e) ∙ ap (max (cut m)) (cut-under d e) ∙ sym (cut-max m (under d e))
+
+pub twice : (d x : ℕ) → x ≡ cut (under d 2) → cut (under x 2) ≡ cut (under d 3)
+unfolding under
+twice d x e = ap (λ (u : ℕ). cut (under u 2)) e ∙ cut-under (under d 2) 2 ∙ ap cut (under-under d 2 2)

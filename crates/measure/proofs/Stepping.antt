@@ -1,0 +1,79 @@
+-- Back over one step 31 to 34.
+use mathlib.Core.Path.{_≡_, refl, sym, ap, ap₂, _∙_, subst}
+use mathlib.Core.Bool.{Bool, true, false, cond}
+use mathlib.Core.List.{List, [], _∷_, _++_}
+use Prim.Native.Nat.{ℕ, zero, suc, _+_, _*_, _-_, _≤_, _<_, max}
+use native.Mathlib.Omega.{arith}
+use native.Mathlib.Nat.{mul-le-mul}
+use lib.Dec.{eqb, ltb}
+use lib.ListN.{length, getD, set, length-set}
+use Rattle.logic.specs.Syntax.{Edit}
+use Rattle.tree.specs.Tree.{Tree, size, under}
+use Rattle.tree.specs.Sizes.{Measure, measure, passed, back, cut, cutM}
+use Rattle.tree.proofs.Cut.{cut-under}
+use Rattle.measure.specs.Shapes.{cell, At}
+use Rattle.measure.specs.State.{Holds, added, Scanned}
+use Rattle.measure.specs.Edits.{EditAt, Held, behindStep, Stepped}
+use Rattle.measure.proofs.Held.{holds-same, holds-is, holds-lower, holds-longer, lowered, longer, together, twice, named-lt}
+use Rattle.measure.proofs.Steps.{IsStep}
+
+module _ (text : List ℕ) (at : ℕ) (Z : Edit) (q : IsStep text at Z) where
+  pub step-cell : (x i : ℕ) → x ≡ cond (ltb (getD text at 0) 0x33) 0x03 0x11 → i ≡ cell x (getD text (at + 1) 0) → i ≡ cell (q .c) (q .k)
+  step-cell x i e f = f ∙ ap₂ cell (e ∙ sym (q .is-c)) (q .reads-k)
+
+  pub step-low : (x i : ℕ) → x ≡ cond (ltb (getD text at 0) 0x33) 0x03 0x11 → i ≡ cell x (getD text (at + 1) 0) → i < 64
+  step-low x i e f = omega (arith, named-lt (q .c) (q .k) (q .named), step-cell x i e f)
+
+  -- the level of the step's expression
+  level : (D d v : ℕ) → d ≡ cut (under (cut D) 2) → v ≡ cond (eqb (getD text at 0) 0x32) (cut (under d 2)) d → v ≡ cut (under D (suc (q .more)))
+  level D d v e f = go (eqb (getD text at 0) 0x32) f (q .is-more)
+    where
+      e′ : d ≡ cut (under D 2)
+      e′ = e ∙ cut-under D 2
+
+      go : (b : Bool) → v ≡ cond b (cut (under d 2)) d → q .more ≡ cond b 2 1 → v ≡ cut (under D (suc (q .more)))
+      go true p r = p ∙ twice D d e′ ∙ sym (ap (λ (x : ℕ). cut (under D (suc x))) r)
+      go false p r = p ∙ e′ ∙ sym (ap (λ (x : ℕ). cut (under D (suc x))) r)
+
+  pub stepped : (l₀ l₁ l₂ l₃ : List ℕ) (x i d w v next m y : ℕ) → length l₀ ≡ 130 → length l₂ ≡ 130
+      → x ≡ cond (ltb (getD text at 0) 0x33) 0x03 0x11 → i ≡ cell x (getD text (at + 1) 0)
+      → d ≡ cut (under (getD l₀ (64 + i) 0) 2) → l₁ ≡ set l₀ (64 + i) d → w ≡ getD l₀ i 0 → v ≡ cond (eqb (getD text at 0) 0x32) (cut (under d 2)) d
+      → ((t : Tree) → At text (at + 2) t → Scanned (at + 2) w v t next l₁ l₂)
+      → m ≡ cond (eqb (getD text at 0) 0x32) 2 1 → y ≡ cut (getD l₂ 128 0 + w * (m + (next - (at + 2)))) → l₃ ≡ set l₂ 128 y
+      → (rules : ℕ) → Stepped rules Z l₀ l₃
+  unfolding measure
+  stepped l₀ l₁ l₂ l₃ x i d w v next m y long₀ long₂ ex ei ed el ew ev sc em ey el₃ rules = record { holds = λ M h. holds-is (sym (q .backs rules M)) (go (back rules (behindStep Z) M) h) }
+    where
+      j : i ≡ cell (q .c) (q .k)
+      j = step-cell x i ex ei
+
+      a : Scanned (at + 2) w v (q .E) next l₁ l₂
+      a = sc (q .E) (q .what)
+
+      go : (N : Measure) → Holds l₀ N → Holds l₃ (passed (q .c) (q .k) (q .more) (measure (q .E)) N)
+      go N h =
+          let n₁ = subst (λ (l : List ℕ). Holds l (lowered (q .c) (q .k) N)) (sym (el ∙ ap (λ (u : ℕ). set l₀ (64 + u) d) j)) (holds-lower l₀ N (q .c) (q .k) d long₀ (q .named) (ed ∙ ap (λ (u : ℕ). cut (under (getD l₀ (64 + u) 0) 2)) j) h) in
+          let n₂ = a .state (lowered (q .c) (q .k) N) n₁ in
+          let n₃ = holds-longer l₂ (added w v (measure (q .E)) (lowered (q .c) (q .k) N)) (w * (m + (next - (at + 2)))) y long₂ ey n₂ in
+          let pw : w ≡ cut (N .counts (q .c) (q .k)) = ew ∙ ap (λ (u : ℕ). getD l₀ u 0) j ∙ h .count-at (q .c) (q .k) (q .named) in
+          let pv : v ≡ cut (under (N .deeps (q .c) (q .k)) (suc (q .more))) = level (N .deeps (q .c) (q .k)) d v (ed ∙ ap (λ (u : ℕ). cut (under (getD l₀ (64 + u) 0) 2)) j ∙ ap (λ (u : ℕ). cut (under u 2)) (h .deep-at (q .c) (q .k) (q .named))) ev in
+          let ps : next - (at + 2) ≡ size (q .E) = omega (arith, a .after) in
+          let pm : m ≡ q .more = em ∙ sym (q .is-more) in
+          holds-same (together (q .c) (q .k) (q .more) (measure (q .E)) N)
+          (holds-is (λ t. longer (pw t * (pm t + ps t)) (added (pw t) (pv t) (measure (q .E)) (lowered (q .c) (q .k) N)))
+          (subst (λ (l : List ℕ). Holds l (longer (w * (m + (next - (at + 2)))) (added w v (measure (q .E)) (lowered (q .c) (q .k) N)))) (sym el₃) n₃))
+
+  -- no number is too large
+  pub step-fits : (l₀ : List ℕ) (i w : ℕ) → Held l₀ → i ≡ cell (q .c) (q .k) → w ≡ getD l₀ i 0 → w ≤ 16385
+  step-fits l₀ i w h j e = omega (arith, e ∙ ap (λ (u : ℕ). getD l₀ u 0) j ∙ h .holds .count-at (q .c) (q .k) (q .named))
+
+  pub step-product : (w m n : ℕ) → w ≤ 16385 → m ≤ 2 → n ≤ 4096 → w * (m + n) ≤ 16385 * 4098
+  step-product w m n a b c = mul-le-mul a (let e : m + n ≤ 4098 = omega arith in e)
+
+pub low-level : (b : Bool) (x d v : ℕ) → d ≡ cut x → v ≡ cond b (cut (under d 2)) d → v ≤ 16385
+low-level true x d v e f = omega (arith, f)
+low-level false x d v e f = omega (arith, f, e)
+
+pub few : (b : Bool) (m : ℕ) → m ≡ cond b 2 1 → m ≤ 2
+few true m e = omega (arith, e)
+few false m e = omega (arith, e)

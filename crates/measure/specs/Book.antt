@@ -1,0 +1,57 @@
+-- A book of rules in a text, and the size of the book carried through an edit.
+use mathlib.Core.Path.{_≡_}
+use mathlib.Core.List.{List, [], _∷_}
+use Prim.Native.Nat.{ℕ, _+_, _≤_}
+use lib.ListN.{length}
+use Rattle.logic.specs.Syntax.{rule, Expr, Edit}
+use Rattle.logic.specs.Carry.{carry, carriedBook}
+use Rattle.logic.specs.Limits.{Ranges, InRange}
+use Rattle.text.specs.Code.{code, levels, bookCode, bookLevels}
+use Rattle.text.specs.Questions.{mostRules}
+use Rattle.text.specs.Stands.{Stands}
+use Rattle.tree.specs.Tree.{tree}
+use Rattle.tree.specs.Sizes.{Measure, measure, join, measures, cut}
+use Rattle.measure.specs.State.{Holds}
+
+-- a rule whose numbers are in range stands in a text at a place, whatever the ranges
+pub record RuleAt (text : List ℕ) (at : ℕ) (K : Expr rule) : Type 0 where
+  pub limits : Ranges
+  pub place : Stands limits text at K
+
+pub record SomeRule (text : List ℕ) (at : ℕ) : Type 0 where
+  pub what : Expr rule
+  pub stands : RuleAt text at what
+
+unfoldable pub RulesInRange : Ranges → List (Expr rule) → Type 0
+RulesInRange r [] = Unit {0}
+RulesInRange r (K ∷ rules) = InRange r K × RulesInRange r rules
+
+-- a text is a book of these rules
+pub record BookIs (book : List ℕ) (rules : List (Expr rule)) : Type 0 where
+  pub limits : Ranges
+  pub is : book ≡ bookCode rules
+  pub range : RulesInRange limits rules
+  pub few : length rules ≤ mostRules
+
+pub record SomeBook (book : List ℕ) : Type 0 where
+  pub what : List (Expr rule)
+  pub is : BookIs book what
+
+-- a rule's measure joined to that of the rules before it; `next` is the place behind the rule
+pub record RuleAdded (at : ℕ) (K : Expr rule) (next : ℕ) (l l′ : List ℕ) : Type 0 where
+  pub after : next ≡ at + length (code K)
+  pub holds : (M : Measure) → Holds l M → Holds l′ (join M (measure (tree K)))
+
+-- the number of a book's rules and its measure
+pub record BookAdded (rules : List (Expr rule)) (number : ℕ) (l : List ℕ) : Type 0 where
+  pub number-is : number ≡ length rules
+  pub holds : Holds l (measures rules)
+
+-- the length and the levels of a carried rule, and of a carried book, cut at 16,385
+pub record RuleSized (Z : Edit) (K : Expr rule) (len tall : ℕ) : Type 0 where
+  pub len-is : len ≡ cut (length (code (carry Z K)))
+  pub tall-is : tall ≡ cut (levels (carry Z K))
+
+pub record BookSized (Z : Edit) (rules : List (Expr rule)) (len tall : ℕ) : Type 0 where
+  pub len-is : len ≡ cut (length (bookCode (carriedBook Z rules)))
+  pub tall-is : tall ≡ cut (bookLevels (carriedBook Z rules))

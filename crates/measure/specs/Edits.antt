@@ -1,0 +1,77 @@
+-- An edit in a text; the measure of a book carried through it, in numbers.
+use mathlib.Core.Path.{_≡_}
+use mathlib.Core.List.{List, _++_}
+use Prim.Native.Nat.{ℕ, zero, suc, _+_, _<_, _≤_, max}
+use Rattle.tree.specs.Tree.{Tree, under}
+use lib.ListN.{length, getD, drop}
+use Rattle.logic.specs.Syntax.{Edit, finish, addLabel, takeLabel, addArrow, takeArrow, choose}
+use Rattle.logic.specs.Limits.{Ranges}
+use Rattle.text.specs.Stands.{EditStands}
+use Rattle.text.specs.Code.{editCode}
+use Rattle.tree.specs.Sizes.{Measure, measure, chosen, back, cut}
+use Rattle.measure.specs.State.{Holds}
+
+-- an edit whose numbers are in range stands in a text at a place, whatever the ranges
+pub record EditAt (text : List ℕ) (at : ℕ) (Z : Edit) : Type 0 where
+  pub limits : Ranges
+  pub place : EditStands limits text at Z
+
+pub record SomeEdit (text : List ℕ) (at : ℕ) : Type 0 where
+  pub what : Edit
+  pub stands : EditAt text at what
+
+-- the numbers hold some measure
+pub record Held (l : List ℕ) : Type 0 where
+  pub long : length l ≡ 130
+  pub M : Measure
+  pub holds : Holds l M
+
+-- what follows the first step
+unfoldable pub behindStep : Edit → Edit
+behindStep finish = finish
+behindStep (addLabel k E Z) = Z
+behindStep (takeLabel k E Z) = Z
+behindStep (addArrow a R Z) = Z
+behindStep (takeArrow a R Z) = Z
+behindStep (choose K P Q Z) = Z
+
+unfoldable pub after : ℕ → Edit → Edit
+after zero Z = Z
+after (suc j) Z = behindStep (after j Z)
+
+-- the offsets of an edit's steps on a stack, from `top` to `end`
+pub record Pushed (text : List ℕ) (at : ℕ) (Z : Edit) (stack : List ℕ) (top end : ℕ) : Type 0 where
+  pub steps : ℕ
+  pub ends : end ≡ top + steps
+  pub stands : (i : ℕ) → i < steps → EditAt text (getD stack (top + i) 0) (after i Z)
+  pub step : (i : ℕ) → i < steps → getD text (getD stack (top + i) 0) 0 ≡ 0x30 → ⊥
+  pub low : (i : ℕ) → i < steps → (at ≤ getD stack (top + i) 0) × (top + i ≤ getD stack (top + i) 0)
+  pub last : after steps Z ≡ finish
+
+-- a walk back over the first step, and over a whole edit
+pub record Stepped (rules : ℕ) (Z : Edit) (l l′ : List ℕ) : Type 0 where
+  pub holds : (M : Measure) → Holds l (back rules (behindStep Z) M) → Holds l′ (back rules Z M)
+
+pub record Backed (rules : ℕ) (Z : Edit) (l l′ : List ℕ) : Type 0 where
+  pub holds : (M : Measure) → Holds l M → Holds l′ (back rules Z M)
+
+-- a place is behind an edit's first step, or behind the edit
+pub record NextAt (text : List ℕ) (at : ℕ) (Z : Edit) (next : ℕ) : Type 0 where
+  pub stands : EditAt text next (behindStep Z)
+  pub ends : next + length (editCode (behindStep Z)) ≡ at + length (editCode Z)
+  pub on : at < next
+
+-- the numbers t and l of a choice's two ways, two levels lower together
+pub record Merged (t l l′ : List ℕ) : Type 0 where
+  pub count : (i : ℕ) → i < 64 → getD l′ i 0 ≡ cut (getD t i 0 + getD l i 0)
+  pub deep : (i : ℕ) → i < 64 → getD l′ (64 + i) 0 ≡ cut (under (cut (under (max (getD t (64 + i) 0) (getD l (64 + i) 0)) 2)) 2)
+  pub len : getD l′ 128 0 ≡ cut (getD t 128 0 + getD l 128 0)
+  pub tall : getD l′ 129 0 ≡ cut (max (getD t 129 0) (getD l 129 0) + 2)
+
+-- the same numbers below a place
+pub record Kept (top : ℕ) (l l′ : List ℕ) : Type 0 where
+  pub same : (i : ℕ) → i < top → getD l′ i 0 ≡ getD l i 0
+
+-- the numbers of a choice on K
+pub record Joined (rules : ℕ) (K : Tree) (t l l′ : List ℕ) : Type 0 where
+  pub holds : (T U : Measure) → Holds t T → Holds l U → Holds l′ (chosen rules (measure K) T U)

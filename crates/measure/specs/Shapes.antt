@@ -1,0 +1,45 @@
+-- How each code goes on: its length with its numbers, plus 4 for each operand; 16 for a name; 0 for no code of an expression.
+use mathlib.Core.Path.{_≡_}
+use mathlib.Core.List.{List, [], _∷_, _++_}
+use mathlib.Core.Logic.{_⊎_}
+use Prim.Native.Nat.{ℕ, _+_, _*_, _/_, _<_, _≤_}
+use lib.ListN.{length, getD, drop}
+use Rattle.tree.specs.Tree.{Tree, name, leaf, one, two, bytes}
+
+unfoldable pub shapes : List ℕ
+shapes =
+    0 ∷ 1 ∷ 1 ∷ 16 ∷ 2 ∷ 5 ∷ 9 ∷ 9 ∷ 9 ∷ 9 ∷ 10 ∷ 10 ∷ 0 ∷ 0 ∷ 0 ∷ 0
+    ∷ 0 ∷ 16 ∷ 5 ∷ 9 ∷ 9 ∷ 9 ∷ 9 ∷ 3 ∷ 0 ∷ 0 ∷ 0 ∷ 0 ∷ 0 ∷ 0 ∷ 0 ∷ 0
+    ∷ 0 ∷ 9 ∷ 9 ∷ 6 ∷ 7 ∷ 9 ∷ 9 ∷ 5 ∷ []
+
+abbrev pub shapeOf : ℕ → ℕ
+shapeOf c = getD shapes c 0
+
+-- 03 k and 11 a
+abbrev pub Named : ℕ → ℕ → Type 0
+Named c k = ((c ≡ 0x03) × (k < 48)) ⊎ ((c ≡ 0x11) × (k < 16))
+
+-- a name's place among 64
+abbrev pub cell : ℕ → ℕ → ℕ
+cell c k = c / 16 * 48 + k
+
+pub record Head (h : List ℕ) (n : ℕ) : Type 0 where
+  pub pos : 0 < length h
+  pub short : length h < 4
+  pub is : shapeOf (getD h 0 0) ≡ length h + 4 * n
+
+unfoldable pub Formed : Tree → Type 0
+Formed (name c k) = Named c k
+Formed (leaf h) = Head h 0
+Formed (one h x) = Head h 1 × Formed x
+Formed (two h x y) = Head h 2 × Formed x × Formed y
+
+-- a tree stands in a text at a place
+pub record At (text : List ℕ) (at : ℕ) (t : Tree) : Type 0 where
+  pub rest : List ℕ
+  pub here : drop at text ≡ bytes t ++ rest
+  pub formed : Formed t
+
+pub record Some (text : List ℕ) (at : ℕ) : Type 0 where
+  pub what : Tree
+  pub stands : At text at what

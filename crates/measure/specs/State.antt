@@ -1,0 +1,28 @@
+-- A measure in 130 numbers, cut: 64 counts, 64 deepest levels, the length, the levels.
+use mathlib.Core.Path.{_≡_}
+use mathlib.Core.Bool.{cond}
+use mathlib.Core.List.{List}
+use Prim.Native.Nat.{ℕ, _+_, _*_, max}
+use lib.ListN.{length, getD}
+use Rattle.tree.specs.Tree.{Tree, same, under, size}
+use Rattle.tree.specs.Sizes.{Measure, measure, cut}
+use Rattle.measure.specs.Shapes.{Named, cell}
+
+pub record Holds (l : List ℕ) (M : Measure) : Type 0 where
+  pub len-at : getD l 128 0 ≡ cut (M .len)
+  pub tall-at : getD l 129 0 ≡ cut (M .tall)
+  pub count-at : (c k : ℕ) → Named c k → getD l (cell c k) 0 ≡ cut (M .counts c k)
+  pub deep-at : (c k : ℕ) → Named c k → getD l (64 + cell c k) 0 ≡ cut (M .deeps c k)
+
+-- w copies of a text put in, their first codes on level v at the deepest; their length not counted
+unfoldable pub added : (w v : ℕ) (E M : Measure) → Measure
+added w v E M = record {
+  len = M .len;
+  tall = max (M .tall) (under v (E .tall));
+  counts = λ c k. M .counts c k + w * E .counts c k;
+  deeps = λ c k. max (M .deeps c k) (under v (E .deeps c k));
+}
+
+pub record Scanned (at w v : ℕ) (t : Tree) (next : ℕ) (l l′ : List ℕ) : Type 0 where
+  pub after : next ≡ at + size t
+  pub state : (M : Measure) → Holds l M → Holds l′ (added w v (measure t) M)

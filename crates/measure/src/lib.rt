@@ -1,0 +1,394 @@
+// Measuring a carried book: one walk back over the edit, nothing written.
+ghost use mathlib.Core.Path.{_≡_};
+ghost use Prim.Native.Nat.{ℕ, _+_, _*_, _/_, _<_, _≤_, max};
+ghost use lib.ListN.{length, getD, set, replicate};
+ghost use mathlib.Core.List.{List};
+ghost use Rattle.tree.specs.Sizes.{cut};
+ghost use Rattle.tree.specs.Tree.{Tree, under, size};
+ghost use Rattle.text.specs.Code.{editCode};
+ghost use Rattle.measure.specs.Shapes.{shapeOf, cell, At, Some};
+ghost use Rattle.measure.specs.State.{Scanned};
+ghost use mathlib.Core.Bool.{cond};
+ghost use lib.Dec.{eqb, ltb};
+ghost use Rattle.logic.specs.Syntax.{Edit, Expr, rule};
+ghost use Rattle.measure.specs.Edits.{EditAt, SomeEdit, Held, Stepped, Backed, NextAt, Pushed, Merged, Kept, Joined};
+ghost use Rattle.measure.specs.Book.{RuleAt, SomeRule, BookIs, SomeBook, RuleAdded, BookAdded, RuleSized, BookSized};
+
+const SHAPES: [usize; 40] = [
+    0,
+    1,
+    1,
+    16,
+    2,
+    5,
+    9,
+    9,
+    9,
+    9,
+    10,
+    10,
+    0,
+    0,
+    0,
+    0,
+    0,
+    16,
+    5,
+    9,
+    9,
+    9,
+    9,
+    3,
+    0,
+    0,
+    0,
+    0,
+    0,
+    0,
+    0,
+    0,
+    0,
+    9,
+    9,
+    6,
+    7,
+    9,
+    9,
+    5,
+];
+
+fn shape(code: u8) -> usize
+    ensures { λ r. ⌜ r ≡ shapeOf code ⌝ }
+{
+    let at = code as usize;
+    if at < 40 { SHAPES[at] } else { 0 }
+}
+
+fn larger(a: usize, b: usize) -> usize
+    ensures { λ r. ⌜ r ≡ max a b ⌝ }
+{
+    if a < b { b } else { a }
+}
+
+fn sum(a: usize, b: usize) -> usize
+    ensures { λ r. ⌜ r ≡ cut (a + b) ⌝ }
+{
+    if a >= 16385 {
+        return 16385;
+    }
+    if b >= 16385 {
+        return 16385;
+    }
+    if a + b < 16385 { a + b } else { 16385 }
+}
+
+fn deeper(v: usize) -> usize
+    ensures { λ r. ⌜ r ≡ cut (under v 2) ⌝ }
+{
+    if v == 0 {
+        return 0;
+    }
+    if v < 16385 { v + 1 } else { 16385 }
+}
+
+fn cell_of(code: u8, number: u8) -> usize
+    ensures { λ r. ⌜ r ≡ cell code number ⌝ }
+{
+    code as usize / 16 * 48 + number as usize
+}
+
+fn rise(state: &mut [usize], v: usize)
+    requires { ⌜ length (now state) ≡ 130 ⌝ }
+    ensures { λ r. ⌜ now (state .exit) ≡ set (now (state .entry)) 129 (max (getD (now (state .entry)) 129 0) v) ⌝ }
+{
+    state[129] = larger(state[129], v);
+}
+
+fn touch(state: &mut [usize], i: usize, w: usize, v: usize)
+    requires { ⌜ (length (now state) ≡ 130) × (i < 64) ⌝ }
+    ensures { λ r. ⌜ now (state .exit) ≡ set (set (now (state .entry)) i (cut (getD (now (state .entry)) i 0 + w))) (64 + i) (max (getD (now (state .entry)) (64 + i) 0) v) ⌝ }
+{
+    let n = sum(state[i], w);
+    let d = larger(state[64 + i], v);
+    state[i] = n;
+    state[64 + i] = d;
+}
+
+pub fn scan(text: &[u8], at: usize, w: usize, v: usize, state: &mut [usize]) -> usize
+    requires { ⌜ Some (now text) at × (v ≤ 16385) × (length (now state) ≡ 130) ⌝ }
+    ensures { λ r. ⌜ ((t : Tree) → At (now (text .entry)) at t → Scanned at w v t r (now (state .entry)) (now (state .exit))) ⌝ }
+{
+    let c = text[at];
+    let s = shape(c);
+    rise(state, v);
+    if s == 16 {
+        touch(state, cell_of(c, text[at + 1]), w, v);
+        return at + 2;
+    }
+    let first = at + s % 4;
+    if s < 4 {
+        return first;
+    }
+    let below = deeper(v);
+    let second = scan(text, first, w, below, state);
+    if s < 8 {
+        return second;
+    }
+    scan(text, second, w, below, state)
+}
+
+// The code of the names that a step touches.
+fn name_code(op: u8) -> u8
+    ensures { λ r. ⌜ r ≡ cond (ltb op 0x33) 0x03 0x11 ⌝ }
+{
+    if op < 0x33 { 0x03 } else { 0x11 }
+}
+
+// How many codes a step puts above its expression.
+fn extra(op: u8) -> usize
+    ensures { λ r. ⌜ r ≡ cond (eqb op 0x32) 2 1 ⌝ }
+{
+    if op == 0x32 { 2 } else { 1 }
+}
+
+// The level of a step's expression, d being one below the name's.
+fn lower(op: u8, d: usize) -> usize
+    ensures { λ r. ⌜ r ≡ cond (eqb op 0x32) (cut (under d 2)) d ⌝ }
+{
+    if op == 0x32 { deeper(d) } else { d }
+}
+
+// Back over one step 31 to 34.
+fn step_back(text: &[u8], at: usize, state: &mut [usize])
+    requires { ⌜ SomeEdit (now text) at × Held (now state) × (length (now text) ≤ 4096) × (getD (now text) at 0 ≡ 0x30 → ⊥) × (getD (now text) at 0 ≡ 0x35 → ⊥) ⌝ }
+    ensures { λ r. ⌜ ((Z : Edit) → EditAt (now (text .entry)) at Z → (rules : ℕ) → Stepped rules Z (now (state .entry)) (now (state .exit))) ⌝ }
+{
+    let op = text[at];
+    let i = cell_of(name_code(op), text[at + 1]);
+    let w = state[i];
+    let d = deeper(state[64 + i]);
+    state[64 + i] = d;
+    let next = scan(text, at + 2, w, lower(op, d), state);
+    state[128] = sum(state[128], w * (extra(op) + (next - (at + 2))));
+}
+
+// The end of an expression.
+fn past(text: &[u8], at: usize) -> usize
+    requires { ⌜ Some (now text) at ⌝ }
+    ensures { λ r. ⌜ ((t : Tree) → At (now (text .entry)) at t → r ≡ at + size t) ⌝ }
+{
+    let c = text[at];
+    let s = shape(c);
+    if s == 16 {
+        return at + 2;
+    }
+    let first = at + s % 4;
+    if s < 4 {
+        return first;
+    }
+    let second = past(text, first);
+    if s < 8 {
+        return second;
+    }
+    past(text, second)
+}
+
+// What follows a step.
+fn next_step(text: &[u8], at: usize) -> usize
+    requires { ⌜ SomeEdit (now text) at × (getD (now text) at 0 ≡ 0x30 → ⊥) ⌝ }
+    ensures { λ r. ⌜ ((Z : Edit) → EditAt (now (text .entry)) at Z → NextAt (now (text .entry)) at Z r) ⌝ }
+{
+    let c = text[at];
+    if c != 0x35 {
+        return past(text, at + 2);
+    }
+    let p = past(text, at + 1);
+    let q = end_of(text, p);
+    end_of(text, q)
+}
+
+// The end of an edit.
+fn end_of(text: &[u8], at: usize) -> usize
+    requires { ⌜ SomeEdit (now text) at ⌝ }
+    ensures { λ r. ⌜ ((Z : Edit) → EditAt (now (text .entry)) at Z → r ≡ at + length (editCode Z)) ⌝ }
+{
+    let mut p = at;
+    while text[p] != 0x30 {
+        p = next_step(text, p);
+    }
+    p + 1
+}
+
+// The offsets of an edit's steps, put on a stack.
+fn push(text: &[u8], at: usize, stack: &mut [usize], top: usize) -> usize
+    requires { ⌜ SomeEdit (now text) at × (top ≤ at) × (length (now text) ≤ length (now stack)) ⌝ }
+    ensures { λ r. ⌜ ((Z : Edit) → EditAt (now (text .entry)) at Z → Pushed (now (text .entry)) at Z (now (stack .exit)) top r) × Kept top (now (stack .entry)) (now (stack .exit)) ⌝ }
+{
+    let mut p = at;
+    let mut n = top;
+    while text[p] != 0x30 {
+        stack[n] = p;
+        n += 1;
+        p = next_step(text, p);
+    }
+    n
+}
+
+// The numbers of src.
+fn copy(src: &[usize], out: &mut [usize])
+    requires { ⌜ (length (now src) ≡ 130) × (length (now out) ≡ 130) ⌝ }
+    ensures { λ r. ⌜ Kept 130 (now (src .entry)) (now (out .exit)) ⌝ }
+{
+    let mut i = 0;
+    while i < 130 {
+        out[i] = src[i];
+        i += 1;
+    }
+}
+
+fn merge_one(t: &[usize], state: &mut [usize], i: usize)
+    requires { ⌜ (length (now t) ≡ 130) × (length (now state) ≡ 130) × (i < 64) ⌝ }
+    ensures { λ r. ⌜ now (state .exit) ≡ set (set (now (state .entry)) i (cut (getD (now (t .entry)) i 0 + getD (now (state .entry)) i 0))) (64 + i) (cut (under (cut (under (max (getD (now (t .entry)) (64 + i) 0) (getD (now (state .entry)) (64 + i) 0)) 2)) 2)) ⌝ }
+{
+    let n = sum(t[i], state[i]);
+    let d = deeper(deeper(larger(t[64 + i], state[64 + i])));
+    state[i] = n;
+    state[64 + i] = d;
+}
+
+fn merge(t: &[usize], state: &mut [usize])
+    requires { ⌜ (length (now t) ≡ 130) × (length (now state) ≡ 130) ⌝ }
+    ensures { λ r. ⌜ Merged (now (t .entry)) (now (state .entry)) (now (state .exit)) ⌝ }
+{
+    let n = sum(t[128], state[128]);
+    let h = sum(larger(t[129], state[129]), 2);
+    let mut i = 0;
+    while i < 64 {
+        merge_one(t, state, i);
+        i += 1;
+    }
+    state[128] = n;
+    state[129] = h;
+}
+
+// The two ways of a choice together, with its rule at a place.
+fn join_ways(text: &[u8], at: usize, rules: usize, t: &[usize], state: &mut [usize])
+    requires { ⌜ Some (now text) at × (length (now text) ≤ 4096) × (rules ≤ 32) × (length (now t) ≡ 130) × (length (now state) ≡ 130) ⌝ }
+    ensures { λ r. ⌜ ((K : Tree) → At (now (text .entry)) at K → Joined rules K (now (t .entry)) (now (state .entry)) (now (state .exit))) ⌝ }
+{
+    merge(t, state);
+    let next = scan(text, at, 2 * rules, 4, state);
+    state[128] = sum(state[128], rules * (4 + 2 * (next - at)));
+}
+
+// Back over one step.
+fn one_back(
+    text: &[u8],
+    at: usize,
+    rules: usize,
+    stack: &mut [usize],
+    top: usize,
+    state: &mut [usize],
+)
+    requires { ⌜ SomeEdit (now text) at × (getD (now text) at 0 ≡ 0x30 → ⊥) × (top ≤ at) × (length (now text) ≤ length (now stack)) × (length (now text) ≤ 4096) × (rules ≤ 32) × Held (now state) ⌝ }
+    ensures { λ r. ⌜ ((Z : Edit) → EditAt (now (text .entry)) at Z → Stepped rules Z (now (state .entry)) (now (state .exit))) × Kept top (now (stack .entry)) (now (stack .exit)) ⌝ }
+{
+    let c = text[at];
+    if c != 0x35 {
+        step_back(text, at, state);
+        return;
+    }
+    let first = past(text, at + 1);
+    let second = end_of(text, first);
+    let mut other = [0usize; 130];
+    copy(state, &mut other);
+    back(text, first, rules, stack, top, &mut other);
+    back(text, second, rules, stack, top, state);
+    join_ways(text, at + 1, rules, &other, state);
+}
+
+// Back over an edit.
+pub fn back(
+    text: &[u8],
+    at: usize,
+    rules: usize,
+    stack: &mut [usize],
+    top: usize,
+    state: &mut [usize],
+)
+    requires { ⌜ SomeEdit (now text) at × (top ≤ at) × (length (now text) ≤ length (now stack)) × (length (now text) ≤ 4096) × (rules ≤ 32) × Held (now state) ⌝ }
+    ensures { λ r. ⌜ ((Z : Edit) → EditAt (now (text .entry)) at Z → Backed rules Z (now (state .entry)) (now (state .exit))) × Kept top (now (stack .entry)) (now (stack .exit)) ⌝ }
+{
+    let mut n = push(text, at, stack, top);
+    while n > top {
+        n -= 1;
+        one_back(text, stack[n], rules, stack, n, state);
+    }
+}
+
+// The measure of the rule at `at`, joined to that in `state`; answers the place behind the rule.
+// Inner: the text was read before.
+fn add_rule(book: &[u8], at: usize, state: &mut [usize]) -> usize
+    requires { ⌜ SomeRule (now book) at × (length (now state) ≡ 130) ⌝ }
+    ensures { λ r. ⌜ ((K : Expr rule) → RuleAt (now (book .entry)) at K → RuleAdded at K r (now (state .entry)) (now (state .exit))) ⌝ }
+{
+    let next = scan(book, at, 1, 1, state);
+    state[128] = sum(state[128], next - at);
+    next
+}
+
+// The measure of a book, into numbers that are 0; answers how many rules it has.
+// Inner: the book was read before.
+fn add_book(book: &[u8], state: &mut [usize]) -> usize
+    requires { ⌜ SomeBook (now book) × (now state ≡ replicate 130 0) ⌝ }
+    ensures { λ r. ⌜ ((rules : List (Expr rule)) → BookIs (now (book .entry)) rules → BookAdded rules r (now (state .exit))) ⌝ }
+{
+    let mut at = 0;
+    let mut n = 0;
+    while at < book.len() {
+        at = add_rule(book, at, state);
+        n += 1;
+    }
+    n
+}
+
+// A length in bytes and a number of levels, each 16,385 where it is more than 16,384.
+pub struct Size {
+    pub len: usize,
+    pub levels: usize,
+}
+
+// The size of the rule at `at` carried through the edit at `from`.
+// Inner: both texts were read before.
+pub fn size_of_rule(book: &[u8], at: usize, edit: &[u8], from: usize) -> Size
+    requires { ⌜ SomeRule (now book) at × SomeEdit (now edit) from × (length (now edit) ≤ 4096) ⌝ }
+    ensures { λ r. ⌜ ((K : Expr rule) (Z : Edit) → RuleAt (now (book .entry)) at K → EditAt (now (edit .entry)) from Z → RuleSized Z K (r .len) (r .levels)) ⌝ }
+{
+    let mut state = [0usize; 130];
+    add_rule(book, at, &mut state);
+    let mut stack = [0usize; 4096];
+    back(edit, from, 1, &mut stack, 0, &mut state);
+    Size {
+        len: state[128],
+        levels: state[129],
+    }
+}
+
+// The size of a book carried through an edit, in one walk over the edit.
+// Inner: both texts were read before.
+pub fn size_of_book(book: &[u8], edit: &[u8]) -> Size
+    requires { ⌜ SomeBook (now book) × SomeEdit (now edit) 0 × (length (now edit) ≤ 4096) ⌝ }
+    ensures { λ r. ⌜ ((rules : List (Expr rule)) (Z : Edit) → BookIs (now (book .entry)) rules → EditAt (now (edit .entry)) 0 Z → BookSized Z rules (r .len) (r .levels)) ⌝ }
+{
+    if book.len() == 0 {
+        return Size { len: 0, levels: 0 };
+    }
+    let mut state = [0usize; 130];
+    let rules = add_book(book, &mut state);
+    let mut stack = [0usize; 4096];
+    back(edit, 0, rules, &mut stack, 0, &mut state);
+    Size {
+        len: state[128],
+        levels: state[129],
+    }
+}
