@@ -65,7 +65,7 @@ fn both_ways(way: Way, k: &Rule, p: &[Step], q: &[Step], room: usize) -> Option<
 }
 
 /// One label or arrow step.
-fn through(way: Way, step: &Step, room: usize) -> Option<Way> {
+fn through(mut way: Way, step: &Step, room: usize) -> Option<Way> {
     let places = way.rule.places(step);
     let length = way.length + places * added(step);
     if length > room {
@@ -74,7 +74,8 @@ fn through(way: Way, step: &Step, room: usize) -> Option<Way> {
     if places == 0 {
         return Some(way);
     }
-    Some(Way { rule: way.rule.replaced(step), length })
+    way.rule.replace(step);
+    Some(Way { length, ..way })
 }
 
 /// The bytes that a step adds for each place where its name stands.
@@ -87,14 +88,15 @@ fn added(step: &Step) -> usize {
     }
 }
 
-/// Where the name of a step stands in a tree, and the tree with each such place replaced.
+/// At how many places the name of a step stands in a tree, and the replacement of each.
 trait Replace {
     fn places(&self, step: &Step) -> usize;
-    fn replaced(&self, step: &Step) -> Self;
+    fn replace(&mut self, step: &Step);
 }
 
-fn again<T: Replace>(operand: &T, step: &Step) -> Box<T> {
-    Box::new(operand.replaced(step))
+fn replace_both(first: &mut impl Replace, second: &mut impl Replace, step: &Step) {
+    first.replace(step);
+    second.replace(step);
 }
 
 impl Replace for Node {
@@ -109,17 +111,14 @@ impl Replace for Node {
         }
     }
 
-    fn replaced(&self, step: &Step) -> Node {
+    fn replace(&mut self, step: &Step) {
         match self {
-            Node::Label(k) => label_replaced(*k, step),
-            Node::All | Node::Nothing | Node::Only(_) => self.clone(),
-            Node::Not(e) => Node::Not(again(&**e, step)),
-            Node::And(e, f) => Node::And(again(&**e, step), again(&**f, step)),
-            Node::Or(e, f) => Node::Or(again(&**e, step), again(&**f, step)),
-            Node::Some(r, e) => Node::Some(again(&**r, step), again(&**e, step)),
-            Node::Every(r, e) => Node::Every(again(&**r, step), again(&**e, step)),
-            Node::AtLeast(m, r, e) => Node::AtLeast(*m, again(&**r, step), again(&**e, step)),
-            Node::AtMost(m, r, e) => Node::AtMost(*m, again(&**r, step), again(&**e, step)),
+            Node::Label(k) => *self = label_replaced(*k, step),
+            Node::All | Node::Nothing | Node::Only(_) => {}
+            Node::Not(e) => e.replace(step),
+            Node::And(e, f) | Node::Or(e, f) => replace_both(&mut **e, &mut **f, step),
+            Node::Some(r, e) | Node::Every(r, e) => replace_both(&mut **r, &mut **e, step),
+            Node::AtLeast(_, r, e) | Node::AtMost(_, r, e) => replace_both(&mut **r, &mut **e, step),
         }
     }
 }
@@ -145,15 +144,13 @@ impl Replace for Arrow {
         }
     }
 
-    fn replaced(&self, step: &Step) -> Arrow {
+    fn replace(&mut self, step: &Step) {
         match self {
-            Arrow::Kind(a) => arrow_replaced(*a, step),
-            Arrow::Pair(_, _) => self.clone(),
-            Arrow::Reversed(r) => Arrow::Reversed(again(&**r, step)),
-            Arrow::Union(r, s) => Arrow::Union(again(&**r, step), again(&**s, step)),
-            Arrow::Common(r, s) => Arrow::Common(again(&**r, step), again(&**s, step)),
-            Arrow::Without(r, s) => Arrow::Without(again(&**r, step), again(&**s, step)),
-            Arrow::EndingIn(r, e) => Arrow::EndingIn(again(&**r, step), again(&**e, step)),
+            Arrow::Kind(a) => *self = arrow_replaced(*a, step),
+            Arrow::Pair(_, _) => {}
+            Arrow::Reversed(r) => r.replace(step),
+            Arrow::Union(r, s) | Arrow::Common(r, s) | Arrow::Without(r, s) => replace_both(&mut **r, &mut **s, step),
+            Arrow::EndingIn(r, e) => replace_both(&mut **r, &mut **e, step),
         }
     }
 }
@@ -180,15 +177,14 @@ impl Replace for Rule {
         }
     }
 
-    fn replaced(&self, step: &Step) -> Rule {
+    fn replace(&mut self, step: &Step) {
         match self {
-            Rule::Nodes(e, f) => Rule::Nodes(e.replaced(step), f.replaced(step)),
-            Rule::Pairs(r, s) => Rule::Pairs(r.replaced(step), s.replaced(step)),
-            Rule::Member(i, e) => Rule::Member(*i, e.replaced(step)),
-            Rule::Linked(i, j, r) => Rule::Linked(*i, *j, r.replaced(step)),
-            Rule::And(k, l) => Rule::And(again(&**k, step), again(&**l, step)),
-            Rule::Or(k, l) => Rule::Or(again(&**k, step), again(&**l, step)),
-            Rule::Not(k) => Rule::Not(again(&**k, step)),
+            Rule::Nodes(e, f) => replace_both(e, f, step),
+            Rule::Pairs(r, s) => replace_both(r, s, step),
+            Rule::Member(_, e) => e.replace(step),
+            Rule::Linked(_, _, r) => r.replace(step),
+            Rule::And(k, l) | Rule::Or(k, l) => replace_both(&mut **k, &mut **l, step),
+            Rule::Not(k) => k.replace(step),
         }
     }
 }

@@ -30,7 +30,7 @@ fn members(graph: &Graph, e: &Node, f: &Node, both: fn(bool, bool) -> bool) -> N
 /// The nodes whose row of R and the ends in E pass a test.
 fn by_ends(graph: &Graph, r: &Arrow, e: &Node, test: impl Fn(&[bool], &[bool]) -> bool) -> Nodes {
     let (rows, ends) = (pairs(graph, r), nodes(graph, e));
-    rows.iter().map(|row| test(row, &ends)).collect()
+    (0..graph.n).map(|x| test(rows.row(x), &ends)).collect()
 }
 
 /// How many different end nodes of a row are in E.
@@ -44,38 +44,31 @@ pub fn pairs(graph: &Graph, expression: &Arrow) -> Pairs {
         Arrow::Kind(a) => graph.arrows[usize::from(*a)].clone(),
         Arrow::Reversed(r) => {
             let before = pairs(graph, r);
-            all_pairs(graph.n, |x, y| before[y][x])
+            Pairs::new(graph.n, |x, y| before.has(y, x))
         }
         Arrow::Union(r, s) => linked(graph, r, s, |in_r, in_s| in_r || in_s),
         Arrow::Common(r, s) => linked(graph, r, s, |in_r, in_s| in_r && in_s),
         Arrow::Without(r, s) => linked(graph, r, s, |in_r, in_s| in_r && !in_s),
         Arrow::EndingIn(r, e) => {
             let (before, ends) = (pairs(graph, r), nodes(graph, e));
-            all_pairs(graph.n, |x, y| before[x][y] && ends[y])
+            Pairs::new(graph.n, |x, y| before.has(x, y) && ends[y])
         }
-        Arrow::Pair(i, j) => all_pairs(graph.n, |x, y| x == usize::from(*i) && y == usize::from(*j)),
+        Arrow::Pair(i, j) => Pairs::new(graph.n, |x, y| x == usize::from(*i) && y == usize::from(*j)),
     }
-}
-
-fn all_pairs(n: usize, member: impl Fn(usize, usize) -> bool) -> Pairs {
-    (0..n).map(|x| (0..n).map(|y| member(x, y)).collect()).collect()
 }
 
 fn linked(graph: &Graph, r: &Arrow, s: &Arrow, both: fn(bool, bool) -> bool) -> Pairs {
     let (in_r, in_s) = (pairs(graph, r), pairs(graph, s));
-    all_pairs(graph.n, |x, y| both(in_r[x][y], in_s[x][y]))
+    Pairs::new(graph.n, |x, y| both(in_r.has(x, y), in_s.has(x, y)))
 }
 
 /// Whether a rule holds on a graph.
 pub fn holds(graph: &Graph, rule: &Rule) -> bool {
     match rule {
         Rule::Nodes(e, f) => part_of(&nodes(graph, e), &nodes(graph, f)),
-        Rule::Pairs(r, s) => {
-            let (in_r, in_s) = (pairs(graph, r), pairs(graph, s));
-            in_r.iter().zip(&in_s).all(|(row, other)| part_of(row, other))
-        }
+        Rule::Pairs(r, s) => part_of(pairs(graph, r).all(), pairs(graph, s).all()),
         Rule::Member(i, e) => nodes(graph, e)[usize::from(*i)],
-        Rule::Linked(i, j, r) => pairs(graph, r)[usize::from(*i)][usize::from(*j)],
+        Rule::Linked(i, j, r) => pairs(graph, r).has(usize::from(*i), usize::from(*j)),
         Rule::And(k, l) => holds(graph, k) && holds(graph, l),
         Rule::Or(k, l) => holds(graph, k) || holds(graph, l),
         Rule::Not(k) => !holds(graph, k),

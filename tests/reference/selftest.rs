@@ -2,7 +2,7 @@
 
 use reference::answer::{Answer, DONE};
 use reference::calls::{carry_back, enter, judge, Judged};
-use reference::graph::Graph;
+use reference::graph::{Graph, Pairs};
 use reference::meaning::nodes;
 use reference::syntax::{Node, Rule};
 use reference::{reader, sheet};
@@ -17,8 +17,7 @@ fn sheet_t() -> Vec<u8> {
     let mut graph = Graph::blank(3);
     graph.labels[0] = vec![true, true, false];
     graph.labels[1] = vec![false, false, true];
-    graph.arrows[0][0][2] = true;
-    graph.arrows[0][1][2] = true;
+    graph.arrows[0] = Pairs::new(3, |i, j| i < 2 && j == 2);
     sheet::store(&graph)
 }
 
@@ -101,7 +100,7 @@ fn entering(tally: &mut Tally) {
     let answer = enter(&mut after, &hex(B), &hex("32 01 04 02 31 01 04 02 30"), &mut scratch);
     tally.same("example 9", (answer, after == t), (DONE, true));
     let answer = enter(&mut after, &[], &hex("33 00 12 11 00 30"), &mut scratch);
-    let reversed: Vec<bool> = sheet::read(&after).arrows[0][2].clone();
+    let reversed: Vec<bool> = sheet::read(&after).arrows[0].row(2).to_vec();
     tally.same("33 00 12 11 00", (answer, reversed), (DONE, vec![true, true, false]));
 }
 

@@ -1,7 +1,7 @@
 //! "The sheet": 8,704 bytes, 17 blocks of 512, and the questions 1 to 5 and 7.
 
 use crate::answer::{answer_of, refuse, Answer, Asked, DONE};
-use crate::graph::{Graph, ARROWS, LABELS, MOST_NODES};
+use crate::graph::{Graph, Pairs, ARROWS, LABELS, MOST_NODES};
 
 pub const SHEET: usize = 8704;
 pub const BLOCK: usize = 512;
@@ -10,12 +10,20 @@ const SUMMED: usize = 510;
 
 /// The check bytes s and t of a block.
 pub fn sums(block: &[u8]) -> (u8, u8) {
-    let (mut s, mut t) = (0u32, 0u32);
+    let (mut s, mut t) = (0, 0);
     for byte in &block[..SUMMED] {
-        s = (s + u32::from(*byte)) % 255;
-        t = (t + s) % 255;
+        s = plus(s, u16::from(*byte));
+        t = plus(t, s);
     }
     (s as u8, t as u8)
+}
+
+/// (sum + more) mod 255, of a sum below 255 and a number up to 255.
+fn plus(sum: u16, more: u16) -> u16 {
+    match sum + more {
+        high if high >= 255 => high - 255,
+        low => low,
+    }
 }
 
 /// Writes the check bytes of a block.
@@ -94,11 +102,7 @@ pub fn read(sheet: &[u8]) -> Graph {
         }
     }
     for (a, arrow) in graph.arrows.iter_mut().enumerate() {
-        for (i, row) in arrow.iter_mut().enumerate() {
-            for (j, linked) in row.iter_mut().enumerate() {
-                *linked = bit_at(sheet, row_place(a, i), j);
-            }
-        }
+        *arrow = Pairs::new(graph.n, |i, j| bit_at(sheet, row_place(a, i), j));
     }
     graph
 }
@@ -116,8 +120,8 @@ pub fn store(graph: &Graph) -> Vec<u8> {
         put_word(&mut sheet, label_place(k), label);
     }
     for (a, arrow) in graph.arrows.iter().enumerate() {
-        for (i, row) in arrow.iter().enumerate() {
-            put_word(&mut sheet, row_place(a, i), row);
+        for i in 0..graph.n {
+            put_word(&mut sheet, row_place(a, i), arrow.row(i));
         }
     }
     sheet.chunks_mut(BLOCK).for_each(seal);

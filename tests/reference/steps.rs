@@ -23,11 +23,11 @@ fn make(graph: &mut Graph, step: &Step) {
         }
         Step::AddArrow(a, r) => {
             let found = pairs(graph, r);
-            set_rows(&mut graph.arrows[usize::from(*a)], &found, true);
+            set(graph.arrows[usize::from(*a)].all_mut(), found.all(), true);
         }
         Step::TakeArrow(a, r) => {
             let found = pairs(graph, r);
-            set_rows(&mut graph.arrows[usize::from(*a)], &found, false);
+            set(graph.arrows[usize::from(*a)].all_mut(), found.all(), false);
         }
         Step::If(k, p, q) => {
             let way = if holds(graph, k) { p } else { q };
@@ -40,11 +40,5 @@ fn make(graph: &mut Graph, step: &Step) {
 fn set(target: &mut [bool], found: &[bool], value: bool) {
     for (member, _) in target.iter_mut().zip(found).filter(|(_, hit)| **hit) {
         *member = value;
-    }
-}
-
-fn set_rows(target: &mut [Vec<bool>], found: &[Vec<bool>], value: bool) {
-    for (row, hits) in target.iter_mut().zip(found) {
-        set(row, hits, value);
     }
 }
