@@ -126,6 +126,23 @@ fn reading(tally: &mut Tally) {
     tally.same("first rule", reader::first_rule(&hex("21 01 01 FF")), Ok(3));
 }
 
+/// The sums in the words of document 01, a remainder for each byte.
+fn sums_in_words(block: &[u8]) -> (u8, u8) {
+    let (mut s, mut t) = (0, 0);
+    for byte in &block[..510] {
+        s = (s + u32::from(*byte)) % 255;
+        t = (t + s) % 255;
+    }
+    (s as u8, t as u8)
+}
+
+fn check_bytes(tally: &mut Tally) {
+    for (first, step) in [(0, 1), (255, 0), (254, 3), (7, 101), (255, 255)] {
+        let block: Vec<u8> = (0..512u32).map(|i| (first + step * i) as u8).collect();
+        tally.same("sums", sheet::sums(&block), sums_in_words(&block));
+    }
+}
+
 fn sheets(tally: &mut Tally) {
     let blank = sheet::store(&Graph::blank(7));
     tally.same("block 1 without arrows", (blank[1022], blank[1023]), (3, 254));
@@ -162,6 +179,7 @@ fn main() {
     carrying(&mut tally);
     entering(&mut tally);
     reading(&mut tally);
+    check_bytes(&mut tally);
     sheets(&mut tally);
     explosions(&mut tally);
     println!("{} passed, {} failed", tally.passed, tally.failed);

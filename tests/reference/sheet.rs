@@ -8,22 +8,14 @@ pub const BLOCK: usize = 512;
 const BLOCKS: usize = 17;
 const SUMMED: usize = 510;
 
-/// The check bytes s and t of a block.
+/// The check bytes s and t of a block. The remainders are taken of the whole sums, which comes to the same.
 pub fn sums(block: &[u8]) -> (u8, u8) {
-    let (mut s, mut t) = (0, 0);
+    let (mut s, mut t) = (0u32, 0u32);
     for byte in &block[..SUMMED] {
-        s = plus(s, u16::from(*byte));
-        t = plus(t, s);
+        s += u32::from(*byte);
+        t += s;
     }
-    (s as u8, t as u8)
-}
-
-/// (sum + more) mod 255, of a sum below 255 and a number up to 255.
-fn plus(sum: u16, more: u16) -> u16 {
-    match sum + more {
-        high if high >= 255 => high - 255,
-        low => low,
-    }
+    ((s % 255) as u8, (t % 255) as u8)
 }
 
 /// Writes the check bytes of a block.

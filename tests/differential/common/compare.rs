@@ -106,10 +106,10 @@ impl Tally {
         self.reached.iter().filter(|((_, answer), _)| *answer == number).map(|(_, count)| count).sum()
     }
 
-    /// Ends the program if one of two answers of a call is less than a fifth of both.
+    /// Ends the program if one of two answers of a call is less than a tenth of both.
     pub fn both_frequent(&self, what: &'static str, one: usize, other: usize) {
         let [one, other] = [one, other].map(|number| self.reached.get(&(what, number)).copied().unwrap_or(0));
-        assert!(5 * one > one + other && 5 * other > one + other, "{what}: {one} and {other} are both frequent");
+        assert!(10 * one > one + other && 10 * other > one + other, "{what}: {one} and {other} are both frequent");
     }
 
     fn fail(&self, what: &str, found: &Outcome, wanted: &Outcome, inputs: &[(&str, &[u8])]) -> ! {

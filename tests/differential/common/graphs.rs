@@ -6,9 +6,9 @@ use reference::graph::{Graph, Pairs, ARROWS, LABELS};
 
 /// How many nodes: each number from 1 to 60 comes, small ones and 60 more often.
 pub fn node_count(random: &mut Random) -> usize {
-    match random.below(8) {
-        0..=4 => 1 + random.below(10),
-        5..=6 => 1 + random.below(60),
+    match random.below(16) {
+        0..=11 => 1 + random.below(10),
+        12..=14 => 1 + random.below(60),
         _ => 60 - random.below(3),
     }
 }

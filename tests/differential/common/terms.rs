@@ -143,9 +143,9 @@ pub fn some_rules(random: &mut Random) -> usize {
     }
 }
 
-/// An edit of up to `most` steps, each of at most this many levels.
-pub fn edit(random: &mut Random, names: Names, most: usize, levels: usize) -> Edit {
-    (0..random.below(most + 1)).map(|_| step(random, names, levels)).collect()
+/// An edit of this many steps, each of at most this many levels.
+pub fn edit(random: &mut Random, names: Names, steps: usize, levels: usize) -> Edit {
+    (0..steps).map(|_| step(random, names, levels)).collect()
 }
 
 fn step(random: &mut Random, names: Names, levels: usize) -> Step {
@@ -157,7 +157,8 @@ fn step(random: &mut Random, names: Names, levels: usize) -> Step {
         6..=7 => Step::TakeArrow(names.arrow(random), arrow(random, names, below)),
         _ => {
             let condition = rule(random, names, below);
-            Step::If(condition, edit(random, names, 2, below), edit(random, names, 2, below))
+            let (p, q) = (random.below(3), random.below(3));
+            Step::If(condition, edit(random, names, p, below), edit(random, names, q, below))
         }
     }
 }

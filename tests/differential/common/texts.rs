@@ -12,7 +12,8 @@ pub fn sound(random: &mut Random, n: usize) -> Vec<u8> {
         let most = terms::some_rules(random);
         terms::book_code(&terms::book(random, names, most))
     } else {
-        terms::edit(random, names, 6, levels).code()
+        let steps = random.below(7);
+        terms::edit(random, names, steps, levels).code()
     }
 }
 
