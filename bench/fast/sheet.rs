@@ -14,13 +14,22 @@ pub fn all_nodes(n: usize) -> u64 {
     (1 << n) - 1
 }
 
-/// Both sums from one pass without a remainder in it: byte i counts once in s and 510 - i times in t.
-fn sums(block: &[u8; BLOCK]) -> (u8, u8) {
-    let (mut s, mut t) = (0u32, 0u32);
-    for (i, byte) in block[..510].iter().enumerate() {
-        s += u32::from(*byte);
-        t += (510 - i as u32) * u32::from(*byte);
+/// How often byte i counts in t: 510 - i times. The check bytes themselves don't count.
+const WEIGHTS: [i16; BLOCK] = {
+    let mut weights = [0; BLOCK];
+    let mut i = 0;
+    while i < 510 {
+        weights[i] = 510 - i as i16;
+        i += 1;
     }
+    weights
+};
+
+/// Both sums from one pass without a remainder in it, in a form that the compiler turns into vector instructions.
+fn sums(block: &[u8; BLOCK]) -> (u8, u8) {
+    let s: u32 = block.iter().map(|byte| u32::from(*byte)).sum();
+    let t: i32 = block.iter().zip(&WEIGHTS).map(|(byte, weight)| i32::from(*byte) * i32::from(*weight)).sum();
+    let s = s - u32::from(block[510]) - u32::from(block[511]);
     ((s % 255) as u8, (t % 255) as u8)
 }
 

@@ -365,8 +365,37 @@ fn limit_texts(tally: &mut Tally) {
     }
 }
 
+const SHEET: &[u8] = include_bytes!("../../examples/station/sheet.bin");
+const SHEET_AFTER: &[u8] = include_bytes!("../../examples/station/sheet_after.bin");
+const BOOK: &[u8] = include_bytes!("../../examples/station/book.bin");
+const EDIT: &[u8] = include_bytes!("../../examples/station/edit.bin");
+const EDIT_BACK: &[u8] = include_bytes!("../../examples/station/edit_back.bin");
+const EDIT_41: &[u8] = include_bytes!("../../examples/station/edit41.bin");
+const CARRIED: &[u8] = include_bytes!("../../examples/station/carried.bin");
+
+/// The station of the examples, whose answers, sheets and carried book are kept with it.
+fn station(tally: &mut Tally) {
+    let scratch = [0xEE; 1000];
+    let carried = [CARRIED, &scratch[CARRIED.len()..]].concat();
+    let entered = |sheet, edit, number, place, after: &[u8]| {
+        let call = Call { sheet, book: BOOK, edit, scratch: &scratch };
+        let found = call.library();
+        (found.numbers == [number, place] && found.buffers[0] == Lent::of(after).all()).then_some(found)
+    };
+    let first = entered(SHEET, EDIT, 0, 0, SHEET_AFTER).expect("the edit is entered");
+    assert!(first.buffers[3] == Lent::of(&carried).all(), "the carried book is the one kept");
+    entered(SHEET_AFTER, EDIT_BACK, 0, 0, SHEET).expect("the edit back is entered");
+    entered(SHEET, EDIT_41, 41, 2, SHEET).expect("the third edit breaks rule 2");
+    for (sheet, edit) in [(SHEET, EDIT), (SHEET_AFTER, EDIT_BACK), (SHEET, EDIT_41)] {
+        Call { sheet, book: BOOK, edit, scratch: &scratch }.compare(tally);
+        carry_back(tally, BOOK, edit, &scratch);
+        apply(tally, sheet, edit);
+    }
+}
+
 fn main() {
     let mut tally = Tally::new();
+    station(&mut tally);
     carried_limits(&mut tally);
     limit_texts(&mut tally);
     single_calls(&mut tally, 11_500);
