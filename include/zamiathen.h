@@ -1,0 +1,100 @@
+/* Station sheets: judge a rule book on a sheet, carry a book back through an edit, enter an edit.
+ *
+ * Link with libsuite.a:  cc program.c libsuite.a
+ *
+ * Buffers. Each buffer is a pointer and its length in bytes. A call reads no byte outside its buffers and writes only
+ * where this header says so. The buffers of one call must not overlap where one of them is written: the sheet and the
+ * scratch of zamiathen_enter, and the output of zamiathen_carry_back, share no byte with any other buffer of the call.
+ * A pointer may be NULL only when its length is 0. There is no other demand: any bytes and any length get an answer.
+ *
+ * Threads. The library keeps no state, allocates nothing and takes no lock. Calls may run at the same time in any
+ * number of threads as long as no buffer that one call writes is read or written by another.
+ *
+ * Stack. Every call needs at most ZAMIATHEN_STACK_BYTES bytes of stack in its thread.
+ */
+#ifndef ZAMIATHEN_H
+#define ZAMIATHEN_H
+
+#include <stddef.h>
+#include <stdint.h>
+
+#ifdef __cplusplus
+extern "C" {
+#endif
+
+/* Sizes. */
+#define ZAMIATHEN_SHEET_BYTES 8704    /* a sheet has just this length */
+#define ZAMIATHEN_TEXT_BYTES 4096     /* the longest book and the longest edit */
+#define ZAMIATHEN_CARRIED_BYTES 16384 /* the longest carried book: an output or scratch of this length always suffices */
+#define ZAMIATHEN_STACK_BYTES 1048576 /* placeholder until it is measured */
+
+/* Answer numbers. A call answers the number of the first question, in this order, whose answer is no. */
+enum zamiathen_number {
+    ZAMIATHEN_DONE = 0, /* place 0 */
+
+    /* The sheet. Place: 0 for the length, else the block, 0 to 16. */
+    ZAMIATHEN_SHEET_LENGTH = 1, /* it has not 8,704 bytes */
+    ZAMIATHEN_SHEET_SUMS = 2,   /* the check bytes of a block are wrong */
+    ZAMIATHEN_SHEET_HEAD = 3,   /* bytes 0 to 2 of a block are wrong, or n is not from 1 to 60 */
+    ZAMIATHEN_SHEET_ZEROS = 4,  /* a byte or bit of a block that must be zero is not */
+
+    /* The book. Place: the byte in the book, but 0 for the length and the book's length where it ends early. */
+    ZAMIATHEN_BOOK_LENGTH = 11, /* more than 4,096 bytes */
+    ZAMIATHEN_BOOK_ENDS = 12,   /* it ends where a byte is wanted */
+    ZAMIATHEN_BOOK_CODE = 13,   /* not a code of the sort wanted */
+    ZAMIATHEN_BOOK_LEVEL = 14,  /* deeper than level 32 */
+    ZAMIATHEN_BOOK_NUMBER = 15, /* a label, arrow or node number out of range */
+    ZAMIATHEN_BOOK_RULES = 16,  /* more than 32 rules; place: the first byte of the 33rd */
+
+    /* The edit. Places as in the book. */
+    ZAMIATHEN_EDIT_LENGTH = 21, /* more than 4,096 bytes */
+    ZAMIATHEN_EDIT_ENDS = 22,   /* it ends where a byte is wanted; an empty edit, too */
+    ZAMIATHEN_EDIT_CODE = 23,   /* not a code of the sort wanted */
+    ZAMIATHEN_EDIT_LEVEL = 24,  /* deeper than level 32 */
+    ZAMIATHEN_EDIT_NUMBER = 25, /* a label, arrow or node number out of range */
+    ZAMIATHEN_EDIT_MORE = 26,   /* bytes behind the edit; place: the first of them */
+
+    /* The carried book. */
+    ZAMIATHEN_CARRIED_LENGTH = 31, /* it would pass 16,384 bytes; place 0 */
+    ZAMIATHEN_CARRIED_LEVELS = 32, /* it would pass 255 levels; place 0 */
+    ZAMIATHEN_ROOM = 33,           /* the scratch or output is too short; place: the length needed */
+
+    /* The rules. */
+    ZAMIATHEN_RULE_BROKEN = 41 /* place: the first broken rule of the book, from 0 */
+};
+
+/* The answer: a number of enum zamiathen_number, and its place. */
+typedef struct {
+    size_t number, place;
+} zamiathen_answer;
+
+/* Judge's answer. After 41 the broken rule is book[start] to book[start + length - 1]; else start and length are 0. */
+typedef struct {
+    size_t number, place, start, length;
+} zamiathen_judged;
+
+/* Carry back's answer. After done, length is that of the carried book; else it is 0. */
+typedef struct {
+    size_t number, place, length;
+} zamiathen_carried;
+
+/* Does each rule of the book hold on the sheet? Answers 0, 1 to 4, 11 to 16 or 41. Writes nothing. */
+zamiathen_judged zamiathen_judge(const uint8_t *sheet, size_t sheet_length, const uint8_t *book, size_t book_length);
+
+/* Carries a book back through an edit: the conditions on a sheet before the edit for the book to hold after it.
+ * Node numbers up to 59 are in range. Answers 0, 11 to 16, 21 to 26 or 31 to 33. Done writes the carried book at the
+ * start of the output and leaves the rest of it; every other answer leaves the output as it was. */
+zamiathen_carried zamiathen_carry_back(const uint8_t *book, size_t book_length, const uint8_t *edit,
+                                       size_t edit_length, uint8_t *output, size_t output_length);
+
+/* Enters an edit, whole or not at all: done if each rule of the book holds on the sheet that the edit's steps leave.
+ * Answers 0, 1 to 4, 11 to 16, 21 to 26, 31 to 33 or 41. Only done changes the sheet. Done and 41 leave the carried
+ * book at the start of the scratch and the rest of it as it was; every other answer leaves the whole scratch. */
+zamiathen_answer zamiathen_enter(uint8_t *sheet, size_t sheet_length, const uint8_t *book, size_t book_length,
+                                 const uint8_t *edit, size_t edit_length, uint8_t *scratch, size_t scratch_length);
+
+#ifdef __cplusplus
+}
+#endif
+
+#endif

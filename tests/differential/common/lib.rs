@@ -1,0 +1,9 @@
+//! What the differential programs share: deterministic inputs and comparison of outcomes.
+
+pub mod compare;
+pub mod damage;
+pub mod graphs;
+pub mod limits;
+pub mod random;
+pub mod terms;
+pub mod texts;

@@ -1,0 +1,406 @@
+//! Enter, carry back and apply of the library, compared with the reference: answers and all bytes of all buffers.
+
+use common::compare::{CAnswer, CThree, Lent, Outcome, Tally};
+use common::random::Random;
+use common::terms::{self, Names};
+use common::{damage, graphs, limits, texts};
+use reference::answer::DONE;
+use reference::calls;
+use reference::carry::CARRIED_BYTES;
+use reference::clerk::Clerk;
+use reference::graph::Graph;
+use reference::meaning::{first_broken, holds};
+use reference::syntax::{Coded, Node, Rule};
+use reference::{reader, sheet};
+
+#[link(name = "suite", kind = "static")]
+extern "C" {
+    fn zamiathen_carry_back(
+        book: *const u8,
+        book_length: usize,
+        edit: *const u8,
+        edit_length: usize,
+        out: *mut u8,
+        out_length: usize,
+    ) -> CThree;
+    fn zamiathen_enter(
+        sheet: *mut u8,
+        sheet_length: usize,
+        book: *const u8,
+        book_length: usize,
+        edit: *const u8,
+        edit_length: usize,
+        scratch: *mut u8,
+        scratch_length: usize,
+    ) -> CAnswer;
+}
+
+#[link(name = "probe", kind = "static")]
+extern "C" {
+    fn probe_apply(sheet: *mut u8, sheet_length: usize, edit: *const u8, edit_length: usize) -> CAnswer;
+}
+
+/// What a call of enter is lent.
+struct Call<'c> {
+    sheet: &'c [u8],
+    book: &'c [u8],
+    edit: &'c [u8],
+    scratch: &'c [u8],
+}
+
+impl Call<'_> {
+    fn library(&self) -> Outcome {
+        let (mut bytes, book) = (Lent::of(self.sheet), Lent::of(self.book));
+        let (edit, mut scratch) = (Lent::of(self.edit), Lent::of(self.scratch));
+        let found = unsafe {
+            zamiathen_enter(
+                bytes.mut_ptr(),
+                bytes.len(),
+                book.ptr(),
+                book.len(),
+                edit.ptr(),
+                edit.len(),
+                scratch.mut_ptr(),
+                scratch.len(),
+            )
+        };
+        Outcome::new(&[found.number, found.place], vec![bytes, book, edit, scratch])
+    }
+
+    fn reference(&self) -> Outcome {
+        let (mut bytes, mut scratch) = (self.sheet.to_vec(), self.scratch.to_vec());
+        let answer = calls::enter(&mut bytes, self.book, self.edit, &mut scratch);
+        Outcome::of_answer(answer, vec![Lent::of(&bytes), Lent::of(self.book), Lent::of(self.edit), Lent::of(&scratch)])
+    }
+
+    fn inputs(&self) -> [(&str, &[u8]); 4] {
+        [("sheet", self.sheet), ("book", self.book), ("edit", self.edit), ("scratch", self.scratch)]
+    }
+
+    fn compare(&self, tally: &mut Tally) {
+        tally.compare("enter", &self.library(), &self.reference(), &self.inputs());
+    }
+}
+
+fn carry_back(tally: &mut Tally, book: &[u8], edit: &[u8], out: &[u8]) {
+    let (lent_book, lent_edit, mut lent) = (Lent::of(book), Lent::of(edit), Lent::of(out));
+    let found = unsafe {
+        zamiathen_carry_back(
+            lent_book.ptr(),
+            lent_book.len(),
+            lent_edit.ptr(),
+            lent_edit.len(),
+            lent.mut_ptr(),
+            lent.len(),
+        )
+    };
+    let found = Outcome::new(&[found.number, found.place, found.third], vec![lent_book, lent_edit, lent]);
+    let mut buffer = out.to_vec();
+    let carried = calls::carry_back(book, edit, &mut buffer);
+    let numbers = [carried.answer.number, carried.answer.place, carried.length];
+    let wanted = Outcome::new(&numbers, vec![Lent::of(book), Lent::of(edit), Lent::of(&buffer)]);
+    tally.compare("carry back", &found, &wanted, &[("book", book), ("edit", edit), ("output", out)]);
+}
+
+fn apply(tally: &mut Tally, bytes: &[u8], edit: &[u8]) {
+    let (mut lent, lent_edit) = (Lent::of(bytes), Lent::of(edit));
+    let found = unsafe { probe_apply(lent.mut_ptr(), lent.len(), lent_edit.ptr(), lent_edit.len()) };
+    let found = Outcome::new(&[found.number, found.place], vec![lent, lent_edit]);
+    let mut buffer = bytes.to_vec();
+    let answer = calls::apply(&mut buffer, edit);
+    let wanted = Outcome::of_answer(answer, vec![Lent::of(&buffer), Lent::of(edit)]);
+    tally.compare("apply", &found, &wanted, &[("sheet", bytes), ("edit", edit)]);
+}
+
+/// The length of the carried book, or 0 when it is refused before that is asked.
+fn length_needed(book: &[u8], edit: &[u8]) -> usize {
+    calls::carry_back(book, edit, &mut [0; CARRIED_BYTES]).length
+}
+
+/// A scratch with room to spare, of the length needed, one byte short, or of another length.
+fn scratch(random: &mut Random, needed: usize) -> Vec<u8> {
+    let length = match random.below(12) {
+        0 => needed,
+        1 => needed.saturating_sub(1),
+        2 => needed + 1,
+        3 => random.below(needed + 2),
+        _ => needed + random.below(200),
+    };
+    random.bytes(length)
+}
+
+/// A sheet, and a book that it mostly keeps.
+struct Opening {
+    graph: Graph,
+    names: Names,
+    rules: Vec<Rule>,
+}
+
+fn opening(random: &mut Random, broken_one_in: usize) -> Opening {
+    let n = graphs::node_count(random);
+    let names = Names::some(random, n);
+    let graph = graphs::graph(random, names);
+    let most = terms::some_rules(random).min(30);
+    let mut rules = terms::book(random, names, most);
+    for rule in &mut rules {
+        if !holds(&graph, rule) && !random.one_in(broken_one_in) {
+            *rule = Rule::Not(Box::new(rule.clone()));
+        }
+    }
+    for _ in 0..random.below(3) {
+        rules.insert(random.below(rules.len() + 1), watch(random, &graph, names));
+    }
+    Opening { graph, names, rules }
+}
+
+/// A rule that holds as long as a label gets no other node, or as long as it loses none.
+fn watch(random: &mut Random, graph: &Graph, names: Names) -> Rule {
+    let k = random.below(names.labels);
+    let members: Vec<u8> = (0..graph.n).filter(|i| graph.labels[k][*i]).map(|i| i as u8).collect();
+    let (label, only) = (Node::Label(k as u8), any_of(&members));
+    if random.one_in(2) {
+        Rule::Nodes(label, only)
+    } else {
+        Rule::Nodes(only, label)
+    }
+}
+
+/// Just these nodes.
+fn any_of(nodes: &[u8]) -> Node {
+    match nodes {
+        [] => Node::Nothing,
+        [i] => Node::Only(*i),
+        _ => {
+            let (first, second) = nodes.split_at(nodes.len() / 2);
+            Node::Or(Box::new(any_of(first)), Box::new(any_of(second)))
+        }
+    }
+}
+
+fn some_edit(random: &mut Random, names: Names) -> Vec<u8> {
+    let steps = random.pick(&[0, 1, 1, 1, 2, 2, 2, 2, 3, 3, 4, 5, 6, 12]);
+    let levels = terms::some_levels(random);
+    let text = terms::edit(random, names, steps, levels).code();
+    match random.below(12) {
+        0 => texts::damaged(random, text),
+        _ => text,
+    }
+}
+
+/// Theorem 4.2 asked of the reference: the carried rules hold before exactly when the rules hold after.
+fn theorem(opening: &Opening, edit: &[u8]) {
+    let mut clerk = Clerk::new(opening.graph.clone(), reader::book(&terms::book_code(&opening.rules), 60).unwrap());
+    let called = clerk.call(edit, CARRIED_BYTES);
+    if let Some(carried) = called.carried {
+        let broken = first_broken(&opening.graph, carried.rules.iter());
+        let answered = (called.answer.number == 41).then_some(called.answer.place);
+        assert_eq!(broken, answered, "the reference judges alike before and after {edit:02X?}");
+    }
+}
+
+/// Single calls, refused ones too.
+fn single_calls(tally: &mut Tally, rounds: usize) {
+    let mut random = Random::new(31);
+    for round in 0..rounds {
+        let opening = opening(&mut random, 40);
+        let bytes = sheet::store(&opening.graph);
+        let book = terms::book_code(&opening.rules);
+        for _ in 0..8 {
+            let edit = some_edit(&mut random, opening.names);
+            let scratch = scratch(&mut random, length_needed(&book, &edit));
+            Call { sheet: &bytes, book: &book, edit: &edit, scratch: &scratch }.compare(tally);
+            carry_back(tally, &book, &edit, &scratch);
+            apply(tally, &bytes, &edit);
+            if round % 8 == 0 {
+                theorem(&opening, &edit);
+            }
+        }
+        faulty_call(tally, &mut random, &bytes, &book, opening.names);
+    }
+}
+
+/// A call with a fault in one or more of its inputs.
+fn faulty_call(tally: &mut Tally, random: &mut Random, bytes: &[u8], book: &[u8], names: Names) {
+    let mut edit = some_edit(random, names);
+    let (mut bytes, mut book) = (bytes.to_vec(), book.to_vec());
+    if random.one_in(3) {
+        bytes = damage::damaged(random, bytes);
+    }
+    if random.one_in(2) {
+        book = texts::any(random, names.n);
+    }
+    if random.one_in(2) {
+        edit = texts::any(random, names.n);
+    }
+    let scratch = scratch(random, length_needed(&book, &edit));
+    Call { sheet: &bytes, book: &book, edit: &edit, scratch: &scratch }.compare(tally);
+    carry_back(tally, &book, &edit, &scratch);
+    apply(tally, &bytes, &edit);
+}
+
+/// Runs: the sheet as the call before left it, against the plain clerk, who is never told an answer.
+fn runs(tally: &mut Tally, rounds: usize) {
+    let mut random = Random::new(32);
+    for _ in 0..rounds {
+        let opening = opening(&mut random, usize::MAX);
+        let book = terms::book_code(&opening.rules);
+        let Ok(rules) = reader::book(&book, opening.names.n) else { continue };
+        run(tally, &mut random, &opening, &book, Clerk::new(opening.graph.clone(), rules));
+    }
+}
+
+fn run(tally: &mut Tally, random: &mut Random, opening: &Opening, book: &[u8], mut clerk: Clerk) {
+    let mut bytes = sheet::store(&opening.graph);
+    for _ in 0..10 {
+        let edit = some_edit(random, opening.names);
+        let before = match random.below(6) {
+            0 => {
+                let length = random.below(300);
+                random.bytes(length)
+            }
+            _ => random.bytes(1500),
+        };
+        let found = Call { sheet: &bytes, book, edit: &edit, scratch: &before }.library();
+        let called = clerk.call(&edit, before.len());
+        let mut scratch = before.clone();
+        if let Some(carried) = &called.carried {
+            scratch[..carried.text.len()].copy_from_slice(&carried.text);
+        }
+        let after = if called.answer == DONE { sheet::store(&clerk.graph) } else { bytes.clone() };
+        let lent = vec![Lent::of(&after), Lent::of(book), Lent::of(&edit), Lent::of(&scratch)];
+        let wanted = Outcome::of_answer(called.answer, lent);
+        let inputs = Call { sheet: &bytes, book, edit: &edit, scratch: &before };
+        tally.compare("enter in a run", &found, &wanted, &inputs.inputs());
+        bytes = after;
+    }
+}
+
+/// Edits whose carried books are long or deep, around 16,384 bytes and 255 levels, and those that explode.
+fn carried_limits(tally: &mut Tally) {
+    let mut random = Random::new(33);
+    let names = Names { n: 60, labels: 2, arrows: 2 };
+    let bytes = sheet::store(&graphs::graph(&mut random, names));
+    for (book, edit) in exploding() {
+        for length in [0, 100, CARRIED_BYTES - 1, CARRIED_BYTES, CARRIED_BYTES + 1] {
+            let scratch = random.bytes(length);
+            carry_back(tally, &book, &edit, &scratch);
+            Call { sheet: &bytes, book: &book, edit: &edit, scratch: &scratch }.compare(tally);
+        }
+        let needed = length_needed(&book, &edit);
+        for length in [needed.saturating_sub(1), needed, needed + 1] {
+            carry_back(tally, &book, &edit, &random.bytes(length));
+        }
+    }
+}
+
+/// `count` times a step, and the end.
+fn repeated(step: &[u8], count: usize) -> Vec<u8> {
+    [step.repeat(count), vec![0x30]].concat()
+}
+
+fn exploding() -> Vec<(Vec<u8>, Vec<u8>)> {
+    let label = vec![0x23, 0x00, 0x03, 0x00];
+    let arrow = vec![0x24, 0x00, 0x01, 0x11, 0x00];
+    let branch = [0x35, 0x21, 0x01, 0x01, 0x30, 0x30];
+    let idle = [0x31, 0x01, 0x01].repeat(1340);
+    let mut pairs = vec![
+        (vec![], repeated(&branch, 682)),
+        (label.clone(), repeated(&branch, 682)),
+        (label.clone(), repeated(&[0x31, 0x00, 0x01], 1365)),
+        (label.clone(), repeated(&[0x31, 0x00, 0x03, 0x00], 1023)),
+        (label.clone(), repeated(&[0x32, 0x00, 0x03, 0x00], 1023)),
+        (arrow.clone(), repeated(&[0x33, 0x00, 0x11, 0x00], 1023)),
+        (label.clone(), [branch.repeat(10), idle[..3 * 1344 - 60].to_vec(), vec![0x30]].concat()),
+        (label.repeat(32), repeated(&[0x31, 0x00, 0x01], 255)),
+    ];
+    // Levels 254 to 256: a 23 with the label below it has 2, each 31 adds one, each 32 with its 05 one or two.
+    for steps in 250..=256 {
+        pairs.push((label.clone(), repeated(&[0x31, 0x00, 0x01], steps)));
+        pairs.push((label.clone(), repeated(&[0x32, 0x00, 0x01], steps)));
+        pairs.push((arrow.clone(), repeated(&[0x33, 0x00, 0x17, 0x00, 0x01], steps)));
+        pairs.push((arrow.clone(), repeated(&[0x34, 0x00, 0x12, 0x17, 0x00, 0x01], steps)));
+    }
+    // Deep in the second operand: E of each step has levels of its own.
+    for depth in 0..=8 {
+        let step = [vec![0x31, 0x00], vec![0x05; depth], vec![0x03, 0x00]].concat();
+        (1..=14).for_each(|count| pairs.push((label.clone(), repeated(&step, count))));
+        let deep = [vec![0x23, 0x00], vec![0x05; 30], vec![0x03, 0x00]].concat();
+        let far = [vec![0x31, 0x00], vec![0x05; 30 - depth / 4], vec![0x03, 0x00]].concat();
+        (5..=9).for_each(|count| pairs.push((deep.clone(), repeated(&far, count))));
+    }
+    // Exactly 16,384 bytes and one more or less: a place adds the length of E plus 1.
+    for extra in 0..=3 {
+        let book = [vec![0x21, 0x01], places(4)].concat();
+        let room = CARRIED_BYTES - book.len() - 1 + extra;
+        let step = [vec![0x31, 0x00], limits::wide_node(room / 4 - 1), vec![0x31, 0x01, 0x01]].concat();
+        pairs.push((book, repeated(&step, 1)));
+    }
+    for branches in 1..=12 {
+        pairs.push((label.clone(), repeated(&branch, branches)));
+        pairs.push((label.clone(), repeated(&[0x35, 0x23, 0x00, 0x03, 0x00, 0x31, 0x00, 0x01, 0x30, 0x30], branches)));
+    }
+    pairs
+}
+
+/// An expression in which label 0 stands at this many places.
+fn places(count: usize) -> Vec<u8> {
+    match count {
+        1 => vec![0x03, 0x00],
+        _ => [vec![0x07, 0x03, 0x00], places(count - 1)].concat(),
+    }
+}
+
+/// Books and edits at the limits of length, levels and number of rules.
+fn limit_texts(tally: &mut Tally) {
+    let mut random = Random::new(34);
+    let names = Names { n: 60, labels: 2, arrows: 2 };
+    let bytes = sheet::store(&graphs::graph(&mut random, names));
+    let scratch = random.bytes(CARRIED_BYTES);
+    for text in [limits::lengths(), limits::levels(), limits::rule_counts()].concat() {
+        for (book, edit) in [(&text[..], &[0x30][..]), (&[][..], &text[..]), (&text[..], &text[..])] {
+            Call { sheet: &bytes, book, edit, scratch: &scratch }.compare(tally);
+            carry_back(tally, book, edit, &scratch);
+        }
+        apply(tally, &bytes, &text);
+    }
+}
+
+const SHEET: &[u8] = include_bytes!("../../examples/station/sheet.bin");
+const SHEET_AFTER: &[u8] = include_bytes!("../../examples/station/sheet_after.bin");
+const BOOK: &[u8] = include_bytes!("../../examples/station/book.bin");
+const EDIT: &[u8] = include_bytes!("../../examples/station/edit.bin");
+const EDIT_BACK: &[u8] = include_bytes!("../../examples/station/edit_back.bin");
+const EDIT_41: &[u8] = include_bytes!("../../examples/station/edit41.bin");
+const CARRIED: &[u8] = include_bytes!("../../examples/station/carried.bin");
+
+/// The station of the examples, whose answers, sheets and carried book are kept with it.
+fn station(tally: &mut Tally) {
+    let scratch = [0xEE; 1000];
+    let carried = [CARRIED, &scratch[CARRIED.len()..]].concat();
+    let entered = |sheet, edit, number, place, after: &[u8]| {
+        let call = Call { sheet, book: BOOK, edit, scratch: &scratch };
+        let found = call.library();
+        (found.numbers == [number, place] && found.buffers[0] == Lent::of(after).all()).then_some(found)
+    };
+    let first = entered(SHEET, EDIT, 0, 0, SHEET_AFTER).expect("the edit is entered");
+    assert!(first.buffers[3] == Lent::of(&carried).all(), "the carried book is the one kept");
+    entered(SHEET_AFTER, EDIT_BACK, 0, 0, SHEET).expect("the edit back is entered");
+    entered(SHEET, EDIT_41, 41, 2, SHEET).expect("the third edit breaks rule 2");
+    for (sheet, edit) in [(SHEET, EDIT), (SHEET_AFTER, EDIT_BACK), (SHEET, EDIT_41)] {
+        Call { sheet, book: BOOK, edit, scratch: &scratch }.compare(tally);
+        carry_back(tally, BOOK, edit, &scratch);
+        apply(tally, sheet, edit);
+    }
+}
+
+fn main() {
+    let mut tally = Tally::new();
+    station(&mut tally);
+    carried_limits(&mut tally);
+    limit_texts(&mut tally);
+    single_calls(&mut tally, 11_500);
+    runs(&mut tally, 20_000);
+    tally.both_frequent("enter", 0, 41);
+    tally.both_frequent("enter in a run", 0, 41);
+    tally.finish(&[0, 1, 2, 3, 4, 11, 12, 13, 14, 15, 16, 21, 22, 23, 24, 25, 26, 31, 32, 33, 41]);
+}

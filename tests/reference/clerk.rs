@@ -1,0 +1,54 @@
+//! The plain clerk of "The run": he makes the steps on a copy and judges the copy.
+
+use crate::answer::{refuse, Answer, Asked, DONE};
+use crate::carry::{carry, Carried};
+use crate::graph::Graph;
+use crate::meaning::first_broken;
+use crate::reader::{self, Placed};
+use crate::steps::carried_out;
+
+/// He holds one graph, and the book.
+pub struct Clerk {
+    pub graph: Graph,
+    book: Vec<Placed>,
+}
+
+/// His answer to one call, and the carried book that done and 41 leave in the scratch.
+pub struct Called {
+    pub answer: Answer,
+    pub carried: Option<Carried>,
+}
+
+impl Clerk {
+    pub fn new(graph: Graph, book: Vec<Placed>) -> Clerk {
+        Clerk { graph, book }
+    }
+
+    pub fn call(&mut self, edit: &[u8], scratch: usize) -> Called {
+        match self.ask(edit, scratch) {
+            Err(answer) => Called { answer, carried: None },
+            Ok((copy, carried)) => Called { answer: self.judge(copy), carried: Some(carried) },
+        }
+    }
+
+    /// 21 to 26, then 31 to 33: the graph after the steps, and the carried book.
+    fn ask(&self, edit: &[u8], scratch: usize) -> Asked<(Graph, Carried)> {
+        let steps = reader::edit(edit, self.graph.n)?;
+        let carried = carry(self.book.iter().map(|placed| &placed.rule), &steps)?;
+        if scratch < carried.text.len() {
+            return refuse(33, carried.text.len());
+        }
+        Ok((carried_out(&self.graph, &steps), carried))
+    }
+
+    /// Keeps the copy if each rule holds on it.
+    fn judge(&mut self, copy: Graph) -> Answer {
+        match first_broken(&copy, self.book.iter().map(|placed| &placed.rule)) {
+            Some(place) => Answer { number: 41, place },
+            None => {
+                self.graph = copy;
+                DONE
+            }
+        }
+    }
+}

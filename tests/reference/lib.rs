@@ -1,0 +1,16 @@
+//! Document 01 written a second time, in plain Rust, from the papers alone.
+//!
+//! The proved library is compared with this one by the programs in `tests/differential`. It is meant to be read
+//! beside the papers: a set has one `bool` for each node, a relation one for each pair, texts are read into trees, and an edit is
+//! made on a copy of the graph. Nothing here is fast on purpose, but nothing takes exponential time either.
+
+pub mod answer;
+pub mod calls;
+pub mod carry;
+pub mod clerk;
+pub mod graph;
+pub mod meaning;
+pub mod reader;
+pub mod sheet;
+pub mod steps;
+pub mod syntax;

@@ -1,0 +1,159 @@
+//! The questions 11 to 16 of a book, 21 to 26 of an edit, and the end of the first rule.
+
+use crate::answer::{refuse, Asked};
+use crate::graph::{ARROWS, LABELS, MOST_NODES};
+use crate::syntax::{Arrow, Edit, Node, Rule, Step};
+use std::ops::Range;
+
+pub const LONGEST: usize = 4096;
+const LAST_LEVEL: usize = 32;
+const MOST_RULES: usize = 32;
+const ANY_COUNT: usize = 256;
+
+/// A text being read from left to right.
+struct Reader<'t> {
+    text: &'t [u8],
+    at: usize,
+    n: usize,
+    /// 10 for a book and for rule end, 20 for an edit: added to the last digit of the number.
+    tens: usize,
+}
+
+/// A rule and where it stands in its book.
+pub struct Placed {
+    pub rule: Rule,
+    pub part: Range<usize>,
+}
+
+/// The rules of a book.
+pub fn book(text: &[u8], n: usize) -> Asked<Vec<Placed>> {
+    let mut reader = Reader::begin(text, n, 10)?;
+    let mut rules = Vec::new();
+    while reader.at < text.len() {
+        if rules.len() == MOST_RULES {
+            return refuse(16, reader.at);
+        }
+        rules.push(reader.placed_rule()?);
+    }
+    Ok(rules)
+}
+
+/// The steps of an edit.
+pub fn edit(text: &[u8], n: usize) -> Asked<Edit> {
+    let mut reader = Reader::begin(text, n, 20)?;
+    let edit = reader.edit(1)?;
+    if reader.at < text.len() {
+        return refuse(26, reader.at);
+    }
+    Ok(edit)
+}
+
+/// Rule end: the length of the first rule of a text.
+pub fn first_rule(text: &[u8]) -> Asked<usize> {
+    let mut reader = Reader::begin(text, MOST_NODES, 10)?;
+    Ok(reader.placed_rule()?.part.len())
+}
+
+impl<'t> Reader<'t> {
+    fn begin(text: &'t [u8], n: usize, tens: usize) -> Asked<Reader<'t>> {
+        if text.len() > LONGEST {
+            return refuse(tens + 1, 0);
+        }
+        Ok(Reader { text, at: 0, n, tens })
+    }
+
+    /// The byte that is wanted now, not yet passed.
+    fn wanted(&self) -> Asked<u8> {
+        match self.text.get(self.at) {
+            Some(byte) => Ok(*byte),
+            None => refuse(self.tens + 2, self.text.len()),
+        }
+    }
+
+    /// A code byte of the wanted sort at this level.
+    fn code(&mut self, first: u8, last: u8, level: usize) -> Asked<u8> {
+        let code = self.wanted()?;
+        if code < first || code > last {
+            return refuse(self.tens + 3, self.at);
+        }
+        if level > LAST_LEVEL {
+            return refuse(self.tens + 4, self.at);
+        }
+        self.at += 1;
+        Ok(code)
+    }
+
+    fn number(&mut self, below: usize) -> Asked<u8> {
+        let number = self.wanted()?;
+        if usize::from(number) >= below {
+            return refuse(self.tens + 5, self.at);
+        }
+        self.at += 1;
+        Ok(number)
+    }
+
+    fn placed_rule(&mut self) -> Asked<Placed> {
+        let start = self.at;
+        let rule = self.rule(1)?;
+        Ok(Placed { rule, part: start..self.at })
+    }
+
+    fn node(&mut self, level: usize) -> Asked<Node> {
+        let below = level + 1;
+        Ok(match self.code(0x01, 0x0B, level)? {
+            0x01 => Node::All,
+            0x02 => Node::Nothing,
+            0x03 => Node::Label(self.number(LABELS)?),
+            0x04 => Node::Only(self.number(self.n)?),
+            0x05 => Node::Not(Box::new(self.node(below)?)),
+            0x06 => Node::And(Box::new(self.node(below)?), Box::new(self.node(below)?)),
+            0x07 => Node::Or(Box::new(self.node(below)?), Box::new(self.node(below)?)),
+            0x08 => Node::Some(Box::new(self.arrow(below)?), Box::new(self.node(below)?)),
+            0x09 => Node::Every(Box::new(self.arrow(below)?), Box::new(self.node(below)?)),
+            0x0A => Node::AtLeast(self.number(ANY_COUNT)?, Box::new(self.arrow(below)?), Box::new(self.node(below)?)),
+            _ => Node::AtMost(self.number(ANY_COUNT)?, Box::new(self.arrow(below)?), Box::new(self.node(below)?)),
+        })
+    }
+
+    fn arrow(&mut self, level: usize) -> Asked<Arrow> {
+        let below = level + 1;
+        Ok(match self.code(0x11, 0x17, level)? {
+            0x11 => Arrow::Kind(self.number(ARROWS)?),
+            0x12 => Arrow::Reversed(Box::new(self.arrow(below)?)),
+            0x13 => Arrow::Union(Box::new(self.arrow(below)?), Box::new(self.arrow(below)?)),
+            0x14 => Arrow::Common(Box::new(self.arrow(below)?), Box::new(self.arrow(below)?)),
+            0x15 => Arrow::Without(Box::new(self.arrow(below)?), Box::new(self.arrow(below)?)),
+            0x16 => Arrow::EndingIn(Box::new(self.arrow(below)?), Box::new(self.node(below)?)),
+            _ => Arrow::Pair(self.number(self.n)?, self.number(self.n)?),
+        })
+    }
+
+    fn rule(&mut self, level: usize) -> Asked<Rule> {
+        let below = level + 1;
+        Ok(match self.code(0x21, 0x27, level)? {
+            0x21 => Rule::Nodes(self.node(below)?, self.node(below)?),
+            0x22 => Rule::Pairs(self.arrow(below)?, self.arrow(below)?),
+            0x23 => Rule::Member(self.number(self.n)?, self.node(below)?),
+            0x24 => Rule::Linked(self.number(self.n)?, self.number(self.n)?, self.arrow(below)?),
+            0x25 => Rule::And(Box::new(self.rule(below)?), Box::new(self.rule(below)?)),
+            0x26 => Rule::Or(Box::new(self.rule(below)?), Box::new(self.rule(below)?)),
+            _ => Rule::Not(Box::new(self.rule(below)?)),
+        })
+    }
+
+    /// The steps up to the end, all at one level.
+    fn edit(&mut self, level: usize) -> Asked<Edit> {
+        let below = level + 1;
+        let mut steps = Vec::new();
+        loop {
+            steps.push(match self.code(0x30, 0x35, level)? {
+                0x30 => return Ok(steps),
+                0x31 => Step::AddLabel(self.number(LABELS)?, self.node(below)?),
+                0x32 => Step::TakeLabel(self.number(LABELS)?, self.node(below)?),
+                0x33 => Step::AddArrow(self.number(ARROWS)?, self.arrow(below)?),
+                0x34 => Step::TakeArrow(self.number(ARROWS)?, self.arrow(below)?),
+                _ => Step::If(self.rule(below)?, self.edit(below)?, self.edit(below)?),
+            });
+        }
+    }
+}

@@ -1,0 +1,187 @@
+//! The marked examples of document 01 and some of its remarks, asked of the reference itself.
+
+use reference::answer::{Answer, DONE};
+use reference::calls::{carry_back, enter, judge, Judged};
+use reference::graph::{Graph, Pairs};
+use reference::meaning::nodes;
+use reference::syntax::{Node, Rule};
+use reference::{reader, sheet};
+
+/// Bytes from hexadecimal with blanks.
+fn hex(text: &str) -> Vec<u8> {
+    text.split_whitespace().map(|pair| u8::from_str_radix(pair, 16).expect("two digits")).collect()
+}
+
+/// Sheet T.
+fn sheet_t() -> Vec<u8> {
+    let mut graph = Graph::blank(3);
+    graph.labels[0] = vec![true, true, false];
+    graph.labels[1] = vec![false, false, true];
+    graph.arrows[0] = Pairs::new(3, |i, j| i < 2 && j == 2);
+    sheet::store(&graph)
+}
+
+struct Tally {
+    passed: usize,
+    failed: usize,
+}
+
+impl Tally {
+    fn same<T: PartialEq + std::fmt::Debug>(&mut self, what: &str, found: T, wanted: T) {
+        if found == wanted {
+            self.passed += 1;
+        } else {
+            self.failed += 1;
+            println!("{what}: found {found:?}, wanted {wanted:?}");
+        }
+    }
+}
+
+/// The node expression that stands in the text of 23 00 E.
+fn expression(text: &str) -> Node {
+    let rules = reader::book(&hex(&format!("23 00 {text}")), 3).expect("a sound rule");
+    match &rules[0].rule {
+        Rule::Member(_, e) => e.clone(),
+        other => panic!("not a membership: {other:?}"),
+    }
+}
+
+fn meanings(tally: &mut Tally) {
+    let graph = sheet::read(&sheet_t());
+    let examples: [(&str, &[usize]); 6] = [
+        ("05 03 00", &[2]),
+        ("08 11 00 03 01", &[0, 1]),
+        ("09 11 00 02", &[2]),
+        ("0A 02 12 11 00 01", &[2]),
+        ("0B 00 11 00 01", &[2]),
+        ("0A 00 11 00 02", &[0, 1, 2]),
+    ];
+    for (text, wanted) in examples {
+        let found: Vec<usize> = (0..3).filter(|i| nodes(&graph, &expression(text))[*i]).collect();
+        tally.same(text, found, wanted.to_vec());
+    }
+}
+
+const B: &str = "21 03 00 08 11 00 03 01";
+
+fn carried(tally: &mut Tally, book: &str, edit: &str, wanted: &str) {
+    let mut out = vec![0xEE; 100];
+    let found = carry_back(&hex(book), &hex(edit), &mut out);
+    tally.same("carried length", (found.answer, found.length), (DONE, hex(wanted).len()));
+    tally.same("carried text", out[..found.length].to_vec(), hex(wanted));
+    tally.same("rest of the output", out[found.length..].iter().all(|byte| *byte == 0xEE), true);
+}
+
+fn carrying(tally: &mut Tally) {
+    carried(tally, B, "32 01 04 02 30", "21 03 00 08 11 00 06 03 01 05 04 02");
+    carried(tally, B, "32 01 04 02 31 01 04 02 30", "21 03 00 08 11 00 07 06 03 01 05 04 02 04 02");
+    carried(
+        tally,
+        "21 03 01 03 00",
+        "35 23 00 03 01 31 00 04 02 30 30 30",
+        "25 26 27 23 00 03 01 21 03 01 07 03 00 04 02 26 23 00 03 01 21 03 01 03 00",
+    );
+    // An earlier step replaces inside the K and E of a later one.
+    let x = "23 00 07 03 00 04 00";
+    let wanted = format!("25 26 27 {x} {x} 26 {x} {x}");
+    carried(tally, "23 00 03 00", "31 00 04 00 35 23 00 03 00 30 30 30", &wanted);
+    // A count is not a code.
+    carried(tally, "23 00 0A 03 11 00 01", "31 11 01 30", "23 00 0A 03 11 00 01");
+}
+
+fn entering(tally: &mut Tally) {
+    let t = sheet_t();
+    let holds = Judged { answer: DONE, start: 0, length: 0 };
+    tally.same("B holds", judge(&t, &hex(B)), holds);
+    let mut after = t.clone();
+    let mut scratch = vec![0; 100];
+    let answer = enter(&mut after, &hex(B), &hex("32 01 04 02 30"), &mut scratch);
+    tally.same("example 8", (answer, after == t), (Answer { number: 41, place: 0 }, true));
+    let answer = enter(&mut after, &hex(B), &hex("32 01 04 02 31 01 04 02 30"), &mut scratch);
+    tally.same("example 9", (answer, after == t), (DONE, true));
+    let answer = enter(&mut after, &[], &hex("33 00 12 11 00 30"), &mut scratch);
+    let reversed: Vec<bool> = sheet::read(&after).arrows[0].row(2).to_vec();
+    tally.same("33 00 12 11 00", (answer, reversed), (DONE, vec![true, true, false]));
+}
+
+fn refused(tally: &mut Tally, text: Vec<u8>, number: usize, place: usize) {
+    let found = reader::book(&text, 60).map(|_| ()).unwrap_err();
+    tally.same("book refused", found, Answer { number, place });
+}
+
+fn reading(tally: &mut Tally) {
+    refused(tally, hex("24 3C"), 15, 1);
+    refused(tally, vec![0; 4097], 11, 0);
+    refused(tally, hex("21 01"), 12, 2);
+    refused(tally, hex("21 11"), 13, 1);
+    let deep = [hex("23 01"), vec![0x05; 31]].concat();
+    refused(tally, deep.clone(), 12, 33);
+    refused(tally, [deep, hex("01")].concat(), 14, 33);
+    refused(tally, [hex("21 01 01").repeat(32), hex("FF")].concat(), 16, 96);
+    let deep_edit = [hex("35"), vec![0x27; 30], hex("23 00 01 30 30 30")].concat();
+    tally.same("K of 35", reader::edit(&deep_edit, 60).unwrap_err(), Answer { number: 24, place: 33 });
+    tally.same("empty edit", reader::edit(&[], 60).unwrap_err(), Answer { number: 22, place: 0 });
+    tally.same("more after the end", reader::edit(&hex("30 30"), 60).unwrap_err(), Answer { number: 26, place: 1 });
+    tally.same("empty text", reader::first_rule(&[]).unwrap_err(), Answer { number: 12, place: 0 });
+    tally.same("first rule", reader::first_rule(&hex("21 01 01 FF")), Ok(3));
+}
+
+/// The sums in the words of document 01, a remainder for each byte.
+fn sums_in_words(block: &[u8]) -> (u8, u8) {
+    let (mut s, mut t) = (0, 0);
+    for byte in &block[..510] {
+        s = (s + u32::from(*byte)) % 255;
+        t = (t + s) % 255;
+    }
+    (s as u8, t as u8)
+}
+
+fn check_bytes(tally: &mut Tally) {
+    for (first, step) in [(0, 1), (255, 0), (254, 3), (7, 101), (255, 255)] {
+        let block: Vec<u8> = (0..512u32).map(|i| (first + step * i) as u8).collect();
+        tally.same("sums", sheet::sums(&block), sums_in_words(&block));
+    }
+}
+
+fn sheets(tally: &mut Tally) {
+    let blank = sheet::store(&Graph::blank(7));
+    tally.same("block 1 without arrows", (blank[1022], blank[1023]), (3, 254));
+    let mut graph = Graph::blank(60);
+    for i in [1, 6, 7] {
+        graph.labels[0][i] = true;
+    }
+    let mut bytes = sheet::store(&graph);
+    tally.same("a sum of 0", (bytes[510], sheet::check(&bytes)), (0, DONE));
+    bytes[510] = 255;
+    tally.same("255 is not 0", sheet::check(&bytes), Answer { number: 2, place: 0 });
+    let read = sheet::read(&sheet_t());
+    tally.same("stored as one sheet", sheet::store(&read), sheet_t());
+}
+
+/// None of these may take exponential time.
+fn explosions(tally: &mut Tally) {
+    let rule = hex("23 00 03 00");
+    let branches = [hex("35 21 01 01 30 30").repeat(682), hex("30")].concat();
+    let growing = [hex("31 00 01").repeat(1365), hex("30")].concat();
+    let doubling = [hex("31 00 03 00").repeat(1023), hex("30")].concat();
+    let idle = [hex("35 21 01 01 30 30").repeat(10), hex("31 01 01").repeat(1345 - 20), hex("30")].concat();
+    let answer = |book: &[u8], edit: &[u8]| carry_back(book, edit, &mut [0; 16384]).answer.number;
+    tally.same("empty book", answer(&[], &branches), 0);
+    tally.same("682 branches", answer(&rule, &branches), 31);
+    tally.same("1,365 steps", answer(&rule, &growing), 32);
+    tally.same("1,023 doublings", answer(&rule, &doubling), 31);
+    tally.same("ten branches, then idle steps", answer(&rule, &idle), 0);
+}
+
+fn main() {
+    let mut tally = Tally { passed: 0, failed: 0 };
+    meanings(&mut tally);
+    carrying(&mut tally);
+    entering(&mut tally);
+    reading(&mut tally);
+    check_bytes(&mut tally);
+    sheets(&mut tally);
+    explosions(&mut tally);
+    println!("{} passed, {} failed", tally.passed, tally.failed);
+    std::process::exit(i32::from(tally.failed > 0));
+}
