@@ -20,4 +20,5 @@ instructions() {
 ours=$(instructions library zamiathen_enter)
 plain=$(instructions plain plain_enter)
 [ "${ours:-0}" -gt 0 ] && [ "${plain:-0}" -gt 0 ] || { echo "nothing was counted" >&2; exit 1; }
-echo "enter, done: library $ours instructions, plain Rust $plain, ratio $(awk "BEGIN { printf \"%.2f\", $ours / $plain }")"
+ratio=$(awk "BEGIN { printf \"%.2f\", $ours / $plain }")
+echo "enter, done: library $ours instructions, plain Rust $plain, ratio $ratio"

@@ -25,7 +25,7 @@ extern "C" {
 /* Sizes. */
 #define ZAMIATHEN_SHEET_BYTES 8704    /* a sheet has just this length */
 #define ZAMIATHEN_TEXT_BYTES 4096     /* the longest book and the longest edit */
-#define ZAMIATHEN_CARRIED_BYTES 16384 /* the longest carried book: an output or scratch of this length always suffices */
+#define ZAMIATHEN_CARRIED_BYTES 16384 /* the longest carried book: an output or scratch of this length suffices */
 #define ZAMIATHEN_STACK_BYTES 1048576 /* placeholder until it is measured */
 
 /* Answer numbers. A call answers the number of the first question, in this order, whose answer is no. */

@@ -103,7 +103,8 @@ static void examples(void) {
 
     start();
     answered("example 9",
-             zamiathen_enter(sheet, sizeof sheet, B, sizeof B, TAKE_AND_ADD, sizeof TAKE_AND_ADD, scratch, sizeof scratch),
+             zamiathen_enter(sheet, sizeof sheet, B, sizeof B, TAKE_AND_ADD, sizeof TAKE_AND_ADD, scratch,
+                             sizeof scratch),
              ZAMIATHEN_DONE, 0);
     same("example 9, sheet", sheet_kept());
     same("example 9, scratch", scratch_is(CARRIED_9, sizeof CARRIED_9));
@@ -159,7 +160,8 @@ static void refusals(void) {
     left_alone("refused calls");
     carried("output", zamiathen_carry_back(B, sizeof B, TAKE, sizeof TAKE, scratch, 11), ZAMIATHEN_ROOM, 12, 0);
     left_alone("refused carry back");
-    judged("judge's sheet", zamiathen_judge(sheet, 0, B, sizeof B), (zamiathen_judged){ZAMIATHEN_SHEET_LENGTH, 0, 0, 0});
+    judged("judge's sheet", zamiathen_judge(sheet, 0, B, sizeof B),
+           (zamiathen_judged){ZAMIATHEN_SHEET_LENGTH, 0, 0, 0});
     sheet[600] ^= 1;
     memcpy(before, sheet, sizeof sheet);
     answered("check bytes", enter(whole, B, sizeof B, TAKE, sizeof TAKE, room), ZAMIATHEN_SHEET_SUMS, 1);

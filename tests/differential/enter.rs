@@ -3,7 +3,7 @@
 use common::compare::{CAnswer, CThree, Lent, Outcome, Tally};
 use common::random::Random;
 use common::terms::{self, Names};
-use common::{damage, graphs, limits, texts};
+use common::{carried, damage, graphs, limits, texts};
 use reference::answer::DONE;
 use reference::calls;
 use reference::carry::CARRIED_BYTES;
@@ -280,7 +280,7 @@ fn carried_limits(tally: &mut Tally) {
     let mut random = Random::new(33);
     let names = Names { n: 60, labels: 2, arrows: 2 };
     let bytes = sheet::store(&graphs::graph(&mut random, names));
-    for (book, edit) in exploding() {
+    for (book, edit) in carried::all() {
         for length in [0, 100, CARRIED_BYTES - 1, CARRIED_BYTES, CARRIED_BYTES + 1] {
             let scratch = random.bytes(length);
             carry_back(tally, &book, &edit, &scratch);
@@ -290,63 +290,6 @@ fn carried_limits(tally: &mut Tally) {
         for length in [needed.saturating_sub(1), needed, needed + 1] {
             carry_back(tally, &book, &edit, &random.bytes(length));
         }
-    }
-}
-
-/// `count` times a step, and the end.
-fn repeated(step: &[u8], count: usize) -> Vec<u8> {
-    [step.repeat(count), vec![0x30]].concat()
-}
-
-fn exploding() -> Vec<(Vec<u8>, Vec<u8>)> {
-    let label = vec![0x23, 0x00, 0x03, 0x00];
-    let arrow = vec![0x24, 0x00, 0x01, 0x11, 0x00];
-    let branch = [0x35, 0x21, 0x01, 0x01, 0x30, 0x30];
-    let idle = [0x31, 0x01, 0x01].repeat(1340);
-    let mut pairs = vec![
-        (vec![], repeated(&branch, 682)),
-        (label.clone(), repeated(&branch, 682)),
-        (label.clone(), repeated(&[0x31, 0x00, 0x01], 1365)),
-        (label.clone(), repeated(&[0x31, 0x00, 0x03, 0x00], 1023)),
-        (label.clone(), repeated(&[0x32, 0x00, 0x03, 0x00], 1023)),
-        (arrow.clone(), repeated(&[0x33, 0x00, 0x11, 0x00], 1023)),
-        (label.clone(), [branch.repeat(10), idle[..3 * 1344 - 60].to_vec(), vec![0x30]].concat()),
-        (label.repeat(32), repeated(&[0x31, 0x00, 0x01], 255)),
-    ];
-    // Levels 254 to 256: a 23 with the label below it has 2, each 31 adds one, each 32 with its 05 one or two.
-    for steps in 250..=256 {
-        pairs.push((label.clone(), repeated(&[0x31, 0x00, 0x01], steps)));
-        pairs.push((label.clone(), repeated(&[0x32, 0x00, 0x01], steps)));
-        pairs.push((arrow.clone(), repeated(&[0x33, 0x00, 0x17, 0x00, 0x01], steps)));
-        pairs.push((arrow.clone(), repeated(&[0x34, 0x00, 0x12, 0x17, 0x00, 0x01], steps)));
-    }
-    // Deep in the second operand: E of each step has levels of its own.
-    for depth in 0..=8 {
-        let step = [vec![0x31, 0x00], vec![0x05; depth], vec![0x03, 0x00]].concat();
-        (1..=14).for_each(|count| pairs.push((label.clone(), repeated(&step, count))));
-        let deep = [vec![0x23, 0x00], vec![0x05; 30], vec![0x03, 0x00]].concat();
-        let far = [vec![0x31, 0x00], vec![0x05; 30 - depth / 4], vec![0x03, 0x00]].concat();
-        (5..=9).for_each(|count| pairs.push((deep.clone(), repeated(&far, count))));
-    }
-    // Exactly 16,384 bytes and one more or less: a place adds the length of E plus 1.
-    for extra in 0..=3 {
-        let book = [vec![0x21, 0x01], places(4)].concat();
-        let room = CARRIED_BYTES - book.len() - 1 + extra;
-        let step = [vec![0x31, 0x00], limits::wide_node(room / 4 - 1), vec![0x31, 0x01, 0x01]].concat();
-        pairs.push((book, repeated(&step, 1)));
-    }
-    for branches in 1..=12 {
-        pairs.push((label.clone(), repeated(&branch, branches)));
-        pairs.push((label.clone(), repeated(&[0x35, 0x23, 0x00, 0x03, 0x00, 0x31, 0x00, 0x01, 0x30, 0x30], branches)));
-    }
-    pairs
-}
-
-/// An expression in which label 0 stands at this many places.
-fn places(count: usize) -> Vec<u8> {
-    match count {
-        1 => vec![0x03, 0x00],
-        _ => [vec![0x07, 0x03, 0x00], places(count - 1)].concat(),
     }
 }
 
@@ -376,14 +319,14 @@ const CARRIED: &[u8] = include_bytes!("../../examples/station/carried.bin");
 /// The station of the examples, whose answers, sheets and carried book are kept with it.
 fn station(tally: &mut Tally) {
     let scratch = [0xEE; 1000];
-    let carried = [CARRIED, &scratch[CARRIED.len()..]].concat();
+    let left = [CARRIED, &scratch[CARRIED.len()..]].concat();
     let entered = |sheet, edit, number, place, after: &[u8]| {
         let call = Call { sheet, book: BOOK, edit, scratch: &scratch };
         let found = call.library();
         (found.numbers == [number, place] && found.buffers[0] == Lent::of(after).all()).then_some(found)
     };
     let first = entered(SHEET, EDIT, 0, 0, SHEET_AFTER).expect("the edit is entered");
-    assert!(first.buffers[3] == Lent::of(&carried).all(), "the carried book is the one kept");
+    assert!(first.buffers[3] == Lent::of(&left).all(), "the carried book is the one kept");
     entered(SHEET_AFTER, EDIT_BACK, 0, 0, SHEET).expect("the edit back is entered");
     entered(SHEET, EDIT_41, 41, 2, SHEET).expect("the third edit breaks rule 2");
     for (sheet, edit) in [(SHEET, EDIT), (SHEET_AFTER, EDIT_BACK), (SHEET, EDIT_41)] {

@@ -3,8 +3,8 @@
 use reference::answer::Answer;
 use std::collections::BTreeMap;
 
-/// Bytes on each side of a lent buffer that no call may touch.
-const GUARD: usize = 32;
+/// Bytes on each side of a lent buffer that no call may touch; an odd number, so that buffers begin anywhere.
+const GUARD: usize = 37;
 const GUARD_BYTE: u8 = 0xA7;
 
 /// A buffer lent to the library, with a guard on each side.

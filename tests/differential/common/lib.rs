@@ -1,5 +1,6 @@
 //! What the differential programs share: deterministic inputs and comparison of outcomes.
 
+pub mod carried;
 pub mod compare;
 pub mod damage;
 pub mod graphs;
