@@ -82,7 +82,8 @@ impl Call<'_> {
     }
 }
 
-fn carry_back(tally: &mut Tally, book: &[u8], edit: &[u8], out: &[u8]) {
+/// Gives the length of the carried book, which is 0 when it is refused.
+fn carry_back(tally: &mut Tally, book: &[u8], edit: &[u8], out: &[u8]) -> usize {
     let (lent_book, lent_edit, mut lent) = (Lent::of(book), Lent::of(edit), Lent::of(out));
     let found = unsafe {
         zamiathen_carry_back(
@@ -100,6 +101,7 @@ fn carry_back(tally: &mut Tally, book: &[u8], edit: &[u8], out: &[u8]) {
     let numbers = [carried.answer.number, carried.answer.place, carried.length];
     let wanted = Outcome::new(&numbers, vec![Lent::of(book), Lent::of(edit), Lent::of(&buffer)]);
     tally.compare("carry back", &found, &wanted, &[("book", book), ("edit", edit), ("output", out)]);
+    carried.length
 }
 
 fn apply(tally: &mut Tally, bytes: &[u8], edit: &[u8]) {
@@ -110,11 +112,6 @@ fn apply(tally: &mut Tally, bytes: &[u8], edit: &[u8]) {
     let answer = calls::apply(&mut buffer, edit);
     let wanted = Outcome::of_answer(answer, vec![Lent::of(&buffer), Lent::of(edit)]);
     tally.compare("apply", &found, &wanted, &[("sheet", bytes), ("edit", edit)]);
-}
-
-/// The length of the carried book, or 0 when it is refused before that is asked.
-fn length_needed(book: &[u8], edit: &[u8]) -> usize {
-    calls::carry_back(book, edit, &mut [0; CARRIED_BYTES]).length
 }
 
 /// A scratch with room to spare, of the length needed, one byte short, or of another length.
@@ -198,6 +195,18 @@ fn theorem(opening: &Opening, edit: &[u8]) {
     }
 }
 
+/// An output that is always long enough.
+const OUTPUT: [u8; CARRIED_BYTES] = [0xEE; CARRIED_BYTES];
+
+/// Carry back with room to spare, enter with the scratch that is given back, and apply.
+fn all_three(tally: &mut Tally, random: &mut Random, bytes: &[u8], book: &[u8], edit: &[u8]) -> Vec<u8> {
+    let needed = carry_back(tally, book, edit, &OUTPUT);
+    let scratch = scratch(random, needed);
+    Call { sheet: bytes, book, edit, scratch: &scratch }.compare(tally);
+    apply(tally, bytes, edit);
+    scratch
+}
+
 /// Single calls, refused ones too.
 fn single_calls(tally: &mut Tally, rounds: usize) {
     let mut random = Random::new(31);
@@ -207,10 +216,10 @@ fn single_calls(tally: &mut Tally, rounds: usize) {
         let book = terms::book_code(&opening.rules);
         for _ in 0..8 {
             let edit = some_edit(&mut random, opening.names);
-            let scratch = scratch(&mut random, length_needed(&book, &edit));
-            Call { sheet: &bytes, book: &book, edit: &edit, scratch: &scratch }.compare(tally);
-            carry_back(tally, &book, &edit, &scratch);
-            apply(tally, &bytes, &edit);
+            let scratch = all_three(tally, &mut random, &bytes, &book, &edit);
+            if round % 4 == 0 {
+                carry_back(tally, &book, &edit, &scratch);
+            }
             if round % 8 == 0 {
                 theorem(&opening, &edit);
             }
@@ -232,10 +241,7 @@ fn faulty_call(tally: &mut Tally, random: &mut Random, bytes: &[u8], book: &[u8]
     if random.one_in(2) {
         edit = texts::any(random, names.n);
     }
-    let scratch = scratch(random, length_needed(&book, &edit));
-    Call { sheet: &bytes, book: &book, edit: &edit, scratch: &scratch }.compare(tally);
-    carry_back(tally, &book, &edit, &scratch);
-    apply(tally, &bytes, &edit);
+    all_three(tally, random, &bytes, &book, &edit);
 }
 
 /// Runs: the sheet as the call before left it, against the plain clerk, who is never told an answer.
@@ -286,7 +292,7 @@ fn carried_limits(tally: &mut Tally) {
             carry_back(tally, &book, &edit, &scratch);
             Call { sheet: &bytes, book: &book, edit: &edit, scratch: &scratch }.compare(tally);
         }
-        let needed = length_needed(&book, &edit);
+        let needed = carry_back(tally, &book, &edit, &OUTPUT);
         for length in [needed.saturating_sub(1), needed, needed + 1] {
             carry_back(tally, &book, &edit, &random.bytes(length));
         }
@@ -316,23 +322,29 @@ const EDIT_BACK: &[u8] = include_bytes!("../../examples/station/edit_back.bin");
 const EDIT_41: &[u8] = include_bytes!("../../examples/station/edit41.bin");
 const CARRIED: &[u8] = include_bytes!("../../examples/station/carried.bin");
 
-/// The station of the examples, whose answers, sheets and carried book are kept with it.
+/// An enter on the station against what is kept with it: the answer, the sheet and, where kept, the carried book.
+fn kept(tally: &mut Tally, call: &Call, answer: [usize; 2], after: &[u8], carried: Option<&[u8]>) {
+    let mut found = call.library();
+    let scratch = found.buffers.pop();
+    found.buffers.truncate(1);
+    let mut wanted = Outcome::new(&answer, vec![Lent::of(after)]);
+    if let Some(text) = carried {
+        found.buffers.extend(scratch);
+        wanted.buffers.push(Lent::of(&[text, &call.scratch[text.len()..]].concat()).all());
+    }
+    tally.compare("enter on the station", &found, &wanted, &call.inputs());
+}
+
+/// The station of the examples.
 fn station(tally: &mut Tally) {
-    let scratch = [0xEE; 1000];
-    let left = [CARRIED, &scratch[CARRIED.len()..]].concat();
-    let entered = |sheet, edit, number, place, after: &[u8]| {
-        let call = Call { sheet, book: BOOK, edit, scratch: &scratch };
-        let found = call.library();
-        (found.numbers == [number, place] && found.buffers[0] == Lent::of(after).all()).then_some(found)
-    };
-    let first = entered(SHEET, EDIT, 0, 0, SHEET_AFTER).expect("the edit is entered");
-    assert!(first.buffers[3] == Lent::of(&left).all(), "the carried book is the one kept");
-    entered(SHEET_AFTER, EDIT_BACK, 0, 0, SHEET).expect("the edit back is entered");
-    entered(SHEET, EDIT_41, 41, 2, SHEET).expect("the third edit breaks rule 2");
-    for (sheet, edit) in [(SHEET, EDIT), (SHEET_AFTER, EDIT_BACK), (SHEET, EDIT_41)] {
-        Call { sheet, book: BOOK, edit, scratch: &scratch }.compare(tally);
-        carry_back(tally, BOOK, edit, &scratch);
-        apply(tally, sheet, edit);
+    let on = |sheet, edit| Call { sheet, book: BOOK, edit, scratch: &[0xEE; 1000] };
+    kept(tally, &on(SHEET, EDIT), [0, 0], SHEET_AFTER, Some(CARRIED));
+    kept(tally, &on(SHEET_AFTER, EDIT_BACK), [0, 0], SHEET, None);
+    kept(tally, &on(SHEET, EDIT_41), [41, 2], SHEET, None);
+    for call in [on(SHEET, EDIT), on(SHEET_AFTER, EDIT_BACK), on(SHEET, EDIT_41)] {
+        call.compare(tally);
+        carry_back(tally, BOOK, call.edit, call.scratch);
+        apply(tally, call.sheet, call.edit);
     }
 }
 
