@@ -1,13 +1,14 @@
 -- The rules of a book, measured, and the sizes of what they are carried to.
 use mathlib.Core.Path.{_≡_, refl, sym, ap, ap₂, _∙_, subst}
-use mathlib.Core.List.{List, [], _∷_, _++_}
+use mathlib.Core.List.{List, [], _∷_, _++_, append-nil}
 use Prim.Native.Nat.{ℕ, zero, suc, _+_, _*_, _-_, max, _≤_, _<_}
 use native.Mathlib.Omega.{arith}
 use lib.ListN.{length, getD, set, drop, replicate, length-append, length-drop}
+use lib.Seq.{drop-length}
 use Rattle.logic.specs.Syntax.{rule, Expr, Edit}
 use Rattle.logic.specs.Carry.{carry, carriedBook}
 use Rattle.logic.specs.Limits.{Ranges}
-use Rattle.text.specs.Code.{code, bookCode, bookLevels}
+use Rattle.text.specs.Code.{code, editCode, bookCode, bookLevels}
 use Rattle.tree.specs.Tree.{Tree, tree, size, height, under}
 use Rattle.tree.proofs.Trees.{bytes-tree, height-tree, size-is}
 use Rattle.tree.specs.Sizes.{Measure, measure, back, join, nothing, measures, cut}
@@ -15,8 +16,10 @@ use Rattle.tree.proofs.Books.{join-nothing, join-comm, join-assoc, measured-boo
 use Rattle.tree.proofs.Measured.{under-one, measured}
 use Rattle.measure.specs.Shapes.{At, cell}
 use Rattle.measure.specs.State.{Holds, added, Scanned}
-use Rattle.measure.specs.Edits.{Backed}
-use Rattle.measure.specs.Book.{RuleAt, RulesInRange, BookIs, SomeBook, RuleAdded, BookAdded, RuleSized, BookSized}
+use Rattle.measure.specs.Edits.{SomeEdit, EditRoom, Backed}
+use Rattle.measure.specs.Pruned.{pruned}
+use Rattle.measure.proofs.Steps.{edit-long, edit-inside}
+use Rattle.measure.specs.Book.{RuleAt, RulesInRange, BookIs, SomeBook, RuleAdded, BookAdded, RuleSized, BookSized, BookKept}
 use Rattle.measure.proofs.Places.{behind, fits, inside, size-pos}
 use Rattle.measure.proofs.Held.{holds-is, holds-longer, longer}
 use Rattle.measure.proofs.Formed.{formed-tree}
@@ -63,9 +66,9 @@ rule-added text at K h next l₀ l l′ long f y e g =
 pub rule-holds : (at : ℕ) (K : Expr rule) (next : ℕ) (l′ : List ℕ) → RuleAdded at K next (replicate 130 0) l′ → Holds l′ (measure (tree K))
 rule-holds at K next l′ a = holds-is (join-comm nothing (measure (tree K)) ∙ join-nothing (measure (tree K))) (a .holds nothing zeros)
 
-pub rule-sized : (Z : Edit) (K : Expr rule) (l l′ : List ℕ) → Holds l (measure (tree K)) → Backed 1 Z l l′ → RuleSized Z K (getD l′ 128 0) (getD l′ 129 0)
+pub rule-sized : (Z : Edit) (K : Expr rule) (l l′ out out′ : List ℕ) (pos pos′ : ℕ) → Holds l (measure (tree K)) → Backed 1 Z l out pos l′ out′ pos′ → RuleSized Z K (getD l′ 128 0) (getD l′ 129 0)
 unfolding measure
-rule-sized Z K l l′ h b =
+rule-sized Z K l l′ out out′ pos pos′ h b =
     let w = holds-is (sym (measured Z K)) (b .holds (measure (tree K)) h) in
     record { len-is = w .len-at ∙ ap cut (rule-size (carry Z K)); tall-is = w .tall-at ∙ ap cut (height-tree (carry Z K)) }
 
@@ -142,15 +145,22 @@ adding-end book state at n l a rules h = let q = a .each rules h in go (q .left)
     go (K ∷ Ks) lim r e m M w j = absurd (omega (arith, ap length e, length-drop at book, length-append (code K) (bookCode Ks), rule-size K, size-pos (tree K) (formed-tree lim K (r .0))))
 
 -- the empty book, and any other
-pub no-book : (book : List ℕ) → length book ≡ 0 → (rules : List (Expr rule)) (Z : Edit) → BookIs book rules → BookSized Z rules 0 0
+pub no-book : (book : List ℕ) → length book ≡ 0 → (rules : List (Expr rule)) (Z : Edit) → BookIs book rules → (start : ℕ) (kept : List ℕ) → BookSized Z rules 0 0 × BookKept Z rules start kept
 unfolding bookCode bookLevels RulesInRange
-no-book book e [] Z h = record { len-is = refl; tall-is = refl }
-no-book book e (K ∷ Ks) Z h = absurd (omega (arith, e, ap length (h .is), length-append (code K) (bookCode Ks), rule-size K, size-pos (tree K) (formed-tree (h .limits) K (h .range .0))))
+no-book book e [] Z h start kept = (record { len-is = refl; tall-is = refl }, record { text = λ ne. absurd (ne refl) })
+no-book book e (K ∷ Ks) Z h start kept = absurd (omega (arith, e, ap length (h .is), length-append (code K) (bookCode Ks), rule-size K, size-pos (tree K) (formed-tree (h .limits) K (h .range .0))))
 
-pub book-sized : (book : List ℕ) → (length book ≡ 0 → ⊥) → (rules : List (Expr rule)) (Z : Edit) → BookIs book rules → (l l′ : List ℕ) (n : ℕ) → BookAdded rules n l → Backed n Z l l′ → BookSized Z rules (getD l′ 128 0) (getD l′ 129 0)
+pub book-sized : (book : List ℕ) → (length book ≡ 0 → ⊥) → (rules : List (Expr rule)) (Z : Edit) → BookIs book rules → (l l′ out out′ : List ℕ) (n pos pos′ : ℕ) → BookAdded rules n l → Backed n Z l out pos l′ out′ pos′ → BookSized Z rules (getD l′ 128 0) (getD l′ 129 0)
 unfolding bookCode
-book-sized book ne [] Z h l l′ n a b = absurd (ne (ap length (h .is)))
-book-sized book ne (K ∷ Ks) Z h l l′ n a b =
+book-sized book ne [] Z h l l′ out out′ n pos pos′ a b = absurd (ne (ap length (h .is)))
+book-sized book ne (K ∷ Ks) Z h l l′ out out′ n pos pos′ a b =
     let e : n ≡ 1 + length Ks = a .number-is ∙ omega arith in
     let w = holds-is (ap (λ (r : ℕ). back r Z (measures (K ∷ Ks))) e ∙ sym (measured-book Z K Ks)) (b .holds (measures (K ∷ Ks)) (a .holds)) in
     record { len-is = w .len-at ∙ ap cut (len-codes (carriedBook Z (K ∷ Ks))); tall-is = w .tall-at ∙ ap cut (tall-levels (carriedBook Z (K ∷ Ks))) }
+
+pub book-kept : (Z : Edit) (rules : List (Expr rule)) (l l′ out out′ : List ℕ) (n pos pos′ : ℕ) → length out ≡ pos → BookAdded rules n l → Backed n Z l out pos l′ out′ pos′ → BookKept Z rules pos′ out′
+book-kept Z rules l l′ out out′ n pos pos′ e a b =
+    record { text = λ ne. b .text (measures rules) (a .holds) ∙ (λ t. editCode (pruned (a .number-is t) Z (measures rules)) ++ (ap (λ (x : ℕ). drop x out) (sym e) ∙ drop-length out) t) ∙ append-nil (editCode (pruned (length rules) Z (measures rules))) }
+
+pub edit-room : (edit : List ℕ) (from pos : ℕ) → length edit ≤ pos → SomeEdit edit from → EditRoom edit from pos
+edit-room edit from pos l s = record { what = s .what; stands = s .stands; room = omega (arith, edit-long edit from (s .what) (s .stands), edit-inside edit from (s .what) (s .stands)) }

@@ -1,19 +1,23 @@
 -- Back over one step 31 to 34.
 use mathlib.Core.Path.{_≡_, refl, sym, ap, ap₂, _∙_, subst}
 use mathlib.Core.Bool.{Bool, true, false, cond}
-use mathlib.Core.List.{List, [], _∷_, _++_}
+use mathlib.Core.List.{List, [], _∷_, _++_, append-assoc}
 use Prim.Native.Nat.{ℕ, zero, suc, _+_, _*_, _-_, _≤_, _<_, max}
 use native.Mathlib.Omega.{arith}
 use native.Mathlib.Nat.{mul-le-mul}
+use borrow.Author.Tests.{eq-eqb, ne-eqb}
 use lib.Dec.{eqb, ltb}
 use lib.ListN.{length, getD, set, length-set}
 use Rattle.logic.specs.Syntax.{Edit}
+use Rattle.text.specs.Code.{editCode}
 use Rattle.tree.specs.Tree.{Tree, size, under}
 use Rattle.tree.specs.Sizes.{Measure, measure, passed, back, cut, cutM}
 use Rattle.tree.proofs.Cut.{cut-under}
 use Rattle.measure.specs.Shapes.{cell, At}
 use Rattle.measure.specs.State.{Holds, added, Scanned}
-use Rattle.measure.specs.Edits.{EditAt, Held, behindStep, Stepped}
+use Rattle.measure.specs.Edits.{EditAt, Held, behindStep, Stepped, Prefixed, PutBefore}
+use Rattle.measure.specs.Pruned.{pruned}
+use Rattle.measure.proofs.Puts.{head-of}
 use Rattle.measure.proofs.Held.{holds-same, holds-is, holds-lower, holds-longer, lowered, longer, together, twice, named-lt}
 use Rattle.measure.proofs.Steps.{IsStep}
 
@@ -62,6 +66,28 @@ module _ (text : List ℕ) (at : ℕ) (Z : Edit) (q : IsStep text at Z) where
           holds-same (together (q .c) (q .k) (q .more) (measure (q .E)) N)
           (holds-is (λ t. longer (pw t * (pm t + ps t)) (added (pw t) (pv t) (measure (q .E)) (lowered (q .c) (q .k) N)))
           (subst (λ (l : List ℕ). Holds l (longer (w * (m + (next - (at + 2)))) (added w v (measure (q .E)) (lowered (q .c) (q .k) N)))) (sym el₃) n₃))
+
+  -- how often the step's name stands in what follows it
+  counted : (l : List ℕ) (i : ℕ) → i ≡ cell (q .c) (q .k) → (N : Measure) → Holds l N → getD l i 0 ≡ cut (N .counts (q .c) (q .k))
+  counted l i j N h = ap (λ (u : ℕ). getD l u 0) j ∙ h .count-at (q .c) (q .k) (q .named)
+
+  pub step-idle : (l out : List ℕ) (pos i : ℕ) → i ≡ cell (q .c) (q .k) → getD l i 0 ≡ 0 → (rules : ℕ) → Prefixed rules Z l out pos out pos
+  step-idle l out pos i j z rules = record {
+    text = λ M h tail e. e ∙ sym ((λ t. q .prunes rules M t ++ tail) ∙ (λ t. cond (eq-eqb (back rules (behindStep Z) M .counts (q .c) (q .k)) 0 (omega (arith, counted l i j (back rules (behindStep Z) M) h)) t) (editCode (pruned rules (behindStep Z) M)) (q .head ++ editCode (pruned rules (behindStep Z) M)) ++ tail));
+    room = omega (arith, q .long);
+    low = omega arith;
+  }
+
+  pub step-kept : (l out out′ : List ℕ) (pos i end r : ℕ) → i ≡ cell (q .c) (q .k) → (getD l i 0 ≡ 0 → ⊥) → end ≡ at + 2 + size (q .E) → PutBefore text at end out pos out′ r → (rules : ℕ) → Prefixed rules Z l out pos out′ r
+  step-kept l out out′ pos i end r j n e w rules =
+      let f : length (q .head) ≡ end - at = omega (arith, q .head-long, e) in
+      record {
+        text = λ M h tail p.
+            w .bytes ∙ (λ t. head-of text at (q .head) (q .tail) (end - at) (q .split) f t ++ p t) ∙ sym (append-assoc (q .head) (editCode (pruned rules (behindStep Z) M)) tail)
+            ∙ sym ((λ t. q .prunes rules M t ++ tail) ∙ (λ t. cond (ne-eqb (back rules (behindStep Z) M .counts (q .c) (q .k)) 0 (λ z. n (counted l i j (back rules (behindStep Z) M) h ∙ ap cut z)) t) (editCode (pruned rules (behindStep Z) M)) (q .head ++ editCode (pruned rules (behindStep Z) M)) ++ tail));
+        room = omega (arith, q .long, w .start, e);
+        low = omega (arith, w .start);
+      }
 
   -- no number is too large
   pub step-fits : (l₀ : List ℕ) (i w : ℕ) → Held l₀ → i ≡ cell (q .c) (q .k) → w ≡ getD l₀ i 0 → w ≤ 16385

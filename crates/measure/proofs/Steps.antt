@@ -17,6 +17,7 @@ use Rattle.tree.specs.Sizes.{Measure, measure, passed, chosen, back, cut, cutM}
 use Rattle.measure.specs.Shapes.{Named, cell, At, Formed}
 use Rattle.measure.specs.State.{Holds, added, Scanned}
 use Rattle.measure.specs.Edits.{EditAt, SomeEdit, Held, behindStep, after}
+use Rattle.measure.specs.Pruned.{pruned}
 use Rattle.measure.proofs.Places.{byte-at, behind, within}
 use Rattle.measure.proofs.Formed.{formed-tree}
 
@@ -65,6 +66,15 @@ pub record IsStep (text : List ℕ) (at : ℕ) (Z : Edit) : Type 0 where
   pub next : (p : ℕ) → p ≡ at + 2 + size E → EditAt text p (behindStep Z)
   pub long : length (editCode Z) ≡ 2 + size E + length (editCode (behindStep Z))
   pub backs : (r : ℕ) (M : Measure) → back r Z M ≡ passed c k more (measure E) (back r (behindStep Z) M)
+  pub head : List ℕ
+  pub tail : List ℕ
+  pub split : drop at text ≡ head ++ tail
+  pub head-long : length head ≡ 2 + size E
+  pub prunes : (r : ℕ) (M : Measure) → editCode (pruned r Z M) ≡ cond (eqb (back r (behindStep Z) M .counts c k) 0) (editCode (pruned r (behindStep Z) M)) (head ++ editCode (pruned r (behindStep Z) M))
+
+edit-cond : (b : Bool) (Y Z : Edit) → editCode (cond b Y Z) ≡ cond b (editCode Y) (editCode Z)
+edit-cond true Y Z = refl
+edit-cond false Y Z = refl
 
 module _ (text : List ℕ) (at : ℕ) (c₀ k : ℕ) {s : Sort} (E : Expr s) (Z : Edit) (rest : List ℕ) (e : drop at text ≡ (c₀ ∷ k ∷ code E ++ editCode Z) ++ rest) where
   step-split : drop (at + 2) text ≡ code E ++ (editCode Z ++ rest)
@@ -79,6 +89,12 @@ module _ (text : List ℕ) (at : ℕ) (c₀ k : ℕ) {s : Sort} (E : Expr s) (Z 
   step-len : length (c₀ ∷ k ∷ code E ++ editCode Z) ≡ 2 + size (tree E) + length (editCode Z)
   step-len = omega (arith, length-append (c₀ ∷ k ∷ code E) (editCode Z), ap length (bytes-tree E), size-is (tree E))
 
+  step-cut : drop at text ≡ (c₀ ∷ k ∷ code E) ++ (editCode Z ++ rest)
+  step-cut = e ∙ append-assoc (c₀ ∷ k ∷ code E) (editCode Z) rest
+
+  step-head : length (c₀ ∷ k ∷ code E) ≡ 2 + size (tree E)
+  step-head = omega (arith, ap length (bytes-tree E), size-is (tree E))
+
   step-k : getD text (at + 1) 0 ≡ k
   step-k = byte-at text (at + 1) k ((code E ++ editCode Z) ++ rest) (behind text at (c₀ ∷ []) (k ∷ (code E ++ editCode Z) ++ rest) e)
 
@@ -86,7 +102,7 @@ module _ (text : List ℕ) (at : ℕ) (c₀ k : ℕ) {s : Sort} (E : Expr s) (Z 
   step-room lim r = omega (arith, edit-inside text _ Z (step-next lim r _ refl))
 
 pub as-step : (text : List ℕ) (at : ℕ) (Z : Edit) → EditAt text at Z → (getD text at 0 ≡ 0x30 → ⊥) → (getD text at 0 ≡ 0x35 → ⊥) → IsStep text at Z
-unfolding editCode EditInRange behindStep back
+unfolding editCode EditInRange behindStep back pruned
 as-step text at finish h n m = absurd (n (tag-edit text at finish h))
 as-step text at (addLabel k E Z) h n m = record {
   c = 0x03;
@@ -102,6 +118,11 @@ as-step text at (addLabel k E Z) h n m = record {
   next = step-next text at 0x31 k E Z (h .place .rest) (h .place .here) (h .limits) (h .place .range .2);
   long = step-len text at 0x31 k E Z (h .place .rest) (h .place .here);
   backs = λ r M. refl;
+  head = 0x31 ∷ k ∷ code E;
+  tail = editCode Z ++ h .place .rest;
+  split = step-cut text at 0x31 k E Z (h .place .rest) (h .place .here);
+  head-long = step-head text at 0x31 k E Z (h .place .rest) (h .place .here);
+  prunes = λ r M. edit-cond (eqb (back r Z M .counts 0x03 k) 0) (pruned r Z M) (addLabel k E (pruned r Z M));
 }
 as-step text at (takeLabel k E Z) h n m = record {
   c = 0x03;
@@ -117,6 +138,11 @@ as-step text at (takeLabel k E Z) h n m = record {
   next = step-next text at 0x32 k E Z (h .place .rest) (h .place .here) (h .limits) (h .place .range .2);
   long = step-len text at 0x32 k E Z (h .place .rest) (h .place .here);
   backs = λ r M. refl;
+  head = 0x32 ∷ k ∷ code E;
+  tail = editCode Z ++ h .place .rest;
+  split = step-cut text at 0x32 k E Z (h .place .rest) (h .place .here);
+  head-long = step-head text at 0x32 k E Z (h .place .rest) (h .place .here);
+  prunes = λ r M. edit-cond (eqb (back r Z M .counts 0x03 k) 0) (pruned r Z M) (takeLabel k E (pruned r Z M));
 }
 as-step text at (addArrow k E Z) h n m = record {
   c = 0x11;
@@ -132,6 +158,11 @@ as-step text at (addArrow k E Z) h n m = record {
   next = step-next text at 0x33 k E Z (h .place .rest) (h .place .here) (h .limits) (h .place .range .2);
   long = step-len text at 0x33 k E Z (h .place .rest) (h .place .here);
   backs = λ r M. refl;
+  head = 0x33 ∷ k ∷ code E;
+  tail = editCode Z ++ h .place .rest;
+  split = step-cut text at 0x33 k E Z (h .place .rest) (h .place .here);
+  head-long = step-head text at 0x33 k E Z (h .place .rest) (h .place .here);
+  prunes = λ r M. edit-cond (eqb (back r Z M .counts 0x11 k) 0) (pruned r Z M) (addArrow k E (pruned r Z M));
 }
 as-step text at (takeArrow k E Z) h n m = record {
   c = 0x11;
@@ -147,6 +178,11 @@ as-step text at (takeArrow k E Z) h n m = record {
   next = step-next text at 0x34 k E Z (h .place .rest) (h .place .here) (h .limits) (h .place .range .2);
   long = step-len text at 0x34 k E Z (h .place .rest) (h .place .here);
   backs = λ r M. refl;
+  head = 0x34 ∷ k ∷ code E;
+  tail = editCode Z ++ h .place .rest;
+  split = step-cut text at 0x34 k E Z (h .place .rest) (h .place .here);
+  head-long = step-head text at 0x34 k E Z (h .place .rest) (h .place .here);
+  prunes = λ r M. edit-cond (eqb (back r Z M .counts 0x11 k) 0) (pruned r Z M) (takeArrow k E (pruned r Z M));
 }
 as-step text at (choose K P Q Z) h n m = absurd (m (tag-edit text at (choose K P Q Z) h))
 
@@ -160,9 +196,14 @@ pub record IsChoose (text : List ℕ) (at : ℕ) (Z : Edit) : Type 0 where
   pub second : (p : ℕ) → p ≡ at + 1 + size K + length (editCode P) → EditAt text p Q
   pub next : (p : ℕ) → p ≡ at + 1 + size K + length (editCode P) + length (editCode Q) → EditAt text p (behindStep Z)
   pub long : length (editCode Z) ≡ 1 + size K + length (editCode P) + length (editCode Q) + length (editCode (behindStep Z))
+  pub tail : List ℕ
+  pub head : List ℕ
+  pub split : drop at text ≡ head ++ tail
+  pub head-long : length head ≡ 1 + size K
+  pub prunes : (r : ℕ) (M : Measure) → editCode (pruned r Z M) ≡ head ++ editCode (pruned r P (back r (behindStep Z) M)) ++ editCode (pruned r Q (back r (behindStep Z) M)) ++ editCode (pruned r (behindStep Z) M)
   pub backs : (r : ℕ) (M : Measure) → back r Z M ≡ chosen r (measure K) (back r P (back r (behindStep Z) M)) (back r Q (back r (behindStep Z) M))
 
-four : (a p q z r : List ℕ) → (a ++ p ++ q ++ z) ++ r ≡ a ++ (p ++ (q ++ (z ++ r)))
+pub four : (a p q z r : List ℕ) → (a ++ p ++ q ++ z) ++ r ≡ a ++ (p ++ (q ++ (z ++ r)))
 four a p q z r = append-assoc (a ++ p ++ q) z r ∙ append-assoc (a ++ p) q (z ++ r) ∙ append-assoc a p (q ++ (z ++ r))
 
 module _ (text : List ℕ) (at : ℕ) (K : Expr rule) (P Q Z : Edit) (rest : List ℕ) (e : drop at text ≡ ((0x35 ∷ code K) ++ editCode P ++ editCode Q ++ editCode Z) ++ rest) where
@@ -185,7 +226,7 @@ module _ (text : List ℕ) (at : ℕ) (K : Expr rule) (P Q Z : Edit) (rest : Lis
   cZ p q = ap (λ (n : ℕ). drop n text) q ∙ behind text (at + 1 + size (tree K) + length (editCode P)) (editCode Q) (editCode Z ++ rest) (cQ _ refl)
 
 pub as-choose : (text : List ℕ) (at : ℕ) (Z : Edit) → EditAt text at Z → getD text at 0 ≡ 0x35 → IsChoose text at Z
-unfolding editCode EditInRange behindStep back
+unfolding editCode EditInRange behindStep back pruned
 as-choose text at finish h m = absurd (omega (arith, tag-edit text at finish h))
 as-choose text at (addLabel k E Z) h m = absurd (omega (arith, tag-edit text at (addLabel k E Z) h))
 as-choose text at (takeLabel k E Z) h m = absurd (omega (arith, tag-edit text at (takeLabel k E Z) h))
@@ -200,6 +241,11 @@ as-choose text at (choose K P Q Z) h m = record {
   second = λ p q. record { limits = h .limits; place = record { rest = editCode Z ++ h .place .rest; here = cQ text at K P Q Z (h .place .rest) (h .place .here) p q; range = h .place .range .2 } };
   next = λ p q. record { limits = h .limits; place = record { rest = h .place .rest; here = cZ text at K P Q Z (h .place .rest) (h .place .here) p q; range = h .place .range .3 } };
   long = omega (arith, length-append ((0x35 ∷ code K) ++ editCode P ++ editCode Q) (editCode Z), length-append ((0x35 ∷ code K) ++ editCode P) (editCode Q), length-append (0x35 ∷ code K) (editCode P), size-K text at K P Q Z (h .place .rest) (h .place .here));
+  tail = editCode P ++ (editCode Q ++ (editCode Z ++ h .place .rest));
+  head = 0x35 ∷ code K;
+  split = c0 text at K P Q Z (h .place .rest) (h .place .here);
+  head-long = omega (arith, size-K text at K P Q Z (h .place .rest) (h .place .here));
+  prunes = λ r M. refl;
   backs = λ r M. refl;
 }
 

@@ -2,16 +2,17 @@
 use mathlib.Core.Path.{_≡_}
 use mathlib.Core.List.{List, [], _∷_}
 use Prim.Native.Nat.{ℕ, _+_, _≤_}
-use lib.ListN.{length}
+use lib.ListN.{length, drop}
 use Rattle.logic.specs.Syntax.{rule, Expr, Edit}
 use Rattle.logic.specs.Carry.{carry, carriedBook}
 use Rattle.logic.specs.Limits.{Ranges, InRange}
-use Rattle.text.specs.Code.{code, levels, bookCode, bookLevels}
+use Rattle.text.specs.Code.{code, levels, editCode, bookCode, bookLevels}
 use Rattle.text.specs.Questions.{mostRules}
 use Rattle.text.specs.Stands.{Stands}
 use Rattle.tree.specs.Tree.{tree}
 use Rattle.tree.specs.Sizes.{Measure, measure, join, measures, cut}
 use Rattle.measure.specs.State.{Holds}
+use Rattle.measure.specs.Pruned.{pruned}
 
 -- a rule whose numbers are in range stands in a text at a place, whatever the ranges
 pub record RuleAt (text : List ℕ) (at : ℕ) (K : Expr rule) : Type 0 where
@@ -55,3 +56,7 @@ pub record RuleSized (Z : Edit) (K : Expr rule) (len tall : ℕ) : Type 0 where
 pub record BookSized (Z : Edit) (rules : List (Expr rule)) (len tall : ℕ) : Type 0 where
   pub len-is : len ≡ cut (length (bookCode (carriedBook Z rules)))
   pub tall-is : tall ≡ cut (bookLevels (carriedBook Z rules))
+
+-- where the book is not empty, a buffer holds from a place on the edit without its idle steps
+pub record BookKept (Z : Edit) (rules : List (Expr rule)) (start : ℕ) (kept : List ℕ) : Type 0 where
+  pub text : (length rules ≡ 0 → ⊥) → drop start kept ≡ editCode (pruned (length rules) Z (measures rules))

@@ -1,30 +1,16 @@
 -- An edit in a text; the measure of a book carried through it, in numbers.
 use mathlib.Core.Path.{_≡_}
-use mathlib.Core.List.{List, _++_}
-use Prim.Native.Nat.{ℕ, zero, suc, _+_, _<_, _≤_, max}
+use mathlib.Core.List.{List, _∷_, _++_}
+use Prim.Native.Nat.{ℕ, zero, suc, _+_, _-_, _<_, _≤_, max}
 use Rattle.tree.specs.Tree.{Tree, under}
-use lib.ListN.{length, getD, drop}
+use lib.ListN.{length, getD, take, drop}
 use Rattle.logic.specs.Syntax.{Edit, finish, addLabel, takeLabel, addArrow, takeArrow, choose}
 use Rattle.logic.specs.Limits.{Ranges}
 use Rattle.text.specs.Stands.{EditStands}
 use Rattle.text.specs.Code.{editCode}
 use Rattle.tree.specs.Sizes.{Measure, measure, chosen, back, cut}
 use Rattle.measure.specs.State.{Holds}
-
--- an edit whose numbers are in range stands in a text at a place, whatever the ranges
-pub record EditAt (text : List ℕ) (at : ℕ) (Z : Edit) : Type 0 where
-  pub limits : Ranges
-  pub place : EditStands limits text at Z
-
-pub record SomeEdit (text : List ℕ) (at : ℕ) : Type 0 where
-  pub what : Edit
-  pub stands : EditAt text at what
-
--- the numbers hold some measure
-pub record Held (l : List ℕ) : Type 0 where
-  pub long : length l ≡ 130
-  pub M : Measure
-  pub holds : Holds l M
+use Rattle.measure.specs.Pruned.{pruned}
 
 -- what follows the first step
 unfoldable pub behindStep : Edit → Edit
@@ -39,6 +25,32 @@ unfoldable pub after : ℕ → Edit → Edit
 after zero Z = Z
 after (suc j) Z = behindStep (after j Z)
 
+-- an edit whose numbers are in range stands in a text at a place, whatever the ranges
+pub record EditAt (text : List ℕ) (at : ℕ) (Z : Edit) : Type 0 where
+  pub limits : Ranges
+  pub place : EditStands limits text at Z
+
+pub record SomeEdit (text : List ℕ) (at : ℕ) : Type 0 where
+  pub what : Edit
+  pub stands : EditAt text at what
+
+-- .. whose end, or whose first step's end, is not past `pos`
+pub record EditRoom (text : List ℕ) (at pos : ℕ) : Type 0 where
+  pub what : Edit
+  pub stands : EditAt text at what
+  pub room : at + length (editCode what) ≤ pos
+
+pub record StepRoom (text : List ℕ) (at pos : ℕ) : Type 0 where
+  pub what : Edit
+  pub stands : EditAt text at what
+  pub room : at + length (editCode what) ≤ pos + length (editCode (behindStep what))
+
+-- the numbers hold some measure
+pub record Held (l : List ℕ) : Type 0 where
+  pub long : length l ≡ 130
+  pub M : Measure
+  pub holds : Holds l M
+
 -- the offsets of an edit's steps on a stack, from `top` to `end`
 pub record Pushed (text : List ℕ) (at : ℕ) (Z : Edit) (stack : List ℕ) (top end : ℕ) : Type 0 where
   pub steps : ℕ
@@ -46,14 +58,35 @@ pub record Pushed (text : List ℕ) (at : ℕ) (Z : Edit) (stack : List ℕ) (to
   pub stands : (i : ℕ) → i < steps → EditAt text (getD stack (top + i) 0) (after i Z)
   pub step : (i : ℕ) → i < steps → getD text (getD stack (top + i) 0) 0 ≡ 0x30 → ⊥
   pub low : (i : ℕ) → i < steps → (at ≤ getD stack (top + i) 0) × (top + i ≤ getD stack (top + i) 0)
+  pub reach : (i : ℕ) → i < steps → getD stack (top + i) 0 + length (editCode (after i Z)) ≡ at + length (editCode Z)
   pub last : after steps Z ≡ finish
 
--- a walk back over the first step, and over a whole edit
+-- a walk back over the first step
 pub record Stepped (rules : ℕ) (Z : Edit) (l l′ : List ℕ) : Type 0 where
   pub holds : (M : Measure) → Holds l (back rules (behindStep Z) M) → Holds l′ (back rules Z M)
 
-pub record Backed (rules : ℕ) (Z : Edit) (l l′ : List ℕ) : Type 0 where
+-- .. which puts the first step in front of what stands at `pos`, unless it is idle
+pub record Prefixed (rules : ℕ) (Z : Edit) (l out : List ℕ) (pos : ℕ) (out′ : List ℕ) (pos′ : ℕ) : Type 0 where
+  pub text : (M : Measure) → Holds l (back rules (behindStep Z) M) → (tail : List ℕ) → drop pos out ≡ editCode (pruned rules (behindStep Z) M) ++ tail → drop pos′ out′ ≡ editCode (pruned rules Z M) ++ tail
+  pub room : pos + length (editCode (behindStep Z)) ≤ pos′ + length (editCode Z)
+  pub low : pos′ ≤ pos
+
+-- .. and the whole edit without its idle steps
+pub record Backed (rules : ℕ) (Z : Edit) (l out : List ℕ) (pos : ℕ) (l′ out′ : List ℕ) (pos′ : ℕ) : Type 0 where
   pub holds : (M : Measure) → Holds l M → Holds l′ (back rules Z M)
+  pub text : (M : Measure) → Holds l M → drop pos′ out′ ≡ editCode (pruned rules Z M) ++ drop pos out
+  pub room : pos ≤ pos′ + length (editCode Z)
+  pub low : pos′ ≤ pos
+
+-- the bytes from `at` to `end` put in front of what stands at `pos`
+pub record PutBefore (text : List ℕ) (at end : ℕ) (out : List ℕ) (pos : ℕ) (out′ : List ℕ) (pos′ : ℕ) : Type 0 where
+  pub start : pos′ + (end - at) ≡ pos
+  pub bytes : drop pos′ out′ ≡ take (end - at) (drop at text) ++ drop pos out
+
+-- an edit's end put there
+pub record EndBefore (out : List ℕ) (pos : ℕ) (out′ : List ℕ) (pos′ : ℕ) : Type 0 where
+  pub start : pos′ + 1 ≡ pos
+  pub bytes : drop pos′ out′ ≡ 0x30 ∷ drop pos out
 
 -- a place is behind an edit's first step, or behind the edit
 pub record NextAt (text : List ℕ) (at : ℕ) (Z : Edit) (next : ℕ) : Type 0 where

@@ -11,8 +11,8 @@ ghost use Rattle.measure.specs.State.{Scanned};
 ghost use mathlib.Core.Bool.{cond};
 ghost use lib.Dec.{eqb, ltb};
 ghost use Rattle.logic.specs.Syntax.{Edit, Expr, rule};
-ghost use Rattle.measure.specs.Edits.{EditAt, SomeEdit, Held, Stepped, Backed, NextAt, Pushed, Merged, Kept, Joined};
-ghost use Rattle.measure.specs.Book.{RuleAt, SomeRule, BookIs, SomeBook, RuleAdded, BookAdded, RuleSized, BookSized};
+ghost use Rattle.measure.specs.Edits.{EditAt, SomeEdit, EditRoom, StepRoom, Held, Stepped, Prefixed, Backed, PutBefore, EndBefore, NextAt, Pushed, Merged, Kept, Joined};
+ghost use Rattle.measure.specs.Book.{RuleAt, SomeRule, BookIs, SomeBook, RuleAdded, BookAdded, RuleSized, BookSized, BookKept};
 
 const SHAPES: [usize; 40] = [
     0,
@@ -281,7 +281,47 @@ fn join_ways(text: &[u8], at: usize, rules: usize, t: &[usize], state: &mut [usi
     state[128] = sum(state[128], rules * (4 + 2 * (next - at)));
 }
 
-// Back over one step.
+// The bytes of `text` from `at` to `end`, put in front of what stands at `pos`; answers where they start.
+// Inner: the caller knows that there is room.
+fn put_before(text: &[u8], at: usize, end: usize, out: &mut [u8], pos: usize) -> usize
+    requires { ⌜ (at ≤ end) × (end ≤ length (now text)) × (end ≤ at + pos) × (pos ≤ length (now out)) ⌝ }
+    ensures { λ r. ⌜ PutBefore (now (text .entry)) at end (now (out .entry)) pos (now (out .exit)) r ⌝ }
+{
+    let mut from = end;
+    let mut to = pos;
+    while from > at {
+        from -= 1;
+        to -= 1;
+        out[to] = text[from];
+    }
+    to
+}
+
+// An edit's end, put in front of what stands at `pos`.
+// Inner: the caller knows that there is room.
+fn end_before(out: &mut [u8], pos: usize) -> usize
+    requires { ⌜ (0 < pos) × (pos ≤ length (now out)) ⌝ }
+    ensures { λ r. ⌜ EndBefore (now (out .entry)) pos (now (out .exit)) r ⌝ }
+{
+    out[pos - 1] = 0x30;
+    pos - 1
+}
+
+// One step 31 to 34, put in front of what stands at `pos`, unless its name stands nowhere in what follows.
+// Inner: the edit was read before.
+fn keep_step(text: &[u8], at: usize, state: &[usize], out: &mut [u8], pos: usize) -> usize
+    requires { ⌜ StepRoom (now text) at pos × (getD (now text) at 0 ≡ 0x30 → ⊥) × (getD (now text) at 0 ≡ 0x35 → ⊥) × Held (now state) × (length (now text) ≤ 4096) × (pos ≤ length (now out)) ⌝ }
+    ensures { λ r. ⌜ ((Z : Edit) → EditAt (now (text .entry)) at Z → (rules : ℕ) → Prefixed rules Z (now (state .entry)) (now (out .entry)) pos (now (out .exit)) r) ⌝ }
+{
+    let i = cell_of(name_code(text[at]), text[at + 1]);
+    if state[i] == 0 {
+        return pos;
+    }
+    put_before(text, at, past(text, at + 2), out, pos)
+}
+
+// Back over one step: the numbers in `state`, and the step in front of what stands at `pos` unless it is idle.
+// Inner: the edit was read before. The two ways of a 35 are written last way first.
 fn one_back(
     text: &[u8],
     at: usize,
@@ -289,41 +329,50 @@ fn one_back(
     stack: &mut [usize],
     top: usize,
     state: &mut [usize],
-)
-    requires { ⌜ SomeEdit (now text) at × (getD (now text) at 0 ≡ 0x30 → ⊥) × (top ≤ at) × (length (now text) ≤ length (now stack)) × (length (now text) ≤ 4096) × (rules ≤ 32) × Held (now state) ⌝ }
-    ensures { λ r. ⌜ ((Z : Edit) → EditAt (now (text .entry)) at Z → Stepped rules Z (now (state .entry)) (now (state .exit))) × Kept top (now (stack .entry)) (now (stack .exit)) ⌝ }
+    out: &mut [u8],
+    pos: usize,
+) -> usize
+    requires { ⌜ StepRoom (now text) at pos × (getD (now text) at 0 ≡ 0x30 → ⊥) × (top ≤ at) × (length (now text) ≤ length (now stack)) × (length (now text) ≤ 4096) × (rules ≤ 32) × Held (now state) × (pos ≤ length (now out)) ⌝ }
+    ensures { λ r. ⌜ ((Z : Edit) → EditAt (now (text .entry)) at Z → Stepped rules Z (now (state .entry)) (now (state .exit)) × Prefixed rules Z (now (state .entry)) (now (out .entry)) pos (now (out .exit)) r) × Kept top (now (stack .entry)) (now (stack .exit)) ⌝ }
 {
     let c = text[at];
     if c != 0x35 {
+        let start = keep_step(text, at, state, out, pos);
         step_back(text, at, state);
-        return;
+        return start;
     }
     let first = past(text, at + 1);
     let second = end_of(text, first);
     let mut other = [0usize; 130];
     copy(state, &mut other);
-    back(text, first, rules, stack, top, &mut other);
-    back(text, second, rules, stack, top, state);
+    let q = back(text, second, rules, stack, top, state, out, pos);
+    let p = back(text, first, rules, stack, top, &mut other, out, q);
     join_ways(text, at + 1, rules, &other, state);
+    put_before(text, at, first, out, p)
 }
 
-// Back over an edit.
-pub fn back(
+// Back over an edit: the numbers in `state`, and the edit without its idle steps in front of what stands at `pos`.
+// Inner: the edit was read before.
+fn back(
     text: &[u8],
     at: usize,
     rules: usize,
     stack: &mut [usize],
     top: usize,
     state: &mut [usize],
-)
-    requires { ⌜ SomeEdit (now text) at × (top ≤ at) × (length (now text) ≤ length (now stack)) × (length (now text) ≤ 4096) × (rules ≤ 32) × Held (now state) ⌝ }
-    ensures { λ r. ⌜ ((Z : Edit) → EditAt (now (text .entry)) at Z → Backed rules Z (now (state .entry)) (now (state .exit))) × Kept top (now (stack .entry)) (now (stack .exit)) ⌝ }
+    out: &mut [u8],
+    pos: usize,
+) -> usize
+    requires { ⌜ EditRoom (now text) at pos × (top ≤ at) × (length (now text) ≤ length (now stack)) × (length (now text) ≤ 4096) × (rules ≤ 32) × Held (now state) × (pos ≤ length (now out)) ⌝ }
+    ensures { λ r. ⌜ ((Z : Edit) → EditAt (now (text .entry)) at Z → Backed rules Z (now (state .entry)) (now (out .entry)) pos (now (state .exit)) (now (out .exit)) r) × Kept top (now (stack .entry)) (now (stack .exit)) ⌝ }
 {
     let mut n = push(text, at, stack, top);
+    let mut start = end_before(out, pos);
     while n > top {
         n -= 1;
-        one_back(text, stack[n], rules, stack, n, state);
+        start = one_back(text, stack[n], rules, stack, n, state, out, start);
     }
+    start
 }
 
 // The measure of the rule at `at`, joined to that in `state`; answers the place behind the rule.
@@ -367,28 +416,42 @@ pub fn size_of_rule(book: &[u8], at: usize, edit: &[u8], from: usize) -> Size
     let mut state = [0usize; 130];
     add_rule(book, at, &mut state);
     let mut stack = [0usize; 4096];
-    back(edit, from, 1, &mut stack, 0, &mut state);
+    let mut kept = [0u8; 4096];
+    back(edit, from, 1, &mut stack, 0, &mut state, &mut kept, 4096);
     Size {
         len: state[128],
         levels: state[129],
     }
 }
 
-// The size of a book carried through an edit, in one walk over the edit.
-// Inner: both texts were read before.
-pub fn size_of_book(book: &[u8], edit: &[u8]) -> Size
-    requires { ⌜ SomeBook (now book) × SomeEdit (now edit) 0 × (length (now edit) ≤ 4096) ⌝ }
-    ensures { λ r. ⌜ ((rules : List (Expr rule)) (Z : Edit) → BookIs (now (book .entry)) rules → EditAt (now (edit .entry)) 0 Z → BookSized Z rules (r .len) (r .levels)) ⌝ }
+// The size of a carried book, and where the edit without its idle steps starts.
+pub struct BookSize {
+    pub len: usize,
+    pub levels: usize,
+    pub start: usize,
+}
+
+// The size of a book carried through an edit, in one walk over the edit. Where the book is not empty, `kept` holds from
+// `start` to its end the edit without its idle steps: it carries each rule of the book to the same text.
+// Inner: both texts were read before. What `kept` holds in front of that, or for an empty book, is of no use.
+pub fn size_of_book(book: &[u8], edit: &[u8], kept: &mut [u8]) -> BookSize
+    requires { ⌜ SomeBook (now book) × SomeEdit (now edit) 0 × (length (now edit) ≤ 4096) × (length (now kept) ≡ 4096) ⌝ }
+    ensures { λ r. ⌜ ((rules : List (Expr rule)) (Z : Edit) → BookIs (now (book .entry)) rules → EditAt (now (edit .entry)) 0 Z → BookSized Z rules (r .len) (r .levels) × BookKept Z rules (r .start) (now (kept .exit))) ⌝ }
 {
     if book.len() == 0 {
-        return Size { len: 0, levels: 0 };
+        return BookSize {
+            len: 0,
+            levels: 0,
+            start: 0,
+        };
     }
     let mut state = [0usize; 130];
     let rules = add_book(book, &mut state);
     let mut stack = [0usize; 4096];
-    back(edit, 0, rules, &mut stack, 0, &mut state);
-    Size {
+    let start = back(edit, 0, rules, &mut stack, 0, &mut state, kept, 4096);
+    BookSize {
         len: state[128],
         levels: state[129],
+        start: start,
     }
 }

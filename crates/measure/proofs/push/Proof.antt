@@ -5,7 +5,7 @@ use Prim.Native.Nat.{ℕ, _≤_, _-_, _+_}
 use lib.ListN.{length, length-set, set}
 use denote.Ref.{now}
 use Rattle.measure.proofs.Steps.{edit-inside}
-use Rattle.measure.proofs.Loops.{Going, going-first, going-more, going-end}
+use Rattle.measure.proofs.Walks.{Going, going-first, going-more, going-end}
 use Rattle.measure.proofs.push.Statement.{statement}
 use Rattle.measure.proofs.push.Tie as tie
 
