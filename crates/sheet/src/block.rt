@@ -149,3 +149,26 @@ pub fn put_words(block: &mut [u8], n: usize, rows: [u64; 64])
     }
     seal::seal(block);
 }
+
+// Makes every byte zero.
+fn wipe(block: &mut [u8])
+    ensures { λ _. ⌜ now (block .exit) ≡ replicate (length (now (block .entry))) 0 ⌝ }
+{
+    let mut i = 0;
+    while i < block.len() {
+        block[i] = 0;
+        i += 1;
+    }
+}
+
+// Makes the block one of three bytes and zeros, and seals it.
+pub fn blank_block(block: &mut [u8], x: u8, y: u8, z: u8)
+    requires { ⌜ length (now block) ≡ blockBytes ⌝ }
+    ensures { λ _. ⌜ now (block .exit) ≡ reseal (bareBlock x y z) ⌝ }
+{
+    wipe(block);
+    block[0] = x;
+    block[1] = y;
+    block[2] = z;
+    seal::seal(block);
+}

@@ -10,6 +10,7 @@ ghost use Rattle.logic.specs.Steps.{relabel, rejoin};
 ghost use Rattle.words.specs.Words.{setOf};
 ghost use Rattle.sheet.specs.Sheet.{store, graphOf, blank, Rows};
 ghost use Rattle.sheet.specs.Questions.{askSheet, Sound, askBlank, askLabelBit, askArrowBit};
+ghost use Rattle.sheet.specs.BitReads.{bitAsked};
 use answer::Answer;
 use answer::Refusal;
 use logic::Arrow;
@@ -19,6 +20,12 @@ use logic::Node;
 mod block;
 
 use block::index;
+
+// The bit that was asked for, or why it was not read.
+pub enum BitRead {
+    Bit(bool),
+    Refused(Refusal),
+}
 
 // The calls on a sheet's bytes, and the limits of document 01.
 pub struct Sheet;
@@ -55,6 +62,66 @@ impl Sheet {
             b += 1;
         }
         Answer::Done
+    }
+
+    // Makes the buffer the sheet of n nodes with no label and no arrow, or leaves it as it is: questions 5 and 1.
+    pub fn blank(buf: &mut [u8], n: usize) -> Answer
+        ensures { λ r. ⌜ asked r ≡ askBlank n (length (now (buf .entry))) ⌝ }
+        ensures { λ _. ⌜ now (buf .exit) ≡ after (askBlank n (length (now (buf .entry)))) (λ _. store (blank n)) (now (buf .entry)) ⌝ }
+    {
+        if n < 1 {
+            return Answer::Refused(Refusal::NodeCount { place: 0 });
+        }
+        if n > Sheet::NODES {
+            return Answer::Refused(Refusal::NodeCount { place: 0 });
+        }
+        if buf.len() != Sheet::BYTES {
+            return Answer::Refused(Refusal::SheetLength { place: 0 });
+        }
+        block::blank_block(&mut buf[0..512], 1, 0, n as u8);
+        let mut a = 0;
+        while a < Sheet::ARROWS {
+            let from = Sheet::BLOCK * a + Sheet::BLOCK;
+            let to = from + Sheet::BLOCK;
+            block::blank_block(&mut buf[from..to], 2, (a + 1) as u8, 0);
+            a += 1;
+        }
+        Answer::Done
+    }
+
+    // Whether node i has label k: questions 1 to 4 of the sheet, then 7.
+    pub fn label_bit(sheet: &[u8], k: Label, i: Node) -> BitRead
+        ensures { λ r. ⌜ bitAsked r ≡ askLabelBit (now (sheet .entry)) (k .0) (i .0) ⌝ }
+    {
+        let answer = Sheet::check(sheet);
+        if let Answer::Refused(r) = answer {
+            return BitRead::Refused(r);
+        }
+        if index(k.0) < Sheet::LABELS {
+            if index(i.0) < Sheet::node_count(sheet) {
+                return BitRead::Bit(words::member(Sheet::label_word(sheet, k), index(i.0)));
+            }
+        }
+        BitRead::Refused(Refusal::BitRange { place: 0 })
+    }
+
+    // Whether arrow a goes from node i to node j: questions 1 to 4 of the sheet, then 7.
+    pub fn arrow_bit(sheet: &[u8], a: Arrow, i: Node, j: Node) -> BitRead
+        ensures { λ r. ⌜ bitAsked r ≡ askArrowBit (now (sheet .entry)) (a .0) (i .0) (j .0) ⌝ }
+    {
+        let answer = Sheet::check(sheet);
+        if let Answer::Refused(r) = answer {
+            return BitRead::Refused(r);
+        }
+        if index(a.0) < Sheet::ARROWS {
+            let n = Sheet::node_count(sheet);
+            if index(i.0) < n {
+                if index(j.0) < n {
+                    return BitRead::Bit(words::member(Sheet::row_word(sheet, a, i), index(j.0)));
+                }
+            }
+        }
+        BitRead::Refused(Refusal::BitRange { place: 0 })
     }
 
     // How many nodes the sheet's graph has. Inner: the sheet is sound.
