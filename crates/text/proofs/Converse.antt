@@ -31,7 +31,7 @@ pub record Allowed (l : Limits) (w : Want) (d : ℕ) (e : Thing w) : Type 0 wher
   pub levels-fit : d + depth w e ≤ suc (l .deepest)
 
 -- P holds of whatever the plan makes, and of the bytes before it, `pre`, with those that the plan takes
-abbrev Fine : Limits → {A : Type 0} → (A → List ℕ → Type 0) → Plan A → List ℕ → Type 0
+abbrev pub Fine : Limits → {A : Type 0} → (A → List ℕ → Type 0) → Plan A → List ℕ → Type 0
 Fine l P (done a) pre = P a pre
 Fine l P (number k f) pre = (x : ℕ) → T (fits (l .numbers) k x) → Fine l P (f x) (pre ++ x ∷ [])
 Fine l P (operand w d f) pre = (e : Thing w) → Allowed l w d e → Fine l P (f e) (pre ++ spelling w e)
@@ -104,7 +104,7 @@ module _ (l : Limits) {A : Type 0} (P : A → List ℕ → Type 0) where
   fine-bind w d (operand v m g) f pre c h k = λ e b. rw (append-assoc pre c (spelling v e)) (fine-bind w d (g e) f pre (c ++ spelling v e) (h e b) k)
 
   -- what a plan made is spelled by the bytes before it and those it took
-  abbrev Outcome : List ℕ → List ℕ → ℕ → Read A → Type 0
+  abbrev pub Outcome : List ℕ → List ℕ → ℕ → Read A → Type 0
   Outcome pre t at (got a r p) = (bs : List ℕ) × (t ≡ bs ++ r) × P a (pre ++ bs) × (p ≡ behind bs at)
   Outcome pre t at (fault why p) = Unit {0}
 
@@ -125,7 +125,7 @@ module _ (l : Limits) {A : Type 0} (P : A → List ℕ → Type 0) where
       outcome-if pre t at (eqb c (e .byte)) (found (e .plan)) (choice c es found other) (λ b. k (e .plan) (λ x. rw (eqb→eq c (e .byte) b) (h x .0)))
       (outcome-choice X pre t at w d c es found other (λ x. h x .1) k o)
 
-  outcome : (t : List ℕ) (p : Plan A) (pre : List ℕ) (at : ℕ) → Fine l P p pre → Outcome pre t at (follow l t p at)
+  pub outcome : (t : List ℕ) (p : Plan A) (pre : List ℕ) (at : ℕ) → Fine l P p pre → Outcome pre t at (follow l t p at)
   unfolding follow behind
   outcome [] (done a) pre at h = ([], refl, rw append-nil h, refl)
   outcome [] (number k f) pre at h = tt

@@ -2,4 +2,5 @@ pub mod Code
 pub mod Reading
 pub mod Questions
 pub mod Stands
+pub mod Rows
 pub mod Marked

@@ -1,0 +1,149 @@
+-- The codes as a table of rows, one number for each code, and how the code's steps follow the plans of a reading.
+use mathlib.Core.Bool.{Bool, true, false, _&&_}
+use mathlib.Core.List.{List, [], _∷_}
+use Prim.Native.Nat.{ℕ, suc, _+_, _/_, _%_}
+use lib.Dec.{leb, ltb, eqb}
+use lib.ListN.{length, getD, drop}
+use Rattle.logic.specs.Syntax.{node, arrow, rule}
+use Rattle.logic.specs.Limits.{Kind, labelNumber, arrowNumber, nodeNumber, leastCount, mostCount, ranges, fits}
+use Rattle.text.specs.declared.Stop.{Stop}
+use Rattle.text.specs.declared.Stop.the-variants.{Missing, WrongSort, TooDeep, OutOfRange}
+use Rattle.text.specs.declared.Step.{Step}
+use Rattle.text.specs.declared.Step.the-variants.{Next, Stopped}
+use Rattle.text.specs.Reading.{Limits, textLimits, Want, expr, edit, Plan, done, number, operand, Fault, missing, wrongSort, tooDeep, outOfRange, Read, got, fault, follow}
+
+-- What can follow a code: nothing; a number of a kind; a thing one level deeper; a thing on the code's own level, with which its row ends.
+pub data Item : Type 0 where
+  nothing : Item
+  takes : Kind → Item
+  deeper : Want → Item
+  here : Want → Item
+
+-- The items, each by its digit.
+unfoldable pub items : List Item
+items =
+    nothing ∷ nothing ∷ nothing
+    ∷ takes labelNumber ∷ takes arrowNumber ∷ takes nodeNumber ∷ takes leastCount ∷ takes mostCount
+    ∷ deeper (expr node) ∷ deeper (expr arrow) ∷ deeper (expr rule) ∷ deeper edit
+    ∷ here (expr node) ∷ here (expr arrow) ∷ here (expr rule) ∷ here edit
+    ∷ []
+
+unfoldable pub itemOf : ℕ → Item
+itemOf x = getD items x nothing
+
+-- The row of each code: its items as hexadecimal digits, the first item is the last digit.
+unfoldable pub rows : List ℕ
+rows =
+    0x0000 ∷  -- 00
+    0x0000 ∷  -- 01 all
+    0x0000 ∷  -- 02 none
+    0x0003 ∷  -- 03 k
+    0x0005 ∷  -- 04 i
+    0x0008 ∷  -- 05 E
+    0x0088 ∷  -- 06 E F
+    0x0088 ∷  -- 07 E F
+    0x0089 ∷  -- 08 R E
+    0x0089 ∷  -- 09 R E
+    0x0896 ∷  -- 0A m R E
+    0x0897 ∷  -- 0B m R E
+    0x0000 ∷  -- 0C
+    0x0000 ∷  -- 0D
+    0x0000 ∷  -- 0E
+    0x0000 ∷  -- 0F
+    0x0000 ∷  -- 10
+    0x0004 ∷  -- 11 a
+    0x0009 ∷  -- 12 R
+    0x0099 ∷  -- 13 R S
+    0x0099 ∷  -- 14 R S
+    0x0099 ∷  -- 15 R S
+    0x0089 ∷  -- 16 R E
+    0x0055 ∷  -- 17 i j
+    0x0000 ∷  -- 18
+    0x0000 ∷  -- 19
+    0x0000 ∷  -- 1A
+    0x0000 ∷  -- 1B
+    0x0000 ∷  -- 1C
+    0x0000 ∷  -- 1D
+    0x0000 ∷  -- 1E
+    0x0000 ∷  -- 1F
+    0x0000 ∷  -- 20
+    0x0088 ∷  -- 21 E F
+    0x0099 ∷  -- 22 R S
+    0x0085 ∷  -- 23 i E
+    0x0955 ∷  -- 24 i j R
+    0x00AA ∷  -- 25 K L
+    0x00AA ∷  -- 26 K L
+    0x000A ∷  -- 27 K
+    0x0000 ∷  -- 28
+    0x0000 ∷  -- 29
+    0x0000 ∷  -- 2A
+    0x0000 ∷  -- 2B
+    0x0000 ∷  -- 2C
+    0x0000 ∷  -- 2D
+    0x0000 ∷  -- 2E
+    0x0000 ∷  -- 2F
+    0x0000 ∷  -- 30 end
+    0x0F83 ∷  -- 31 k E Z
+    0x0F83 ∷  -- 32 k E Z
+    0x0F94 ∷  -- 33 a R Z
+    0x0F94 ∷  -- 34 a R Z
+    0xFBBA ∷  -- 35 K P Q Z
+    []
+
+abbrev pub rowOf : ℕ → ℕ
+rowOf c = getD rows c 0
+
+-- Nothing more is wanted.
+abbrev pub finished : Plan (Unit {0})
+finished = done tt
+
+-- What an item, and a row of at most four items, want of the bytes to come, for a code at level d.
+unfoldable pub itemPlan : Item → ℕ → Plan (Unit {0}) → Plan (Unit {0})
+itemPlan nothing d rest = rest
+itemPlan (takes k) d rest = number k (λ x. rest)
+itemPlan (deeper w) d rest = operand w (suc d) (λ e. rest)
+itemPlan (here w) d rest = operand w d (λ e. finished)
+
+unfoldable pub rowPlan : (row d : ℕ) → Plan (Unit {0})
+rowPlan row d = itemPlan (itemOf (row % 16)) d (itemPlan (itemOf (row / 16 % 16)) d (itemPlan (itemOf (row / 256 % 16)) d (itemPlan (itemOf (row / 4096 % 16)) d finished)))
+
+abbrev pub pick : {A : Type 0} → Bool → A → A → A
+pick true a b = a
+pick false a b = b
+
+-- The sort of a code, as the digit of an item that stands on its level; 0 where the byte is no code.
+unfoldable pub sortOf : ℕ → ℕ
+sortOf c =
+    pick (leb 0x01 c && leb c 0x0B) 0xC
+    (pick (leb 0x11 c && leb c 0x17) 0xD
+    (pick (leb 0x21 c && leb c 0x27) 0xE
+    (pick (leb 0x30 c && leb c 0x35) 0xF 0)))
+
+-- Whether a number is in the range that an item gives it, for n nodes.
+unfoldable pub numberFits : ℕ → Item → ℕ → Bool
+numberFits n nothing x = true
+numberFits n (takes k) x = fits (ranges n) k x
+numberFits n (deeper w) x = true
+numberFits n (here w) x = true
+
+-- What a reading is to the code: the next place, or the fault and its place.
+unfoldable pub stopOf : Fault → ℕ → Stop
+stopOf missing p = Missing p
+stopOf wrongSort p = WrongSort p
+stopOf tooDeep p = TooDeep p
+stopOf outOfRange p = OutOfRange p
+
+unfoldable pub stepOf : {A : Type 0} → Read A → Step
+stepOf (got a rest p) = Next p
+stepOf (fault why p) = Stopped (stopOf why p)
+
+-- A plan followed from a place of a text.
+unfoldable pub stepAt : {A : Type 0} → List ℕ → ℕ → Plan A → ℕ → Step
+stepAt text n plan at = stepOf (follow (textLimits n) (drop at text) plan at)
+
+-- The questions at a code byte: is it there, is it of the sort, is its level within the limit.
+unfoldable pub headAt : List ℕ → (sort d at : ℕ) → Step
+headAt text sort d at =
+    pick (ltb at (length text))
+    (pick (eqb (sortOf (getD text at 0)) sort) (pick (leb d 32) (Next (at + 1)) (Stopped (TooDeep at))) (Stopped (WrongSort at)))
+    (Stopped (Missing at))
