@@ -1,32 +1,29 @@
 -- Demand 3 holds.
-use mathlib.Core.Path.{_≡_, refl, sym, _∙_, ap, subst}
+use mathlib.Core.Path.{_≡_, sym, _∙_, ap, subst}
 use mathlib.Core.Logic.{_↔_}
-use mathlib.Core.List.{List, [], _∷_, map}
+use mathlib.Core.List.{List, [], map}
 use Prim.Native.Nat.{ℕ}
 use lib.Dec.{T}
-use lib.ListN.{length}
-use Rattle.answer.specs.Asked.{Asked, passed, refused, _>>=_, _>>_, after}
-use Rattle.logic.specs.Syntax.{Expr, rule, Edit}
-use Rattle.logic.specs.Graph.{Graph}
+use Rattle.answer.specs.Asked.{passed, _>>_, after, outcome}
+use Rattle.logic.specs.Syntax.{Expr, rule}
 use Rattle.logic.specs.Meaning.{value}
 use Rattle.logic.specs.Steps.{run}
 use Rattle.logic.specs.Carry.{carry}
 use Rattle.logic.specs.Limits.{Within}
 use Rattle.logic.proofs.Theorem.{carried}
 use Rattle.logic.proofs.Inside.{run-n}
-use Rattle.sheet.specs.Sheet.{store, graphOf}
-use Rattle.sheet.specs.Questions.{askSheet}
+use Rattle.sheet.specs.Sheet.{graphOf}
 use Rattle.sheet.proofs.ReadBack.{read-back}
 use Rattle.sheet.proofs.Opening.{Opened, opening}
 use Rattle.text.specs.Reading.{textLimits}
-use Rattle.text.specs.Questions.{askBook, askEdit}
+use Rattle.text.specs.Questions.{askBook}
 use Rattle.eval.specs.Judge.{askSheetAndBook}
 use Rattle.carry.specs.Carrying.{carriedBook, askSize}
 use Rattle.demands.specs.Enter.{afterSteps, askEnter, enterAnswer, enterSheet}
 use Rattle.demands.specs.Clerk.{Fed, rulesOf, clerkLog, clerk}
-use Rattle.demands.specs.Run.{Hold, Keeps, Call, fed, log, enteredAfterEach, madeInOrder, Bytes, Given, Condition, Ensures}
+use Rattle.demands.specs.Run.{Hold, Keeps, Call, fed, log, enteredAfterEach, madeInOrder, Bytes, Given}
 use Rattle.demands.specs.Demand3.{Each, RunRight, Demand3}
-use Rattle.demands.proofs.Passing.{then-passed, hold-carried, carried-hold}
+use Rattle.demands.proofs.Passing.{outcome-passed, hold-carried, carried-hold}
 use Rattle.demands.proofs.OneCall.{askSteps, enter-asks, Entered, when-passed, so-passed}
 use Rattle.demands.proofs.Runs.{steps-within, Kept, keeps, kept-each, log-clerk, alone-each}
 
@@ -66,18 +63,17 @@ module _ {book edit sheet : List ℕ} (i : Given book edit sheet) where
 
   -- done is answered of this edit, and all else has passed
   done-with : (room : ℕ) → enterAnswer sheet book edit room ≡ passed tt → Entered (i .rules) (graphOf sheet) (call room) (i .steps)
-  unfolding enterAnswer
   done-with room e =
-      let (Z, a, u) = then-passed (askEnter sheet book edit room) (passed (tt {0})) tt e in
+      let (Z, a) = outcome-passed (askEnter sheet book edit room) e in
       let w : Entered (i .rules) (graphOf sheet) (call room) Z = when-passed (i .rules) (graphOf sheet) (call room) Z (sym (asks room) ∙ a) in
       let same : Z ≡ i .steps = cc in
       subst (Entered (i .rules) (graphOf sheet) (call room)) same w
 
   entered-iff : (room : ℕ) → askSize (carriedBook (i .steps) (i .rules)) room ≡ passed tt → (enterAnswer sheet book edit room ≡ passed tt) ↔ Hold (graphOf sheet) (carriedBook (i .steps) (i .rules))
-  unfolding enterAnswer _>>_
+  unfolding outcome
   entered-iff room fits = (
     λ e. hold-carried (i .steps) (i .rules) (graphOf sheet) (done-with room e .hold),
-    λ h. ap (_>> passed (tt {0})) (asks room ∙ so-passed (i .rules) (graphOf sheet) (call room) (i .steps) (record { edit-read = i .edit-read; fits = fits; hold = carried-hold (i .steps) (i .rules) (graphOf sheet) h })),
+    λ h. ap outcome (asks room ∙ so-passed (i .rules) (graphOf sheet) (call room) (i .steps) (record { edit-read = i .edit-read; fits = fits; hold = carried-hold (i .steps) (i .rules) (graphOf sheet) h })),
   )
 
   leaves : (room : ℕ) → enterAnswer sheet book edit room ≡ passed tt → enterSheet sheet book edit room ≡ afterSteps (i .steps) sheet

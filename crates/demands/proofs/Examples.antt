@@ -1,13 +1,13 @@
 -- Enter on the bytes of sheet T, by computation. That these bytes pass the sheet's questions and store T comes from the laws of sheets.
-use mathlib.Core.Path.{_≡_, refl, sym, _∙_, ap}
-use mathlib.Core.Bool.{Bool, true, false, _&&_, _||_, and-false}
-use mathlib.Core.List.{List, [], _∷_}
+use mathlib.Core.Path.{_≡_, refl, _∙_, ap}
+use mathlib.Core.Bool.{false, and-false}
+use mathlib.Core.List.{List}
 use Prim.Native.Nat.{ℕ, _≤_}
 use native.Mathlib.Omega.{arith}
-use lib.Dec.{eqb, ltb}
-use lib.ListN.{length, getD, replicate, length-replicate}
+use lib.Dec.{eqb}
+use lib.ListN.{length}
 use borrow.Author.Tests.{ne-eqb, le-ltb, ltb-false}
-use Rattle.answer.specs.Asked.{Asked, passed, refused, _>>=_, _>>_, is, after}
+use Rattle.answer.specs.Asked.{Asked, passed, _>>=_, _>>_, is, after, outcome}
 use Rattle.logic.specs.Syntax.{Expr, rule, Edit}
 use Rattle.logic.specs.Graph.{Graph, isNode, anyBelow, allBelow, countBelow}
 use Rattle.logic.specs.Meaning.{value}
@@ -25,7 +25,7 @@ use Rattle.text.specs.Questions.{whole, rulesOf, askBook, askEdit}
 use Rattle.text.specs.Marked.{sheetT, B}
 use Rattle.eval.specs.Judge.{askRules}
 use Rattle.carry.specs.Carrying.{carriedBook, bookLevels, askSize, writtenAtStart}
-use Rattle.demands.specs.Enter.{Carried, askCarried, askEnter, enterAnswer, enterSheet, enterScratch}
+use Rattle.demands.specs.Enter.{Carried, askCarried, askEnter, enterSheet, enterScratch}
 use Rattle.demands.specs.Examples.{Shown, scratchOf, onT, calls, shown}
 use Rattle.demands.proofs.OneCall.{asked-of-stored}
 
@@ -68,15 +68,15 @@ shownBy : Graph → Asked Carried → Asked Carried → ℕ → Shown
 shownBy g a b room =
     let q : Asked Edit = a >>= (λ c. askRules g (c .rules) 0 >> passed (c .edit)) in
     record {
-      answer = q >> passed tt;
+      answer = outcome q;
       sheet = after q (λ Z. store (run Z g)) (store sheetT);
       scratch = after b (λ c. writtenAtStart (bookCode (c .rules)) (scratchOf room)) (scratchOf room);
     }
 
 on-graph : (edit : List ℕ) (room : ℕ) → onT edit room ≡ shownBy sheetT (askOf sheetT B edit room) (askOf sheetT B edit (length (scratchOf room))) room
-unfolding onT enterAnswer enterSheet enterScratch askEnter shownBy
+unfolding onT enterSheet enterScratch askEnter shownBy
 on-graph edit room = λ t. shownBy (read-back sheetT T-within t) (carried-of sheetT B edit room T-within t) (carried-of sheetT B edit (length (scratchOf room)) T-within t) room
 
 pub examples : calls onT ≡ shown
-unfolding calls shown shownBy askOf sheetT store block labelBlock arrowBlock chunks setOf bytes sealed seal sumsFrom value isNode anyBelow allBelow countBelow update run replace putLabel putArrow carry code bookCode levels bookLevels askSize whole rulesOf askBook askEdit askRules after _>>=_ _>>_ is codes choice follow reading._>>=_
+unfolding calls shown shownBy askOf sheetT store block labelBlock arrowBlock chunks setOf bytes sealed seal sumsFrom value isNode anyBelow allBelow countBelow update run replace putLabel putArrow carry code bookCode levels bookLevels askSize whole rulesOf askBook askEdit askRules after outcome _>>=_ _>>_ is codes choice follow reading._>>=_
 examples = (λ t. calls (λ edit room. on-graph edit room t)) ∙ refl

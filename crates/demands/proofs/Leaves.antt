@@ -1,32 +1,30 @@
 -- What enter leaves in sheet and scratch.
-use mathlib.Core.Path.{_≡_, refl, sym, _∙_, ap, subst}
+use mathlib.Core.Path.{_≡_, refl, sym, ap, subst}
 use mathlib.Core.Logic.{_≢_, _⊎_, inl, inr}
 use mathlib.Core.Bool.{Bool, true, false}
 use mathlib.Core.List.{List, [], _∷_}
-use Prim.Native.Nat.{ℕ, suc, _<_}
+use Prim.Native.Nat.{ℕ, suc}
 use native.Mathlib.Omega.{arith}
 use lib.ListN.{length}
-use Rattle.answer.specs.Asked.{Asked, passed, refused, _>>=_, _>>_, after}
+use Rattle.answer.specs.Asked.{Asked, passed, refused, _>>=_, _>>_, after, outcome}
 use Rattle.logic.specs.Syntax.{Expr, rule, Edit}
 use Rattle.logic.specs.Graph.{Graph}
 use Rattle.logic.specs.Meaning.{value}
 use Rattle.sheet.specs.Sheet.{graphOf}
 use Rattle.text.specs.Code.{bookCode}
-use Rattle.text.specs.Reading.{textLimits}
-use Rattle.text.specs.Questions.{askEdit}
 use Rattle.eval.specs.Judge.{askSheetAndBook, askRules}
-use Rattle.carry.specs.Carrying.{carriedBook, askSize, writtenAtStart}
+use Rattle.carry.specs.Carrying.{writtenAtStart}
 use Rattle.demands.specs.Enter.{afterSteps, Carried, askCarried, askEnter, enterAnswer, enterSheet, enterScratch}
-use Rattle.demands.specs.Run.{Call, enterLine, log}
+use Rattle.demands.specs.Run.{Call, log}
 use Rattle.demands.specs.Demand3.{Each}
 use Rattle.demands.specs.Leaves.{Written, Leaves}
 use Rattle.demands.proofs.Numbers.{Below41, carried-below}
 
 stays : (sheet book edit : List ℕ) (room q p : ℕ) → enterAnswer sheet book edit room ≡ refused q p → enterSheet sheet book edit room ≡ sheet
-unfolding enterAnswer enterSheet _>>_ after
+unfolding enterSheet after outcome
 stays sheet book edit room q p e = go (askEnter sheet book edit room) e
   where
-    go : (a : Asked Edit) → (a >> passed (tt {0})) ≡ refused q p → after a (λ Z. afterSteps Z sheet) sheet ≡ sheet
+    go : (a : Asked Edit) → outcome a ≡ refused q p → after a (λ Z. afterSteps Z sheet) sheet ≡ sheet
     go (passed Z) e = let z : _≡_ {A = ℕ} 0 1 = cc in absurd (omega arith)
     go (refused n m) e = refl
 
@@ -50,13 +48,13 @@ module _ (sheet book edit scratch : List ℕ) where
 
   -- after the questions before 41 have been asked
   abbrev judged : Asked Carried → Asked (Unit {0})
-  judged a = (a >>= (λ c. askRules (graphOf sheet) (c .rules) 0 >> passed (c .edit))) >> passed tt
+  judged a = outcome (a >>= (λ c. askRules (graphOf sheet) (c .rules) 0 >> passed (c .edit)))
 
   scratch-same : (q p : ℕ) → enterAnswer sheet book edit (length scratch) ≡ refused q p → q ≢ 41 → enterScratch sheet book edit scratch ≡ scratch
-  unfolding enterAnswer askEnter enterScratch after _>>=_ _>>_
+  unfolding askEnter enterScratch after outcome _>>=_ _>>_
   scratch-same q p e other = go carriedHere e
     where
-      by-rules : (c : Carried) (r : Asked (Unit {0})) → Only41 r → ((r >> passed (c .edit)) >> passed (tt {0})) ≡ refused q p → q ≡ 41
+      by-rules : (c : Carried) (r : Asked (Unit {0})) → Only41 r → outcome (r >> passed (c .edit)) ≡ refused q p → q ≡ 41
       by-rules c (passed u) h e = let z : _≡_ {A = ℕ} 0 1 = cc in absurd (omega arith)
       by-rules c (refused n m) h e = cc
 
@@ -65,7 +63,7 @@ module _ (sheet book edit scratch : List ℕ) where
       go (refused n m) e = refl
 
   done-or-41 : (p : ℕ) → (enterAnswer sheet book edit (length scratch) ≡ passed tt) ⊎ (enterAnswer sheet book edit (length scratch) ≡ refused 41 p) → Written sheet book edit scratch
-  unfolding enterAnswer askEnter enterScratch after _>>=_ _>>_
+  unfolding askEnter enterScratch after outcome _>>=_ _>>_
   done-or-41 p e = go carriedHere refl (carried-below sheet book edit (length scratch)) e
     where
       go : (a : Asked Carried) → carriedHere ≡ a → Below41 a → (judged a ≡ passed tt) ⊎ (judged a ≡ refused 41 p) → Written sheet book edit scratch
@@ -75,7 +73,7 @@ module _ (sheet book edit scratch : List ℕ) where
 
 -- A sheet or book that is refused, through all calls.
 answers : (sheet book edit : List ℕ) (room q p : ℕ) → askSheetAndBook sheet book ≡ refused q p → enterAnswer sheet book edit room ≡ refused q p
-unfolding enterAnswer askEnter askCarried _>>=_ _>>_
+unfolding askEnter askCarried outcome _>>=_
 answers sheet book edit room q p e = rw e
 
 others : (opening book : List ℕ) (calls : List Call) (q p : ℕ) → askSheetAndBook opening book ≡ refused q p → Each (λ l. (l .answer ≡ refused q p) × (l .sheet ≡ opening)) (log book opening calls)

@@ -1,12 +1,12 @@
 -- The numbers of the questions before 41 are below 41.
 use mathlib.Core.Bool.{Bool, true, false}
 use mathlib.Core.List.{List, [], _∷_}
-use Prim.Native.Nat.{ℕ, zero, suc, _+_, _<_, _≤_}
+use Prim.Native.Nat.{ℕ, zero, suc, _<_, _≤_}
 use native.Mathlib.Omega.{arith}
 use Rattle.answer.specs.Asked.{Asked, passed, refused, _>>=_, _>>_, is}
-use Rattle.logic.specs.Syntax.{Expr, rule, Edit}
+use Rattle.logic.specs.Syntax.{Expr, rule}
 use Rattle.sheet.specs.Sheet.{graphOf}
-use Rattle.sheet.specs.Questions.{askBlock, askBlocks, askSheet, blockOf}
+use Rattle.sheet.specs.Questions.{askBlock, askBlocks, askSheet}
 use Rattle.text.specs.Reading.{Limits, textLimits, expr, Fault, missing, wrongSort, tooDeep, outOfRange, Read, got, fault, readAs}
 use Rattle.text.specs.Questions.{faultNumber, mostRules, whole, rulesOf, askBook, askEdit}
 use Rattle.eval.specs.Judge.{askSheetAndBook}

@@ -2,24 +2,21 @@
 use mathlib.Core.Path.{_≡_, refl, sym, _∙_, ap, subst}
 use mathlib.Core.List.{List}
 use Prim.Native.Nat.{ℕ}
-use lib.ListN.{length}
-use Rattle.answer.specs.Asked.{Asked, passed, refused, _>>=_, _>>_, after}
+use Rattle.answer.specs.Asked.{Asked, passed, refused, _>>=_, _>>_, after, outcome}
 use Rattle.logic.specs.Syntax.{Expr, rule, Edit}
 use Rattle.logic.specs.Graph.{Graph}
 use Rattle.logic.specs.Steps.{run}
-use Rattle.logic.specs.Limits.{Within, ranges}
-use Rattle.logic.proofs.Inside.{run-n, run-within}
+use Rattle.logic.specs.Limits.{Within}
 use Rattle.sheet.specs.Sheet.{store, graphOf}
-use Rattle.sheet.specs.Questions.{askSheet}
 use Rattle.sheet.proofs.Passes.{stored-passes}
 use Rattle.sheet.proofs.ReadBack.{read-back}
 use Rattle.text.specs.Reading.{textLimits}
 use Rattle.text.specs.Questions.{askBook, askEdit}
 use Rattle.eval.specs.Judge.{askSheetAndBook, askRules}
 use Rattle.carry.specs.Carrying.{carriedBook, askSize}
-use Rattle.demands.specs.Enter.{afterSteps, Carried, askCarried, askEnter, enterAnswer, enterSheet}
+use Rattle.demands.specs.Enter.{Carried, askCarried, askEnter, enterSheet}
 use Rattle.demands.specs.Clerk.{Fed, Line, clerkCopy, clerkAsks, clerkGraph, clerkLine}
-use Rattle.demands.specs.Run.{Hold, Keeps, Call, fed, enterLine}
+use Rattle.demands.specs.Run.{Hold, Call, fed, enterLine}
 use Rattle.demands.proofs.Passing.{bind-passed, then-passed, hold-asked, asked-hold, ask-carried}
 
 -- When sheet and book have passed, enter asks on the sheet's graph what the clerk asks.
@@ -84,11 +81,11 @@ unfolding askSteps _>>=_ _>>_
 so-passed rules g c Z k = rw (k .edit-read, k .fits, hold-asked (run Z g) rules 0 (k .hold))
 
 -- What the clerk's log then says, by what was asked.
-pub clerk-line : (rules : List (Expr rule)) (g : Graph) (c : Fed) → clerkLine rules g c ≡ record { edit = c .edit; answer = askSteps rules g c >> passed tt; sheet = store (after (askSteps rules g c) (λ Z. run Z g) g) }
-unfolding clerkGraph _>>=_ _>>_ after
-clerk-line rules g c = ap (λ q. record { edit = c .edit; answer = q >> passed tt; sheet = store (after q (λ h. h) g) }) (clerk-asks rules g c) ∙ go (askSteps rules g c)
+pub clerk-line : (rules : List (Expr rule)) (g : Graph) (c : Fed) → clerkLine rules g c ≡ record { edit = c .edit; answer = outcome (askSteps rules g c); sheet = store (after (askSteps rules g c) (λ Z. run Z g) g) }
+unfolding clerkGraph _>>=_ after outcome
+clerk-line rules g c = ap (λ q. record { edit = c .edit; answer = outcome q; sheet = store (after q (λ h. h) g) }) (clerk-asks rules g c) ∙ go (askSteps rules g c)
   where
-    go : (q : Asked Edit) → _≡_ {A = Line} (record { edit = c .edit; answer = (q >>= (λ Z. passed (run Z g))) >> passed tt; sheet = store (after (q >>= (λ Z. passed (run Z g))) (λ h. h) g) }) (record { edit = c .edit; answer = q >> passed tt; sheet = store (after q (λ Z. run Z g) g) })
+    go : (q : Asked Edit) → _≡_ {A = Line} (record { edit = c .edit; answer = outcome (q >>= (λ Z. passed (run Z g))); sheet = store (after (q >>= (λ Z. passed (run Z g))) (λ h. h) g) }) (record { edit = c .edit; answer = outcome q; sheet = store (after q (λ Z. run Z g) g) })
     go (passed Z) = refl
     go (refused n p) = refl
 
@@ -99,13 +96,13 @@ asked-of-stored g book w = ap (_>> askBook (textLimits (graphOf (store g) .n)) b
 
 -- Enter on the sheet that stores a graph: the clerk's line.
 pub enter-line : (g : Graph) (book : List ℕ) (rules : List (Expr rule)) (c : Call) → Within g → askBook (textLimits (g .n)) book ≡ passed rules → enterLine book (store g) c ≡ clerkLine rules g (fed c)
-unfolding enterAnswer enterSheet after
+unfolding enterSheet after
 enter-line g book rules c w e =
     ap (line (graphOf (store g))) (enter-asks (store g) book rules (fed c) (asked-of-stored g book w ∙ e)) ∙ ap (λ h. line h (askSteps rules h (fed c))) (read-back g w) ∙ go (askSteps rules g (fed c)) ∙ sym (clerk-line rules g (fed c))
   where
     line : Graph → Asked Edit → Line
-    line h q = record { edit = c .edit; answer = q >> passed tt; sheet = after q (λ Z. store (run Z h)) (store g) }
+    line h q = record { edit = c .edit; answer = outcome q; sheet = after q (λ Z. store (run Z h)) (store g) }
 
-    go : (q : Asked Edit) → line g q ≡ record { edit = c .edit; answer = q >> passed tt; sheet = store (after q (λ Z. run Z g) g) }
+    go : (q : Asked Edit) → line g q ≡ record { edit = c .edit; answer = outcome q; sheet = store (after q (λ Z. run Z g) g) }
     go (passed Z) = refl
     go (refused n p) = refl

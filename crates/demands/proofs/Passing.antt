@@ -5,7 +5,7 @@ use mathlib.Core.List.{List, [], _∷_}
 use Prim.Native.Nat.{ℕ, suc}
 use native.Mathlib.Omega.{arith}
 use lib.Dec.{T}
-use Rattle.answer.specs.Asked.{Asked, passed, refused, _>>=_, _>>_}
+use Rattle.answer.specs.Asked.{Asked, passed, refused, _>>=_, _>>_, outcome}
 use Rattle.logic.specs.Syntax.{Expr, rule, Edit}
 use Rattle.logic.specs.Graph.{Graph}
 use Rattle.logic.specs.Meaning.{value}
@@ -25,6 +25,11 @@ pub then-passed : {A B : Type 0} (q : Asked A) (r : Asked B) (b : B) → (q >> r
 unfolding _>>_
 then-passed (passed a) r b e = (a, refl, e)
 then-passed (refused n p) r b e = let z : _≡_ {A = ℕ} 0 1 = cc in absurd (omega arith)
+
+pub outcome-passed : {A : Type 0} (q : Asked A) → outcome q ≡ passed tt → (a : A) × (q ≡ passed a)
+unfolding outcome
+outcome-passed (passed a) e = (a, refl)
+outcome-passed (refused n p) e = let z : _≡_ {A = ℕ} 0 1 = cc in absurd (omega arith)
 
 -- 41 passes exactly when each rule holds.
 pub hold-asked : (g : Graph) (rules : List (Expr rule)) (i : ℕ) → Hold g rules → askRules g rules i ≡ passed tt

@@ -2,21 +2,20 @@
 use mathlib.Core.Path.{_≡_, refl, sym, _∙_, ap, ap₂, subst}
 use mathlib.Core.List.{List, [], _∷_, _++_, map}
 use Prim.Native.Nat.{ℕ}
-use Rattle.answer.specs.Asked.{Asked, passed, refused, _>>=_, _>>_, after}
+use Rattle.answer.specs.Asked.{Asked, passed, refused, _>>=_, after, outcome}
 use Rattle.logic.specs.Syntax.{Expr, rule, Edit}
 use Rattle.logic.specs.Graph.{Graph}
 use Rattle.logic.specs.Steps.{run}
 use Rattle.logic.specs.Limits.{Within, ranges}
 use Rattle.logic.proofs.Inside.{run-n, run-within}
-use Rattle.sheet.specs.Sheet.{store, graphOf}
+use Rattle.sheet.specs.Sheet.{store}
 use Rattle.sheet.proofs.Passes.{stored-passes}
 use Rattle.sheet.proofs.ReadBack.{read-back}
 use Rattle.text.specs.Reading.{textLimits}
 use Rattle.text.specs.Questions.{askBook, askEdit}
 use Rattle.text.proofs.Books.{edit-is-spelled}
-use Rattle.demands.specs.Enter.{afterSteps}
-use Rattle.demands.specs.Clerk.{Fed, Line, clerkGraph, clerkLine, clerkLog}
-use Rattle.demands.specs.Run.{Hold, Keeps, Call, fed, enterLine, log, entered, enteredAfterEach, made, madeInOrder}
+use Rattle.demands.specs.Clerk.{Fed, clerkGraph, clerkLine, clerkLog}
+use Rattle.demands.specs.Run.{Hold, Keeps, Call, fed, log, entered, enteredAfterEach, made, madeInOrder}
 use Rattle.demands.specs.Demand3.{Each}
 use Rattle.demands.proofs.OneCall.{askSteps, Entered, when-passed, clerk-asks, clerk-line, enter-line}
 
@@ -83,11 +82,11 @@ module _ (book : List ℕ) (rules : List (Expr rule)) where
 
   -- After each call the entered edits alone leave the clerk's sheet.
   entered-one : (opening : List ℕ) (edits : List (List ℕ)) (g : Graph) (c : Fed) → Kept g → madeInOrder opening edits ≡ store g → madeInOrder opening (entered edits (clerkLine rules g c)) ≡ store (clerkGraph rules g c)
-  unfolding after _>>_
+  unfolding after outcome
   entered-one opening edits g c k e =
       ap (λ l. madeInOrder opening (entered edits l)) (clerk-line rules g c) ∙ go (askSteps rules g c) refl ∙ ap store (sym (graph-after g c))
     where
-      go : (q : Asked Edit) → askSteps rules g c ≡ q → madeInOrder opening (after (q >> passed (tt {0})) (λ u. edits ++ (c .edit ∷ [])) edits) ≡ store (after q (λ Z. run Z g) g)
+      go : (q : Asked Edit) → askSteps rules g c ≡ q → madeInOrder opening (after (outcome q) (λ u. edits ++ (c .edit ∷ [])) edits) ≡ store (after q (λ Z. run Z g) g)
       go (passed Z) f =
           made-last opening edits (c .edit)
           ∙ ap (made (c .edit)) e

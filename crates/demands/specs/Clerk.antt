@@ -2,7 +2,7 @@
 -- of its scratch; never an answer.
 use mathlib.Core.List.{List, [], _∷_}
 use Prim.Native.Nat.{ℕ}
-use Rattle.answer.specs.Asked.{Asked, passed, _>>=_, _>>_, after}
+use Rattle.answer.specs.Asked.{Asked, passed, _>>=_, _>>_, after, outcome}
 use Rattle.logic.specs.Syntax.{Expr, rule}
 use Rattle.logic.specs.Graph.{Graph}
 use Rattle.logic.specs.Steps.{run}
@@ -47,7 +47,7 @@ clerkGraph rules g c = after (clerkAsks rules g c) (λ copy. copy) g
 
 -- His line of the log. His sheet is the one that stores his graph.
 abbrev pub clerkLine : List (Expr rule) → Graph → Fed → Line
-clerkLine rules g c = record { edit = c .edit; answer = clerkAsks rules g c >> passed tt; sheet = store (clerkGraph rules g c) }
+clerkLine rules g c = record { edit = c .edit; answer = outcome (clerkAsks rules g c); sheet = store (clerkGraph rules g c) }
 
 -- His log from a graph on.
 unfoldable pub clerkLog : List (Expr rule) → Graph → List Fed → List Line

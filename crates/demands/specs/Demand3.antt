@@ -4,7 +4,6 @@ use mathlib.Core.Logic.{_↔_}
 use mathlib.Core.List.{List, [], _∷_, map}
 use Prim.Native.Nat.{ℕ}
 use lib.Dec.{T}
-use lib.ListN.{length}
 use Rattle.answer.specs.Asked.{passed}
 use Rattle.logic.specs.Syntax.{Expr, rule}
 use Rattle.logic.specs.Meaning.{value}

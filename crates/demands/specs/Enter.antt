@@ -2,7 +2,7 @@
 use mathlib.Core.List.{List}
 use Prim.Native.Nat.{ℕ}
 use lib.ListN.{length}
-use Rattle.answer.specs.Asked.{Asked, passed, _>>=_, _>>_, after}
+use Rattle.answer.specs.Asked.{Asked, passed, _>>=_, _>>_, after, outcome}
 use Rattle.logic.specs.Syntax.{Expr, rule, Edit}
 use Rattle.logic.specs.Steps.{run}
 use Rattle.sheet.specs.Sheet.{store, graphOf}
@@ -37,8 +37,8 @@ askEnter sheet book edit room = do
   passed (c .edit)
 
 -- The answer.
-unfoldable pub enterAnswer : (sheet book edit : List ℕ) (room : ℕ) → Asked (Unit {0})
-enterAnswer sheet book edit room = askEnter sheet book edit room >> passed tt
+abbrev pub enterAnswer : (sheet book edit : List ℕ) (room : ℕ) → Asked (Unit {0})
+enterAnswer sheet book edit room = outcome (askEnter sheet book edit room)
 
 -- The sheet after it: only done changes the sheet.
 unfoldable pub enterSheet : (sheet book edit : List ℕ) (room : ℕ) → List ℕ

@@ -5,7 +5,7 @@ use mathlib.Core.Logic.{_≢_, _⊎_}
 use mathlib.Core.List.{List}
 use Prim.Native.Nat.{ℕ}
 use lib.ListN.{length}
-use Rattle.answer.specs.Asked.{Asked, passed, refused}
+use Rattle.answer.specs.Asked.{passed, refused}
 use Rattle.text.specs.Code.{bookCode}
 use Rattle.eval.specs.Judge.{askSheetAndBook}
 use Rattle.carry.specs.Carrying.{writtenAtStart}
