@@ -62,7 +62,7 @@ const SHAPES: [usize; 40] = [
     5,
 ];
 
-fn shape(code: u8) -> usize
+pub fn shape(code: u8) -> usize
     ensures { λ r. ⌜ r ≡ shapeOf code ⌝ }
 {
     let at = code as usize;
@@ -190,7 +190,7 @@ fn step_back(text: &[u8], at: usize, state: &mut [usize])
 
 // The place behind the expression at `at`.
 // Inner: the text was read before.
-fn past(text: &[u8], at: usize) -> usize
+pub fn past(text: &[u8], at: usize) -> usize
     requires { ⌜ Some (now text) at ⌝ }
     ensures { λ r. ⌜ ((t : Tree) → At (now (text .entry)) at t → r ≡ at + size t) ⌝ }
 {
@@ -227,7 +227,7 @@ fn next_step(text: &[u8], at: usize) -> usize
 
 // The place behind the edit at `at`.
 // Inner: the text was read before.
-fn end_of(text: &[u8], at: usize) -> usize
+pub fn end_of(text: &[u8], at: usize) -> usize
     requires { ⌜ SomeEdit (now text) at ⌝ }
     ensures { λ r. ⌜ ((Z : Edit) → EditAt (now (text .entry)) at Z → r ≡ at + length (editCode Z)) ⌝ }
 {
