@@ -118,12 +118,13 @@ fn name(edit: &[u8], stack: &[usize], h: usize, c: u8, k: u8, out: &mut [u8], po
     if j == 0 {
         return put_two(c, k, out, pos);
     }
-    let o = stack[j - 1];
+    let below = j - 1;
+    let o = stack[below];
     let op = edit[o];
     out[pos] = lead(op);
-    let p = name(edit, stack, j - 1, c, k, out, pos + 1);
+    let p = name(edit, stack, below, c, k, out, pos + 1);
     let q = put_not(op, out, p);
-    let done = emit(edit, o + 2, edit, stack, j - 1, out, q);
+    let done = emit(edit, o + 2, edit, stack, below, out, q);
     done.pos
 }
 
