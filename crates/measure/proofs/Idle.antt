@@ -1,7 +1,7 @@
 -- Without its idle steps an edit carries each rule of the book to the same text, and stays in range.
 use mathlib.Core.Path.{_≡_, refl, sym, ap, ap₂, _∙_}
 use mathlib.Core.Bool.{Bool, true, false, cond}
-use mathlib.Core.List.{List, [], _∷_, _++_}
+use mathlib.Core.List.{List, [], _∷_, _++_, append-nil}
 use Prim.Native.Nat.{ℕ, _+_, max}
 use native.Mathlib.Omega.{arith}
 use borrow.Author.Tests.{eqb-true}
@@ -10,13 +10,15 @@ use lib.ListN.{length}
 use Rattle.logic.specs.Syntax.{rule, Expr, label, complement, and, or, arrowKind, union, minus, Edit, finish, addLabel, takeLabel, addArrow, takeArrow, choose}
 use Rattle.logic.specs.Carry.{carry, carriedBook}
 use Rattle.logic.specs.Limits.{Ranges, EditInRange}
-use Rattle.text.specs.Code.{levels, bookCode, bookLevels}
+use Rattle.text.specs.Code.{editCode, bookCode, bookLevels}
+use Rattle.text.specs.Stands.{EditStands}
 use Rattle.tree.specs.Tree.{Tree, name, leaf, one, two, bytes, height, graft, only, same, count, tree}
 use Rattle.tree.specs.Sizes.{Measure, measure, back, join, nothing, measures}
 use Rattle.tree.proofs.Trees.{bytes-tree, height-tree, tree-putLabel, tree-putArrow}
 use Rattle.tree.proofs.Measured.{measured}
 use Rattle.tree.proofs.Books.{join-nothing, join-comm, join-assoc, back-join}
 use Rattle.measure.specs.Pruned.{pruned}
+use Rattle.measure.specs.Book.{BookKept}
 
 -- replacing a name that stands nowhere
 graft-idle : (c k : ℕ) (F t : Tree) → count t c k ≡ 0 → graft (only c k F) t ≡ t
@@ -111,7 +113,7 @@ kept-range : (lim : Ranges) (b : Bool) (Y step : Edit) → EditInRange lim Y →
 kept-range lim true Y step h g = h
 kept-range lim false Y step h g = g
 
-pub pruned-range : (lim : Ranges) (r : ℕ) (Z : Edit) (M : Measure) → EditInRange lim Z → EditInRange lim (pruned r Z M)
+pruned-range : (lim : Ranges) (r : ℕ) (Z : Edit) (M : Measure) → EditInRange lim Z → EditInRange lim (pruned r Z M)
 unfolding pruned EditInRange
 pruned-range lim r finish M h = h
 pruned-range lim r (addLabel k E Z) M h = kept-range lim (eqb (back r Z M .counts 0x03 k) 0) _ _ (pruned-range lim r Z M (h .2)) (h .0, h .1, pruned-range lim r Z M (h .2))
@@ -119,3 +121,7 @@ pruned-range lim r (takeLabel k E Z) M h = kept-range lim (eqb (back r Z M .coun
 pruned-range lim r (addArrow a R Z) M h = kept-range lim (eqb (back r Z M .counts 0x11 a) 0) _ _ (pruned-range lim r Z M (h .2)) (h .0, h .1, pruned-range lim r Z M (h .2))
 pruned-range lim r (takeArrow a R Z) M h = kept-range lim (eqb (back r Z M .counts 0x11 a) 0) _ _ (pruned-range lim r Z M (h .2)) (h .0, h .1, pruned-range lim r Z M (h .2))
 pruned-range lim r (choose K P Q Z) M h = (h .0, pruned-range lim r P (back r Z M) (h .1), pruned-range lim r Q (back r Z M) (h .2), pruned-range lim r Z M (h .3))
+
+-- The buffer that holds the edit without its idle steps holds an edit in range.
+pub kept-stands : (lim : Ranges) (Z : Edit) (rules : List (Expr rule)) (start : ℕ) (kept : List ℕ) → EditInRange lim Z → (length rules ≡ 0 → ⊥) → BookKept Z rules start kept → EditStands lim kept start (pruned (length rules) Z (measures rules))
+kept-stands lim Z rules start kept h ne k = record { rest = []; here = k .text ne ∙ sym (append-nil (editCode (pruned (length rules) Z (measures rules)))); range = pruned-range lim (length rules) Z (measures rules) h }

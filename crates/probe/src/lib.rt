@@ -6,12 +6,15 @@ ghost use Rattle.words.specs.Words.{digit};
 ghost use Rattle.sheet.specs.Sheet.{store, blank};
 ghost use Rattle.sheet.specs.Questions.{askSheet, askBlank, askLabelBit, askArrowBit};
 ghost use Rattle.sheet.specs.BitReads.{bitAsked};
+ghost use Rattle.text.specs.Reading.{textLimits};
+ghost use Rattle.text.specs.Questions.{askBook, askEdit, askRuleEnd, firstRule};
 ghost use Rattle.probe.specs.Numbers.{askedNumber, askedPlace, askedBit};
 use logic::Arrow;
 use logic::Label;
 use logic::Node;
 use sheet::BitRead;
 use sheet::Sheet;
+use text::Text;
 
 // Number and place of an answer, 0 and 0 for done.
 #[repr(C)]
@@ -26,6 +29,14 @@ pub struct BitNumbers {
     pub number: usize,
     pub place: usize,
     pub bit: usize,
+}
+
+// The same, and the length of the part: 0 after a refusal.
+#[repr(C)]
+pub struct PartNumbers {
+    pub number: usize,
+    pub place: usize,
+    pub length: usize,
 }
 
 fn digit(b: bool) -> usize
@@ -89,4 +100,39 @@ pub extern "C" fn probe_arrow_bit(sheet: &[u8], arrow: u8, from: u8, to: u8) -> 
     ensures { λ r. ⌜ (r .number ≡ askedNumber (askArrowBit (now (sheet .entry)) arrow from to)) × (r .place ≡ askedPlace (askArrowBit (now (sheet .entry)) arrow from to)) × (r .bit ≡ askedBit (askArrowBit (now (sheet .entry)) arrow from to)) ⌝ }
 {
     bit_numbers(Sheet::arrow_bit(sheet, Arrow(arrow), Node(from), Node(to)))
+}
+
+#[no_mangle]
+pub extern "C" fn probe_book(book: &[u8], n: usize) -> Numbers
+    ensures { λ r. ⌜ (r .number ≡ askedNumber (askBook (textLimits n) (now (book .entry)))) × (r .place ≡ askedPlace (askBook (textLimits n) (now (book .entry)))) ⌝ }
+{
+    let a = Text::check_book(book, n);
+    Numbers {
+        number: answer::number(a),
+        place: answer::place(a),
+    }
+}
+
+#[no_mangle]
+pub extern "C" fn probe_edit(edit: &[u8], n: usize) -> Numbers
+    ensures { λ r. ⌜ (r .number ≡ askedNumber (askEdit (textLimits n) (now (edit .entry)))) × (r .place ≡ askedPlace (askEdit (textLimits n) (now (edit .entry)))) ⌝ }
+{
+    let a = Text::check_edit(edit, n);
+    Numbers {
+        number: answer::number(a),
+        place: answer::place(a),
+    }
+}
+
+#[no_mangle]
+pub extern "C" fn probe_first_rule(text: &[u8]) -> PartNumbers
+    ensures { λ r. ⌜ (r .number ≡ askedNumber (askRuleEnd (now (text .entry)))) × (r .place ≡ askedPlace (askRuleEnd (now (text .entry)))) × (r .length ≡ length (firstRule (now (text .entry)))) ⌝ }
+{
+    let a = Text::first_rule_answer(text);
+    let rule = Text::first_rule(text);
+    PartNumbers {
+        number: answer::number(a),
+        place: answer::place(a),
+        length: rule.len(),
+    }
 }

@@ -2,7 +2,7 @@
 use mathlib.Core.Path.{_≡_, refl, sym, ap, ap₂, _∙_}
 use mathlib.Core.Bool.{Bool, true, false, _&&_, and-true}
 use mathlib.Core.List.{List, [], _∷_, _++_}
-use Prim.Native.Nat.{ℕ, zero, suc, _+_, _≤_, _<_}
+use Prim.Native.Nat.{ℕ, _+_, _<_}
 use native.Mathlib.Omega.{arith}
 use lib.Dec.{T, eqb, eqb-refl, eqb→eq}
 use lib.ListN.{length, getD, take, drop, drop-of-length-le, set, take-append-drop, length-append, List·getD-append}
@@ -33,11 +33,7 @@ pub length-sealed : (body : List ℕ) → length body ≡ bodyBytes → length (
 unfolding sealed seal
 length-sealed body h = length-append body (seal body) ∙ omega arith
 
--- which begins with the body
-pub take-sealed : (body : List ℕ) → length body ≡ bodyBytes → take bodyBytes (sealed body) ≡ body
-unfolding sealed
-take-sealed body h = take-at body (seal body) bodyBytes h
-
+-- which begins with the body,
 pub getD-sealed : (body : List ℕ) (p : ℕ) → p < length body → getD (sealed body) p 0 ≡ getD body p 0
 unfolding sealed
 getD-sealed body p h = List·getD-append body (seal body) 0 p h

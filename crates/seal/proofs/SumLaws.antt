@@ -1,12 +1,12 @@
 -- The sums, taken along a block's body in plain totals.
-use mathlib.Core.Path.{_≡_, refl, sym, ap, ap₂, _∙_}
-use mathlib.Core.List.{List, [], _∷_}
-use Prim.Native.Nat.{ℕ, zero, suc, _+_, _%_, _≤_, _<_}
+use mathlib.Core.Path.{_≡_, sym, ap, ap₂, _∙_}
+use mathlib.Core.List.{List, _∷_}
+use Prim.Native.Nat.{ℕ, _+_, _%_, _≤_, _<_}
 use native.Mathlib.Omega.{arith}
 use native.Mathlib.Numerals.{add-one}
 use lib.ListN.{length, getD, take, drop, length-take, drop-of-length-le}
 use lib.Seq.{drop-cons, getD-take}
-use Rattle.seal.specs.Seal.{bodyBytes, Sums, sumsFrom}
+use Rattle.seal.specs.Seal.{bodyBytes, sumsFrom}
 
 module _ (k : List ℕ) (long : bodyBytes ≤ length k) where
   next : (i : ℕ) → i < bodyBytes → drop i (take bodyBytes k) ≡ getD k i 0 ∷ drop (i + 1) (take bodyBytes k)

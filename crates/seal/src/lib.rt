@@ -1,6 +1,6 @@
 // The check bytes of a block.
 ghost use mathlib.Core.Path.{_≡_};
-ghost use Prim.Native.Nat.{ℕ, _<_, _≤_};
+ghost use Prim.Native.Nat.{_<_, _≤_};
 ghost use lib.ListN.{length, take};
 ghost use Rattle.seal.specs.Seal.{blockBytes, bodyBytes, sums, sealRight, reseal};
 

@@ -1,12 +1,12 @@
 -- A bit read: the questions of the sheet, then 7.
-use mathlib.Core.Path.{_≡_, refl, sym, ap, ap₂, _∙_}
+use mathlib.Core.Path.{_≡_, sym, ap, ap₂, _∙_}
 use mathlib.Core.Bool.{Bool, true, false}
 use mathlib.Core.List.{List}
 use Rattle.answer.specs.declared.Refusal.{Refusal}
 use Rattle.answer.specs.declared.Answer.{Answer}
 use Rattle.answer.specs.declared.Answer.the-variants.{Done, Refused}
 use Rattle.answer.specs.Answers.{refusalNumber, refusalPlace, asked}
-use Rattle.answer.specs.Asked.{Asked, passed, refused, _>>_, is}
+use Rattle.answer.specs.Asked.{passed, refused, _>>_, is}
 use Prim.Native.Nat.{ℕ}
 use Rattle.sheet.specs.Questions.{askSheet, Sound}
 

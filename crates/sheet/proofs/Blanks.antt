@@ -8,7 +8,7 @@ use native.Mathlib.Omega.{arith}
 use borrow.Author.Tests.{eq-eqb, ne-eqb, le-leb, lt-leb}
 use lib.ListN.{length, take, drop, set, replicate, length-append, length-drop}
 use lib.Seq.{take-at, take-suc-set, take-all, length-take-le}
-use Rattle.answer.specs.Asked.{Asked, passed, refused, _>>_, is}
+use Rattle.answer.specs.Asked.{passed, refused, _>>_, is}
 use Rattle.logic.specs.Limits.{maxNodes}
 use Rattle.words.specs.Words.{setOf, bytes}
 use Rattle.words.proofs.SetLaws.{setOf-none}

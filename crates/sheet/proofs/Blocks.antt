@@ -1,6 +1,5 @@
 -- The bytes of a stored block: where its head, its words and its zeros stand.
 use mathlib.Core.Path.{_≡_, refl, sym, _∙_, ap, ap₂}
-use mathlib.Core.Bool.{Bool, true, false}
 use mathlib.Core.List.{List, [], _∷_, _++_}
 use Prim.Native.Nat.{ℕ, zero, suc, _+_, _-_, _*_, _/_, _%_, _^_, _≤_, _<_}
 use native.Mathlib.Nat.{mul-zero, zero-add, mul-suc}
@@ -12,7 +11,7 @@ use Rattle.words.specs.Words.{setOf, member, bytes}
 use Rattle.words.proofs.SetLaws.{member-low}
 use Rattle.words.proofs.BitLaws.{member-shr}
 use Rattle.words.proofs.WordLaws.{length-bytes, getD-bytes}
-use Rattle.seal.specs.Seal.{blockBytes, bodyBytes, sealed}
+use Rattle.seal.specs.Seal.{blockBytes, bodyBytes}
 use Rattle.seal.proofs.SealLaws.{length-sealed, getD-sealed}
 use Rattle.sheet.specs.Sheet.{sheetBytes, labelPad, arrowPad, chunks, block, labelBlock, arrowBlock, store}
 
@@ -22,7 +21,7 @@ module _ (w : ℕ) (f : ℕ → List ℕ) (len : (i : ℕ) → length (f i) ≡ 
   length-chunks zero i = sym (mul-zero w)
   length-chunks (suc m) i = length-append (f i) (chunks m (suc i) f) ∙ omega (arith, len i, length-chunks m (suc i), mul-suc w m)
 
-  pub getD-chunks : (m i k off : ℕ) → k < m → off < w → getD (chunks m i f) (w * k + off) 0 ≡ getD (f (i + k)) off 0
+  getD-chunks : (m i k off : ℕ) → k < m → off < w → getD (chunks m i f) (w * k + off) 0 ≡ getD (f (i + k)) off 0
   unfolding chunks
   getD-chunks zero i k off h l = absurd (omega arith)
   getD-chunks (suc m) i zero off h l =
@@ -62,7 +61,7 @@ module _ (head : List ℕ) (m : ℕ) (f : ℕ → ℕ) (pad : ℕ) (h : length h
   pub length-body : length (bodyOf head (wordsOf m f) pad) ≡ bodyBytes
   length-body = simp (length-append, length-replicate) (omega (arith, length-words m f))
 
-  pub length-block : length (block head (wordsOf m f) pad) ≡ blockBytes
+  length-block : length (block head (wordsOf m f) pad) ≡ blockBytes
   unfolding block
   length-block = length-sealed (bodyOf head (wordsOf m f) pad) length-body
 

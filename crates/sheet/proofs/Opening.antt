@@ -1,27 +1,27 @@
 -- A sheet of bytes that passes the questions is the one that stores the graph it reads as, and that graph is within the limits.
 use mathlib.Core.Path.{_≡_, refl, sym, _∙_, ap, ap₂, subst}
-use mathlib.Core.Bool.{Bool, true, false, not, _&&_, _||_, and-false}
+use mathlib.Core.Bool.{Bool, true, false, _&&_, and-false}
 use mathlib.Core.List.{List, [], _∷_, _++_}
 use mathlib.Core.Logic.{_⊎_, inl, inr}
-use Prim.Native.Nat.{ℕ, zero, suc, _+_, _-_, _*_, _/_, _%_, _^_, _≤_, _<_}
+use Prim.Native.Nat.{ℕ, zero, suc, _+_, _-_, _*_, _/_, _%_, _≤_, _<_}
 use native.Mathlib.Nat.{mod-lt, zero-add}
 use native.Mathlib.Omega.{arith}
 use native.Mathlib.Decide.{decLt}
-use borrow.Author.Tests.{lt-ltb, le-ltb, eqb-true, leb-true, ltb-false, le-leb, lt-leb}
+use borrow.Author.Tests.{lt-ltb, le-ltb, eqb-true, leb-true, ltb-false, lt-leb}
 use lib.Dec.{leb, ltb, eqb}
 use lib.ListN.{length, getD, take, drop, length-take, length-drop, List·getD-eq-default, take-append-drop, drop-of-length-le}
 use lib.Seq.{getD-take, getD-drop, ext-getD, drop-drop}
 use lib.Pow.{pow-pos}
 use Rattle.answer.specs.Asked.{Asked, passed, refused, _>>_, is}
-use Rattle.logic.specs.Graph.{Graph, Nodes, isNode, allBelow, implies}
+use Rattle.logic.specs.Graph.{Nodes, isNode, allBelow, implies}
 use Rattle.logic.specs.Limits.{Within}
-use Rattle.words.specs.Words.{setOf, member}
+use Rattle.words.specs.Words.{member}
 use Rattle.words.proofs.SetLaws.{member-setOf, member-beyond, is-setOf, setOf-member-lt}
 use Rattle.seal.specs.Seal.{blockBytes, bodyBytes, sealed, sealRight}
 use Rattle.seal.proofs.SealLaws.{right-sealed}
 use Rattle.sheet.specs.Sheet.{sheetBytes, labelPad, arrowPad, chunks, block, labelBlock, arrowBlock, store, bitIn, graphOf}
 use Rattle.sheet.specs.Questions.{blockOf, nodeCountRight, headRight, free, zeroRight, askBlock, askBlocks, askSheet, Sound}
-use Rattle.sheet.proofs.Blocks.{wordsOf, bodyOf, byteOf, bit-of-byte, length-body, body-at, head-at, front-zero, pad-zero, word-bit, word-byte, labelHead, labelWord, arrowHead, rowWord}
+use Rattle.sheet.proofs.Blocks.{wordsOf, bodyOf, length-body, body-at, head-at, front-zero, pad-zero, word-bit, word-byte, labelHead, labelWord, arrowHead, rowWord}
 use Rattle.sheet.proofs.Passes.{no-bit}
 
 pub is-yes : (b : Bool) (q p : ℕ) → is b q p ≡ passed tt → b ≡ true

@@ -1,25 +1,25 @@
 -- The sheet that stores a graph within the limits passes the questions.
-use mathlib.Core.Path.{_≡_, refl, sym, _∙_, ap, ap₂}
-use mathlib.Core.Bool.{Bool, true, false, _&&_, _||_, or-true}
-use mathlib.Core.List.{List, [], _∷_, _++_}
+use mathlib.Core.Path.{_≡_, refl, _∙_, ap, ap₂}
+use mathlib.Core.Bool.{Bool, true, false, _&&_, or-true}
+use mathlib.Core.List.{List, _++_}
 use Prim.Native.Nat.{ℕ, zero, suc, _+_, _-_, _*_, _/_, _%_, _^_, _≤_, _<_}
 use native.Mathlib.Nat.{mul-zero, mul-suc, zero-div}
 use native.Mathlib.Omega.{arith}
 use native.Mathlib.Decide.{decLt}
 use borrow.Author.Tests.{eq-eqb, lt-ltb, le-leb}
-use lib.Dec.{eqb, leb, ltb}
+use lib.Dec.{eqb}
 use lib.ListN.{length, getD, take, drop}
 use lib.Seq.{drop-append-add, take-at}
-use Rattle.answer.specs.Asked.{Asked, passed, _>>_, is}
+use Rattle.answer.specs.Asked.{passed, _>>_, is}
 use Rattle.logic.specs.Graph.{Graph, Nodes, allBelow, implies}
-use Rattle.logic.specs.Limits.{Within, maxNodes}
+use Rattle.logic.specs.Limits.{Within}
 use Rattle.logic.proofs.Inside.{no-node}
-use Rattle.words.specs.Words.{setOf, member}
+use Rattle.words.specs.Words.{member}
 use Rattle.words.proofs.SetLaws.{member-setOf, member-beyond}
 use Rattle.seal.specs.Seal.{blockBytes, bodyBytes, sealRight}
 use Rattle.seal.proofs.SealLaws.{sealed-right}
-use Rattle.sheet.specs.Sheet.{sheetBytes, labelPad, arrowPad, chunks, block, labelBlock, arrowBlock, store}
-use Rattle.sheet.specs.Questions.{blockOf, nodeCountRight, headRight, free, zeroRight, askBlock, askBlocks, askSheet, Sound}
+use Rattle.sheet.specs.Sheet.{labelPad, arrowPad, chunks, block, labelBlock, arrowBlock, store}
+use Rattle.sheet.specs.Questions.{blockOf, headRight, free, zeroRight, askBlock, askBlocks, askSheet, Sound}
 use Rattle.sheet.proofs.Blocks.{wordsOf, bodyOf, length-body, head-at, front-zero, pad-zero, word-bit, labelHead, labelWord, arrowHead, rowWord, length-labelBlock, length-arrowBlock, length-store, n-is}
 
 pub all-true : (n : ℕ) (f : Nodes) → ((i : ℕ) → i < n → f i ≡ true) → allBelow n f ≡ true

@@ -1,14 +1,14 @@
 -- What writing words into a block of a stored sheet makes of the sheet.
 use mathlib.Core.Logic.{_≢_}
 use mathlib.Core.Path.{_≡_, refl, sym, ap, ap₂, _∙_}
-use mathlib.Core.Bool.{Bool, cond}
-use mathlib.Core.List.{List, [], _∷_, _++_, append-assoc, append-nil}
+use mathlib.Core.Bool.{cond}
+use mathlib.Core.List.{List, _++_, append-assoc, append-nil}
 use Prim.Native.Nat.{ℕ, zero, suc, _+_, _-_, _*_, _≤_, _<_}
 use native.Mathlib.Nat.{zero-add}
 use native.Mathlib.Omega.{arith}
 use native.Mathlib.Decide.{decLt}
 use borrow.Author.Tests.{eq-eqb, ne-eqb, lt-ltb, le-ltb}
-use lib.Dec.{eqb, ltb}
+use lib.Dec.{ltb}
 use lib.ListN.{length, getD, take, drop, replicate, length-append, length-replicate}
 use lib.Seq.{take-at, drop-at}
 use Rattle.logic.specs.Graph.{Graph, Nodes, Pairs}
@@ -116,7 +116,7 @@ module _ (g : Graph) where
       ∙ ap (labelBlock g ++_) (chunks-at a (15 - a) 0 (arrowBlock g) ∙ ap (λ x. chunks a 0 (arrowBlock g) ++ (arrowBlock g x ++ chunks (15 - a) (suc x) (arrowBlock g))) (zero-add a))
       ∙ sym (append-assoc (labelBlock g) (chunks a 0 (arrowBlock g)) _)
 
-  pub length-before : (a : ℕ) → length (labelBlock g ++ chunks a 0 (arrowBlock g)) ≡ 512 * a + 512
+  length-before : (a : ℕ) → length (labelBlock g ++ chunks a 0 (arrowBlock g)) ≡ 512 * a + 512
   length-before a = length-append (labelBlock g) _ ∙ omega (arith, length-labelBlock g, length-chunks 512 (arrowBlock g) (length-arrowBlock g) a 0)
 
 label-raw : (g : Graph) → labelBlock g ≡ raw (labelHead g) 48 (labelWord g) labelPad (seal (bodyOf (labelHead g) (wordsOf 48 (labelWord g)) labelPad))

@@ -1,9 +1,9 @@
 -- Question 4 by bytes and masks, as the code asks it, is question 4 by bits.
 use mathlib.Core.Path.{_≡_, refl, sym, ap, ap₂, _∙_}
-use mathlib.Core.Bool.{Bool, true, false, not, _&&_, _||_, cond, or-true, and-false}
+use mathlib.Core.Bool.{Bool, true, false, not, _&&_, _||_, cond, and-false}
 use mathlib.Core.List.{List}
 use mathlib.Core.Logic.{_⊎_, inl, inr}
-use Prim.Native.Nat.{ℕ, zero, suc, _+_, _-_, _*_, _/_, _%_, _^_, _≤_, _<_}
+use Prim.Native.Nat.{ℕ, zero, suc, _+_, _-_, _*_, _/_, _%_, _≤_, _<_}
 use native.Mathlib.Omega.{arith}
 use native.Mathlib.Numerals.{add-one}
 use native.Mathlib.Decide.{decLt}
@@ -11,7 +11,7 @@ use borrow.Author.Tests.{eq-eqb, eqb-true, lt-ltb, le-leb, le-ltb}
 use lib.Dec.{eqb, ltb}
 use lib.ListN.{getD}
 use Rattle.logic.specs.Graph.{Nodes, anyBelow, allBelow, implies}
-use Rattle.words.specs.Words.{setOf, member, wordAt, combined}
+use Rattle.words.specs.Words.{setOf, member, wordAt}
 use Rattle.words.proofs.SetLaws.{setOf-empty, member-setOf}
 use Rattle.words.proofs.WordLaws.{member-wordAt}
 use Rattle.seal.specs.Seal.{bodyBytes}

@@ -1,7 +1,7 @@
 // One block of a sheet: its questions, and the writing of its words. Inner: each function is lent a whole block.
 ghost use mathlib.Core.Path.{_≡_};
 ghost use mathlib.Core.Bool.{true, cond};
-ghost use Prim.Native.Nat.{ℕ, _+_, _*_, _-_, _<_, _≤_};
+ghost use Prim.Native.Nat.{_+_, _*_, _-_, _<_, _≤_};
 ghost use lib.ListN.{length, replicate};
 ghost use Rattle.answer.specs.Answers.{asked};
 ghost use Rattle.logic.specs.Graph.{allBelow};
@@ -44,7 +44,7 @@ fn head_right(block: &[u8], b: usize) -> bool
     false
 }
 
-// Are the m bytes from `at` on zero?
+// Are the m bytes from `at` on zero? Inner: they are there.
 fn zeros_at(block: &[u8], at: usize, m: usize) -> bool
     requires { ⌜ at + m ≤ length (now block) ⌝ }
     ensures { λ r. ⌜ r ≡ zerosAt (now (block .entry)) at m ⌝ }
@@ -59,7 +59,7 @@ fn zeros_at(block: &[u8], at: usize, m: usize) -> bool
     true
 }
 
-// What word j may have: `all` where j is in `rows`, else nothing.
+// What word j may have: `all` where j is in `rows`, else nothing. Inner: j is the number of a bit.
 fn mask_of(rows: u64, j: usize, all: u64) -> u64
     requires { ⌜ j < 64 ⌝ }
     ensures { λ r. ⌜ r ≡ cond (member rows j) all 0 ⌝ }
@@ -70,7 +70,7 @@ fn mask_of(rows: u64, j: usize, all: u64) -> u64
     0
 }
 
-// Is each of the first m words within its mask?
+// Is each of the first m words within its mask? Inner: a block has that many.
 fn masked_words(block: &[u8], m: usize, rows: u64, all: u64) -> bool
     requires { ⌜ (m ≤ 60) × (length (now block) ≡ blockBytes) ⌝ }
     ensures { λ r. ⌜ r ≡ allBelow m (masked (now (block .entry)) rows all) ⌝ }
@@ -86,7 +86,7 @@ fn masked_words(block: &[u8], m: usize, rows: u64, all: u64) -> bool
     true
 }
 
-// Is all zero but the m words within their masks, and bytes 0 to 2?
+// Is all zero but the m words within their masks, and bytes 0 to 2? Inner: a block has that many words.
 fn zero_but(block: &[u8], m: usize, rows: u64, all: u64) -> bool
     requires { ⌜ (m ≤ 60) × (length (now block) ≡ blockBytes) ⌝ }
     ensures { λ r. ⌜ r ≡ zeroBut m rows all (now (block .entry)) ⌝ }
@@ -99,7 +99,7 @@ fn zero_but(block: &[u8], m: usize, rows: u64, all: u64) -> bool
     false
 }
 
-// Question 4: is all zero that must be zero in block b?
+// Question 4: is all zero that must be zero in block b? Inner: n is in range, by question 3 of block 0.
 fn zero_right(block: &[u8], b: usize, n: usize) -> bool
     requires { ⌜ (n ≤ maxNodes) × (length (now block) ≡ blockBytes) ⌝ }
     ensures { λ r. ⌜ r ≡ zeroRight n b (now (block .entry)) ⌝ }
@@ -111,7 +111,7 @@ fn zero_right(block: &[u8], b: usize, n: usize) -> bool
     zero_but(block, 60, all, all)
 }
 
-// Questions 2 to 4 of block b. A right head of block 0 says that n is in range.
+// Questions 2 to 4 of block b. Inner: n is in range once block 0 has its head.
 pub fn ask_block(block: &[u8], b: usize, n: usize) -> Answer
     requires { ⌜ (length (now block) ≡ blockBytes) × (headRight b (now block) ≡ true → n ≤ maxNodes) ⌝ }
     ensures { λ r. ⌜ asked r ≡ askBlock n b (now (block .entry)) ⌝ }
@@ -128,7 +128,7 @@ pub fn ask_block(block: &[u8], b: usize, n: usize) -> Answer
     Answer::Done
 }
 
-// Puts x into word k, and seals the block.
+// Puts x into word k, and seals the block. Inner: the block has that word.
 pub fn put_word(block: &mut [u8], k: usize, x: u64)
     requires { ⌜ (length (now block) ≡ blockBytes) × (k < 60) ⌝ }
     ensures { λ _. ⌜ now (block .exit) ≡ reseal (putWord (now (block .entry)) (16 + 8 * k) x) ⌝ }
@@ -137,7 +137,7 @@ pub fn put_word(block: &mut [u8], k: usize, x: u64)
     seal::seal(block);
 }
 
-// Puts the first n of the rows into the block's words, and seals it.
+// Puts the first n of the rows into the block's words, and seals it. Inner: the block has that many.
 pub fn put_words(block: &mut [u8], n: usize, rows: [u64; 64])
     requires { ⌜ (length (now block) ≡ blockBytes) × (n ≤ 60) ⌝ }
     ensures { λ _. ⌜ now (block .exit) ≡ reseal (putRows n rows (now (block .entry))) ⌝ }

@@ -1,6 +1,6 @@
 // The sheet: 17 blocks of 512 bytes that store a graph ("The sheet" of document 01).
 ghost use mathlib.Core.Path.{_≡_};
-ghost use Prim.Native.Nat.{ℕ, _<_, _≤_};
+ghost use Prim.Native.Nat.{_<_, _≤_};
 ghost use lib.ListN.{length};
 ghost use Rattle.answer.specs.Answers.{asked};
 ghost use Rattle.answer.specs.Asked.{after};

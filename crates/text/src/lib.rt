@@ -82,6 +82,11 @@ const ROWS: [u32; 54] = [
     0xFBBA, // 35 K P Q Z
 ];
 
+// The digits of a rule and an edit on their own level.
+const RULE: u32 = 0xE;
+
+const EDIT: u32 = 0xF;
+
 // The row of a code, 0 where the byte is no code.
 fn row_of(code: u8) -> u32
     ensures { λ r. ⌜ r ≡ rowOf code ⌝ }
@@ -163,7 +168,8 @@ fn part(text: &[u8], n: usize, item: u32, at: usize, level: usize) -> Step
 }
 
 // Reads a thing whose first code is on a level, and the steps that follow one another there, along the rows of their codes.
-// It calls itself, through `part`, once for each level at most: some 300 bytes of stack for a level, 10 kB for the 32 there are.
+// It calls itself, through `part`, one level deeper each time and no more than 32 deep, whatever the text: 336 bytes of stack a level,
+// 11 kB in all. Steps that follow one another take no more stack.
 // Inner: the sort wanted is a digit from C to F.
 fn read(text: &[u8], n: usize, wanted: u32, at: usize, level: usize) -> Step
     requires { ⌜ (12 ≤ wanted) × (wanted < 16) ⌝ }
@@ -289,7 +295,7 @@ impl Text {
             if left == 0 {
                 return Answer::Refused(Refusal::BookRules { place: p });
             }
-            let step = read(book, n, 0xE, p, 1);
+            let step = read(book, n, RULE, p, 1);
             let Step::Next(q) = step else {
                 return book_answer(step);
             };
@@ -306,7 +312,7 @@ impl Text {
         if edit.len() > Text::LONGEST {
             return Answer::Refused(Refusal::EditLength { place: 0 });
         }
-        let step = read(edit, n, 0xF, 0, 1);
+        let step = read(edit, n, EDIT, 0, 1);
         let Step::Next(p) = step else {
             return edit_answer(step);
         };
@@ -323,7 +329,7 @@ impl Text {
         if text.len() > Text::LONGEST {
             return &text[0..0];
         }
-        let step = read(text, Text::NODES, 0xE, 0, 1);
+        let step = read(text, Text::NODES, RULE, 0, 1);
         let Step::Next(p) = step else {
             return &text[0..0];
         };
@@ -337,7 +343,7 @@ impl Text {
         if text.len() > Text::LONGEST {
             return Answer::Refused(Refusal::BookLength { place: 0 });
         }
-        book_answer(read(text, Text::NODES, 0xE, 0, 1))
+        book_answer(read(text, Text::NODES, RULE, 0, 1))
     }
 
     // Where the expression or the edit that stands at a place ends. It keeps no stack.

@@ -1,6 +1,5 @@
 use mathlib.Core.Path.{_≡_, refl, sym, ap, _∙_}
-use Prim.Native.Nat.{ℕ, _≤_, _<_, _-_, _*_, _%_, _+_}
-use native.Mathlib.Omega.{arith}
+use Prim.Native.Nat.{ℕ, _≤_, _-_, _*_, _%_, _+_}
 use borrow.Author.Needs.{needs}
 use lib.ListN.{take, drop}
 use Rattle.seal.specs.Seal.{bodyBytes, Sums, sums, sumsFrom}
