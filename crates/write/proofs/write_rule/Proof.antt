@@ -1,4 +1,3 @@
-use native.Mathlib.Omega.{arith}
 use borrow.Author.Needs.{needs}
 use Rattle.write.proofs.Rules.{rule-some, start-some, rule-written}
 use Rattle.write.proofs.write_rule.Statement.{statement}

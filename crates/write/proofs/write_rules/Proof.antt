@@ -1,6 +1,4 @@
 use native.Mathlib.Omega.{arith}
-use borrow.Author.Needs.{needs}
-use mathlib.Core.Path.{_≡_}
 use Prim.Native.Nat.{_-_}
 use lib.ListN.{length}
 use Rattle.write.proofs.Rules.{Writing, writing-first, rule-fits-next, writing-on, writing-more, writing-end}
