@@ -68,28 +68,46 @@ module _ {edit behind : List ℕ} {at d first second next : ℕ} (C : (Z : Edit)
       first-counted = omega (arith, f (w .way .steps) (tree (q .test)) (w .way .way .passed) (w .way .way .steps) (q .test-at) .counted)
 
       pub first-further : {room′ : ℕ} → room′ ≡ room → Further text from edit stack behind₁ first h (d + 1) pos p room′
-      first-further r = record { on = omega (arith, first-counted); inside = omega (arith, w .fits, sizes, r);
+      first-further r = record {
+        on = omega (arith, first-counted);
+        inside = omega (arith, w .fits, sizes, r);
         some = record {
           way = record { steps = w .way .steps; what = q .P; later = q .W ∷ w .way .later; way = first-way (w .way .way) q (record { same = λ i b. refl }) e l; low = omega (arith, w .way .low, q .on); low-behind = omega (arith, w .way .low-behind, q .on) };
-          K = w .K; K-at = w .K-at; fits = omega (arith, w .fits, sizes, first-counted, r) } }
+          K = w .K;
+          K-at = w .K-at;
+          fits = omega (arith, w .fits, sizes, first-counted, r);
+        };
+      }
 
       module _ {stack₂ behind₂ o₂ : List ℕ} {p₂ : ℕ} (c : Carried text from edit stack behind₁ first h (d + 1) o₁ p p₂ stack₂ behind₂ o₂) where
         second-counted : p₂ ≡ p + length (written (w .way .steps) (followed (q .P) (q .W ∷ w .way .later)) (w .K))
         second-counted = c .wrote (w .way .steps) (q .P) (q .W ∷ w .way .later) (first-way (w .way .way) q (record { same = λ i b. refl }) e l) (w .K) (w .K-at) .counted
 
         pub second-shown : {room′ : ℕ} → room′ ≡ room → SomeShown edit (at + 1) edit stack₂ h (p₂ + 1) room′
-        second-shown r = record { steps = w .way .steps; is = w .way .way .passed; stands = steps-kept edit (w .way .steps) (omega (arith, w .way .way .passed)) (c .kept) (w .way .way .steps); what = tree (q .test); what-at = q .test-at;
-          fits = omega (arith, w .fits, sizes, first-counted, second-counted, r) }
+        second-shown r = record {
+          steps = w .way .steps;
+          is = w .way .way .passed;
+          stands = steps-kept edit (w .way .steps) (omega (arith, w .way .way .passed)) (c .kept) (w .way .way .steps);
+          what = tree (q .test);
+          what-at = q .test-at;
+          fits = omega (arith, w .fits, sizes, first-counted, second-counted, r);
+        }
 
         module _ {o₃ : List ℕ} {p₃ : ℕ} (g : (σ : List Step) (t : Tree) → h ≡ length σ → StackIs edit stack₂ σ → At edit (at + 1) t → Wrote o₂ p₂ (0x26 ∷ bytes (graft (env σ) t)) p₃ o₃) where
           third-counted : p₃ ≡ p₂ + (1 + length (bytes (graft (env (w .way .steps)) (tree (q .test)))))
           third-counted = omega (arith, g (w .way .steps) (tree (q .test)) (w .way .way .passed) (steps-kept edit (w .way .steps) (omega (arith, w .way .way .passed)) (c .kept) (w .way .way .steps)) (q .test-at) .counted)
 
           pub second-further : {room′ : ℕ} → room′ ≡ room → Further text from edit stack₂ behind₂ second h (d + 1) pos p₃ room′
-          second-further r = record { on = omega (arith, first-counted, second-counted, third-counted); inside = omega (arith, w .fits, sizes, r);
+          second-further r = record {
+            on = omega (arith, first-counted, second-counted, third-counted);
+            inside = omega (arith, w .fits, sizes, r);
             some = record {
               way = record { steps = w .way .steps; what = q .Q; later = q .W ∷ w .way .later; way = second-way (w .way .way) q (c .kept) (c .again ∙ e) l; low = omega (arith, w .way .low, q .on, q .between); low-behind = omega (arith, w .way .low-behind, q .on, q .between) };
-              K = w .K; K-at = w .K-at; fits = omega (arith, w .fits, sizes, first-counted, second-counted, third-counted, r) } }
+              K = w .K;
+              K-at = w .K-at;
+              fits = omega (arith, w .fits, sizes, first-counted, second-counted, third-counted, r);
+            };
+          }
 
   pub choice-carried : {text stack₀ stack stack₂ stack₃ behind₁ behind₂ behind₃ behind₄ o o₁ o₂ o₃ o₄ : List ℕ} {from at₀ h₀ d₀ h pos p p₂ p₃ p₄ : ℕ} → Walked edit stack₀ behind at₀ h₀ d₀ stack at h d
       → ((σ : List Step) (t : Tree) → h ≡ length σ → StackIs edit stack σ → At edit (at + 1) t → Wrote o pos (0x25 ∷ 0x26 ∷ 0x27 ∷ bytes (graft (env σ) t)) p o₁) → behind₁ ≡ set behind d next
@@ -99,15 +117,15 @@ module _ {edit behind : List ℕ} {at d first second next : ℕ} (C : (Z : Edit)
       → Carried text from edit stack₀ behind at₀ h₀ d₀ o pos p₄ stack₃ behind₄ o₄
   choice-carried a f e c g c′ e′ = record {
     wrote = λ σ Z Ws y K r.
-      let m = a .each σ Z Ws y in
-      let q = C (m .what) (m .way .here) in
-      let s = steps-kept edit (m .steps) (omega (arith, m .way .passed)) (c .kept) (m .way .steps) in
-      wrote-as (choice-written (m .way) q K ∙ sym (m .same K))
-      (wrote-more (wrote-more (wrote-more
-      (f (m .steps) (tree (q .test)) (m .way .passed) (m .way .steps) (q .test-at))
-      (c .wrote (m .steps) (q .P) (q .W ∷ m .later) (first-way (m .way) q (record { same = λ i b. refl }) e l) K r))
-      (g (m .steps) (tree (q .test)) (m .way .passed) s (q .test-at)))
-      (c′ .wrote (m .steps) (q .Q) (q .W ∷ m .later) (second-way (m .way) q (c .kept) (c .again ∙ e) l) K r));
+        let m = a .each σ Z Ws y in
+        let q = C (m .what) (m .way .here) in
+        let s = steps-kept edit (m .steps) (omega (arith, m .way .passed)) (c .kept) (m .way .steps) in
+        wrote-as (choice-written (m .way) q K ∙ sym (m .same K))
+        (wrote-more (wrote-more (wrote-more
+        (f (m .steps) (tree (q .test)) (m .way .passed) (m .way .steps) (q .test-at))
+        (c .wrote (m .steps) (q .P) (q .W ∷ m .later) (first-way (m .way) q (record { same = λ i b. refl }) e l) K r))
+        (g (m .steps) (tree (q .test)) (m .way .passed) s (q .test-at)))
+        (c′ .wrote (m .steps) (q .Q) (q .W ∷ m .later) (second-way (m .way) q (c .kept) (c .again ∙ e) l) K r));
     kept = kept-more (a .up) (a .kept) (kept-more (omega arith) (c .kept) (c′ .kept));
     again = e′ ∙ ap (λ (b : List ℕ). set b d (getD behind d 0)) (c′ .again ∙ c .again ∙ e) ∙ set-set behind d next (getD behind d 0) ∙ set-getD behind d 0;
   }

@@ -44,12 +44,18 @@ parts edit at (takeArrow a R Z) h m = absurd (omega (arith, tag-edit edit at (ta
 parts edit at (choose K P Q Z) h m =
     let rest = h .place .rest in
     let e = h .place .here in
-    record { test = K; P = P; Q = Q; W = Z; is = refl;
+    record {
+      test = K;
+      P = P;
+      Q = Q;
+      W = Z;
+      is = refl;
       test-at = record { rest = editCode P ++ (editCode Q ++ (editCode Z ++ rest)); here = cK edit at K P Q Z rest e ∙ ap (λ (l : List ℕ). l ++ (editCode P ++ (editCode Q ++ (editCode Z ++ rest)))) (sym (bytes-tree K)); formed = formed-tree (h .limits) K (h .place .range .0) };
       first = λ p q. record { limits = h .limits; place = record { rest = editCode Q ++ (editCode Z ++ rest); here = cP edit at K P Q Z rest e p q; range = h .place .range .1 } };
       second = λ p q. record { limits = h .limits; place = record { rest = editCode Z ++ rest; here = cQ edit at K P Q Z rest e p q; range = h .place .range .2 } };
       next = λ p q. record { limits = h .limits; place = record { rest = rest; here = cZ edit at K P Q Z rest e p q; range = h .place .range .3 } };
-      long = omega (arith, length-append ((0x35 ∷ code K) ++ editCode P ++ editCode Q) (editCode Z), length-append ((0x35 ∷ code K) ++ editCode P) (editCode Q), length-append (0x35 ∷ code K) (editCode P), size-K edit at K P Q Z rest e) }
+      long = omega (arith, length-append ((0x35 ∷ code K) ++ editCode P ++ editCode Q) (editCode Z), length-append ((0x35 ∷ code K) ++ editCode P) (editCode Q), length-append (0x35 ∷ code K) (editCode P), size-K edit at K P Q Z rest e);
+    }
 
 -- where they stand, as `past` and `end_of` say
 module _ (edit : List ℕ) (at : ℕ) (m : getD edit at 0 ≡ 0x35) where
@@ -75,8 +81,21 @@ module _ (edit : List ℕ) (at : ℕ) (m : getD edit at 0 ≡ 0x35) where
           let b : second ≡ at + 1 + size (tree (q .test)) + length (editCode (q .P)) = b′ ∙ ap (λ (n : ℕ). n + length (editCode (q .P))) a in
           let c′ = k (q .Q) (q .second second b) in
           let c : next ≡ at + 1 + size (tree (q .test)) + length (editCode (q .P)) + length (editCode (q .Q)) = c′ ∙ ap (λ (n : ℕ). n + length (editCode (q .Q))) b in
-          record { test = q .test; P = q .P; Q = q .Q; W = q .W; is = q .is; test-at = q .test-at; first-at = q .first first a; second-at = q .second second b; next-at = q .next next c;
-            on = omega (arith, a, size-pos (tree (q .test)) (q .test-at .formed)); between = sym b′; behind = sym c′; ends = omega (arith, c, q .long) }
+          record {
+            test = q .test;
+            P = q .P;
+            Q = q .Q;
+            W = q .W;
+            is = q .is;
+            test-at = q .test-at;
+            first-at = q .first first a;
+            second-at = q .second second b;
+            next-at = q .next next c;
+            on = omega (arith, a, size-pos (tree (q .test)) (q .test-at .formed));
+            between = sym b′;
+            behind = sym c′;
+            ends = omega (arith, c, q .long);
+          }
 
 -- The end: what is written is the rule under the steps passed.
 pub end-written : {edit stack behind : List ℕ} {at h d : ℕ} {σ : List Step} {Z : Edit} {Ws : List Edit} → Way edit stack behind at h d σ Z Ws → getD edit at 0 ≡ 0x30 → d ≡ 0 → (K : Expr rule)
@@ -116,8 +135,13 @@ module _ {edit stack behind : List ℕ} {at h d first second next : ℕ} {σ : L
       let n : getD behind′ (length Ws) 0 ≡ next = ap (λ (b : List ℕ). getD b (length Ws) 0) e ∙ ap (λ (i : ℕ). getD (set behind d next) i 0) (sym (y .around)) ∙ getD-set-same behind d next 0 l in
       let kept : Kept d behind behind′ = subst (λ (b : List ℕ). Kept d behind b) (sym e) (kept-set behind d next) in
       let r = behind-kept edit (at + length (editCode Z)) Ws (omega (arith, y .around)) kept (y .rest) in
-      record { passed = y .passed; steps = steps-kept edit σ (omega (arith, y .passed)) k (y .steps); here = a; around = omega (arith, y .around);
-        rest = (omega (arith, n, o), subst (λ (x : ℕ). EditAt edit x (q .W)) (sym n) (q .next-at), subst (λ (x : ℕ). BehindIs edit behind′ x Ws) (sym (ap (λ (x : ℕ). x + length (editCode (q .W))) n ∙ q .ends)) r) }
+      record {
+        passed = y .passed;
+        steps = steps-kept edit σ (omega (arith, y .passed)) k (y .steps);
+        here = a;
+        around = omega (arith, y .around);
+        rest = (omega (arith, n, o), subst (λ (x : ℕ). EditAt edit x (q .W)) (sym n) (q .next-at), subst (λ (x : ℕ). BehindIs edit behind′ x Ws) (sym (ap (λ (x : ℕ). x + length (editCode (q .W))) n ∙ q .ends)) r);
+      }
 
   pub first-way : {stack′ behind′ : List ℕ} → Kept h stack stack′ → behind′ ≡ set behind d next → d < length behind → Way edit stack′ behind′ first h (d + 1) σ (q .P) (q .W ∷ Ws)
   first-way k e l = branch k e l first (q .P) (q .first-at) (omega (arith, q .between, q .behind))

@@ -176,8 +176,11 @@ module _ (text : List ℕ) (at s : ℕ) (e : s ≡ shapeOf (getD text at 0)) whe
             let some : 8 ≤ s = omega arith in
             let q = is-two some t a in
             let l = long (ap (λ (u : Tree). length (headOf u)) (q .is) ∙ q .head) in
-            record { long = l; in-text = omega (arith, q .head, q .room, e);
-              in-out = omega (arith, l, ap length (two-bytes some t a σ), length-append (take (s % 4) (drop at text) ++ bytes (graft (env σ) (q .x))) (bytes (graft (env σ) (q .y))), length-append (take (s % 4) (drop at text)) (bytes (graft (env σ) (q .x)))) }
+            record {
+              long = l;
+              in-text = omega (arith, q .head, q .room, e);
+              in-out = omega (arith, l, ap length (two-bytes some t a σ), length-append (take (s % 4) (drop at text) ++ bytes (graft (env σ) (q .x))) (bytes (graft (env σ) (q .y))), length-append (take (s % 4) (drop at text)) (bytes (graft (env σ) (q .x))));
+            }
 
     module _ {edit stack : List ℕ} {h pos room : ℕ} (w : SomeShown text at edit stack h pos room) where
       pub head-in-text : at + s % 4 ≤ length text
@@ -201,17 +204,33 @@ module _ (text : List ℕ) (at s : ℕ) (e : s ≡ shapeOf (getD text at 0)) whe
             go (yes low) =
                 let q = is-one some low (w .what) (w .what-at) in
                 let l = length-append (take (s % 4) (drop at text)) (bytes (graft (env (w .steps)) (q .x))) in
-                record { head = omega (arith, q .head, q .pos, e);
-                  some = record { steps = w .steps; is = w .is; stands = w .stands; what = q .x; what-at = one-first some low (w .what) (w .what-at);
-                    fits = omega (arith, w .fits, c, same, l, ap length (one-bytes some low (w .what) (w .what-at) (w .steps))) } }
+                record {
+                  head = omega (arith, q .head, q .pos, e);
+                  some = record {
+                    steps = w .steps;
+                    is = w .is;
+                    stands = w .stands;
+                    what = q .x;
+                    what-at = one-first some low (w .what) (w .what-at);
+                    fits = omega (arith, w .fits, c, same, l, ap length (one-bytes some low (w .what) (w .what-at) (w .steps)));
+                  };
+                }
             go (no high) =
                 let more : 8 ≤ s = omega arith in
                 let q = is-two more (w .what) (w .what-at) in
                 let l = length-append (take (s % 4) (drop at text)) (bytes (graft (env (w .steps)) (q .x))) in
                 let m = length-append (take (s % 4) (drop at text) ++ bytes (graft (env (w .steps)) (q .x))) (bytes (graft (env (w .steps)) (q .y))) in
-                record { head = omega (arith, q .head, q .pos, e);
-                  some = record { steps = w .steps; is = w .is; stands = w .stands; what = q .x; what-at = two-first more (w .what) (w .what-at);
-                    fits = omega (arith, w .fits, c, same, l, m, ap length (two-bytes more (w .what) (w .what-at) (w .steps))) } }
+                record {
+                  head = omega (arith, q .head, q .pos, e);
+                  some = record {
+                    steps = w .steps;
+                    is = w .is;
+                    stands = w .stands;
+                    what = q .x;
+                    what-at = two-first more (w .what) (w .what-at);
+                    fits = omega (arith, w .fits, c, same, l, m, ap length (two-bytes more (w .what) (w .what-at) (w .steps)));
+                  };
+                }
 
         pub record Second (at₂ p₂ : ℕ) : Type 0 where
           pub on : p ≤ p₂
@@ -223,9 +242,17 @@ module _ (text : List ℕ) (at s : ℕ) (e : s ≡ shapeOf (getD text at 0)) whe
             let v = f (w .steps) (q .x) (w .is) (w .stands) (two-first more (w .what) (w .what-at)) in
             let l = length-append (take (s % 4) (drop at text)) (bytes (graft (env (w .steps)) (q .x))) in
             let m = length-append (take (s % 4) (drop at text) ++ bytes (graft (env (w .steps)) (q .x))) (bytes (graft (env (w .steps)) (q .y))) in
-            record { on = omega (arith, v .wrote .counted);
-              some = record { steps = w .steps; is = w .is; stands = w .stands; what = q .y; what-at = two-second more (w .what) (w .what-at) at₂ (v .read);
-                fits = omega (arith, w .fits, c, same, l, m, v .wrote .counted, ap length (two-bytes more (w .what) (w .what-at) (w .steps))) } }
+            record {
+              on = omega (arith, v .wrote .counted);
+              some = record {
+                steps = w .steps;
+                is = w .is;
+                stands = w .stands;
+                what = q .y;
+                what-at = two-second more (w .what) (w .what-at) at₂ (v .read);
+                fits = omega (arith, w .fits, c, same, l, m, v .wrote .counted, ap length (two-bytes more (w .what) (w .what-at) (w .steps)));
+              };
+            }
 
 pub shown-moved : {text edit stack : List ℕ} {at h pos pos′ room room′ : ℕ} → SomeShown text at edit stack h pos room → pos′ ≡ pos → room′ ≡ room → SomeShown text at edit stack h pos′ room′
 shown-moved w p r = record { steps = w .steps; is = w .is; stands = w .stands; what = w .what; what-at = w .what-at; fits = omega (arith, w .fits, p, r) }

@@ -62,10 +62,14 @@ module _ (edit : List ℕ) (at op k : ℕ) {s : Sort} (E : Expr s) (put : Edit �
   stepping-by Z h r r′ =
       let rest = h .place .rest in
       let e = h .place .here ∙ ap (λ (l : List ℕ). l ++ rest) (codes Z) in
-      record { s = record { op = op; number = k; what = tree E };
+      record {
+        s = record { op = op; number = k; what = tree E };
         s-at = record { op-is = byte-at edit at op _ e; number-is = step-k edit at op k E Z rest e; room = omega (arith, step-room edit at op k E Z rest e (h .limits) r′); what-at = step-what edit at op k E Z rest e (h .limits) r };
-        rest = Z; rest-at = step-next edit at op k E Z rest e (h .limits) r′; long = ap length (codes Z) ∙ step-len edit at op k E Z rest e;
-        same = λ σ Ws K. ap (λ (Y : Edit). written σ Y K) (followed-through put through Z Ws) ∙ writes σ (followed Z Ws) K }
+        rest = Z;
+        rest-at = step-next edit at op k E Z rest e (h .limits) r′;
+        long = ap length (codes Z) ∙ step-len edit at op k E Z rest e;
+        same = λ σ Ws K. ap (λ (Y : Edit). written σ Y K) (followed-through put through Z Ws) ∙ writes σ (followed Z Ws) K;
+      }
 
 stepping : (edit : List ℕ) (at : ℕ) (Z : Edit) → EditAt edit at Z → (getD edit at 0 ≡ 0x30 → ⊥) → (getD edit at 0 ≡ 0x35 → ⊥) → Stepping edit at Z
 unfolding editCode EditInRange followedBy
@@ -87,16 +91,32 @@ module _ {edit stack behind : List ℕ} {at h d : ℕ} where
   step-passed w n m room next f =
       let p = stepping edit at (w .what) (w .way .here) n m in
       let l = f (p .s .what) (p .s-at .what-at) in
-      record { each = λ σ Z Ws y. let q = stepping edit at Z (y .here) n m in go σ Z Ws y q (f (q .s .what) (q .s-at .what-at));
-        kept = kept-set stack h at; on = omega (arith, l); up = omega arith; low = omega (arith, l, w .low); low-behind = omega (arith, l, w .low-behind) }
+      record {
+        each = λ σ Z Ws y. let q = stepping edit at Z (y .here) n m in go σ Z Ws y q (f (q .s .what) (q .s-at .what-at));
+        kept = kept-set stack h at;
+        on = omega (arith, l);
+        up = omega arith;
+        low = omega (arith, l, w .low);
+        low-behind = omega (arith, l, w .low-behind);
+      }
     where
       go : (σ : List Step) (Z : Edit) (Ws : List Edit) → Way edit stack behind at h d σ Z Ws → (q : Stepping edit at Z) → next ≡ at + 2 + size (q .s .what) → Moved edit (set stack h at) behind next (h + 1) d σ Z Ws
       go σ Z Ws y q e =
           let here : getD (set stack h at) (length σ) 0 ≡ at = ap (λ (i : ℕ). getD (set stack h at) i 0) (sym (y .passed)) ∙ getD-set-same stack h at 0 room in
           let from : at + length (editCode Z) ≡ next + length (editCode (q .rest)) = omega (arith, e, q .long) in
-          record { steps = q .s ∷ σ; what = q .rest; later = Ws; same = q .same σ Ws;
-            way = record { passed = omega (arith, y .passed); steps = (subst (λ (o : ℕ). StepAt edit o (q .s)) (sym here) (q .s-at), steps-kept edit σ (omega (arith, y .passed)) (kept-set stack h at) (y .steps));
-              here = q .rest-at next e; around = y .around; rest = subst (λ (x : ℕ). BehindIs edit behind x Ws) from (y .rest) } }
+          record {
+            steps = q .s ∷ σ;
+            what = q .rest;
+            later = Ws;
+            same = q .same σ Ws;
+            way = record {
+              passed = omega (arith, y .passed);
+              steps = (subst (λ (o : ℕ). StepAt edit o (q .s)) (sym here) (q .s-at), steps-kept edit σ (omega (arith, y .passed)) (kept-set stack h at) (y .steps));
+              here = q .rest-at next e;
+              around = y .around;
+              rest = subst (λ (x : ℕ). BehindIs edit behind x Ws) from (y .rest);
+            };
+          }
 
   -- past the end of what a 35 does
   pub end-room : SomeWay edit stack behind at h d → length edit ≤ 2 * length behind → d ≤ length behind
@@ -107,8 +127,14 @@ module _ {edit stack behind : List ℕ} {at h d : ℕ} where
   end-passed w c l =
       let z = as-finish edit at (w .what) (w .way .here) c in
       let b = on (w .later) (w .way .around) (subst (λ (Z : Edit). BehindIs edit behind (at + length (editCode Z)) (w .later)) z (w .way .rest)) in
-      record { each = λ σ Z Ws y. let e = as-finish edit at Z (y .here) c in subst (λ (Y : Edit). Moved edit stack behind (getD behind (d - 1) 0) h (d - 1) σ Y Ws) (sym e) (go σ Ws y (y .around) (subst (λ (Y : Edit). BehindIs edit behind (at + length (editCode Y)) Ws) e (y .rest)));
-        kept = record { same = λ i r. refl }; on = omega (arith, b); up = omega arith; low = omega (arith, w .low, b); low-behind = omega (arith, w .low-behind, b) }
+      record {
+        each = λ σ Z Ws y. let e = as-finish edit at Z (y .here) c in subst (λ (Y : Edit). Moved edit stack behind (getD behind (d - 1) 0) h (d - 1) σ Y Ws) (sym e) (go σ Ws y (y .around) (subst (λ (Y : Edit). BehindIs edit behind (at + length (editCode Y)) Ws) e (y .rest)));
+        kept = record { same = λ i r. refl };
+        on = omega (arith, b);
+        up = omega arith;
+        low = omega (arith, w .low, b);
+        low-behind = omega (arith, w .low-behind, b);
+      }
     where
       on : (Ws : List Edit) → d ≡ length Ws → BehindIs edit behind (at + 1) Ws → at + 1 ≤ getD behind (d - 1) 0
       on [] e i = absurd (omega (arith, e, l))
@@ -118,8 +144,13 @@ module _ {edit stack behind : List ℕ} {at h d : ℕ} where
       go σ [] y e i = absurd (omega (arith, e, l))
       go σ (W ∷ Ws) y e i =
           let m : length Ws ≡ d - 1 = omega (arith, e) in
-          record { steps = σ; what = W; later = Ws; same = λ K. refl;
-            way = record { passed = y .passed; steps = y .steps; here = subst (λ (x : ℕ). EditAt edit (getD behind x 0) W) m (i .1); around = sym m; rest = subst (λ (x : ℕ). BehindIs edit behind (getD behind x 0 + length (editCode W)) Ws) m (i .2) } }
+          record {
+            steps = σ;
+            what = W;
+            later = Ws;
+            same = λ K. refl;
+            way = record { passed = y .passed; steps = y .steps; here = subst (λ (x : ℕ). EditAt edit (getD behind x 0) W) m (i .1); around = sym m; rest = subst (λ (x : ℕ). BehindIs edit behind (getD behind x 0 + length (editCode W)) Ws) m (i .2) };
+          }
 
 -- a walk of many
 pub record Walking (edit stack behind : List ℕ) (at h d : ℕ) (stack′ : List ℕ) (at′ h′ d′ : ℕ) : Type 0 where
@@ -137,9 +168,13 @@ pub walking-more : {edit stack behind : List ℕ} {at h d : ℕ} {stack₁ : Lis
 walking-more w l p =
     let s = w .some in
     let m = p .each (s .steps) (s .what) (s .later) (s .way) in
-    record { long = l ∙ w .long; some = record { steps = m .steps; what = m .what; later = m .later; way = m .way; low = p .low; low-behind = p .low-behind };
+    record {
+      long = l ∙ w .long;
+      some = record { steps = m .steps; what = m .what; later = m .later; way = m .way; low = p .low; low-behind = p .low-behind };
       each = λ σ Z Ws y. let a = w .each σ Z Ws y in let b = p .each (a .steps) (a .what) (a .later) (a .way) in record { steps = b .steps; what = b .what; later = b .later; way = b .way; same = λ K. a .same K ∙ b .same K };
-      kept = kept-more (w .up) (w .kept) (p .kept); up = omega (arith, w .up, p .up) }
+      kept = kept-more (w .up) (w .kept) (p .kept);
+      up = omega (arith, w .up, p .up);
+    }
 
 pub walked : {edit stack behind : List ℕ} {at h d : ℕ} {stack′ : List ℕ} {at′ h′ d′ : ℕ} → Walking edit stack behind at h d stack′ at′ h′ d′ → resting (getD edit at′ 0) d′ ≡ true → Walked edit stack behind at h d stack′ at′ h′ d′
 walked w r = record { each = w .each; kept = w .kept; up = w .up; low = w .some .low; low-behind = w .some .low-behind; rests = r }

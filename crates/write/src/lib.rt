@@ -193,11 +193,19 @@ fn pass(edit: &[u8], at: usize, stack: &mut [usize], h: usize, behind: &[usize],
 {
     if edit[at] == 0x30 {
         let top = d - 1;
-        return Rest { at: behind[top], h, d: top };
+        return Rest {
+            at: behind[top],
+            h,
+            d: top,
+        };
     }
     stack[h] = at;
     let next = measure::past(edit, at + 2);
-    Rest { at: next, h: h + 1, d }
+    Rest {
+        at: next,
+        h: h + 1,
+        d,
+    }
 }
 
 // Goes on until the walk rests.
@@ -233,12 +241,23 @@ fn ways_at(edit: &[u8], at: usize) -> Ways
     let first = measure::past(edit, at + 1);
     let second = measure::end_of(edit, first);
     let next = measure::end_of(edit, second);
-    Ways { first, second, next }
+    Ways {
+        first,
+        second,
+        next,
+    }
 }
 
 // Writes 25 26 27 and the rule at a place of the edit.
 // Inner: it stands there, the stack holds offsets of steps, and there is room.
-fn open_first(edit: &[u8], at: usize, stack: &[usize], h: usize, out: &mut [u8], pos: usize) -> usize
+fn open_first(
+    edit: &[u8],
+    at: usize,
+    stack: &[usize],
+    h: usize,
+    out: &mut [u8],
+    pos: usize,
+) -> usize
     requires { ⌜ SomeShown (now edit) at (now edit) (now stack) h (pos + 3) (length (now out)) × (h ≤ length (now stack)) ⌝ }
     ensures { λ r. ⌜ ((σ : List Step) (t : Tree) → h ≡ length σ → StackIs (now (edit .entry)) (now (stack .entry)) σ → At (now (edit .entry)) at t → Wrote (now (out .entry)) pos (0x25 ∷ 0x26 ∷ 0x27 ∷ bytes (graft (env σ) t)) r (now (out .exit))) ⌝ }
 {
@@ -250,7 +269,14 @@ fn open_first(edit: &[u8], at: usize, stack: &[usize], h: usize, out: &mut [u8],
 
 // Writes 26 and the rule at a place of the edit.
 // Inner: as above.
-fn open_second(edit: &[u8], at: usize, stack: &[usize], h: usize, out: &mut [u8], pos: usize) -> usize
+fn open_second(
+    edit: &[u8],
+    at: usize,
+    stack: &[usize],
+    h: usize,
+    out: &mut [u8],
+    pos: usize,
+) -> usize
     requires { ⌜ SomeShown (now edit) at (now edit) (now stack) h (pos + 1) (length (now out)) × (h ≤ length (now stack)) ⌝ }
     ensures { λ r. ⌜ ((σ : List Step) (t : Tree) → h ≡ length σ → StackIs (now (edit .entry)) (now (stack .entry)) σ → At (now (edit .entry)) at t → Wrote (now (out .entry)) pos (0x26 ∷ bytes (graft (env σ) t)) r (now (out .exit))) ⌝ }
 {

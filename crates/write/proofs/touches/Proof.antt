@@ -15,7 +15,7 @@ met c n k m x e f = sym (ap (λ (b : Bool). b && eqb k m) (eq-eqb c x (f ∙ e))
 
 pub touches-spec : {M : Type 1} → statement M
 touches-spec = tie.close (tie.spec
-      (λ c κs. search needs)
-      (λ c. let a = c .before .before .args in missed _ _ (a .k) (a .number) _ (c .before .name-code .ensures) (c .if1 .taken))
-      (λ c. let a = c .before .before .args in met _ _ (a .k) (a .number) _ (c .before .name-code .ensures) (c .if1 .left))
+    (λ c κs. search needs)
+    (λ c. let a = c .before .before .args in missed _ _ (a .k) (a .number) _ (c .before .name-code .ensures) (c .if1 .taken))
+    (λ c. let a = c .before .before .args in met _ _ (a .k) (a .number) _ (c .before .name-code .ensures) (c .if1 .left))
     )
