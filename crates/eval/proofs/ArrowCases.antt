@@ -147,8 +147,8 @@ module _ (n : ℕ) (text : List ℕ) (at : ℕ) where
     kind-relation h r =
         record {
           rows-are =
-            subst (λ (f : Expr arrow). Rows n (value (graphOf sheet) f) out) (sym (h .is))
-            (subst (λ (a : ℕ). Rows n (graphOf sheet .joined a) out) (h .reads) r);
+              subst (λ (f : Expr arrow). Rows n (value (graphOf sheet) f) out) (sym (h .is))
+              (subst (λ (a : ℕ). Rows n (graphOf sheet .joined a) out) (h .reads) r);
           after = omega (arith, h .size);
         }
 
@@ -157,9 +157,9 @@ module _ (n : ℕ) (text : List ℕ) (at : ℕ) where
     pair-relation h r =
         record {
           rows-are =
-            subst (λ (f : Expr arrow). Rows n (value (graphOf sheet) f) out) (sym (h .is))
-            (subst (λ (i : ℕ). Rows n (λ k l. (isNode (graphOf sheet) k && eqb k i) && (isNode (graphOf sheet) l && eqb l (h .j))) out) (h .reads-i)
-            (subst (λ (j : ℕ). Rows n (λ k l. (isNode (graphOf sheet) k && eqb k (getD text (at + 1) 0)) && (isNode (graphOf sheet) l && eqb l j)) out) (h .reads-j) r));
+              subst (λ (f : Expr arrow). Rows n (value (graphOf sheet) f) out) (sym (h .is))
+              (subst (λ (i : ℕ). Rows n (λ k l. (isNode (graphOf sheet) k && eqb k i) && (isNode (graphOf sheet) l && eqb l (h .j))) out) (h .reads-i)
+              (subst (λ (j : ℕ). Rows n (λ k l. (isNode (graphOf sheet) k && eqb k (getD text (at + 1) 0)) && (isNode (graphOf sheet) l && eqb l j)) out) (h .reads-j) r));
           after = omega (arith, h .size);
         }
 

@@ -192,9 +192,9 @@ module _ (n : ℕ) (text : List ℕ) (at : ℕ) where
         let a = p (h .E) (h .parts .first) in
         record {
           set =
-            r ∙ ap₂ (combined (λ a b. a && not b)) (o .nodes) (a .set)
-            ∙ combined-sets (λ a b. a && not b) refl n (isNode (graphOf sheet)) (value (graphOf sheet) (h .E)) (omega (arith, o .few))
-            ∙ ap (λ (f : Expr node). setOf n (value (graphOf sheet) f)) (sym (h .is));
+              r ∙ ap₂ (combined (λ a b. a && not b)) (o .nodes) (a .set)
+              ∙ combined-sets (λ a b. a && not b) refl n (isNode (graphOf sheet)) (value (graphOf sheet) (h .E)) (omega (arith, o .few))
+              ∙ ap (λ (f : Expr node). setOf n (value (graphOf sheet) f)) (sym (h .is));
           after = omega (arith, a .after, h .parts .size);
         }
 
@@ -209,9 +209,9 @@ module _ (n : ℕ) (text : List ℕ) (at : ℕ) where
         let b = q (h .F) (h .parts .second nx (a .after)) in
         record {
           set =
-            r ∙ ap₂ (combined (nodeOperation c)) (a .set) (b .set)
-            ∙ combined-sets (nodeOperation c) (node-operation-none c) n (value (graphOf sheet) (h .E)) (value (graphOf sheet) (h .F)) (omega (arith, o .few))
-            ∙ ap (setOf n) (sym (h .means (graphOf sheet)));
+              r ∙ ap₂ (combined (nodeOperation c)) (a .set) (b .set)
+              ∙ combined-sets (nodeOperation c) (node-operation-none c) n (value (graphOf sheet) (h .E)) (value (graphOf sheet) (h .F)) (omega (arith, o .few))
+              ∙ ap (setOf n) (sym (h .means (graphOf sheet)));
           after = omega (arith, a .after, b .after, h .parts .size);
         }
 
@@ -226,8 +226,8 @@ module _ (n : ℕ) (text : List ℕ) (at : ℕ) where
         let b = q (h .E) (h .parts .second nx (a .after)) in
         record {
           set =
-            r (isNode g) (value g (h .R)) (value g (h .E)) (o .nodes) (a .rows-are) (b .set)
-            ∙ ap (λ (m : ℕ). setOf n (quantifiedNodes (getD text at 0) (getD text (at + k - 1) 0) m (isNode g) (value g (h .R)) (value g (h .E)))) (o .count)
-            ∙ ap (setOf n) (sym (h .means g));
+              r (isNode g) (value g (h .R)) (value g (h .E)) (o .nodes) (a .rows-are) (b .set)
+              ∙ ap (λ (m : ℕ). setOf n (quantifiedNodes (getD text at 0) (getD text (at + k - 1) 0) m (isNode g) (value g (h .R)) (value g (h .E)))) (o .count)
+              ∙ ap (setOf n) (sym (h .means g));
           after = omega (arith, a .after, b .after, h .parts .size);
         }

@@ -170,9 +170,9 @@ module _ (n : ℕ) (text : List ℕ) (at : ℕ) where
         let t = q (h .F) (h .parts .second nx (s .after)) in
         record {
           truth =
-            r n (value g (h .E)) (value g (h .F)) (omega (arith, o .few)) (s .set) (t .set)
-            ∙ ap (λ (m : ℕ). allBelow m (λ i. implies (value g (h .E) i) (value g (h .F) i))) (o .count)
-            ∙ ap (value g) (sym (h .is));
+              r n (value g (h .E)) (value g (h .F)) (omega (arith, o .few)) (s .set) (t .set)
+              ∙ ap (λ (m : ℕ). allBelow m (λ i. implies (value g (h .E) i) (value g (h .F) i))) (o .count)
+              ∙ ap (value g) (sym (h .is));
           after = omega (arith, s .after, t .after, h .parts .size);
         }
 
@@ -188,9 +188,9 @@ module _ (n : ℕ) (text : List ℕ) (at : ℕ) where
         let t = q (h .S) (h .parts .second nx (s .after)) in
         record {
           truth =
-            r (value g (h .R)) (value g (h .S)) (s .rows-are) (t .rows-are)
-            ∙ ap (λ (m : ℕ). allBelow m (λ i. allBelow m (λ j. implies (value g (h .R) i j) (value g (h .S) i j)))) (o .count)
-            ∙ ap (value g) (sym (h .is));
+              r (value g (h .R)) (value g (h .S)) (s .rows-are) (t .rows-are)
+              ∙ ap (λ (m : ℕ). allBelow m (λ i. allBelow m (λ j. implies (value g (h .R) i j) (value g (h .S) i j)))) (o .count)
+              ∙ ap (value g) (sym (h .is));
           after = omega (arith, s .after, t .after, h .parts .size);
         }
 
@@ -217,9 +217,9 @@ module _ (n : ℕ) (text : List ℕ) (at : ℕ) where
         let s = p (h .R) (h .parts .first) in
         record {
           truth =
-            r n (value g (h .R)) (omega (arith, h .reads-i, h .range-i)) (omega (arith, h .reads-j, h .range-j)) (s .rows-are)
-            ∙ ap₂ (value g (h .R)) (h .reads-i) (h .reads-j)
-            ∙ ap (value g) (sym (h .is));
+              r n (value g (h .R)) (omega (arith, h .reads-i, h .range-i)) (omega (arith, h .reads-j, h .range-j)) (s .rows-are)
+              ∙ ap₂ (value g (h .R)) (h .reads-i) (h .reads-j)
+              ∙ ap (value g) (sym (h .is));
           after = omega (arith, s .after, h .parts .size);
         }
 

@@ -7,7 +7,9 @@ ghost use Rattle.logic.specs.Syntax.{Expr, «node», arrow, rule};
 ghost use Rattle.logic.specs.Limits.{ranges};
 ghost use Rattle.text.specs.Stands.{Stands, SomeStands};
 ghost use Rattle.eval.specs.Evaluated.{Opened, IsSet, IsRelation, IsTruth, ruleOperation};
-use logic::{Arrow, Label, Node};
+use logic::Arrow;
+use logic::Label;
+use logic::Node;
 use sheet::Sheet;
 
 // A set of nodes, and where the text goes on.
@@ -33,13 +35,25 @@ fn leaf_node(sheet: &[u8], n: usize, all: u64, text: &[u8], at: usize) -> NodeSe
 {
     let c = text[at];
     if c <= 0x01 {
-        NodeSet { set: all, next: at + 1 }
+        NodeSet {
+            set: all,
+            next: at + 1,
+        }
     } else if c <= 0x02 {
-        NodeSet { set: 0, next: at + 1 }
+        NodeSet {
+            set: 0,
+            next: at + 1,
+        }
     } else if c <= 0x03 {
-        NodeSet { set: Sheet::label_word(sheet, Label(text[at + 1])), next: at + 2 }
+        NodeSet {
+            set: Sheet::label_word(sheet, Label(text[at + 1])),
+            next: at + 2,
+        }
     } else {
-        NodeSet { set: rows::nominal(all, Node(text[at + 1])), next: at + 2 }
+        NodeSet {
+            set: rows::nominal(all, Node(text[at + 1])),
+            next: at + 2,
+        }
     }
 }
 
@@ -65,11 +79,7 @@ fn one_pair(sheet: &[u8], n: usize, all: u64, text: &[u8], at: usize) -> Relatio
 fn ahead(c: u8) -> usize
     ensures { λ r. ⌜ (c ≤ 0x09 → r ≡ 1) × (0x09 < c → r ≡ 2) ⌝ }
 {
-    if c <= 0x09 {
-        1
-    } else {
-        2
-    }
+    if c <= 0x09 { 1 } else { 2 }
 }
 
 // The set that a node expression means.
@@ -82,18 +92,27 @@ pub fn eval_node(sheet: &[u8], n: usize, all: u64, text: &[u8], at: usize) -> No
         leaf_node(sheet, n, all, text, at)
     } else if c <= 0x05 {
         let e = eval_node(sheet, n, all, text, at + 1);
-        NodeSet { set: words::minus(all, e.set), next: e.next }
+        NodeSet {
+            set: words::minus(all, e.set),
+            next: e.next,
+        }
     } else if c <= 0x07 {
         let e = eval_node(sheet, n, all, text, at + 1);
         let f = eval_node(sheet, n, all, text, e.next);
-        NodeSet { set: rows::combined_sets(c, e.set, f.set), next: f.next }
+        NodeSet {
+            set: rows::combined_sets(c, e.set, f.set),
+            next: f.next,
+        }
     } else {
         let k = ahead(c);
         let m = text[at + k - 1];
         let r = eval_arrow(sheet, n, all, text, at + k);
         let e = eval_node(sheet, n, all, text, r.next);
         let rows = r.rows;
-        NodeSet { set: rows::quantified(c, m, n, all, rows, e.set), next: e.next }
+        NodeSet {
+            set: rows::quantified(c, m, n, all, rows, e.set),
+            next: e.next,
+        }
     }
 }
 
@@ -109,7 +128,10 @@ pub fn eval_arrow(sheet: &[u8], n: usize, all: u64, text: &[u8], at: usize) -> R
         let r = eval_arrow(sheet, n, all, text, at + 1);
         let rows = r.rows;
         let back = rows::reversed(n, rows);
-        Relation { rows: back, next: r.next }
+        Relation {
+            rows: back,
+            next: r.next,
+        }
     } else if c <= 0x15 {
         let r = eval_arrow(sheet, n, all, text, at + 1);
         let s = eval_arrow(sheet, n, all, text, r.next);
@@ -135,7 +157,10 @@ fn sub_nodes(sheet: &[u8], n: usize, all: u64, text: &[u8], at: usize) -> Truth
 {
     let e = eval_node(sheet, n, all, text, at + 1);
     let f = eval_node(sheet, n, all, text, e.next);
-    Truth { holds: rows::set_in(e.set, f.set), next: f.next }
+    Truth {
+        holds: rows::set_in(e.set, f.set),
+        next: f.next,
+    }
 }
 
 // 22.
@@ -147,7 +172,10 @@ fn sub_arrows(sheet: &[u8], n: usize, all: u64, text: &[u8], at: usize) -> Truth
     let s = eval_arrow(sheet, n, all, text, r.next);
     let first = r.rows;
     let second = s.rows;
-    Truth { holds: rows::rows_in(n, first, second), next: s.next }
+    Truth {
+        holds: rows::rows_in(n, first, second),
+        next: s.next,
+    }
 }
 
 // 23.
@@ -156,7 +184,10 @@ fn node_in(sheet: &[u8], n: usize, all: u64, text: &[u8], at: usize) -> Truth
     ensures { λ r. ⌜ ((e : Expr rule) → Stands (ranges n) (now (text .entry)) at e → IsTruth (now (sheet .entry)) at e (r .holds) (r .next)) ⌝ }
 {
     let e = eval_node(sheet, n, all, text, at + 2);
-    Truth { holds: rows::node_in(e.set, Node(text[at + 1])), next: e.next }
+    Truth {
+        holds: rows::node_in(e.set, Node(text[at + 1])),
+        next: e.next,
+    }
 }
 
 // 24.
@@ -166,18 +197,17 @@ fn pair_in(sheet: &[u8], n: usize, all: u64, text: &[u8], at: usize) -> Truth
 {
     let r = eval_arrow(sheet, n, all, text, at + 3);
     let rows = r.rows;
-    Truth { holds: rows::pair_in(rows, Node(text[at + 1]), Node(text[at + 2])), next: r.next }
+    Truth {
+        holds: rows::pair_in(rows, Node(text[at + 1]), Node(text[at + 2])),
+        next: r.next,
+    }
 }
 
 // 25, 26.
 fn combined_truth(c: u8, k: bool, l: bool) -> bool
     ensures { λ r. ⌜ r ≡ ruleOperation c k l ⌝ }
 {
-    if c == 0x25 {
-        k & l
-    } else {
-        k | l
-    }
+    if c == 0x25 { k & l } else { k | l }
 }
 
 // Whether a rule holds. Both operands of 25 and 26 are evaluated, since the second one's end is wanted.
@@ -197,9 +227,15 @@ pub fn eval_rule(sheet: &[u8], n: usize, all: u64, text: &[u8], at: usize) -> Tr
     } else if c <= 0x26 {
         let k = eval_rule(sheet, n, all, text, at + 1);
         let l = eval_rule(sheet, n, all, text, k.next);
-        Truth { holds: combined_truth(c, k.holds, l.holds), next: l.next }
+        Truth {
+            holds: combined_truth(c, k.holds, l.holds),
+            next: l.next,
+        }
     } else {
         let k = eval_rule(sheet, n, all, text, at + 1);
-        Truth { holds: !k.holds, next: k.next }
+        Truth {
+            holds: !k.holds,
+            next: k.next,
+        }
     }
 }

@@ -82,11 +82,7 @@ pub fn decide(sheet: &[u8], book: &[u8]) -> Verdict
 fn at_most(x: usize, most: usize) -> usize
     ensures { λ r. ⌜ (r ≤ most) × (x ≤ most → r ≡ x) × (most < x → r ≡ most) ⌝ }
 {
-    if x <= most {
-        x
-    } else {
-        most
-    }
+    if x <= most { x } else { most }
 }
 
 // The part of a book that a verdict names, cut off where the book ends.
