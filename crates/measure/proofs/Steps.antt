@@ -75,7 +75,7 @@ edit-cond true Y Z = refl
 edit-cond false Y Z = refl
 
 module _ (text : List ℕ) (at : ℕ) (c₀ k : ℕ) {s : Sort} (E : Expr s) (Z : Edit) (rest : List ℕ) (e : drop at text ≡ (c₀ ∷ k ∷ code E ++ editCode Z) ++ rest) where
-  pub step-split : drop (at + 2) text ≡ code E ++ (editCode Z ++ rest)
+  step-split : drop (at + 2) text ≡ code E ++ (editCode Z ++ rest)
   step-split = behind text at (c₀ ∷ k ∷ []) (code E ++ (editCode Z ++ rest)) (e ∙ ap (λ (l : List ℕ). c₀ ∷ k ∷ l) (append-assoc (code E) (editCode Z) rest))
 
   pub step-what : (lim : Ranges) → InRange lim E → At text (at + 2) (tree E)

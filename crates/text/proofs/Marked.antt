@@ -1,5 +1,5 @@
 -- The marked examples and the faults, each table by one fact.
-use mathlib.Core.Path.{_≡_, refl}
+use mathlib.Core.Path.{refl}
 use Rattle.answer.specs.Asked.{_>>=_, _>>_, is}
 use Rattle.logic.specs.Graph.{isNode, anyBelow, allBelow, countBelow}
 use Rattle.logic.specs.Meaning.{value}
@@ -9,14 +9,14 @@ use Rattle.text.specs.Code.{code}
 use Rattle.text.specs.Reading.{codes, choice, follow}
 use Rattle.text.specs.Reading as reading
 use Rattle.text.specs.Questions.{first, whole, rulesOf, askBook, askFirst, askEdit}
-use Rattle.text.specs.Marked.{sheetT, members, onT, judgedOnT, throughOnT, examples, printed, times, found, texts, findings}
+use Rattle.text.specs.Marked.{sheetT, members, onT, judgedOnT, throughOnT, Right, examples, times, found, texts}
 
 -- Examples 1 to 10: from the printed bytes to what is printed.
-pub marked : examples ≡ printed
-unfolding examples printed onT judgedOnT throughOnT sheetT members value isNode anyBelow allBelow countBelow update run replace putLabel putArrow carry code first whole askFirst askEdit _>>=_ _>>_ is codes choice follow reading._>>=_
+pub marked : Right examples
+unfolding examples onT judgedOnT throughOnT sheetT members value isNode anyBelow allBelow countBelow update run replace putLabel putArrow carry code first whole askFirst askEdit _>>=_ _>>_ is codes choice follow reading._>>=_
 marked = refl
 
 -- The faults and their places.
-pub faults : texts ≡ findings
-unfolding texts findings times found first whole rulesOf askBook askFirst askEdit _>>=_ _>>_ is codes choice follow reading._>>=_
+pub faults : Right texts
+unfolding texts times found first whole rulesOf askBook askFirst askEdit _>>=_ _>>_ is codes choice follow reading._>>=_
 faults = refl

@@ -1,24 +1,21 @@
 -- A rule written along a way: at the end, and at a 35 both its ways.
-use mathlib.Core.Path.{_≡_, refl, sym, ap, _∙_, subst}
-use mathlib.Core.List.{List, [], _∷_, _++_}
-use Prim.Native.Nat.{ℕ, suc, _+_, _*_, _-_, _≤_, _<_}
+use mathlib.Core.Path.{_≡_, refl, sym, ap, _∙_}
+use mathlib.Core.List.{List, _∷_}
+use Prim.Native.Nat.{ℕ, _+_, _*_, _≤_, _<_}
 use native.Mathlib.Omega.{arith}
-use lib.ListN.{length, getD, set, length-set}
+use lib.ListN.{length, getD, set}
 use lib.Seq.{set-set, set-getD}
-use Rattle.logic.specs.Syntax.{rule, Expr, Edit}
-use Rattle.logic.specs.Carry.{carry}
-use Rattle.text.specs.Code.{code, editCode}
-use Rattle.tree.specs.Tree.{Tree, tree, size, bytes, graft}
+use Rattle.logic.specs.Syntax.{Edit}
+use Rattle.tree.specs.Tree.{Tree, tree, bytes, graft}
 use Rattle.tree.specs.Stack.{Step, env, written}
 use Rattle.measure.specs.Shapes.{At}
-use Rattle.measure.specs.Edits.{EditAt, SomeEdit, Kept}
-use Rattle.measure.specs.Book.{RuleAt}
+use Rattle.measure.specs.Edits.{EditAt}
 use Rattle.measure.proofs.Steps.{edit-inside}
 use Rattle.measure.proofs.Rules.{rule-at}
 use Rattle.write.specs.Laid.{Wrote}
 use Rattle.write.specs.Offsets.{StackIs}
 use Rattle.write.specs.Writing.{SomeShown, Emitted}
-use Rattle.write.specs.Ways.{followed, Way, SomeWay, Moved, Walked, Chosen, SomeCarried, Carried}
+use Rattle.write.specs.Ways.{followed, Walked, Chosen, SomeCarried, Carried}
 use Rattle.write.proofs.Laying.{wrote-more, wrote-as}
 use Rattle.write.proofs.Walking.{steps-kept, kept-more}
 use Rattle.write.proofs.Choosing.{end-written, choice-written, choice-length, first-way, second-way}

@@ -1,10 +1,10 @@
 -- The two ways of a 35.
 use mathlib.Core.Path.{_≡_, refl, sym, ap, _∙_, subst}
 use mathlib.Core.List.{List, [], _∷_, _++_, append-assoc}
-use Prim.Native.Nat.{ℕ, zero, suc, _+_, _*_, _-_, _≤_, _<_}
+use Prim.Native.Nat.{ℕ, _+_, _≤_, _<_}
 use native.Mathlib.Omega.{arith}
-use lib.ListN.{length, getD, drop, set, length-set, length-append}
-use lib.Seq.{getD-set-same, set-set, set-getD}
+use lib.ListN.{length, getD, set, length-append}
+use lib.Seq.{getD-set-same}
 use Rattle.logic.specs.Syntax.{rule, Expr, Edit, finish, addLabel, takeLabel, addArrow, takeArrow, choose}
 use Rattle.logic.specs.Limits.{EditInRange}
 use Rattle.logic.specs.Carry.{followedBy}
@@ -15,16 +15,11 @@ use Rattle.tree.proofs.Trees.{bytes-tree}
 use Rattle.tree.proofs.Written.{written-finish, written-choose}
 use Rattle.measure.specs.Shapes.{At, Some}
 use Rattle.measure.specs.Edits.{EditAt, SomeEdit, Kept}
-use Rattle.measure.specs.Book.{RuleAt}
 use Rattle.measure.proofs.Places.{inside, size-pos}
 use Rattle.measure.proofs.Formed.{formed-tree}
-use Rattle.measure.proofs.Steps.{tag-edit, as-finish, edit-inside, cK, cP, cQ, cZ, size-K}
-use Rattle.write.specs.Laid.{Wrote}
-use Rattle.write.specs.Offsets.{StepAt, StackIs}
-use Rattle.write.specs.Writing.{SomeShown, Emitted}
-use Rattle.write.specs.Ways.{followed, BehindIs, Way, SomeWay, Moved, resting, Passed, Walked, Chosen, SomeCarried, Carried}
-use Rattle.write.proofs.Laying.{wrote-more, wrote-as}
-use Rattle.write.proofs.Walking.{steps-kept, behind-kept, kept-set, kept-more, followed-through, at-end, at-choice}
+use Rattle.measure.proofs.Steps.{tag-edit, as-finish, cK, cP, cQ, cZ, size-K}
+use Rattle.write.specs.Ways.{followed, BehindIs, Way, Chosen}
+use Rattle.write.proofs.Walking.{steps-kept, behind-kept, kept-set, followed-through}
 
 -- the parts of a 35 in a text
 record Parts (edit : List ℕ) (at : ℕ) (Z : Edit) : Type 0 where

@@ -2,19 +2,19 @@
 use mathlib.Core.Path.{_≡_, refl, sym, ap, ap₂, _∙_, subst}
 use mathlib.Core.Bool.{Bool, true, false, cond}
 use mathlib.Core.List.{List, [], _∷_, _++_, append-assoc}
-use Prim.Native.Nat.{ℕ, suc, _+_, _-_, _%_, _≤_, _<_}
+use Prim.Native.Nat.{ℕ, _+_, _-_, _%_, _≤_, _<_}
 use native.Mathlib.Omega.{arith}
 use native.Mathlib.Decide.{decLt}
 use lib.Dec.{eqb}
 use lib.ListN.{length, getD, set, take, drop, length-append}
 use lib.Seq.{take-append-seam}
 use Rattle.tree.specs.Tree.{Tree, name, leaf, one, two, bytes, graft, size}
-use Rattle.tree.specs.Stack.{Step, env, becomes, lead, inner}
+use Rattle.tree.specs.Stack.{Step, env, lead, inner}
 use Rattle.tree.proofs.Written.{bytes-becomes}
-use Rattle.measure.specs.Shapes.{At, Formed, shapeOf}
-use Rattle.measure.proofs.Places.{inside, IsName, IsLeaf, IsOne, IsTwo, as-name, as-leaf, as-one, as-two}
-use Rattle.write.specs.Laid.{laid, Wrote}
-use Rattle.write.specs.Offsets.{StepAt, StackIs, SomeStack, Hit, Found}
+use Rattle.measure.specs.Shapes.{At, shapeOf}
+use Rattle.measure.proofs.Places.{IsName, IsLeaf, IsOne, IsTwo, as-name, as-leaf, as-one, as-two}
+use Rattle.write.specs.Laid.{Wrote}
+use Rattle.write.specs.Offsets.{StackIs, Hit, Found}
 use Rattle.write.specs.Writing.{SomeName, SomeShown, Emitted}
 use Rattle.write.proofs.Laying.{wrote-one, wrote-more, wrote-as}
 

@@ -1,11 +1,11 @@
-use mathlib.Core.Path.{_≡_, refl, sym, ap, ap₂, _∙_, subst}
-use mathlib.Core.Bool.{Bool, true, false}
+use mathlib.Core.Path.{_≡_, refl, sym, ap₂, _∙_, subst}
+use mathlib.Core.Bool.{true, false}
 use mathlib.Core.List.{List, [], _∷_}
-use Prim.Native.Nat.{ℕ, zero, suc, _+_, _-_, _<_, _≤_}
+use Prim.Native.Nat.{ℕ, suc, _+_, _-_, _<_, _≤_}
 use native.Mathlib.Omega.{arith}
 use lib.ListN.{length, getD}
-use Rattle.tree.specs.Tree.{Tree, name, graft, same}
-use Rattle.tree.specs.Stack.{Step, env, becomes, touched}
+use Rattle.tree.specs.Tree.{name, same}
+use Rattle.tree.specs.Stack.{Step, env, touched}
 use Rattle.tree.proofs.Written.{env-hit, env-miss}
 use Rattle.write.specs.Offsets.{StepAt, StackIs, SomeStack, Hit, Found}
 

@@ -1,7 +1,7 @@
 -- A rule from the start of an edit; the rules of a book one behind the other.
-use mathlib.Core.Path.{_≡_, refl, sym, ap, _∙_, subst}
+use mathlib.Core.Path.{_≡_, refl, sym, ap, _∙_}
 use mathlib.Core.List.{List, [], _∷_, _++_, append-assoc, append-nil}
-use Prim.Native.Nat.{ℕ, zero, suc, _+_, _*_, _-_, _≤_, _<_}
+use Prim.Native.Nat.{ℕ, _+_, _≤_, _<_}
 use native.Mathlib.Omega.{arith}
 use lib.ListN.{length, drop, length-append, length-drop}
 use Rattle.logic.specs.Syntax.{rule, Expr, Edit}
@@ -9,16 +9,16 @@ use Rattle.logic.specs.Carry.{carry, carriedBook}
 use Rattle.logic.specs.Limits.{Ranges}
 use Rattle.text.specs.Code.{code, bookCode}
 use Rattle.tree.specs.Tree.{Tree, tree, size}
-use Rattle.tree.specs.Stack.{Step, written}
+use Rattle.tree.specs.Stack.{written}
 use Rattle.tree.proofs.Written.{written-code}
 use Rattle.measure.specs.Shapes.{At, Some}
 use Rattle.measure.specs.Edits.{EditAt}
 use Rattle.measure.specs.Book.{RuleAt, RulesInRange, BookIs}
 use Rattle.measure.proofs.Places.{behind}
 use Rattle.measure.proofs.Rules.{rule-at, rule-size, rule-fits}
-use Rattle.write.specs.Laid.{laid, Wrote}
+use Rattle.write.specs.Laid.{Wrote}
 use Rattle.write.specs.Offsets.{StackIs}
-use Rattle.write.specs.Ways.{followed, BehindIs, Way, SomeWay, SomeCarried, Carried}
+use Rattle.write.specs.Ways.{followed, BehindIs, Way, SomeCarried, Carried}
 use Rattle.write.specs.Carried.{SomeRuleFits, RuleWritten, SomeBookFits, BookWritten}
 use Rattle.write.proofs.Laying.{laid-fits, wrote-none, wrote-more, wrote-as}
 

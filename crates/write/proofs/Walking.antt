@@ -1,11 +1,11 @@
 -- Passing a step and an end on a way through an edit.
-use mathlib.Core.Path.{_≡_, refl, sym, ap, ap₂, _∙_, subst}
-use mathlib.Core.Bool.{Bool, true, false, cond}
+use mathlib.Core.Path.{_≡_, refl, sym, ap, _∙_, subst}
+use mathlib.Core.Bool.{Bool, true, false}
 use mathlib.Core.List.{List, [], _∷_, _++_}
-use Prim.Native.Nat.{ℕ, zero, suc, _+_, _*_, _-_, _≤_, _<_}
+use Prim.Native.Nat.{ℕ, _+_, _*_, _-_, _≤_, _<_}
 use native.Mathlib.Omega.{arith}
 use lib.Dec.{eqb}
-use lib.ListN.{length, getD, set, length-set}
+use lib.ListN.{length, getD, set}
 use lib.Seq.{getD-set-same, getD-set-other}
 use borrow.Author.Tests.{eqb-true, eqb-false, eq-eqb, ne-eqb}
 use Rattle.logic.specs.Syntax.{Sort, rule, Expr, Edit, finish, addLabel, takeLabel, addArrow, takeArrow, choose}
@@ -16,7 +16,7 @@ use Rattle.tree.specs.Tree.{Tree, tree, size}
 use Rattle.tree.specs.Stack.{Step, written}
 use Rattle.tree.proofs.Written.{written-addLabel, written-takeLabel, written-addArrow, written-takeArrow}
 use Rattle.measure.specs.Shapes.{At, Some}
-use Rattle.measure.specs.Edits.{EditAt, SomeEdit, Kept}
+use Rattle.measure.specs.Edits.{EditAt, Kept}
 use Rattle.measure.proofs.Places.{byte-at, inside}
 use Rattle.measure.proofs.Steps.{tag-edit, as-finish, edit-inside, step-what, step-next, step-len, step-k, step-room}
 use Rattle.write.specs.Offsets.{StepAt, StackIs}

@@ -3,7 +3,7 @@ use mathlib.Core.Path.{_≡_}
 use mathlib.Core.List.{List, [], _∷_}
 use Prim.Native.Nat.{ℕ, suc, _+_, _<_, _≤_}
 use lib.ListN.{length, getD}
-use Rattle.tree.specs.Tree.{Tree, name, graft}
+use Rattle.tree.specs.Tree.{name, graft}
 use Rattle.tree.specs.Stack.{Step, env, becomes}
 use Rattle.measure.specs.Shapes.{At}
 

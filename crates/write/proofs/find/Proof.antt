@@ -1,7 +1,6 @@
 use native.Mathlib.Omega.{arith}
 use borrow.Author.Needs.{needs}
-use mathlib.Core.Path.{_≡_, refl, sym, ap, _∙_}
-use Prim.Native.Nat.{ℕ, _≤_, _-_, _+_}
+use mathlib.Core.Path.{sym, _∙_}
 use Rattle.write.proofs.Finding.{Finding, finding-first, finding-more, finding-hit, finding-none, top}
 use Rattle.write.proofs.find.Statement.{statement}
 use Rattle.write.proofs.find.Tie as tie

@@ -1,8 +1,6 @@
 use native.Mathlib.Omega.{arith}
-use borrow.Author.Needs.{needs}
-use mathlib.Core.Path.{_≡_, _∙_}
-use lib.ListN.{length, length-set}
-use denote.Ref.{now}
+use mathlib.Core.Path.{_∙_}
+use lib.ListN.{length-set}
 use Rattle.write.proofs.Laying.{wrote-one, wrote-more}
 use Rattle.write.proofs.Emitting.{shown-moved}
 use Rattle.write.proofs.open_first.Statement.{statement}

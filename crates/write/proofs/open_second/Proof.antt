@@ -1,7 +1,6 @@
-use native.Mathlib.Omega.{arith}
 use borrow.Author.Needs.{needs}
-use mathlib.Core.Path.{_≡_, refl, _∙_}
-use lib.ListN.{length, length-set}
+use mathlib.Core.Path.{refl, _∙_}
+use lib.ListN.{length-set}
 use denote.Ref.{now}
 use Rattle.write.proofs.Laying.{wrote-one, wrote-more}
 use Rattle.write.proofs.Emitting.{shown-moved}

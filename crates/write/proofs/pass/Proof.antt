@@ -1,7 +1,5 @@
 use native.Mathlib.Omega.{arith}
-use borrow.Author.Needs.{needs}
-use mathlib.Core.Path.{_≡_}
-use lib.ListN.{length, length-set}
+use lib.ListN.{length-set}
 use denote.Ref.{now}
 use Rattle.measure.proofs.Steps.{edit-inside}
 use Rattle.write.proofs.Walking.{step-some, step-passed, end-room, end-passed, not-choice, not-end}

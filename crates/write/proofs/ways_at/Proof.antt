@@ -1,5 +1,4 @@
 use native.Mathlib.Omega.{arith}
-use borrow.Author.Needs.{needs}
 use Rattle.write.proofs.Choosing.{test-some, first-edit, second-edit, chosen}
 use Rattle.write.proofs.ways_at.Statement.{statement}
 use Rattle.write.proofs.ways_at.Tie as tie

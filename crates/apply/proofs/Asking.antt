@@ -1,0 +1,85 @@
+-- Apply's answer and sheet, from the answers about sheet and edit.
+use mathlib.Core.Path.{_≡_, refl, sym, ap, _∙_, subst}
+use mathlib.Core.List.{List, [], append-nil}
+use Prim.Native.Nat.{ℕ}
+use native.Mathlib.Omega.{arith}
+use Rattle.answer.specs.declared.Refusal.{Refusal}
+use Rattle.answer.specs.declared.Answer.{Answer}
+use Rattle.answer.specs.declared.Answer.the-variants.{Done, Refused}
+use Rattle.answer.specs.Asked.{Asked, passed, refused, _>>_, after, outcome}
+use Rattle.answer.specs.Answers.{asked, refusalNumber, refusalPlace}
+use Rattle.logic.specs.Syntax.{Edit}
+use Rattle.logic.specs.Steps.{run}
+use Rattle.logic.specs.Limits.{ranges, EditInRange}
+use Rattle.sheet.specs.Sheet.{store, graphOf}
+use Rattle.sheet.specs.Questions.{askSheet, Sound}
+use Rattle.text.specs.Code.{editCode}
+use Rattle.text.specs.Reading.{textLimits}
+use Rattle.text.specs.Questions.{askEdit, answered}
+use Rattle.text.specs.Stands.{EditStands, SomeEditStands}
+use Rattle.text.proofs.Books.{edit-is-spelled}
+use Rattle.apply.specs.Apply.{askApply, appliedSheet}
+use Rattle.apply.specs.Made.{Made}
+
+-- Answer and sheet are as the contract says.
+pub record Applied (sheet edit : List ℕ) (a : Answer) (now : List ℕ) : Type 0 where
+  pub answer : asked a ≡ outcome (askApply sheet edit)
+  pub sheet-is : now ≡ appliedSheet sheet edit
+
+pub sheet-sound : (sheet : List ℕ) (a : Answer) → asked a ≡ askSheet sheet → a ≡ Done → Sound sheet
+sheet-sound sheet a s e = sym s ∙ ap asked e
+
+module _ (sheet edit : List ℕ) where
+  -- a refusal leaves the sheet
+  stays : (a : Answer) (r : Refusal) → a ≡ Refused r → askApply sheet edit ≡ refused (refusalNumber r) (refusalPlace r) → Applied sheet edit a sheet
+  unfolding outcome appliedSheet after
+  stays a r e q = record { answer = ap asked e ∙ ap outcome (sym q); sheet-is = ap (λ (x : Asked Edit). after x (λ Z. store (run Z (graphOf sheet))) sheet) (sym q) }
+
+  pub sheet-refused : (a : Answer) (r : Refusal) → asked a ≡ askSheet sheet → a ≡ Refused r → Applied sheet edit a sheet
+  unfolding askApply _>>_
+  sheet-refused a r s e = stays a r e (ap (_>> askEdit (textLimits (graphOf sheet .n)) edit) (sym s ∙ ap asked e))
+
+  module _ (sound : Sound sheet) (n : ℕ) (count : n ≡ graphOf sheet .n) where
+    asks-edit : askApply sheet edit ≡ askEdit (textLimits n) edit
+    unfolding askApply _>>_
+    asks-edit = ap (_>> askEdit (textLimits (graphOf sheet .n)) edit) sound ∙ ap (λ (m : ℕ). askEdit (textLimits m) edit) (sym count)
+
+    pub edit-refused : (b : Answer) (r : Refusal) → asked b ≡ answered (askEdit (textLimits n) edit) → b ≡ Refused r → Applied sheet edit b sheet
+    unfolding answered
+    edit-refused b r s e = stays b r e (asks-edit ∙ go (askEdit (textLimits n) edit) (sym (ap asked e) ∙ s))
+      where
+        go : (x : Asked Edit) → refused (refusalNumber r) (refusalPlace r) ≡ answered x → x ≡ refused (refusalNumber r) (refusalPlace r)
+        go (passed Z) q = cc
+        go (refused m p) q = cc
+
+    -- The edit that was read.
+    record Reads : Type 0 where
+      Z : Edit
+      is : askEdit (textLimits n) edit ≡ passed Z
+
+    reads : (b : Answer) → asked b ≡ answered (askEdit (textLimits n) edit) → b ≡ Done → Reads
+    unfolding answered
+    reads b s e = go (askEdit (textLimits n) edit) refl (sym (ap asked e) ∙ s)
+      where
+        go : (x : Asked Edit) → askEdit (textLimits n) edit ≡ x → passed tt ≡ answered x → Reads
+        go (passed Z) i q = record { Z = Z; is = i }
+        go (refused m p) i q = absurd (let z : _≡_ {A = ℕ} 0 1 = cc in omega arith)
+
+    abbrev Stands : Edit → Type 0
+    Stands Z = EditStands (ranges (graphOf sheet .n)) edit 0 Z
+
+    stands : (q : Reads) → Stands (q .Z)
+    stands q =
+        let w = edit-is-spelled (textLimits n) edit (q .Z) (q .is) in
+        record { rest = []; here = w .text-is ∙ sym (append-nil (editCode (q .Z))); range = subst (λ (m : ℕ). EditInRange (ranges m) (q .Z)) count (w .within .numbers-fit) }
+
+    module _ (b : Answer) (s : asked b ≡ answered (askEdit (textLimits n) edit)) (e : b ≡ Done) where
+      pub edit-stands : SomeEditStands (ranges (graphOf sheet .n)) edit 0
+      edit-stands = record { what = reads b s e .Z; stands = stands (reads b s e) }
+
+      pub edit-made : (next : ℕ) (now : List ℕ) → ((Z : Edit) → Stands Z → Made 0 Z next sheet now) → Applied sheet edit Done now
+      unfolding outcome appliedSheet after
+      edit-made next now f =
+          let q = reads b s e in
+          let a : askApply sheet edit ≡ passed (q .Z) = asks-edit ∙ q .is in
+          record { answer = ap outcome (sym a); sheet-is = f (q .Z) (stands q) .sheet-is ∙ ap (λ (x : Asked Edit). after x (λ Z. store (run Z (graphOf sheet))) sheet) (sym a) }

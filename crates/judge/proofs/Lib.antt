@@ -1,0 +1,3 @@
+mod Cutting
+mod Rules
+mod Deciding

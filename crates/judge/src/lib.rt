@@ -1,0 +1,121 @@
+// Judging a book on a sheet ("The calls" of document 01).
+ghost use mathlib.Core.Path.{_≡_};
+ghost use Prim.Native.Nat.{ℕ, _<_, _≤_};
+ghost use mathlib.Core.List.{List};
+ghost use lib.ListN.{take, drop};
+ghost use Rattle.answer.specs.Answers.{asked};
+ghost use Rattle.logic.specs.Syntax.{Expr, rule};
+ghost use Rattle.logic.specs.Limits.{ranges};
+ghost use Rattle.sheet.specs.Sheet.{graphOf};
+ghost use Rattle.sheet.specs.Questions.{Sound};
+ghost use Rattle.eval.specs.Judge.{askRules, brokenPart, askJudge, judgedPart};
+ghost use Rattle.judge.specs.Judging.{RulesStand, SomeRulesStand, judgedRule};
+use answer::Answer;
+use answer::Refusal;
+use sheet::Sheet;
+use text::Text;
+
+// What judging finds, in numbers: the answer, and the broken rule as a part of the text.
+pub struct Verdict {
+    pub answer: Answer,
+    pub start: usize,
+    pub size: usize,
+}
+
+// Judges the rules that stand in a text before `end`, of any number and length. Inner: the sheet is sound and the rules are in range.
+pub fn judge_rules(sheet: &[u8], text: &[u8], end: usize) -> Verdict
+    requires { ⌜ Sound (now sheet) × SomeRulesStand (ranges (graphOf (now sheet) .n)) (now text) 0 end ⌝ }
+    ensures { λ r. ⌜ ((rules : List (Expr rule)) → RulesStand (ranges (graphOf (now (sheet .entry)) .n)) (now (text .entry)) 0 end rules
+        → (asked (r .answer) ≡ askRules (graphOf (now (sheet .entry))) rules 0)
+        × (r .start ≡ brokenPart (graphOf (now (sheet .entry))) rules 0 .start)
+        × (r .size ≡ brokenPart (graphOf (now (sheet .entry))) rules 0 .size)) ⌝ }
+{
+    let n = Sheet::node_count(sheet);
+    let all = Sheet::all_nodes(sheet);
+    let mut at = 0;
+    let mut i = 0;
+    while at < end {
+        let k = eval::eval_rule(sheet, n, all, text, at);
+        if !k.holds {
+            return Verdict {
+                answer: Answer::Refused(Refusal::RuleBroken { place: i }),
+                start: at,
+                size: k.next - at,
+            };
+        }
+        at = k.next;
+        i += 1;
+    }
+    Verdict {
+        answer: Answer::Done,
+        start: 0,
+        size: 0,
+    }
+}
+
+// Judges a book: for callers that want no reference inside a struct.
+pub fn decide(sheet: &[u8], book: &[u8]) -> Verdict
+    ensures { λ r. ⌜ (asked (r .answer) ≡ askJudge (now (sheet .entry)) (now (book .entry)))
+        × (r .start ≡ judgedPart (now (sheet .entry)) (now (book .entry)) .start)
+        × (r .size ≡ judgedPart (now (sheet .entry)) (now (book .entry)) .size) ⌝ }
+{
+    let first = Sheet::check(sheet);
+    let Answer::Done = first else {
+        return Verdict {
+            answer: first,
+            start: 0,
+            size: 0,
+        };
+    };
+    let second = Text::check_book(book, Sheet::node_count(sheet));
+    let Answer::Done = second else {
+        return Verdict {
+            answer: second,
+            start: 0,
+            size: 0,
+        };
+    };
+    judge_rules(sheet, book, book.len())
+}
+
+// The smaller of two numbers.
+fn at_most(x: usize, most: usize) -> usize
+    ensures { λ r. ⌜ (r ≤ most) × (x ≤ most → r ≡ x) × (most < x → r ≡ most) ⌝ }
+{
+    if x <= most { x } else { most }
+}
+
+// The part of a book that a verdict names, cut off where the book ends.
+pub fn part_of<'b>(book: &'b [u8], v: Verdict) -> &'b [u8]
+    ensures { λ r. ⌜ now r ≡ take (v .size) (drop (v .start) (now (book .entry))) ⌝ }
+{
+    let start = at_most(v.start, book.len());
+    let size = at_most(v.size, book.len() - start);
+    &book[start..start + size]
+}
+
+// What judge answers: the first broken rule as a part of the book itself, empty in every other outcome.
+pub struct Judged<'b> {
+    pub answer: Answer,
+    pub rule: &'b [u8],
+}
+
+// A verdict's answer with its part.
+fn joined<'b>(v: Verdict, rule: &'b [u8]) -> Judged<'b>
+    ensures { λ r. ⌜ (r .answer ≡ v .answer) × (r .rule ≡ rule .entry) ⌝ }
+{
+    Judged {
+        answer: v.answer,
+        rule,
+    }
+}
+
+// Judge: sheet and book are lent apart, the result is a part of the book only.
+pub fn judge<'s, 'b>(sheet: &'s [u8], book: &'b [u8]) -> Judged<'b>
+    ensures { λ r. ⌜ (asked (r .answer) ≡ askJudge (now (sheet .entry)) (now (book .entry)))
+        × (now (r .rule) ≡ judgedRule (now (sheet .entry)) (now (book .entry))) ⌝ }
+{
+    let v = decide(sheet, book);
+    let rule = part_of(book, v);
+    joined(v, rule)
+}
