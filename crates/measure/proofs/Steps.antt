@@ -77,16 +77,16 @@ edit-cond true Y Z = refl
 edit-cond false Y Z = refl
 
 module _ (text : List ℕ) (at : ℕ) (c₀ k : ℕ) {s : Sort} (E : Expr s) (Z : Edit) (rest : List ℕ) (e : drop at text ≡ (c₀ ∷ k ∷ code E ++ editCode Z) ++ rest) where
-  step-split : drop (at + 2) text ≡ code E ++ (editCode Z ++ rest)
+  pub step-split : drop (at + 2) text ≡ code E ++ (editCode Z ++ rest)
   step-split = behind text at (c₀ ∷ k ∷ []) (code E ++ (editCode Z ++ rest)) (e ∙ ap (λ (l : List ℕ). c₀ ∷ k ∷ l) (append-assoc (code E) (editCode Z) rest))
 
-  step-what : (lim : Ranges) → InRange lim E → At text (at + 2) (tree E)
+  pub step-what : (lim : Ranges) → InRange lim E → At text (at + 2) (tree E)
   step-what lim r = record { rest = editCode Z ++ rest; here = step-split ∙ ap (λ (l : List ℕ). l ++ (editCode Z ++ rest)) (sym (bytes-tree E)); formed = formed-tree lim E r }
 
-  step-next : (lim : Ranges) → EditInRange lim Z → (p : ℕ) → p ≡ at + 2 + size (tree E) → EditAt text p Z
+  pub step-next : (lim : Ranges) → EditInRange lim Z → (p : ℕ) → p ≡ at + 2 + size (tree E) → EditAt text p Z
   step-next lim r p q = record { limits = lim; place = record { rest = rest; here = ap (λ (n : ℕ). drop n text) (q ∙ ap (λ (n : ℕ). at + 2 + n) (sym (size-is (tree E)) ∙ ap length (bytes-tree E))) ∙ behind text (at + 2) (code E) (editCode Z ++ rest) step-split; range = r } }
 
-  step-len : length (c₀ ∷ k ∷ code E ++ editCode Z) ≡ 2 + size (tree E) + length (editCode Z)
+  pub step-len : length (c₀ ∷ k ∷ code E ++ editCode Z) ≡ 2 + size (tree E) + length (editCode Z)
   step-len = omega (arith, length-append (c₀ ∷ k ∷ code E) (editCode Z), ap length (bytes-tree E), size-is (tree E))
 
   step-cut : drop at text ≡ (c₀ ∷ k ∷ code E) ++ (editCode Z ++ rest)
@@ -95,10 +95,10 @@ module _ (text : List ℕ) (at : ℕ) (c₀ k : ℕ) {s : Sort} (E : Expr s) (Z 
   step-head : length (c₀ ∷ k ∷ code E) ≡ 2 + size (tree E)
   step-head = omega (arith, ap length (bytes-tree E), size-is (tree E))
 
-  step-k : getD text (at + 1) 0 ≡ k
+  pub step-k : getD text (at + 1) 0 ≡ k
   step-k = byte-at text (at + 1) k ((code E ++ editCode Z) ++ rest) (behind text at (c₀ ∷ []) (k ∷ (code E ++ editCode Z) ++ rest) e)
 
-  step-room : (lim : Ranges) → EditInRange lim Z → at + 2 < length text
+  pub step-room : (lim : Ranges) → EditInRange lim Z → at + 2 < length text
   step-room lim r = omega (arith, edit-inside text _ Z (step-next lim r _ refl))
 
 pub as-step : (text : List ℕ) (at : ℕ) (Z : Edit) → EditAt text at Z → (getD text at 0 ≡ 0x30 → ⊥) → (getD text at 0 ≡ 0x35 → ⊥) → IsStep text at Z
@@ -207,22 +207,22 @@ pub four : (a p q z r : List ℕ) → (a ++ p ++ q ++ z) ++ r ≡ a ++ (p ++ (q 
 four a p q z r = append-assoc (a ++ p ++ q) z r ∙ append-assoc (a ++ p) q (z ++ r) ∙ append-assoc a p (q ++ (z ++ r))
 
 module _ (text : List ℕ) (at : ℕ) (K : Expr rule) (P Q Z : Edit) (rest : List ℕ) (e : drop at text ≡ ((0x35 ∷ code K) ++ editCode P ++ editCode Q ++ editCode Z) ++ rest) where
-  size-K : length (code K) ≡ size (tree K)
+  pub size-K : length (code K) ≡ size (tree K)
   size-K = sym (ap length (bytes-tree K)) ∙ size-is (tree K)
 
   c0 : drop at text ≡ (0x35 ∷ code K) ++ (editCode P ++ (editCode Q ++ (editCode Z ++ rest)))
   c0 = e ∙ four (0x35 ∷ code K) (editCode P) (editCode Q) (editCode Z) rest
 
-  cK : drop (at + 1) text ≡ code K ++ (editCode P ++ (editCode Q ++ (editCode Z ++ rest)))
+  pub cK : drop (at + 1) text ≡ code K ++ (editCode P ++ (editCode Q ++ (editCode Z ++ rest)))
   cK = behind text at (0x35 ∷ []) (code K ++ (editCode P ++ (editCode Q ++ (editCode Z ++ rest)))) c0
 
-  cP : (p : ℕ) → p ≡ at + 1 + size (tree K) → drop p text ≡ editCode P ++ (editCode Q ++ (editCode Z ++ rest))
+  pub cP : (p : ℕ) → p ≡ at + 1 + size (tree K) → drop p text ≡ editCode P ++ (editCode Q ++ (editCode Z ++ rest))
   cP p q = ap (λ (n : ℕ). drop n text) (q ∙ ap (λ (n : ℕ). at + 1 + n) (sym size-K)) ∙ behind text (at + 1) (code K) (editCode P ++ (editCode Q ++ (editCode Z ++ rest))) cK
 
-  cQ : (p : ℕ) → p ≡ at + 1 + size (tree K) + length (editCode P) → drop p text ≡ editCode Q ++ (editCode Z ++ rest)
+  pub cQ : (p : ℕ) → p ≡ at + 1 + size (tree K) + length (editCode P) → drop p text ≡ editCode Q ++ (editCode Z ++ rest)
   cQ p q = ap (λ (n : ℕ). drop n text) q ∙ behind text (at + 1 + size (tree K)) (editCode P) (editCode Q ++ (editCode Z ++ rest)) (cP _ refl)
 
-  cZ : (p : ℕ) → p ≡ at + 1 + size (tree K) + length (editCode P) + length (editCode Q) → drop p text ≡ editCode Z ++ rest
+  pub cZ : (p : ℕ) → p ≡ at + 1 + size (tree K) + length (editCode P) + length (editCode Q) → drop p text ≡ editCode Z ++ rest
   cZ p q = ap (λ (n : ℕ). drop n text) q ∙ behind text (at + 1 + size (tree K) + length (editCode P)) (editCode Q) (editCode Z ++ rest) (cQ _ refl)
 
 pub as-choose : (text : List ℕ) (at : ℕ) (Z : Edit) → EditAt text at Z → getD text at 0 ≡ 0x35 → IsChoose text at Z

@@ -57,7 +57,7 @@ const SHAPES: [usize; 40] = [
     5,
 ];
 
-fn shape(code: u8) -> usize
+pub fn shape(code: u8) -> usize
     ensures { λ r. ⌜ r ≡ shapeOf code ⌝ }
 {
     let at = code as usize;
@@ -173,7 +173,7 @@ fn step_back(text: &[u8], at: usize, state: &mut [usize])
 }
 
 // The end of an expression.
-fn past(text: &[u8], at: usize) -> usize
+pub fn past(text: &[u8], at: usize) -> usize
     requires { ⌜ Some (now text) at ⌝ }
     ensures { λ r. ⌜ ((t : Tree) → At (now (text .entry)) at t → r ≡ at + size t) ⌝ }
 {
@@ -208,7 +208,7 @@ fn next_step(text: &[u8], at: usize) -> usize
 }
 
 // The end of an edit.
-fn end_of(text: &[u8], at: usize) -> usize
+pub fn end_of(text: &[u8], at: usize) -> usize
     requires { ⌜ SomeEdit (now text) at ⌝ }
     ensures { λ r. ⌜ ((Z : Edit) → EditAt (now (text .entry)) at Z → r ≡ at + length (editCode Z)) ⌝ }
 {

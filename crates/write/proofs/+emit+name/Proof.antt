@@ -1,0 +1,103 @@
+use lib.ListN.{length, getD, set, length-set}
+use denote.Ref.{now}
+use mathlib.Core.Path.{_≡_, refl, sym, _∙_, ap}
+use Prim.Native.Nat.{ℕ, _<_, _≤_, _-_, _+_, _*_}
+use native.Mathlib.Omega.{arith}
+use borrow.Author.Needs.{needs}
+use Rattle.measure.proofs.Places.{inside}
+use Rattle.write.proofs.Laying.{wrote-as}
+use Rattle.write.proofs.Emitting as parts
+use borrow.Fn.Kinds.{In}
+use borrow.Fn.PlainCycle.{Measures, is, falls, and}
+use Rattle.write.proofs.emit.Reads as emit
+use Rattle.write.proofs.emit.Kinds as emit-kinds
+use Rattle.write.proofs.+emit+name.Lts-emit as emit-lts
+use Rattle.write.proofs.name.Reads as name
+use Rattle.write.proofs.name.Kinds as name-kinds
+use Rattle.write.proofs.+emit+name.Lts-name as name-lts
+use Rattle.measure.proofs.shape.Reads as shape-reads
+use Rattle.write.proofs.copy.Reads as copy-reads
+use Rattle.write.proofs.find.Reads as find-reads
+use Rattle.write.proofs.lead.Reads as lead-reads
+use Rattle.write.proofs.put_not.Reads as put-not-reads
+use Rattle.write.proofs.put_two.Reads as put-two-reads
+use Rattle.write.proofs.+emit+name.{statement}
+use Rattle.write.proofs.+emit+name.Tie.{close}
+
+-- the room left
+abbrev μ-emit : Measures 4 emit-kinds.ps ℕ
+μ-emit κs a = 2 * (length (a .1 .1 .1 .1 .1 .0 .now) - a .1 .1 .1 .1 .1 .1 .0) + 1
+
+abbrev μ-name : Measures 3 name-kinds.ps ℕ
+μ-name κs a = 2 * (length (a .1 .1 .1 .1 .1 .0 .now) - a .1 .1 .1 .1 .1 .1 .0)
+
+abbrev emit-at : ℕ → In 4 emit-kinds.ps
+emit-at t = and 4 emit-kinds.ps (is 4 emit-kinds.ps μ-emit t) emit.Pre
+
+abbrev emit-below : ℕ → In 4 emit-kinds.ps
+emit-below t = and 4 emit-kinds.ps (falls 4 emit-kinds.ps _<_ μ-emit t) emit.Pre
+
+abbrev name-at : ℕ → In 3 name-kinds.ps
+name-at t = and 3 name-kinds.ps (is 3 name-kinds.ps μ-name t) name.Pre
+
+abbrev name-below : ℕ → In 3 name-kinds.ps
+name-below t = and 3 name-kinds.ps (falls 3 name-kinds.ps _<_ μ-name t) name.Pre
+
+pub +emit+name-spec : {M : Type 1} → statement M
++emit+name-spec = close μ-emit μ-name
+    (λ t. emit-lts.spec (shape-reads.Asked, shape-reads.Learnt, name-below t, name.Post, copy-reads.Asked, copy-reads.Learnt, emit-below t, emit.Post) (emit-at t) emit.Post
+      (λ c. let w = c .before .before .before .before .before .pre .1 .0 in omega (arith, inside _ _ (w .what) (w .what-at)))
+      (λ c κs. search needs)
+      (λ c. let s = c .before .before .before .before .before .before .before in omega (arith, parts.name-room _ _ _ (c .before .shape .ensures) (c .if1 .taken) (s .pre .1 .0), s .good .0 .0))
+      (λ c. omega (arith, parts.name-room _ _ _ (c .before .before .shape .ensures) (c .before .if1 .taken) (c .before .before .before .before .before .before .before .before .pre .1 .0)))
+      (λ c κs. let s = c .before .before .before .before .before .before .before .before .before in (omega (arith, s .pre .0), (parts.name-some _ _ _ (c .before .before .before .shape .ensures) (c .before .before .if1 .taken) (s .pre .1 .0), s .pre .1 .1)))
+      (λ c. let s = c .before .before .before .before .before .before .before .before .before .before .before .before in omega (arith, parts.name-room _ _ _ (c .before .before .before .before .before .before .shape .ensures) (c .before .before .before .before .before .if1 .taken) (s .pre .1 .0), s .good .0 .0))
+      (λ c. c .before .before .name .kept .1 .1 .1 .1 .1 .0)
+      (λ c. λ σ t e i a. parts.name-emitted _ _ _ (c .before .before .before .before .before .before .shape .ensures) (c .before .before .before .before .before .if1 .taken) σ t a (c .before .before .name .ensures σ e i))
+      (λ c κs. let s = c .before .before .before .before .before .before .before .before in (parts.head-in-text _ _ _ (c .before .before .shape .ensures) (c .before .if1 .left) (s .pre .1 .0), parts.head-in-out _ _ _ (c .before .before .shape .ensures) (c .before .if1 .left) (s .pre .1 .0)))
+      (λ c. let s = c .before .before .before .before .before .before .before .before .before .before .before .before in omega (arith, parts.head-in-text _ _ _ (c .before .before .before .before .before .before .shape .ensures) (c .before .before .before .before .before .if1 .left) (s .pre .1 .0), s .good .0 .0))
+      (λ c. c .before .before .before .copy .kept .1 .1 .1 .0)
+      (λ c. λ σ t e i a. parts.leaf-emitted _ _ _ (c .before .before .before .before .before .before .shape .ensures) (c .before .before .before .before .before .if1 .left) (c .if2 .taken) t a σ (c .before .before .before .copy .ensures))
+      (λ c. let s = c .before .before .before .before .before .before .before .before .before .before .before .before in omega (arith, parts.head-in-text _ _ _ (c .before .before .before .before .before .before .shape .ensures) (c .before .before .before .before .before .if1 .left) (s .pre .1 .0), s .good .0 .0))
+      (λ c κs. let s = c .before .before .before .before .before .before .before .before .before .before .before .before .before in let e = c .before .before .before .before .before .before .before .shape .ensures in let n = c .before .before .before .before .before .before .if1 .left in
+        let k = c .before .before .before .before .copy .kept .1 .1 .1 .0 in
+        let f = parts.first-some _ _ _ e n (s .pre .1 .0) (c .before .before .before .before .copy .ensures .counted) k (c .before .if2 .left) in
+        (omega (arith, s .pre .0, k, f .head, parts.head-in-out _ _ _ e n (s .pre .1 .0), parts.head-counted _ _ _ e n (s .pre .1 .0) (c .before .before .before .before .copy .ensures .counted) k), (f .some, s .pre .1 .1)))
+      (λ c. c .before .before .before .emit .kept .1 .1 .1 .1 .1 .0 ∙ c .before .before .before .before .before .before .before .before .copy .kept .1 .1 .1 .0)
+      (λ c. λ σ t e i a. parts.one-emitted _ _ _ (c .before .before .before .before .before .before .before .before .before .before .before .shape .ensures) (c .before .before .before .before .before .before .before .before .before .before .if1 .left) (c .before .before .before .before .before .if2 .left) (c .if3 .taken) t a σ (c .before .before .before .before .before .before .before .before .copy .ensures) (λ x b. c .before .before .before .emit .ensures σ x e i b))
+      (λ c κs. let s = c .before .before .before .before .before .before .before .before .before .before .before .before .before .before .before .before .before .before in let e = c .before .before .before .before .before .before .before .before .before .before .before .before .shape .ensures in let n = c .before .before .before .before .before .before .before .before .before .before .before .if1 .left in
+        let k = c .before .before .before .before .before .before .before .before .before .copy .kept .1 .1 .1 .0 in
+        let k2 = c .before .before .before .before .emit .kept .1 .1 .1 .1 .1 .0 ∙ k in
+        let f = parts.first-some _ _ _ e n (s .pre .1 .0) (c .before .before .before .before .before .before .before .before .before .copy .ensures .counted) k (c .before .before .before .before .before .before .if2 .left) in
+        let g = parts.second-some _ _ _ e n (s .pre .1 .0) (c .before .before .before .before .before .before .before .before .before .copy .ensures .counted) k2 (c .before .if3 .left) (c .before .before .before .before .emit .ensures) in
+        (omega (arith, s .pre .0, k2, f .head, g .on, parts.head-in-out _ _ _ e n (s .pre .1 .0), parts.head-counted _ _ _ e n (s .pre .1 .0) (c .before .before .before .before .before .before .before .before .before .copy .ensures .counted) k), (g .some, s .pre .1 .1)))
+      (λ c. c .before .before .emit2 .kept .1 .1 .1 .1 .1 .0 ∙ c .before .before .before .before .before .before .before .emit .kept .1 .1 .1 .1 .1 .0 ∙ c .before .before .before .before .before .before .before .before .before .before .before .before .copy .kept .1 .1 .1 .0)
+      (λ c. λ σ t e i a. parts.two-emitted _ _ _ (c .before .before .before .before .before .before .before .before .before .before .before .before .before .before .before .shape .ensures) (c .before .before .before .before .before .before .before .before .before .before .before .before .before .before .if1 .left) (c .before .before .before .before .if3 .left) t a σ (c .before .before .before .before .before .before .before .before .before .before .before .before .copy .ensures) (λ x b. c .before .before .before .before .before .before .before .emit .ensures σ x e i b) (λ x b. c .before .before .emit2 .ensures σ x e i b))
+    )
+    (λ t. name-lts.spec (find-reads.Asked, find-reads.Learnt, put-two-reads.Asked, put-two-reads.Learnt, lead-reads.Asked, lead-reads.Learnt, name-below t, name.Post, put-not-reads.Asked, put-not-reads.Learnt, emit-below t, emit.Post) (name-at t) name.Post
+      (λ c κs. let w = c .before .before .before .pre .1 .0 in (record { steps = w .steps; is = w .is; stands = w .stands }, c .before .before .before .pre .1 .1))
+      (λ c κs. let w = c .before .before .before .before .before .before .pre .1 .0 in omega (arith, w .fits, ap length (parts.untouched (c .before .before .find .ensures (w .steps) (w .is) (w .stands)) (c .before .if1 .taken))))
+      (λ c. c .before .before .put-two .kept .1 .1 .0)
+      (λ c. λ σ e i. wrote-as (parts.untouched (c .before .before .before .before .before .find .ensures σ e i) (c .before .before .before .before .if1 .taken)) (c .before .before .put-two .ensures))
+      (λ c. omega (arith, c .if1 .left))
+      (λ c. let w = c .before .before .before .before .before .pre .1 .0 in omega (arith, c .if1 .left, c .before .find .ensures (w .steps) (w .is) (w .stands) .low, w .is, c .before .before .before .before .before .pre .1 .1, c .before .before .before .before .before .good .0 .1))
+      (λ c. let w = c .before .before .before .before .before .before .pre .1 .0 in omega (arith, c .before .if1 .left, c .before .before .find .ensures (w .steps) (w .is) (w .stands) .low, w .is, c .before .before .before .before .before .before .pre .1 .1))
+      (λ c. let w = c .before .before .before .before .before .before .before .pre .1 .0 in let H = parts.last-hit (c .before .before .before .find .ensures (w .steps) (w .is) (w .stands)) (c .before .before .if1 .left) in omega (arith, H .at .room))
+      (λ c κs. search needs)
+      (λ c. let w = c .before .before .before .before .before .before .before .before .pre .1 .0 in let H = parts.last-hit (c .before .before .before .before .find .ensures (w .steps) (w .is) (w .stands)) (c .before .before .before .if1 .left) in omega (arith, w .fits, parts.hit-length H _ (H .at .op-is)))
+      (λ c. omega (arith, c .before .before .before .if1 .left))
+      (λ c. let s = c .before .before .before .before .before .before .before .before .before in let w = s .pre .1 .0 in let H = parts.last-hit (c .before .before .before .before .before .find .ensures (w .steps) (w .is) (w .stands)) (c .before .before .before .before .if1 .left) in omega (arith, w .fits, parts.hit-length H _ (H .at .op-is)))
+      (λ c κs. let s = c .before .before .before .before .before .before .before .before .before in let w = s .pre .1 .0 in let f = c .before .before .before .before .before .find .ensures (w .steps) (w .is) (w .stands) in let H = parts.last-hit f (c .before .before .before .before .if1 .left) in
+        let l = length-set (now (s .args .out)) (s .args .pos) (c .before .lead .result) in
+        (omega (arith, s .pre .0, l, w .fits, parts.hit-length H _ (H .at .op-is)), (record { steps = H .below; is = H .len; stands = H .stands; fits = omega (arith, l, w .fits, parts.hit-length H _ (H .at .op-is)) }, omega (arith, f .low, w .is, s .pre .1 .1))))
+      (λ c κs. let s = c .before .before .before .before .before .before .before .before .before .before .before .before .before in let w = s .pre .1 .0 in let H = parts.last-hit (c .before .before .before .before .before .before .before .before .before .find .ensures (w .steps) (w .is) (w .stands)) (c .before .before .before .before .before .before .before .before .if1 .left) in
+        omega (arith, c .before .before .before .name .kept .1 .1 .1 .1 .1 .0, length-set (now (s .args .out)) (s .args .pos) (c .before .before .before .before .before .lead .result), w .fits, parts.hit-length H _ (H .at .op-is), c .before .before .before .name .ensures (H .below) (H .len) (H .stands) .counted))
+      (λ c. let s = c .before .before .before .before .before .before .before .before .before .before .before .before .before .before .before .before in let w = s .pre .1 .0 in let H = parts.last-hit (c .before .before .before .before .before .before .before .before .before .before .before .before .find .ensures (w .steps) (w .is) (w .stands)) (c .before .before .before .before .before .before .before .before .before .before .before .if1 .left) in omega (arith, H .at .room, s .good .0 .0))
+      (λ c. omega (arith, c .before .before .before .before .before .before .before .before .before .before .before .if1 .left))
+      (λ c κs. let s = c .before .before .before .before .before .before .before .before .before .before .before .before .before .before .before .before .before in let w = s .pre .1 .0 in let f = c .before .before .before .before .before .before .before .before .before .before .before .before .before .find .ensures (w .steps) (w .is) (w .stands) in let H = parts.last-hit f (c .before .before .before .before .before .before .before .before .before .before .before .before .if1 .left) in
+        let l = c .before .before .before .put-not .kept .1 .0 ∙ c .before .before .before .before .before .before .before .name .kept .1 .1 .1 .1 .1 .0 ∙ length-set (now (s .args .out)) (s .args .pos) (c .before .before .before .before .before .before .before .before .before .lead .result) in
+        let u = c .before .before .before .before .before .before .before .name .ensures (H .below) (H .len) (H .stands) .counted in
+        (omega (arith, s .pre .0, l, w .fits, parts.hit-length H _ (H .at .op-is), u, c .before .before .before .put-not .ensures .counted), (record { steps = H .below; is = H .len; stands = H .stands; what = H .s .what; what-at = H .at .what-at; fits = omega (arith, l, w .fits, parts.hit-length H _ (H .at .op-is), u, c .before .before .before .put-not .ensures .counted) }, omega (arith, f .low, w .is, s .pre .1 .1))))
+      (λ c. let s = c .before .before .before .before .before .before .before .before .before .before .before .before .before .before .before .before .before .before .before .before in c .before .before .emit .kept .1 .1 .1 .1 .1 .0 ∙ c .before .before .before .before .before .before .put-not .kept .1 .0 ∙ c .before .before .before .before .before .before .before .before .before .before .name .kept .1 .1 .1 .1 .1 .0 ∙ length-set (now (s .args .out)) (s .args .pos) (c .before .before .before .before .before .before .before .before .before .before .before .before .lead .result))
+      (λ c. λ σ e i. let H = parts.last-hit (c .before .before .before .before .before .before .before .before .before .before .before .before .before .before .before .before .find .ensures σ e i) (c .before .before .before .before .before .before .before .before .before .before .before .before .before .before .before .if1 .left) in parts.hit-wrote H _ (H .at .op-is) (c .before .before .before .before .before .before .before .before .before .before .before .before .lead .ensures) (c .before .before .before .before .before .before .before .before .before .before .name .ensures (H .below) (H .len) (H .stands)) (c .before .before .before .before .before .before .put-not .ensures) (c .before .before .emit .ensures (H .below) (H .s .what) (H .len) (H .stands) (H .at .what-at) .wrote))
+    )

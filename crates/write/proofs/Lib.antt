@@ -1,0 +1,4 @@
+pub mod Finding
+pub mod Laying
+pub mod Emitting
+pub mod Walking

@@ -1,0 +1,4 @@
+pub mod Laid
+pub mod Offsets
+pub mod Writing
+pub mod Ways

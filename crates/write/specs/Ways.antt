@@ -1,0 +1,103 @@
+-- A way through an edit: a 35 has two, each followed by what stands behind the 35.
+use mathlib.Core.Path.{_≡_}
+use mathlib.Core.Bool.{Bool, true, false, cond}
+use mathlib.Core.List.{List, [], _∷_}
+use Prim.Native.Nat.{ℕ, _+_, _*_, _<_, _≤_}
+use lib.Dec.{eqb}
+use lib.ListN.{length, getD}
+use Rattle.logic.specs.Syntax.{rule, Expr, Edit, choose}
+use Rattle.logic.specs.Carry.{followedBy}
+use Rattle.text.specs.Code.{editCode}
+use Rattle.tree.specs.Tree.{tree}
+use Rattle.tree.specs.Stack.{Step, written}
+use Rattle.measure.specs.Shapes.{At}
+use Rattle.measure.specs.Edits.{EditAt, Kept}
+use Rattle.measure.specs.Book.{RuleAt}
+use Rattle.write.specs.Laid.{Wrote}
+use Rattle.write.specs.Offsets.{StackIs}
+
+-- an edit, and then the edits that stand behind the 35s around it, the innermost first
+unfoldable pub followed : Edit → List Edit → Edit
+followed Z [] = Z
+followed Z (W ∷ Ws) = followedBy Z (followed W Ws)
+
+-- their offsets on a stack, the innermost on top; each stands behind the one before it, the first at `from` or behind
+unfoldable pub BehindIs : (edit behind : List ℕ) → ℕ → List Edit → Type 0
+BehindIs edit behind from [] = Unit {0}
+BehindIs edit behind from (W ∷ Ws) =
+    (from ≤ getD behind (length Ws) 0) × EditAt edit (getD behind (length Ws) 0) W × BehindIs edit behind (getD behind (length Ws) 0 + length (editCode W)) Ws
+
+-- h steps passed, the edit at a place, and d edits behind it
+pub record Way (edit stack behind : List ℕ) (at h d : ℕ) (σ : List Step) (Z : Edit) (Ws : List Edit) : Type 0 where
+  pub passed : h ≡ length σ
+  pub steps : StackIs edit stack σ
+  pub here : EditAt edit at Z
+  pub around : d ≡ length Ws
+  pub rest : BehindIs edit behind (at + length (editCode Z)) Ws
+
+-- some way, with room for its offsets below its place
+pub record SomeWay (edit stack behind : List ℕ) (at h d : ℕ) : Type 0 where
+  pub steps : List Step
+  pub what : Edit
+  pub later : List Edit
+  pub way : Way edit stack behind at h d steps what later
+  pub low : h ≤ at
+  pub low-behind : 2 * d ≤ at
+
+-- further on the same way: what is written of each rule is the same
+pub record Moved (edit stack behind : List ℕ) (at h d : ℕ) (σ : List Step) (Z : Edit) (Ws : List Edit) : Type 0 where
+  pub steps : List Step
+  pub what : Edit
+  pub later : List Edit
+  pub way : Way edit stack behind at h d steps what later
+  pub same : (K : Expr rule) → written σ (followed Z Ws) K ≡ written steps (followed what later) K
+
+-- A walk rests before a 35, and at the end, the 30 with no edit behind it.
+unfoldable pub resting : ℕ → ℕ → Bool
+resting c d = cond (eqb c 0x35) true (cond (eqb c 0x30) (eqb d 0) false)
+
+-- what passing a step or an end leaves, and what a walk leaves
+pub record Passed (edit stack behind : List ℕ) (at h d : ℕ) (stack′ : List ℕ) (at′ h′ d′ : ℕ) : Type 0 where
+  pub each : (σ : List Step) (Z : Edit) (Ws : List Edit) → Way edit stack behind at h d σ Z Ws → Moved edit stack′ behind at′ h′ d′ σ Z Ws
+  pub kept : Kept h stack stack′
+  pub on : at < at′
+  pub up : h ≤ h′
+  pub low : h′ ≤ at′
+  pub low-behind : 2 * d′ ≤ at′
+
+pub record Walked (edit stack behind : List ℕ) (at h d : ℕ) (stack′ : List ℕ) (at′ h′ d′ : ℕ) : Type 0 where
+  pub each : (σ : List Step) (Z : Edit) (Ws : List Edit) → Way edit stack behind at h d σ Z Ws → Moved edit stack′ behind at′ h′ d′ σ Z Ws
+  pub kept : Kept h stack stack′
+  pub up : h ≤ h′
+  pub low : h′ ≤ at′
+  pub low-behind : 2 * d′ ≤ at′
+  pub rests : resting (getD edit at′ 0) d′ ≡ true
+
+-- the parts of a 35 and where they stand
+pub record Chosen (edit : List ℕ) (at first second next : ℕ) (Z : Edit) : Type 0 where
+  pub test : Expr rule
+  pub P : Edit
+  pub Q : Edit
+  pub W : Edit
+  pub is : Z ≡ choose test P Q W
+  pub test-at : At edit (at + 1) (tree test)
+  pub first-at : EditAt edit first P
+  pub second-at : EditAt edit second Q
+  pub next-at : EditAt edit next W
+  pub on : at + 2 ≤ first
+  pub between : first + length (editCode P) ≡ second
+  pub behind : second + length (editCode Q) ≡ next
+  pub ends : next + length (editCode W) ≡ at + length (editCode Z)
+
+-- some way, and some rule whose text fits a buffer of `room` bytes from `pos` on
+pub record SomeCarried (text : List ℕ) (from : ℕ) (edit stack behind : List ℕ) (at h d pos room : ℕ) : Type 0 where
+  pub way : SomeWay edit stack behind at h d
+  pub K : Expr rule
+  pub K-at : RuleAt text from K
+  pub fits : pos + length (written (way .steps) (followed (way .what) (way .later)) K) ≤ room
+
+-- what writing a rule along a way leaves
+pub record Carried (text : List ℕ) (from : ℕ) (edit stack behind : List ℕ) (at h d : ℕ) (o : List ℕ) (pos pos′ : ℕ) (stack′ behind′ o′ : List ℕ) : Type 0 where
+  pub wrote : (σ : List Step) (Z : Edit) (Ws : List Edit) → Way edit stack behind at h d σ Z Ws → (K : Expr rule) → RuleAt text from K → Wrote o pos (written σ (followed Z Ws) K) pos′ o′
+  pub kept : Kept h stack stack′
+  pub again : behind′ ≡ behind

@@ -1,0 +1,214 @@
+// A rule carried back through an edit, written byte for byte, each byte once.
+ghost use mathlib.Core.Path.{_≡_};
+ghost use mathlib.Core.List.{List, [], _∷_};
+ghost use mathlib.Core.Bool.{false};
+ghost use Prim.Native.Nat.{ℕ, _+_, _*_, _<_, _≤_};
+ghost use lib.ListN.{length, getD, take, drop};
+ghost use Rattle.tree.specs.Tree.{Tree, same, bytes};
+ghost use Rattle.tree.specs.Stack.{Step, touched, env};
+ghost use Rattle.tree.specs.Stack as words;
+ghost use Rattle.measure.specs.Shapes.{At};
+ghost use Rattle.write.specs.Laid.{Wrote};
+ghost use Rattle.write.specs.Offsets.{StackIs, SomeStack, Found};
+ghost use Rattle.write.specs.Ways.{SomeWay, resting, Passed, Walked};
+ghost use Rattle.write.specs.Writing.{SomeName, SomeShown, Emitted};
+
+// Where reading and writing stand.
+pub struct Place {
+    pub at: usize,
+    pub pos: usize,
+}
+
+// The code of the names that a step touches.
+fn name_code(op: u8) -> u8
+    ensures { λ r. ⌜ r ≡ touched op ⌝ }
+{
+    if op < 0x33 { 0x03 } else { 0x11 }
+}
+
+fn touches(op: u8, number: u8, c: u8, k: u8) -> bool
+    ensures { λ r. ⌜ r ≡ same c k (touched op) number ⌝ }
+{
+    let code = name_code(op);
+    if c != code {
+        return false;
+    }
+    k == number
+}
+
+// One more than the index of the last of h steps that touches a name, or 0.
+// Inner: the stack holds offsets of steps.
+fn find(edit: &[u8], stack: &[usize], h: usize, c: u8, k: u8) -> usize
+    requires { ⌜ SomeStack (now edit) (now stack) h × (h ≤ length (now stack)) ⌝ }
+    ensures { λ r. ⌜ ((σ : List Step) → h ≡ length σ → StackIs (now (edit .entry)) (now (stack .entry)) σ → Found (now (edit .entry)) (now (stack .entry)) σ c k r) ⌝ }
+{
+    let mut j = h;
+    while j > 0 {
+        let o = stack[j - 1];
+        if touches(edit[o], edit[o + 1], c, k) {
+            return j;
+        }
+        j -= 1;
+    }
+    0
+}
+
+// The code that a step puts before a name.
+fn lead(op: u8) -> u8
+    ensures { λ r. ⌜ r ≡ words.lead op ⌝ }
+{
+    if op == 0x31 {
+        return 0x07;
+    }
+    if op == 0x32 {
+        return 0x06;
+    }
+    if op == 0x33 { 0x13 } else { 0x15 }
+}
+
+// Writes n bytes of a text.
+// Inner: they are there, and there is room.
+fn copy(text: &[u8], at: usize, n: usize, out: &mut [u8], pos: usize) -> usize
+    requires { ⌜ (at + n ≤ length (now text)) × (pos + n ≤ length (now out)) ⌝ }
+    ensures { λ r. ⌜ Wrote (now (out .entry)) pos (take n (drop at (now (text .entry)))) r (now (out .exit)) ⌝ }
+{
+    let mut i = 0;
+    while i < n {
+        out[pos + i] = text[at + i];
+        i += 1;
+    }
+    pos + n
+}
+
+// Writes two bytes.
+// Inner: there is room.
+fn put_two(a: u8, b: u8, out: &mut [u8], pos: usize) -> usize
+    requires { ⌜ pos + 2 ≤ length (now out) ⌝ }
+    ensures { λ r. ⌜ Wrote (now (out .entry)) pos (a ∷ b ∷ []) r (now (out .exit)) ⌝ }
+{
+    out[pos] = a;
+    out[pos + 1] = b;
+    pos + 2
+}
+
+// Writes the 05 that a step 32 puts before its expression.
+// Inner: there is room.
+fn put_not(op: u8, out: &mut [u8], pos: usize) -> usize
+    requires { ⌜ pos + length (words.inner op []) ≤ length (now out) ⌝ }
+    ensures { λ r. ⌜ Wrote (now (out .entry)) pos (words.inner op []) r (now (out .exit)) ⌝ }
+{
+    if op == 0x32 {
+        out[pos] = 0x05;
+        return pos + 1;
+    }
+    pos
+}
+
+// Writes a name under h steps.
+// Inner: the stack holds offsets of steps, and there is room; the room left falls with each call.
+fn name(edit: &[u8], stack: &[usize], h: usize, c: u8, k: u8, out: &mut [u8], pos: usize) -> usize
+    requires { ⌜ SomeName (now edit) (now stack) h c k pos (length (now out)) × (h ≤ length (now stack)) ⌝ }
+    ensures { λ r. ⌜ ((σ : List Step) → h ≡ length σ → StackIs (now (edit .entry)) (now (stack .entry)) σ → Wrote (now (out .entry)) pos (bytes (env σ c k)) r (now (out .exit))) ⌝ }
+{
+    let j = find(edit, stack, h, c, k);
+    if j == 0 {
+        return put_two(c, k, out, pos);
+    }
+    let o = stack[j - 1];
+    let op = edit[o];
+    out[pos] = lead(op);
+    let p = name(edit, stack, j - 1, c, k, out, pos + 1);
+    let q = put_not(op, out, p);
+    let done = emit(edit, o + 2, edit, stack, j - 1, out, q);
+    done.pos
+}
+
+// Writes an expression of a text under h steps.
+// Inner: it stands there, the stack holds offsets of steps, and there is room.
+fn emit(
+    text: &[u8],
+    at: usize,
+    edit: &[u8],
+    stack: &[usize],
+    h: usize,
+    out: &mut [u8],
+    pos: usize,
+) -> Place
+    requires { ⌜ SomeShown (now text) at (now edit) (now stack) h pos (length (now out)) × (h ≤ length (now stack)) ⌝ }
+    ensures { λ r. ⌜ ((σ : List Step) (t : Tree) → h ≡ length σ → StackIs (now (edit .entry)) (now (stack .entry)) σ → At (now (text .entry)) at t → Emitted σ t at (now (out .entry)) pos (r .at) (r .pos) (now (out .exit))) ⌝ }
+{
+    let c = text[at];
+    let s = measure::shape(c);
+    if s == 16 {
+        let p = name(edit, stack, h, c, text[at + 1], out, pos);
+        return Place { at: at + 2, pos: p };
+    }
+    let n = s % 4;
+    let p = copy(text, at, n, out, pos);
+    if s < 4 {
+        return Place { at: at + n, pos: p };
+    }
+    let one = emit(text, at + n, edit, stack, h, out, p);
+    if s < 8 {
+        return one;
+    }
+    let next = one.at;
+    let q = one.pos;
+    emit(text, next, edit, stack, h, out, q)
+}
+
+// Where a walk rests: the place in the edit, the number of steps passed, the number of edits behind.
+struct Rest {
+    at: usize,
+    h: usize,
+    d: usize,
+}
+
+// Does a walk rest here: at a 35, or at the end?
+// Inner: the place is in the edit.
+fn rests(edit: &[u8], at: usize, d: usize) -> bool
+    requires { ⌜ at < length (now edit) ⌝ }
+    ensures { λ r. ⌜ r ≡ resting (getD (now (edit .entry)) at 0) d ⌝ }
+{
+    let c = edit[at];
+    if c == 0x35 {
+        return true;
+    }
+    if c != 0x30 {
+        return false;
+    }
+    d == 0
+}
+
+// Goes past a step, which is put on the stack, or past an end, to the edit behind it.
+// Inner: there is a way, and it does not rest here.
+fn pass(edit: &[u8], at: usize, stack: &mut [usize], h: usize, behind: &[usize], d: usize) -> Rest
+    requires { ⌜ SomeWay (now edit) (now stack) (now behind) at h d × (resting (getD (now edit) at 0) d ≡ false) × (length (now edit) ≤ length (now stack)) × (length (now edit) ≤ 2 * length (now behind)) ⌝ }
+    ensures { λ r. ⌜ Passed (now (edit .entry)) (now (stack .entry)) (now (behind .entry)) at h d (now (stack .exit)) (r .at) (r .h) (r .d) ⌝ }
+{
+    if edit[at] == 0x30 {
+        let top = d - 1;
+        return Rest { at: behind[top], h, d: top };
+    }
+    stack[h] = at;
+    let next = measure::past(edit, at + 2);
+    Rest { at: next, h: h + 1, d }
+}
+
+// Goes on until the walk rests.
+// Inner: there is a way.
+fn walk(edit: &[u8], at: usize, stack: &mut [usize], h: usize, behind: &[usize], d: usize) -> Rest
+    requires { ⌜ SomeWay (now edit) (now stack) (now behind) at h d × (length (now edit) ≤ length (now stack)) × (length (now edit) ≤ 2 * length (now behind)) ⌝ }
+    ensures { λ r. ⌜ Walked (now (edit .entry)) (now (stack .entry)) (now (behind .entry)) at h d (now (stack .exit)) (r .at) (r .h) (r .d) ⌝ }
+{
+    let mut p = at;
+    let mut n = h;
+    let mut m = d;
+    while !rests(edit, p, m) {
+        let next = pass(edit, p, stack, n, behind, m);
+        p = next.at;
+        n = next.h;
+        m = next.d;
+    }
+    Rest { at: p, h: n, d: m }
+}
