@@ -226,3 +226,6 @@ module _ (text : List ℕ) (at s : ℕ) (e : s ≡ shapeOf (getD text at 0)) whe
             record { on = omega (arith, v .wrote .counted);
               some = record { steps = w .steps; is = w .is; stands = w .stands; what = q .y; what-at = two-second more (w .what) (w .what-at) at₂ (v .read);
                 fits = omega (arith, w .fits, c, same, l, m, v .wrote .counted, ap length (two-bytes more (w .what) (w .what-at) (w .steps))) } }
+
+pub shown-moved : {text edit stack : List ℕ} {at h pos pos′ room room′ : ℕ} → SomeShown text at edit stack h pos room → pos′ ≡ pos → room′ ≡ room → SomeShown text at edit stack h pos′ room′
+shown-moved w p r = record { steps = w .steps; is = w .is; stands = w .stands; what = w .what; what-at = w .what-at; fits = omega (arith, w .fits, p, r) }

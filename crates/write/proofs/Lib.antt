@@ -2,3 +2,5 @@ pub mod Finding
 pub mod Laying
 pub mod Emitting
 pub mod Walking
+pub mod Choosing
+pub mod Carrying

@@ -50,7 +50,7 @@ record Stepping (edit : List ℕ) (at : ℕ) (Z : Edit) : Type 0 where
   long : length (editCode Z) ≡ 2 + size (s .what) + length (editCode rest)
   same : (σ : List Step) (Ws : List Edit) (K : Expr rule) → written σ (followed Z Ws) K ≡ written (s ∷ σ) (followed rest Ws) K
 
-followed-through : (f : Edit → Edit) → ((P Z : Edit) → followedBy (f P) Z ≡ f (followedBy P Z)) → (Z : Edit) (Ws : List Edit) → followed (f Z) Ws ≡ f (followed Z Ws)
+pub followed-through : (f : Edit → Edit) → ((P Z : Edit) → followedBy (f P) Z ≡ f (followedBy P Z)) → (Z : Edit) (Ws : List Edit) → followed (f Z) Ws ≡ f (followed Z Ws)
 unfolding followed
 followed-through f g Z [] = refl
 followed-through f g Z (W ∷ Ws) = g Z (followed W Ws)

@@ -4,13 +4,15 @@ ghost use mathlib.Core.List.{List, [], _∷_};
 ghost use mathlib.Core.Bool.{false};
 ghost use Prim.Native.Nat.{ℕ, _+_, _*_, _<_, _≤_};
 ghost use lib.ListN.{length, getD, take, drop};
-ghost use Rattle.tree.specs.Tree.{Tree, same, bytes};
+ghost use Rattle.tree.specs.Tree.{Tree, same, bytes, graft};
 ghost use Rattle.tree.specs.Stack.{Step, touched, env};
 ghost use Rattle.tree.specs.Stack as words;
+ghost use Rattle.logic.specs.Syntax.{Edit};
 ghost use Rattle.measure.specs.Shapes.{At};
+ghost use Rattle.measure.specs.Edits.{EditAt, SomeEdit};
 ghost use Rattle.write.specs.Laid.{Wrote};
 ghost use Rattle.write.specs.Offsets.{StackIs, SomeStack, Found};
-ghost use Rattle.write.specs.Ways.{SomeWay, resting, Passed, Walked};
+ghost use Rattle.write.specs.Ways.{SomeWay, resting, Passed, Walked, Chosen, SomeCarried, Carried};
 ghost use Rattle.write.specs.Writing.{SomeName, SomeShown, Emitted};
 
 // Where reading and writing stand.
@@ -211,4 +213,83 @@ fn walk(edit: &[u8], at: usize, stack: &mut [usize], h: usize, behind: &[usize],
         m = next.d;
     }
     Rest { at: p, h: n, d: m }
+}
+
+// Where the ways of a 35 stand, and what follows it.
+struct Ways {
+    first: usize,
+    second: usize,
+    next: usize,
+}
+
+// Inner: a 35 stands there.
+fn ways_at(edit: &[u8], at: usize) -> Ways
+    requires { ⌜ SomeEdit (now edit) at × (getD (now edit) at 0 ≡ 0x35) ⌝ }
+    ensures { λ r. ⌜ ((Z : Edit) → EditAt (now (edit .entry)) at Z → Chosen (now (edit .entry)) at (r .first) (r .second) (r .next) Z) ⌝ }
+{
+    let first = measure::past(edit, at + 1);
+    let second = measure::end_of(edit, first);
+    let next = measure::end_of(edit, second);
+    Ways { first, second, next }
+}
+
+// Writes 25 26 27 and the rule at a place of the edit.
+// Inner: it stands there, the stack holds offsets of steps, and there is room.
+fn open_first(edit: &[u8], at: usize, stack: &[usize], h: usize, out: &mut [u8], pos: usize) -> usize
+    requires { ⌜ SomeShown (now edit) at (now edit) (now stack) h (pos + 3) (length (now out)) × (h ≤ length (now stack)) ⌝ }
+    ensures { λ r. ⌜ ((σ : List Step) (t : Tree) → h ≡ length σ → StackIs (now (edit .entry)) (now (stack .entry)) σ → At (now (edit .entry)) at t → Wrote (now (out .entry)) pos (0x25 ∷ 0x26 ∷ 0x27 ∷ bytes (graft (env σ) t)) r (now (out .exit))) ⌝ }
+{
+    let p = put_two(0x25, 0x26, out, pos);
+    out[p] = 0x27;
+    let done = emit(edit, at, edit, stack, h, out, p + 1);
+    done.pos
+}
+
+// Writes 26 and the rule at a place of the edit.
+// Inner: as above.
+fn open_second(edit: &[u8], at: usize, stack: &[usize], h: usize, out: &mut [u8], pos: usize) -> usize
+    requires { ⌜ SomeShown (now edit) at (now edit) (now stack) h (pos + 1) (length (now out)) × (h ≤ length (now stack)) ⌝ }
+    ensures { λ r. ⌜ ((σ : List Step) (t : Tree) → h ≡ length σ → StackIs (now (edit .entry)) (now (stack .entry)) σ → At (now (edit .entry)) at t → Wrote (now (out .entry)) pos (0x26 ∷ bytes (graft (env σ) t)) r (now (out .exit))) ⌝ }
+{
+    out[pos] = 0x26;
+    let done = emit(edit, at, edit, stack, h, out, pos + 1);
+    done.pos
+}
+
+// Writes the rule at `from` of a text as carried back along a way of the edit.
+// Inner: the rule stands there, there is a way, and there is room; the room left falls with each call.
+fn write_way(
+    text: &[u8],
+    from: usize,
+    edit: &[u8],
+    at: usize,
+    stack: &mut [usize],
+    h: usize,
+    behind: &mut [usize],
+    d: usize,
+    out: &mut [u8],
+    pos: usize,
+) -> usize
+    requires { ⌜ SomeCarried (now text) from (now edit) (now stack) (now behind) at h d pos (length (now out)) × (length (now edit) ≤ length (now stack)) × (length (now edit) ≤ 2 * length (now behind)) ⌝ }
+    ensures { λ r. ⌜ Carried (now (text .entry)) from (now (edit .entry)) (now (stack .entry)) (now (behind .entry)) at h d (now (out .entry)) pos r (now (stack .exit)) (now (behind .exit)) (now (out .exit)) ⌝ }
+{
+    let rest = walk(edit, at, stack, h, behind, d);
+    let p = rest.at;
+    let n = rest.h;
+    let m = rest.d;
+    if edit[p] == 0x30 {
+        let done = emit(text, from, edit, stack, n, out, pos);
+        return done.pos;
+    }
+    let ways = ways_at(edit, p);
+    let first = ways.first;
+    let second = ways.second;
+    let saved = behind[m];
+    behind[m] = ways.next;
+    let a = open_first(edit, p + 1, stack, n, out, pos);
+    let b = write_way(text, from, edit, first, stack, n, behind, m + 1, out, a);
+    let c = open_second(edit, p + 1, stack, n, out, b);
+    let end = write_way(text, from, edit, second, stack, n, behind, m + 1, out, c);
+    behind[m] = saved;
+    end
 }

@@ -1,0 +1,119 @@
+-- A rule written along a way: at the end, and at a 35 both its ways.
+use mathlib.Core.Path.{_≡_, refl, sym, ap, _∙_, subst}
+use mathlib.Core.List.{List, [], _∷_, _++_}
+use Prim.Native.Nat.{ℕ, suc, _+_, _*_, _-_, _≤_, _<_}
+use native.Mathlib.Omega.{arith}
+use lib.ListN.{length, getD, set, length-set}
+use lib.Seq.{set-set, set-getD}
+use Rattle.logic.specs.Syntax.{rule, Expr, Edit}
+use Rattle.logic.specs.Carry.{carry}
+use Rattle.text.specs.Code.{code, editCode}
+use Rattle.tree.specs.Tree.{Tree, tree, size, bytes, graft}
+use Rattle.tree.specs.Stack.{Step, env, written}
+use Rattle.measure.specs.Shapes.{At}
+use Rattle.measure.specs.Edits.{EditAt, SomeEdit, Kept}
+use Rattle.measure.specs.Book.{RuleAt}
+use Rattle.measure.proofs.Steps.{edit-inside}
+use Rattle.measure.proofs.Rules.{rule-at}
+use Rattle.write.specs.Laid.{Wrote}
+use Rattle.write.specs.Offsets.{StackIs}
+use Rattle.write.specs.Writing.{SomeShown, Emitted}
+use Rattle.write.specs.Ways.{followed, Way, SomeWay, Moved, Walked, Chosen, SomeCarried, Carried}
+use Rattle.write.proofs.Laying.{wrote-more, wrote-as}
+use Rattle.write.proofs.Walking.{steps-kept, kept-more}
+use Rattle.write.proofs.Choosing.{end-written, choice-written, choice-length, first-way, second-way}
+
+-- where the walk rests
+pub rested : {text edit stack behind stack′ : List ℕ} {from at h d at′ h′ d′ pos room : ℕ} → SomeCarried text from edit stack behind at h d pos room → Walked edit stack behind at h d stack′ at′ h′ d′
+    → SomeCarried text from edit stack′ behind at′ h′ d′ pos room
+rested w a =
+    let s = w .way in
+    let m = a .each (s .steps) (s .what) (s .later) (s .way) in
+    record { way = record { steps = m .steps; what = m .what; later = m .later; way = m .way; low = a .low; low-behind = a .low-behind }; K = w .K; K-at = w .K-at; fits = omega (arith, w .fits, ap length (m .same (w .K))) }
+
+pub place-inside : {text edit stack behind : List ℕ} {from at h d pos room : ℕ} → SomeCarried text from edit stack behind at h d pos room → at < length edit
+place-inside {text} {edit} {stack} {behind} {from} {at} w = edit-inside edit at (w .way .what) (w .way .way .here)
+
+-- the end
+pub end-some : {text edit stack behind : List ℕ} {from at h d pos room : ℕ} → SomeCarried text from edit stack behind at h d pos room → getD edit at 0 ≡ 0x30 → d ≡ 0 → SomeShown text from edit stack h pos room
+end-some {text} {edit} {stack} {behind} {from} w c z = record { steps = w .way .steps; is = w .way .way .passed; stands = w .way .way .steps; what = tree (w .K); what-at = rule-at text from (w .K) (w .K-at); fits = omega (arith, w .fits, ap length (end-written (w .way .way) c z (w .K))) }
+
+pub end-carried : {text edit stack behind stack′ o o′ : List ℕ} {from at h d at′ h′ d′ pos next pos′ : ℕ} → Walked edit stack behind at h d stack′ at′ h′ d′ → getD edit at′ 0 ≡ 0x30 → d′ ≡ 0
+    → ((σ : List Step) (t : Tree) → h′ ≡ length σ → StackIs edit stack′ σ → At text from t → Emitted σ t from o pos next pos′ o′) → Carried text from edit stack behind at h d o pos pos′ stack′ behind o′
+end-carried {text} {edit} {stack} {behind} {stack′} {o} {o′} {from} a c z f = record {
+  wrote = λ σ Z Ws y K r. let m = a .each σ Z Ws y in wrote-as (end-written (m .way) c z K ∙ sym (m .same K)) (f (m .steps) (tree K) (m .way .passed) (m .way .steps) (rule-at text from K r) .wrote);
+  kept = a .kept;
+  again = refl;
+}
+
+-- further along a way that is still to be written, with some of the room used
+pub record Further (text : List ℕ) (from : ℕ) (edit stack behind : List ℕ) (at h d pos pos′ room : ℕ) : Type 0 where
+  pub on : pos < pos′
+  pub inside : pos < room
+  pub some : SomeCarried text from edit stack behind at h d pos′ room
+
+-- a 35
+module _ {edit behind : List ℕ} {at d first second next : ℕ} (C : (Z : Edit) → EditAt edit at Z → Chosen edit at first second next Z) (l : d < length behind) where
+  module _ {text stack : List ℕ} {from h pos room : ℕ} (w : SomeCarried text from edit stack behind at h d pos room) where
+    abbrev q : Chosen edit at first second next (w .way .what)
+    q = C (w .way .what) (w .way .way .here)
+
+    sizes : length (written (w .way .steps) (followed (w .way .what) (w .way .later)) (w .K))
+        ≡ 4 + length (bytes (graft (env (w .way .steps)) (tree (q .test)))) + length (written (w .way .steps) (followed (q .P) (q .W ∷ w .way .later)) (w .K))
+        + length (bytes (graft (env (w .way .steps)) (tree (q .test)))) + length (written (w .way .steps) (followed (q .Q) (q .W ∷ w .way .later)) (w .K))
+    sizes = choice-length (w .way .way) q (w .K)
+
+    pub first-shown : SomeShown edit (at + 1) edit stack h (pos + 3) room
+    first-shown = record { steps = w .way .steps; is = w .way .way .passed; stands = w .way .way .steps; what = tree (q .test); what-at = q .test-at; fits = omega (arith, w .fits, sizes) }
+
+    module _ {o o₁ behind₁ : List ℕ} {p : ℕ} (f : (σ : List Step) (t : Tree) → h ≡ length σ → StackIs edit stack σ → At edit (at + 1) t → Wrote o pos (0x25 ∷ 0x26 ∷ 0x27 ∷ bytes (graft (env σ) t)) p o₁) (e : behind₁ ≡ set behind d next) where
+      first-counted : p ≡ pos + (3 + length (bytes (graft (env (w .way .steps)) (tree (q .test)))))
+      first-counted = omega (arith, f (w .way .steps) (tree (q .test)) (w .way .way .passed) (w .way .way .steps) (q .test-at) .counted)
+
+      pub first-further : {room′ : ℕ} → room′ ≡ room → Further text from edit stack behind₁ first h (d + 1) pos p room′
+      first-further r = record { on = omega (arith, first-counted); inside = omega (arith, w .fits, sizes, r);
+        some = record {
+          way = record { steps = w .way .steps; what = q .P; later = q .W ∷ w .way .later; way = first-way (w .way .way) q (record { same = λ i b. refl }) e l; low = omega (arith, w .way .low, q .on); low-behind = omega (arith, w .way .low-behind, q .on) };
+          K = w .K; K-at = w .K-at; fits = omega (arith, w .fits, sizes, first-counted, r) } }
+
+      module _ {stack₂ behind₂ o₂ : List ℕ} {p₂ : ℕ} (c : Carried text from edit stack behind₁ first h (d + 1) o₁ p p₂ stack₂ behind₂ o₂) where
+        second-counted : p₂ ≡ p + length (written (w .way .steps) (followed (q .P) (q .W ∷ w .way .later)) (w .K))
+        second-counted = c .wrote (w .way .steps) (q .P) (q .W ∷ w .way .later) (first-way (w .way .way) q (record { same = λ i b. refl }) e l) (w .K) (w .K-at) .counted
+
+        pub second-shown : {room′ : ℕ} → room′ ≡ room → SomeShown edit (at + 1) edit stack₂ h (p₂ + 1) room′
+        second-shown r = record { steps = w .way .steps; is = w .way .way .passed; stands = steps-kept edit (w .way .steps) (omega (arith, w .way .way .passed)) (c .kept) (w .way .way .steps); what = tree (q .test); what-at = q .test-at;
+          fits = omega (arith, w .fits, sizes, first-counted, second-counted, r) }
+
+        module _ {o₃ : List ℕ} {p₃ : ℕ} (g : (σ : List Step) (t : Tree) → h ≡ length σ → StackIs edit stack₂ σ → At edit (at + 1) t → Wrote o₂ p₂ (0x26 ∷ bytes (graft (env σ) t)) p₃ o₃) where
+          third-counted : p₃ ≡ p₂ + (1 + length (bytes (graft (env (w .way .steps)) (tree (q .test)))))
+          third-counted = omega (arith, g (w .way .steps) (tree (q .test)) (w .way .way .passed) (steps-kept edit (w .way .steps) (omega (arith, w .way .way .passed)) (c .kept) (w .way .way .steps)) (q .test-at) .counted)
+
+          pub second-further : {room′ : ℕ} → room′ ≡ room → Further text from edit stack₂ behind₂ second h (d + 1) pos p₃ room′
+          second-further r = record { on = omega (arith, first-counted, second-counted, third-counted); inside = omega (arith, w .fits, sizes, r);
+            some = record {
+              way = record { steps = w .way .steps; what = q .Q; later = q .W ∷ w .way .later; way = second-way (w .way .way) q (c .kept) (c .again ∙ e) l; low = omega (arith, w .way .low, q .on, q .between); low-behind = omega (arith, w .way .low-behind, q .on, q .between) };
+              K = w .K; K-at = w .K-at; fits = omega (arith, w .fits, sizes, first-counted, second-counted, third-counted, r) } }
+
+  pub choice-carried : {text stack₀ stack stack₂ stack₃ behind₁ behind₂ behind₃ behind₄ o o₁ o₂ o₃ o₄ : List ℕ} {from at₀ h₀ d₀ h pos p p₂ p₃ p₄ : ℕ} → Walked edit stack₀ behind at₀ h₀ d₀ stack at h d
+      → ((σ : List Step) (t : Tree) → h ≡ length σ → StackIs edit stack σ → At edit (at + 1) t → Wrote o pos (0x25 ∷ 0x26 ∷ 0x27 ∷ bytes (graft (env σ) t)) p o₁) → behind₁ ≡ set behind d next
+      → Carried text from edit stack behind₁ first h (d + 1) o₁ p p₂ stack₂ behind₂ o₂
+      → ((σ : List Step) (t : Tree) → h ≡ length σ → StackIs edit stack₂ σ → At edit (at + 1) t → Wrote o₂ p₂ (0x26 ∷ bytes (graft (env σ) t)) p₃ o₃)
+      → Carried text from edit stack₂ behind₂ second h (d + 1) o₃ p₃ p₄ stack₃ behind₃ o₄ → behind₄ ≡ set behind₃ d (getD behind d 0)
+      → Carried text from edit stack₀ behind at₀ h₀ d₀ o pos p₄ stack₃ behind₄ o₄
+  choice-carried a f e c g c′ e′ = record {
+    wrote = λ σ Z Ws y K r.
+      let m = a .each σ Z Ws y in
+      let q = C (m .what) (m .way .here) in
+      let s = steps-kept edit (m .steps) (omega (arith, m .way .passed)) (c .kept) (m .way .steps) in
+      wrote-as (choice-written (m .way) q K ∙ sym (m .same K))
+      (wrote-more (wrote-more (wrote-more
+      (f (m .steps) (tree (q .test)) (m .way .passed) (m .way .steps) (q .test-at))
+      (c .wrote (m .steps) (q .P) (q .W ∷ m .later) (first-way (m .way) q (record { same = λ i b. refl }) e l) K r))
+      (g (m .steps) (tree (q .test)) (m .way .passed) s (q .test-at)))
+      (c′ .wrote (m .steps) (q .Q) (q .W ∷ m .later) (second-way (m .way) q (c .kept) (c .again ∙ e) l) K r));
+    kept = kept-more (a .up) (a .kept) (kept-more (omega arith) (c .kept) (c′ .kept));
+    again = e′ ∙ ap (λ (b : List ℕ). set b d (getD behind d 0)) (c′ .again ∙ c .again ∙ e) ∙ set-set behind d next (getD behind d 0) ∙ set-getD behind d 0;
+  }
+
+pub choice-room : {text edit stack behind : List ℕ} {from at h d pos room : ℕ} → SomeCarried text from edit stack behind at h d pos room → length edit ≤ 2 * length behind → d < length behind
+choice-room w l = omega (arith, w .way .low-behind, place-inside w, l)

@@ -1,0 +1,131 @@
+-- The two ways of a 35.
+use mathlib.Core.Path.{_≡_, refl, sym, ap, _∙_, subst}
+use mathlib.Core.List.{List, [], _∷_, _++_, append-assoc}
+use Prim.Native.Nat.{ℕ, zero, suc, _+_, _*_, _-_, _≤_, _<_}
+use native.Mathlib.Omega.{arith}
+use lib.ListN.{length, getD, drop, set, length-set, length-append}
+use lib.Seq.{getD-set-same, set-set, set-getD}
+use Rattle.logic.specs.Syntax.{rule, Expr, Edit, finish, addLabel, takeLabel, addArrow, takeArrow, choose}
+use Rattle.logic.specs.Limits.{EditInRange}
+use Rattle.logic.specs.Carry.{followedBy}
+use Rattle.text.specs.Code.{code, editCode}
+use Rattle.tree.specs.Tree.{Tree, tree, size, bytes, graft}
+use Rattle.tree.specs.Stack.{Step, env, written, shown}
+use Rattle.tree.proofs.Trees.{bytes-tree}
+use Rattle.tree.proofs.Written.{written-finish, written-choose}
+use Rattle.measure.specs.Shapes.{At, Some}
+use Rattle.measure.specs.Edits.{EditAt, SomeEdit, Kept}
+use Rattle.measure.specs.Book.{RuleAt}
+use Rattle.measure.proofs.Places.{inside, size-pos}
+use Rattle.measure.proofs.Formed.{formed-tree}
+use Rattle.measure.proofs.Steps.{tag-edit, as-finish, edit-inside, cK, cP, cQ, cZ, size-K}
+use Rattle.write.specs.Laid.{Wrote}
+use Rattle.write.specs.Offsets.{StepAt, StackIs}
+use Rattle.write.specs.Writing.{SomeShown, Emitted}
+use Rattle.write.specs.Ways.{followed, BehindIs, Way, SomeWay, Moved, resting, Passed, Walked, Chosen, SomeCarried, Carried}
+use Rattle.write.proofs.Laying.{wrote-more, wrote-as}
+use Rattle.write.proofs.Walking.{steps-kept, behind-kept, kept-set, kept-more, followed-through, at-end, at-choice}
+
+-- the parts of a 35 in a text
+record Parts (edit : List ℕ) (at : ℕ) (Z : Edit) : Type 0 where
+  test : Expr rule
+  P : Edit
+  Q : Edit
+  W : Edit
+  is : Z ≡ choose test P Q W
+  test-at : At edit (at + 1) (tree test)
+  first : (p : ℕ) → p ≡ at + 1 + size (tree test) → EditAt edit p P
+  second : (p : ℕ) → p ≡ at + 1 + size (tree test) + length (editCode P) → EditAt edit p Q
+  next : (p : ℕ) → p ≡ at + 1 + size (tree test) + length (editCode P) + length (editCode Q) → EditAt edit p W
+  long : length (editCode Z) ≡ 1 + size (tree test) + length (editCode P) + length (editCode Q) + length (editCode W)
+
+parts : (edit : List ℕ) (at : ℕ) (Z : Edit) → EditAt edit at Z → getD edit at 0 ≡ 0x35 → Parts edit at Z
+unfolding editCode EditInRange
+parts edit at finish h m = absurd (omega (arith, tag-edit edit at finish h))
+parts edit at (addLabel k E Z) h m = absurd (omega (arith, tag-edit edit at (addLabel k E Z) h))
+parts edit at (takeLabel k E Z) h m = absurd (omega (arith, tag-edit edit at (takeLabel k E Z) h))
+parts edit at (addArrow a R Z) h m = absurd (omega (arith, tag-edit edit at (addArrow a R Z) h))
+parts edit at (takeArrow a R Z) h m = absurd (omega (arith, tag-edit edit at (takeArrow a R Z) h))
+parts edit at (choose K P Q Z) h m =
+    let rest = h .place .rest in
+    let e = h .place .here in
+    record { test = K; P = P; Q = Q; W = Z; is = refl;
+      test-at = record { rest = editCode P ++ (editCode Q ++ (editCode Z ++ rest)); here = cK edit at K P Q Z rest e ∙ ap (λ (l : List ℕ). l ++ (editCode P ++ (editCode Q ++ (editCode Z ++ rest)))) (sym (bytes-tree K)); formed = formed-tree (h .limits) K (h .place .range .0) };
+      first = λ p q. record { limits = h .limits; place = record { rest = editCode Q ++ (editCode Z ++ rest); here = cP edit at K P Q Z rest e p q; range = h .place .range .1 } };
+      second = λ p q. record { limits = h .limits; place = record { rest = editCode Z ++ rest; here = cQ edit at K P Q Z rest e p q; range = h .place .range .2 } };
+      next = λ p q. record { limits = h .limits; place = record { rest = rest; here = cZ edit at K P Q Z rest e p q; range = h .place .range .3 } };
+      long = omega (arith, length-append ((0x35 ∷ code K) ++ editCode P ++ editCode Q) (editCode Z), length-append ((0x35 ∷ code K) ++ editCode P) (editCode Q), length-append (0x35 ∷ code K) (editCode P), size-K edit at K P Q Z rest e) }
+
+-- where they stand, as `past` and `end_of` say
+module _ (edit : List ℕ) (at : ℕ) (m : getD edit at 0 ≡ 0x35) where
+  pub test-some : SomeEdit edit at → (at + 1 < length edit) × Some edit (at + 1)
+  test-some s = let q = parts edit at (s .what) (s .stands) m in (inside edit (at + 1) (tree (q .test)) (q .test-at), record { what = tree (q .test); stands = q .test-at })
+
+  module _ (first : ℕ) (f : (t : Tree) → At edit (at + 1) t → first ≡ at + 1 + size t) where
+    pub first-edit : SomeEdit edit at → SomeEdit edit first
+    first-edit s = let q = parts edit at (s .what) (s .stands) m in record { what = q .P; stands = q .first first (f (tree (q .test)) (q .test-at)) }
+
+    module _ (second : ℕ) (g : (Y : Edit) → EditAt edit first Y → second ≡ first + length (editCode Y)) where
+      pub second-edit : SomeEdit edit at → SomeEdit edit second
+      second-edit s =
+          let q = parts edit at (s .what) (s .stands) m in
+          let a = f (tree (q .test)) (q .test-at) in
+          record { what = q .Q; stands = q .second second (g (q .P) (q .first first a) ∙ ap (λ (n : ℕ). n + length (editCode (q .P))) a) }
+
+      pub chosen : (next : ℕ) → ((Y : Edit) → EditAt edit second Y → next ≡ second + length (editCode Y)) → (Z : Edit) → EditAt edit at Z → Chosen edit at first second next Z
+      chosen next k Z h =
+          let q = parts edit at Z h m in
+          let a = f (tree (q .test)) (q .test-at) in
+          let b′ = g (q .P) (q .first first a) in
+          let b : second ≡ at + 1 + size (tree (q .test)) + length (editCode (q .P)) = b′ ∙ ap (λ (n : ℕ). n + length (editCode (q .P))) a in
+          let c′ = k (q .Q) (q .second second b) in
+          let c : next ≡ at + 1 + size (tree (q .test)) + length (editCode (q .P)) + length (editCode (q .Q)) = c′ ∙ ap (λ (n : ℕ). n + length (editCode (q .Q))) b in
+          record { test = q .test; P = q .P; Q = q .Q; W = q .W; is = q .is; test-at = q .test-at; first-at = q .first first a; second-at = q .second second b; next-at = q .next next c;
+            on = omega (arith, a, size-pos (tree (q .test)) (q .test-at .formed)); between = sym b′; behind = sym c′; ends = omega (arith, c, q .long) }
+
+-- The end: what is written is the rule under the steps passed.
+pub end-written : {edit stack behind : List ℕ} {at h d : ℕ} {σ : List Step} {Z : Edit} {Ws : List Edit} → Way edit stack behind at h d σ Z Ws → getD edit at 0 ≡ 0x30 → d ≡ 0 → (K : Expr rule)
+    → bytes (graft (env σ) (tree K)) ≡ written σ (followed Z Ws) K
+unfolding followed shown
+end-written {edit} {stack} {behind} {at} {h} {d} {σ} {Z} {Ws} y c z K = go Ws (y .around) ∙ sym (ap (λ (Y : Edit). written σ (followed Y Ws) K) (as-finish edit at Z (y .here) c))
+  where
+    go : (Ws : List Edit) → d ≡ length Ws → bytes (graft (env σ) (tree K)) ≡ written σ (followed finish Ws) K
+    go [] e = sym (written-finish σ K)
+    go (W ∷ Ws) e = absurd (omega (arith, e, z))
+
+-- A 35: 25 26 27 K1 T 26 K1 U.
+module _ {edit stack behind : List ℕ} {at h d first second next : ℕ} {σ : List Step} {Z : Edit} {Ws : List Edit} (y : Way edit stack behind at h d σ Z Ws) (q : Chosen edit at first second next Z) where
+  abbrev shown-test : List ℕ
+  shown-test = bytes (graft (env σ) (tree (q .test)))
+
+  pub choice-written : (K : Expr rule) → (((0x25 ∷ 0x26 ∷ 0x27 ∷ shown-test) ++ written σ (followed (q .P) (q .W ∷ Ws)) K) ++ (0x26 ∷ shown-test)) ++ written σ (followed (q .Q) (q .W ∷ Ws)) K ≡ written σ (followed Z Ws) K
+  unfolding followed followedBy shown
+  choice-written K =
+      append-assoc ((0x25 ∷ 0x26 ∷ 0x27 ∷ shown-test) ++ written σ (followed (q .P) (q .W ∷ Ws)) K) (0x26 ∷ shown-test) (written σ (followed (q .Q) (q .W ∷ Ws)) K)
+      ∙ sym (written-choose σ (q .test) (q .P) (q .Q) (followed (q .W) Ws) K)
+      ∙ ap (λ (Y : Edit). written σ Y K) (sym (ap (λ (Y : Edit). followed Y Ws) (q .is) ∙ followed-through (choose (q .test) (q .P) (q .Q)) (λ X Y. refl) (q .W) Ws))
+
+  pub choice-length : (K : Expr rule) → length (written σ (followed Z Ws) K)
+      ≡ 4 + length shown-test + length (written σ (followed (q .P) (q .W ∷ Ws)) K) + length shown-test + length (written σ (followed (q .Q) (q .W ∷ Ws)) K)
+  choice-length K =
+      let s : List ℕ = shown-test in
+      let t : List ℕ = written σ (followed (q .P) (q .W ∷ Ws)) K in
+      let u : List ℕ = written σ (followed (q .Q) (q .W ∷ Ws)) K in
+      omega (arith, ap length (choice-written K), length-append (((0x25 ∷ 0x26 ∷ 0x27 ∷ s) ++ t) ++ (0x26 ∷ s)) u, length-append ((0x25 ∷ 0x26 ∷ 0x27 ∷ s) ++ t) (0x26 ∷ s), length-append (0x25 ∷ 0x26 ∷ 0x27 ∷ s) t)
+
+  -- a way of the 35, with what follows it put on the stack
+  pub branch : {stack′ behind′ : List ℕ} → Kept h stack stack′ → behind′ ≡ set behind d next → d < length behind → (p : ℕ) (Y : Edit) → EditAt edit p Y → p + length (editCode Y) ≤ next
+      → Way edit stack′ behind′ p h (d + 1) σ Y (q .W ∷ Ws)
+  unfolding BehindIs
+  branch {stack′} {behind′} k e l p Y a o =
+      let n : getD behind′ (length Ws) 0 ≡ next = ap (λ (b : List ℕ). getD b (length Ws) 0) e ∙ ap (λ (i : ℕ). getD (set behind d next) i 0) (sym (y .around)) ∙ getD-set-same behind d next 0 l in
+      let kept : Kept d behind behind′ = subst (λ (b : List ℕ). Kept d behind b) (sym e) (kept-set behind d next) in
+      let r = behind-kept edit (at + length (editCode Z)) Ws (omega (arith, y .around)) kept (y .rest) in
+      record { passed = y .passed; steps = steps-kept edit σ (omega (arith, y .passed)) k (y .steps); here = a; around = omega (arith, y .around);
+        rest = (omega (arith, n, o), subst (λ (x : ℕ). EditAt edit x (q .W)) (sym n) (q .next-at), subst (λ (x : ℕ). BehindIs edit behind′ x Ws) (sym (ap (λ (x : ℕ). x + length (editCode (q .W))) n ∙ q .ends)) r) }
+
+  pub first-way : {stack′ behind′ : List ℕ} → Kept h stack stack′ → behind′ ≡ set behind d next → d < length behind → Way edit stack′ behind′ first h (d + 1) σ (q .P) (q .W ∷ Ws)
+  first-way k e l = branch k e l first (q .P) (q .first-at) (omega (arith, q .between, q .behind))
+
+  pub second-way : {stack′ behind′ : List ℕ} → Kept h stack stack′ → behind′ ≡ set behind d next → d < length behind → Way edit stack′ behind′ second h (d + 1) σ (q .Q) (q .W ∷ Ws)
+  second-way k e l = branch k e l second (q .Q) (q .second-at) (omega (arith, q .behind))
