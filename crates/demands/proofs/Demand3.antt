@@ -8,7 +8,7 @@ use Rattle.answer.specs.Asked.{passed, _>>_, after, outcome}
 use Rattle.logic.specs.Syntax.{Expr, rule}
 use Rattle.logic.specs.Meaning.{value}
 use Rattle.logic.specs.Steps.{run}
-use Rattle.logic.specs.Carry.{carry}
+use Rattle.logic.specs.Carry.{carry, carriedBook}
 use Rattle.logic.specs.Limits.{Within}
 use Rattle.logic.proofs.Theorem.{carried}
 use Rattle.logic.proofs.Inside.{run-n}
@@ -18,7 +18,7 @@ use Rattle.sheet.proofs.Opening.{Opened, opening}
 use Rattle.text.specs.Reading.{textLimits}
 use Rattle.text.specs.Questions.{askBook}
 use Rattle.eval.specs.Judge.{askSheetAndBook}
-use Rattle.carry.specs.Carrying.{carriedBook, askSize}
+use Rattle.carry.specs.Carrying.{askSize}
 use Rattle.demands.specs.Enter.{afterSteps, askEnter, enterAnswer, enterSheet}
 use Rattle.demands.specs.Clerk.{Fed, rulesOf, clerkLog, clerk}
 use Rattle.demands.specs.Run.{Hold, Keeps, Call, fed, log, enteredAfterEach, madeInOrder, Bytes, Given}

@@ -12,19 +12,19 @@ use Rattle.logic.specs.Syntax.{Expr, rule, Edit}
 use Rattle.logic.specs.Graph.{Graph, isNode, anyBelow, allBelow, countBelow}
 use Rattle.logic.specs.Meaning.{value}
 use Rattle.logic.specs.Steps.{update, run}
-use Rattle.logic.specs.Carry.{replace, putLabel, putArrow, carry}
+use Rattle.logic.specs.Carry.{replace, putLabel, putArrow, carry, carriedBook}
 use Rattle.logic.specs.Limits.{Within}
 use Rattle.words.specs.Words.{setOf, bytes}
 use Rattle.seal.specs.Seal.{sealed, seal, sumsFrom}
 use Rattle.sheet.specs.Sheet.{store, graphOf, block, labelBlock, arrowBlock, chunks}
 use Rattle.sheet.proofs.ReadBack.{read-back}
-use Rattle.text.specs.Code.{code, levels, bookCode}
+use Rattle.text.specs.Code.{code, levels, bookCode, bookLevels}
 use Rattle.text.specs.Reading.{textLimits, codes, choice, follow}
 use Rattle.text.specs.Reading as reading
 use Rattle.text.specs.Questions.{whole, rulesOf, askBook, askEdit}
 use Rattle.text.specs.Marked.{sheetT, B}
 use Rattle.eval.specs.Judge.{askRules}
-use Rattle.carry.specs.Carrying.{carriedBook, bookLevels, askSize, writtenAtStart}
+use Rattle.carry.specs.Carrying.{askSize, writtenAtStart}
 use Rattle.demands.specs.Enter.{Carried, askCarried, askEnter, enterSheet, enterScratch}
 use Rattle.demands.specs.Examples.{Shown, scratchOf, onT, calls, shown}
 use Rattle.demands.proofs.OneCall.{asked-of-stored}

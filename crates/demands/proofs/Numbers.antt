@@ -5,12 +5,13 @@ use Prim.Native.Nat.{ℕ, zero, suc, _<_, _≤_}
 use native.Mathlib.Omega.{arith}
 use Rattle.answer.specs.Asked.{Asked, passed, refused, _>>=_, _>>_, is}
 use Rattle.logic.specs.Syntax.{Expr, rule}
+use Rattle.logic.specs.Carry.{carriedBook}
 use Rattle.sheet.specs.Sheet.{graphOf}
 use Rattle.sheet.specs.Questions.{askBlock, askBlocks, askSheet}
 use Rattle.text.specs.Reading.{Limits, textLimits, expr, Fault, missing, wrongSort, tooDeep, outOfRange, Read, got, fault, readAs}
 use Rattle.text.specs.Questions.{faultNumber, mostRules, whole, rulesOf, askBook, askEdit}
 use Rattle.eval.specs.Judge.{askSheetAndBook}
-use Rattle.carry.specs.Carrying.{carriedBook, askSize}
+use Rattle.carry.specs.Carrying.{askSize}
 use Rattle.demands.specs.Enter.{askCarried}
 
 -- The number of a refusal is below 41.

@@ -6,6 +6,7 @@ use Rattle.answer.specs.Asked.{Asked, passed, refused, _>>=_, _>>_, after, outc
 use Rattle.logic.specs.Syntax.{Expr, rule, Edit}
 use Rattle.logic.specs.Graph.{Graph}
 use Rattle.logic.specs.Steps.{run}
+use Rattle.logic.specs.Carry.{carriedBook}
 use Rattle.logic.specs.Limits.{Within}
 use Rattle.sheet.specs.Sheet.{store, graphOf}
 use Rattle.sheet.proofs.Passes.{stored-passes}
@@ -13,7 +14,7 @@ use Rattle.sheet.proofs.ReadBack.{read-back}
 use Rattle.text.specs.Reading.{textLimits}
 use Rattle.text.specs.Questions.{askBook, askEdit}
 use Rattle.eval.specs.Judge.{askSheetAndBook, askRules}
-use Rattle.carry.specs.Carrying.{carriedBook, askSize}
+use Rattle.carry.specs.Carrying.{askSize}
 use Rattle.demands.specs.Enter.{Carried, askCarried, askEnter, enterSheet}
 use Rattle.demands.specs.Clerk.{Fed, Line, clerkCopy, clerkAsks, clerkGraph, clerkLine}
 use Rattle.demands.specs.Run.{Hold, Call, fed, enterLine}

@@ -10,9 +10,9 @@ use Rattle.logic.specs.Syntax.{Expr, rule, Edit}
 use Rattle.logic.specs.Graph.{Graph}
 use Rattle.logic.specs.Meaning.{value}
 use Rattle.logic.specs.Steps.{run}
+use Rattle.logic.specs.Carry.{carriedBook}
 use Rattle.logic.proofs.Theorem.{carried}
 use Rattle.eval.specs.Judge.{askRules}
-use Rattle.carry.specs.Carrying.{carriedBook}
 use Rattle.demands.specs.Run.{Hold}
 
 -- All of two lists of questions have passed when each has.

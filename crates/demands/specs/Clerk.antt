@@ -6,11 +6,12 @@ use Rattle.answer.specs.Asked.{Asked, passed, _>>=_, _>>_, after, outcome}
 use Rattle.logic.specs.Syntax.{Expr, rule}
 use Rattle.logic.specs.Graph.{Graph}
 use Rattle.logic.specs.Steps.{run}
+use Rattle.logic.specs.Carry.{carriedBook}
 use Rattle.sheet.specs.Sheet.{store, graphOf}
 use Rattle.text.specs.Reading.{textLimits}
 use Rattle.text.specs.Questions.{askBook, askEdit}
 use Rattle.eval.specs.Judge.{askRules}
-use Rattle.carry.specs.Carrying.{carriedBook, askSize}
+use Rattle.carry.specs.Carrying.{askSize}
 
 -- What he is fed for a call.
 pub record Fed : Type 0 where

@@ -7,9 +7,9 @@ use lib.Dec.{T}
 use Rattle.answer.specs.Asked.{passed}
 use Rattle.logic.specs.Syntax.{Expr, rule}
 use Rattle.logic.specs.Meaning.{value}
-use Rattle.logic.specs.Carry.{carry}
+use Rattle.logic.specs.Carry.{carry, carriedBook}
 use Rattle.sheet.specs.Sheet.{graphOf}
-use Rattle.carry.specs.Carrying.{carriedBook, askSize}
+use Rattle.carry.specs.Carrying.{askSize}
 use Rattle.demands.specs.Enter.{afterSteps, enterAnswer, enterSheet}
 use Rattle.demands.specs.Clerk.{Line, clerk}
 use Rattle.demands.specs.Run.{Hold, Keeps, Call, fed, log, enteredAfterEach, madeInOrder, Bytes, Given, Condition, Ensures}

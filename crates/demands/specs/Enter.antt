@@ -5,12 +5,13 @@ use lib.ListN.{length}
 use Rattle.answer.specs.Asked.{Asked, passed, _>>=_, _>>_, after, outcome}
 use Rattle.logic.specs.Syntax.{Expr, rule, Edit}
 use Rattle.logic.specs.Steps.{run}
+use Rattle.logic.specs.Carry.{carriedBook}
 use Rattle.sheet.specs.Sheet.{store, graphOf}
 use Rattle.text.specs.Code.{bookCode}
 use Rattle.text.specs.Reading.{textLimits}
 use Rattle.text.specs.Questions.{askEdit}
 use Rattle.eval.specs.Judge.{askSheetAndBook, askRules}
-use Rattle.carry.specs.Carrying.{carriedBook, askSize, writtenAtStart}
+use Rattle.carry.specs.Carrying.{askSize, writtenAtStart}
 
 -- The sheet that the steps of an edit leave.
 abbrev pub afterSteps : Edit → List ℕ → List ℕ

@@ -45,7 +45,7 @@ unfoldable pub log : (book sheet : List ℕ) → List Call → List Line
 log book sheet [] = []
 log book sheet (c ∷ cs) = enterLine book sheet c ∷ log book (enterLine book sheet c .sheet) cs
 
--- An edit is entered when the answer is done: the edits entered before a line of a log, with the line's own if it is.
+-- An edit is entered when enter answers done. The entered edits after one more line of a log.
 abbrev pub entered : List (List ℕ) → Line → List (List ℕ)
 entered edits l = after (l .answer) (λ u. edits ++ (l .edit ∷ [])) edits
 

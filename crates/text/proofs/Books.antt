@@ -9,9 +9,9 @@ use lib.Dec.{T, leb, leb→le, le→leb}
 use Rattle.answer.specs.Asked.{Asked, passed, refused, _>>=_, _>>_, is}
 use Rattle.logic.specs.Syntax.{Expr, rule, Edit}
 use Rattle.text.specs.Code.{code, editCode, bookCode}
-use Rattle.text.specs.Reading.{Limits, Want, expr, edit, Thing, operand, done, Read, got, fault, follow, readAs}
+use Rattle.text.specs.Reading.{Limits, expr, edit, Fault, Read, got, fault, follow, readAs}
 use Rattle.text.specs.Questions.{faultNumber, mostRules, first, whole, rulesOf, askBook, askFirst, askEdit}
-use Rattle.text.proofs.Converse.{spelling, NumbersFit, Allowed, Written, Wrote, wrote, read-is-written}
+use Rattle.text.proofs.Converse.{Allowed, Written, Wrote, wrote}
 use Rattle.text.proofs.ReadBack.{reads}
 
 -- A passed list of questions: each was passed.
@@ -77,10 +77,16 @@ module _ (l : Limits) where
       go (fault why p) w k = tt
 
   -- where a rule is read, the rules are that one and those behind it
-  rules-step : (m : ℕ) (t : List ℕ) (at : ℕ) (K : Expr rule) (r : List ℕ) (p : ℕ) → readAs l (expr rule) t at ≡ got K r p → rulesOf l (suc m) t at ≡ rulesOf l m r p >>= (λ book. passed (K ∷ book))
+  pub rules-step : (m : ℕ) (t : List ℕ) (at : ℕ) (K : Expr rule) (r : List ℕ) (p : ℕ) → readAs l (expr rule) t at ≡ got K r p → rulesOf l (suc m) t at ≡ rulesOf l m r p >>= (λ book. passed (K ∷ book))
   unfolding rulesOf follow
   rules-step m [] at K r p h = let z : _≡_ {A = ℕ} 0 1 = cc in absurd (omega arith)
   rules-step m (c ∷ t) at K r p h = ap (λ x. elim x as (λ y. Asked (List (Expr rule))) [ got K r p ↦ rulesOf l m r p >>= (λ book. passed (K ∷ book)) | fault why p ↦ refused (faultNumber 10 why) p ]) h
+
+  pub rules-fault : (m : ℕ) (t : List ℕ) (at : ℕ) (why : Fault) (p : ℕ) → (t ≡ [] → ⊥) → readAs l (expr rule) t at ≡ fault why p → rulesOf l (suc m) t at ≡ refused (faultNumber 10 why) p
+  unfolding rulesOf
+  rules-fault m [] at why p some h = absurd (some refl)
+  rules-fault m (c ∷ t) at why p some h =
+      ap (λ x. elim x as (λ y. Asked (List (Expr rule))) [ got K r p ↦ rulesOf l m r p >>= (λ book. passed (K ∷ book)) | fault why p ↦ refused (faultNumber 10 why) p ]) h
 
   rules-back : (m : ℕ) (book : List (Expr rule)) (at : ℕ) → length book ≤ m → EachAllowed l book → rulesOf l m (bookCode book) at ≡ passed book
   unfolding rulesOf bookCode _>>=_

@@ -2,7 +2,7 @@
 use mathlib.Core.Path.{_≡_, refl}
 use mathlib.Core.Bool.{Bool, true, false, cond}
 use mathlib.Core.List.{List, [], _∷_, _++_, map}
-use Prim.Native.Nat.{ℕ, suc, _+_, _≤_}
+use Prim.Native.Nat.{ℕ, _≤_}
 use native.Mathlib.Omega.{arith}
 use lib.ListN.{length}
 use lib.Dec.{T, eqb}
@@ -12,10 +12,10 @@ use Rattle.logic.specs.Steps.{update}
 use Rattle.logic.specs.Carry.{replace, putLabel, putArrow, carry}
 use Rattle.logic.specs.Limits.{Kind, labelNumber, arrowNumber, Ranges, fits, InRange, EditInRange}
 use Rattle.text.specs.Code.{code, levels, bookCode}
-use Rattle.text.specs.Reading.{Limits, expr, carriedLimits}
+use Rattle.text.specs.Reading.{expr, carriedLimits}
 use Rattle.text.specs.Questions.{mostRules, askFirst, askBook}
 use Rattle.text.proofs.Converse.{Allowed}
-use Rattle.text.proofs.Books.{EachAllowed, SpellsRules, SpellsBook, BeginsWith, spelled-first-passes, spelled-book-passes}
+use Rattle.text.proofs.Books.{EachAllowed, spelled-first-passes, spelled-book-passes}
 
 module _ (q : Ranges) (f : ℕ → Expr node) (h : ℕ → Expr arrow) (f-in : (k : ℕ) → T (fits q labelNumber k) → InRange q (f k)) (h-in : (a : ℕ) → T (fits q arrowNumber a) → InRange q (h a)) where
   replace-in : {s : Sort} (e : Expr s) → InRange q e → InRange q (replace f h e)

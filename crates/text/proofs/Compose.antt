@@ -11,7 +11,7 @@ use Rattle.text.specs.declared.Step.{Step}
 use Rattle.text.specs.declared.Step.the-variants.{Next, Stopped}
 use Rattle.text.specs.Reading.{Limits, textLimits, Want, Thing, Plan, done, number, operand, _>>=_, Entry, Read, got, fault, Fault, tooDeep, wrongSort, outOfRange, codes, choice, follow}
 use Rattle.text.specs.Rows.{stepOf, stepAt}
-use Rattle.text.proofs.Places.{behind, behind-is, left-at}
+use Rattle.text.proofs.Places.{behind-is, left-at}
 use Rattle.text.proofs.Converse.{spelling, Fine, Outcome, outcome}
 
 bind-assoc : {A B C : Type 0} (p : Plan A) (f : A → Plan B) (h : B → Plan C) → (p >>= f) >>= h ≡ p >>= (λ a. f a >>= h)

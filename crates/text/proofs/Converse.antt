@@ -2,12 +2,12 @@
 use mathlib.Core.Path.{_≡_, refl, sym, _∙_, ap, subst}
 use mathlib.Core.Bool.{Bool, true, false}
 use mathlib.Core.List.{List, [], _∷_, _++_, append-assoc, append-nil}
-use Prim.Native.Nat.{ℕ, suc, _+_, _≤_, max}
+use Prim.Native.Nat.{ℕ, suc, _+_, _≤_}
 use native.Mathlib.Omega.{arith}
 use lib.ListN.{length}
 use lib.Dec.{T, leb, eqb, leb→le, eqb→eq}
-use Rattle.logic.specs.Syntax.{Sort, node, arrow, rule, Expr, Edit}
-use Rattle.logic.specs.Limits.{Kind, fits, InRange, EditInRange}
+use Rattle.logic.specs.Syntax.{node, arrow, rule}
+use Rattle.logic.specs.Limits.{fits, InRange, EditInRange}
 use Rattle.text.specs.Code.{code, editCode, levels, editLevels}
 use Rattle.text.specs.Reading.{Limits, Want, expr, edit, Thing, Plan, done, number, operand, _>>=_, Entry, Read, got, fault, codes, choice, follow}
 use Rattle.text.proofs.Places.{behind, behind-is}

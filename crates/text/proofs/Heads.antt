@@ -1,7 +1,7 @@
 -- The steps that the code makes: along a row, and at a code byte, which the table of rows has as the plans have it.
 use mathlib.Core.Path.{_≡_, refl, sym, _∙_, ap, ap₂, subst}
 use mathlib.Core.Bool.{Bool, true, false, _&&_}
-use mathlib.Core.List.{List, [], _∷_, _++_}
+use mathlib.Core.List.{List, [], _∷_}
 use mathlib.Core.Logic.{_≢_}
 use Prim.Native.Nat.{ℕ, zero, suc, _+_, _-_, _/_, _%_, _≤_, _<_}
 use native.Mathlib.Numerals.{add-one}
@@ -17,7 +17,7 @@ use Rattle.text.specs.declared.Stop.{Stop}
 use Rattle.text.specs.declared.Stop.the-variants.{Missing, WrongSort, TooDeep, OutOfRange}
 use Rattle.text.specs.declared.Step.{Step}
 use Rattle.text.specs.declared.Step.the-variants.{Next, Stopped}
-use Rattle.text.specs.Reading.{textLimits, Want, expr, edit, Thing, Plan, done, number, operand, _>>=_, Entry, Read, got, fault, tooDeep, wrongSort, outOfRange, codes, choice, follow}
+use Rattle.text.specs.Reading.{textLimits, Want, expr, edit, Thing, Plan, number, operand, _>>=_, Entry, Read, fault, tooDeep, outOfRange, codes, choice, follow}
 use Rattle.text.specs.Rows.{Item, nothing, takes, deeper, here, items, itemOf, rows, rowOf, itemPlan, finished, rowPlan, pick, sortOf, numberFits, stopOf, stepOf, stepAt, headAt}
 use Rattle.text.proofs.Compose.{Alike, same-end, same-number, same-operand, alike-bind, alike-steps, andThen, step-then}
 
@@ -59,6 +59,13 @@ digit (expr arrow) = 0xD
 digit (expr rule) = 0xE
 digit edit = 0xF
 
+pub here-digit : (w : Want) → itemOf (digit w % 16) ≡ here w
+unfolding itemOf items
+here-digit (expr node) = refl
+here-digit (expr arrow) = refl
+here-digit (expr rule) = refl
+here-digit edit = refl
+
 pub record IsHere (x : ℕ) : Type 0 where
   pub want : Want
   pub digit-is : x ≡ digit want
@@ -82,7 +89,7 @@ here-item : (i : Item) (d : ℕ) (w : Want) (rest : Plan (Unit {0})) → i ≡ h
 unfolding itemPlan
 here-item i d w rest e = ap (λ j. itemPlan j d rest) e
 
-here-row : (row d : ℕ) (w : Want) → itemOf (row % 16) ≡ here w → rowPlan row d ≡ operand w d (λ e. finished)
+pub here-row : (row d : ℕ) (w : Want) → itemOf (row % 16) ≡ here w → rowPlan row d ≡ operand w d (λ e. finished)
 unfolding rowPlan
 here-row row d w e = here-item (itemOf (row % 16)) d w _ e
 

@@ -8,3 +8,5 @@ pub mod Carried
 pub mod Marked
 pub mod Compose
 pub mod Heads
+pub mod Answers
+pub mod Pending

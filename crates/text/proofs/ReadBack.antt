@@ -1,15 +1,15 @@
 -- Every expression, rule and edit within the limits is read back from its code, whatever follows.
 use mathlib.Core.Path.{_≡_, refl, sym, _∙_, ap}
 use mathlib.Core.Bool.{Bool, true, false}
-use mathlib.Core.List.{List, [], _∷_, _++_, append-assoc, append-nil}
-use Prim.Native.Nat.{ℕ, zero, suc, _+_, _≤_, max}
+use mathlib.Core.List.{List, [], _∷_, _++_, append-assoc}
+use Prim.Native.Nat.{ℕ, suc, _+_, _≤_, max}
 use native.Mathlib.Omega.{arith}
 use lib.ListN.{length}
 use lib.Dec.{T, leb, le→leb}
 use Rattle.logic.specs.Syntax.{Sort, node, arrow, rule, Expr, all, none, label, nominal, complement, and, or, some, every, atLeast, atMost, arrowKind, reversed, union, common, minus, endingIn, pair, subNodes, subArrows, nodeIn, pairIn, both, either, notRule, Edit, finish, addLabel, takeLabel, addArrow, takeArrow, choose}
 use Rattle.logic.specs.Limits.{Kind, labelNumber, arrowNumber, nodeNumber, leastCount, mostCount, fits, InRange, EditInRange}
 use Rattle.text.specs.Code.{code, editCode, levels, editLevels}
-use Rattle.text.specs.Reading.{Limits, Want, expr, edit, Thing, Plan, done, number, operand, _>>=_, Read, got, codes, choice, follow}
+use Rattle.text.specs.Reading.{Limits, Want, expr, edit, Thing, Plan, done, operand, _>>=_, got, codes, choice, follow}
 use Rattle.text.proofs.Places.{behind, behind-is, behind-append}
 use Rattle.text.proofs.Converse.{spelling, Allowed}
 
@@ -104,3 +104,10 @@ module _ (l : Limits) where
 
   pub reads : (w : Want) (d : ℕ) (e : Thing w) → Allowed l w d e → (rest : List ℕ) (at : ℕ) → follow l (spelling w e ++ rest) (operand w d done) at ≡ got e rest (at + length (spelling w e))
   reads w d e a rest at = read-back w d e a (Thing w) done rest at ∙ follow-done rest e (behind (spelling w e) at) ∙ ap (got e rest) (behind-is (spelling w e) at)
+
+  got-same : {A : Type 0} {a b : A} {r r′ : List ℕ} {p p′ : ℕ} → got a r p ≡ got b r′ p′ → a ≡ b
+  got-same h = cc
+
+  -- NO TWO READINGS: at one place of a text stands at most one thing of a sort.
+  pub one-reading : (w : Want) (d : ℕ) (e e′ : Thing w) (rest rest′ : List ℕ) → Allowed l w d e → Allowed l w d e′ → spelling w e ++ rest ≡ spelling w e′ ++ rest′ → e ≡ e′
+  one-reading w d e e′ rest rest′ a a′ h = got-same (sym (reads w d e a rest 0) ∙ ap (λ z. follow l z (operand w d done) 0) h ∙ reads w d e′ a′ rest′ 0)

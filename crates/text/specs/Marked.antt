@@ -5,14 +5,14 @@ use mathlib.Core.List.{List, [], _∷_, _++_}
 use Prim.Native.Nat.{ℕ, zero, suc}
 use lib.Dec.{ltb, eqb}
 use Rattle.answer.specs.Asked.{Asked, passed, refused, _>>=_}
-use Rattle.logic.specs.Syntax.{node, rule, Expr}
+use Rattle.logic.specs.Syntax.{node}
 use Rattle.logic.specs.Graph.{Graph, Nodes}
 use Rattle.logic.specs.Meaning.{value}
 use Rattle.logic.specs.Steps.{run}
 use Rattle.logic.specs.Carry.{carry}
 use Rattle.text.specs.Code.{code}
 use Rattle.text.specs.Reading.{textLimits, expr, readAs}
-use Rattle.text.specs.Questions.{first, whole, askBook, askFirst, askEdit, askRuleEnd}
+use Rattle.text.specs.Questions.{whole, askBook, askFirst, askEdit, askRuleEnd}
 
 -- Sheet T: 3 nodes, label 0 has nodes 0 and 1, label 1 has node 2, arrow 0 goes from 0 to 2 and from 1 to 2.
 unfoldable pub sheetT : Graph

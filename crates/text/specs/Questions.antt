@@ -1,5 +1,4 @@
 -- The questions that a book, the first rule of a text, and an edit are asked: 11 to 16, 11 to 15, 21 to 26.
-use mathlib.Core.Bool.{Bool}
 use mathlib.Core.List.{List, [], _∷_}
 use Prim.Native.Nat.{ℕ, zero, suc, _+_}
 use lib.Dec.{leb}
@@ -61,6 +60,11 @@ module _ (l : Limits) where
   askEdit t = do
     is (leb (length t) (l .longest)) 21 0
     whole (readAs l edit t 0)
+
+-- What is answered to questions, without what was learned.
+unfoldable pub answered : {A : Type 0} → Asked A → Asked (Unit {0})
+answered (passed a) = passed tt
+answered (refused q p) = refused q p
 
 -- Rule end: n as 60. The part of the text that holds the first rule, empty when refused.
 abbrev pub askRuleEnd : List ℕ → Asked (Expr rule)

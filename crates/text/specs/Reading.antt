@@ -1,5 +1,5 @@
 -- Reading a text ("The questions, in order" of document 01): what a code is followed by, as a plan, and the plan followed along the bytes.
-use mathlib.Core.Bool.{Bool, true, false}
+use mathlib.Core.Bool.{true, false}
 use mathlib.Core.List.{List, [], _∷_}
 use Prim.Native.Nat.{ℕ, suc}
 use lib.Dec.{leb, eqb}

@@ -4,13 +4,15 @@ use mathlib.Core.List.{List, [], _∷_}
 use Prim.Native.Nat.{ℕ, suc, _+_, _/_, _%_}
 use lib.Dec.{leb, ltb, eqb}
 use lib.ListN.{length, getD, drop}
+use Rattle.answer.specs.Asked.{Asked, passed, refused}
 use Rattle.logic.specs.Syntax.{node, arrow, rule}
 use Rattle.logic.specs.Limits.{Kind, labelNumber, arrowNumber, nodeNumber, leastCount, mostCount, ranges, fits}
 use Rattle.text.specs.declared.Stop.{Stop}
 use Rattle.text.specs.declared.Stop.the-variants.{Missing, WrongSort, TooDeep, OutOfRange}
 use Rattle.text.specs.declared.Step.{Step}
 use Rattle.text.specs.declared.Step.the-variants.{Next, Stopped}
-use Rattle.text.specs.Reading.{Limits, textLimits, Want, expr, edit, Plan, done, number, operand, Fault, missing, wrongSort, tooDeep, outOfRange, Read, got, fault, follow}
+use Rattle.text.specs.Questions.{faultNumber}
+use Rattle.text.specs.Reading.{textLimits, Want, expr, edit, Plan, done, number, operand, Fault, missing, wrongSort, tooDeep, outOfRange, Read, got, fault, follow}
 
 -- What can follow a code: nothing; a number of a kind; a thing one level deeper; a thing on the code's own level, with which its row ends.
 pub data Item : Type 0 where
@@ -136,6 +138,27 @@ stopOf outOfRange p = OutOfRange p
 unfoldable pub stepOf : {A : Type 0} → Read A → Step
 stepOf (got a rest p) = Next p
 stepOf (fault why p) = Stopped (stopOf why p)
+
+-- What is answered to a step that is the last: 12 to 15 of a book (base 10), 22 to 25 of an edit (base 20).
+abbrev pub stepAnswer : ℕ → Step → Asked (Unit {0})
+stepAnswer base (Next p) = passed tt
+stepAnswer base (Stopped (Missing p)) = refused (faultNumber base missing) p
+stepAnswer base (Stopped (WrongSort p)) = refused (faultNumber base wrongSort) p
+stepAnswer base (Stopped (TooDeep p)) = refused (faultNumber base tooDeep) p
+stepAnswer base (Stopped (OutOfRange p)) = refused (faultNumber base outOfRange) p
+
+-- How many items of a row are numbers, and how many are things.
+abbrev pub isNumber : ℕ → ℕ
+isNumber x = pick (ltb x 3) 0 (pick (ltb x 8) 1 0)
+
+abbrev pub isThing : ℕ → ℕ
+isThing x = pick (ltb x 8) 0 1
+
+unfoldable pub numbersIn : ℕ → ℕ
+numbersIn row = isNumber (row % 16) + isNumber (row / 16 % 16) + isNumber (row / 256 % 16) + isNumber (row / 4096 % 16)
+
+unfoldable pub thingsIn : ℕ → ℕ
+thingsIn row = isThing (row % 16) + isThing (row / 16 % 16) + isThing (row / 256 % 16) + isThing (row / 4096 % 16)
 
 -- A plan followed from a place of a text.
 unfoldable pub stepAt : {A : Type 0} → List ℕ → ℕ → Plan A → ℕ → Step

@@ -1,7 +1,13 @@
 // Reading rules, books and edits ("The code" and "The questions, in order" of document 01).
+use answer::Answer;
+use answer::Refusal;
 ghost use mathlib.Core.Path.{_≡_};
 ghost use Prim.Native.Nat.{_<_, _≤_};
-ghost use Rattle.text.specs.Rows.{itemOf, rowOf, itemPlan, finished, rowPlan, sortOf, numberFits, stepAt, headAt};
+ghost use Rattle.text.specs.Rows.{itemOf, rowOf, itemPlan, finished, rowPlan, sortOf, numberFits, stepAt, headAt, stepAnswer, isNumber, isThing, numbersIn, thingsIn};
+ghost use Rattle.answer.specs.Answers.{asked};
+ghost use Rattle.text.specs.Reading.{textLimits};
+ghost use Rattle.text.specs.Questions.{askBook, askEdit, askRuleEnd, answered, firstRule};
+ghost use Rattle.text.specs.Stands.{SomethingStands, EndsAt};
 
 // What is wrong with the bytes, and where: 12 to 15 of a book, 22 to 25 of an edit.
 pub enum Stop {
@@ -15,22 +21,6 @@ pub enum Stop {
 pub enum Step {
     Next(usize),
     Stopped(Stop),
-}
-
-// A text and its limits.
-pub struct Text;
-
-impl Text {
-    // bytes of a book or an edit
-    pub const LONGEST: usize = 4096;
-    // the last level
-    pub const DEEPEST: usize = 32;
-    // rules of a book
-    pub const RULES: usize = 32;
-    // labels and arrow kinds
-    pub const LABELS: u8 = 48;
-
-    pub const ARROWS: u8 = 16;
 }
 
 // What follows each code, a hexadecimal digit for each item, the first item last. 3 label, 4 arrow, 5 node number; 6, 7 the counts of 0A
@@ -200,4 +190,169 @@ fn read(text: &[u8], n: usize, wanted: u32, at: usize, level: usize) -> Step
         }
     }
     Step::Next(p)
+}
+
+// The answer to a book, and to an edit, of which this was the last step.
+fn book_answer(step: Step) -> Answer
+    ensures { λ r. ⌜ asked r ≡ stepAnswer 10 step ⌝ }
+{
+    match step {
+        Step::Next(_) => Answer::Done,
+        Step::Stopped(stop) => match stop {
+            Stop::Missing { place } => Answer::Refused(Refusal::BookEnds { place }),
+            Stop::WrongSort { place } => Answer::Refused(Refusal::BookCode { place }),
+            Stop::TooDeep { place } => Answer::Refused(Refusal::BookLevel { place }),
+            Stop::OutOfRange { place } => Answer::Refused(Refusal::BookNumber { place }),
+        },
+    }
+}
+
+fn edit_answer(step: Step) -> Answer
+    ensures { λ r. ⌜ asked r ≡ stepAnswer 20 step ⌝ }
+{
+    match step {
+        Step::Next(_) => Answer::Done,
+        Step::Stopped(stop) => match stop {
+            Stop::Missing { place } => Answer::Refused(Refusal::EditEnds { place }),
+            Stop::WrongSort { place } => Answer::Refused(Refusal::EditCode { place }),
+            Stop::TooDeep { place } => Answer::Refused(Refusal::EditLevel { place }),
+            Stop::OutOfRange { place } => Answer::Refused(Refusal::EditNumber { place }),
+        },
+    }
+}
+
+fn is_number(item: u32) -> usize
+    ensures { λ r. ⌜ (r ≡ isNumber item) × (r ≤ 1) ⌝ }
+{
+    if item < 3 {
+        0
+    } else if item < 8 {
+        1
+    } else {
+        0
+    }
+}
+
+fn is_thing(item: u32) -> usize
+    ensures { λ r. ⌜ (r ≡ isThing item) × (r ≤ 1) ⌝ }
+{
+    if item < 8 { 0 } else { 1 }
+}
+
+// How many items of a row are numbers.
+fn numbers_in(row: u32) -> usize
+    ensures { λ r. ⌜ (r ≡ numbersIn row) × (r ≤ 4) ⌝ }
+{
+    is_number(row % 16)
+        + is_number(row / 16 % 16)
+        + is_number(row / 256 % 16)
+        + is_number(row / 4096 % 16)
+}
+
+// How many are things.
+fn things_in(row: u32) -> usize
+    ensures { λ r. ⌜ (r ≡ thingsIn row) × (r ≤ 4) ⌝ }
+{
+    is_thing(row % 16)
+        + is_thing(row / 16 % 16)
+        + is_thing(row / 256 % 16)
+        + is_thing(row / 4096 % 16)
+}
+
+// Texts. Each function goes over a text once.
+pub struct Text;
+
+impl Text {
+    // bytes of a book or an edit
+    pub const LONGEST: usize = 4096;
+    // the last level
+    pub const DEEPEST: usize = 32;
+    // rules of a book
+    pub const RULES: usize = 32;
+    // label numbers, arrow numbers and, where there is no sheet, node numbers are below these
+    pub const LABELS: u8 = 48;
+
+    pub const ARROWS: u8 = 16;
+
+    pub const NODES: usize = 60;
+
+    // Is a book within the limits for n nodes? 11 to 16.
+    pub fn check_book(book: &[u8], n: usize) -> Answer
+        ensures { λ r. ⌜ asked r ≡ answered (askBook (textLimits n) (now (book .entry))) ⌝ }
+    {
+        if book.len() > Text::LONGEST {
+            return Answer::Refused(Refusal::BookLength { place: 0 });
+        }
+        let mut p = 0;
+        let mut left = Text::RULES;
+        while p < book.len() {
+            if left == 0 {
+                return Answer::Refused(Refusal::BookRules { place: p });
+            }
+            let step = read(book, n, 0xE, p, 1);
+            let Step::Next(q) = step else {
+                return book_answer(step);
+            };
+            p = q;
+            left -= 1;
+        }
+        Answer::Done
+    }
+
+    // Is an edit? 21 to 26.
+    pub fn check_edit(edit: &[u8], n: usize) -> Answer
+        ensures { λ r. ⌜ asked r ≡ answered (askEdit (textLimits n) (now (edit .entry))) ⌝ }
+    {
+        if edit.len() > Text::LONGEST {
+            return Answer::Refused(Refusal::EditLength { place: 0 });
+        }
+        let step = read(edit, n, 0xF, 0, 1);
+        let Step::Next(p) = step else {
+            return edit_answer(step);
+        };
+        if p != edit.len() {
+            return Answer::Refused(Refusal::EditExtra { place: p });
+        }
+        Answer::Done
+    }
+
+    // The first rule of a text, cut from it; empty when refused. n is 60.
+    pub fn first_rule(text: &[u8]) -> &[u8]
+        ensures { λ r. ⌜ now r ≡ firstRule (now (text .entry)) ⌝ }
+    {
+        if text.len() > Text::LONGEST {
+            return &text[0..0];
+        }
+        let step = read(text, Text::NODES, 0xE, 0, 1);
+        let Step::Next(p) = step else {
+            return &text[0..0];
+        };
+        &text[0..p]
+    }
+
+    // The answer that goes with it: 11 to 15.
+    pub fn first_rule_answer(text: &[u8]) -> Answer
+        ensures { λ r. ⌜ asked r ≡ answered (askRuleEnd (now (text .entry))) ⌝ }
+    {
+        if text.len() > Text::LONGEST {
+            return Answer::Refused(Refusal::BookLength { place: 0 });
+        }
+        book_answer(read(text, Text::NODES, 0xE, 0, 1))
+    }
+
+    // Where the expression or the edit that stands at a place ends. It keeps no stack.
+    // Inner: asks that one stands there, so that each byte it wants is there.
+    pub fn past(text: &[u8], at: usize) -> usize
+        requires { ⌜ SomethingStands (now text) at ⌝ }
+        ensures { λ r. ⌜ EndsAt (now (text .entry)) at r ⌝ }
+    {
+        let mut p = at;
+        let mut wanted: usize = 1;
+        while 0 < wanted {
+            let row = row_of(text[p]);
+            p = p + 1 + numbers_in(row);
+            wanted = wanted - 1 + things_in(row);
+        }
+        p
+    }
 }

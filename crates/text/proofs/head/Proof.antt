@@ -4,9 +4,6 @@ use mathlib.Core.Path.{sym, _∙_}
 use Rattle.text.proofs.Heads.{head-ends, head-wrong, head-deep, head-good}
 use Rattle.text.proofs.head.Statement.{statement}
 use Rattle.text.proofs.head.Tie as tie
-use Rattle.text.proofs.head.Reads as reads
-use Rattle.text.proofs.head.Lts as lts
-use Rattle.text.proofs.sort_of.Reads as sort-of-reads
 
 returns : tie.Need-returns
 returns c = head-ends _ _ _ _ (c .if1 .taken)

@@ -3,8 +3,6 @@ use native.Mathlib.Omega.{arith}
 use Rattle.text.proofs.Heads.{label-fits, arrow-fits, node-fits, other-fits}
 use Rattle.text.proofs.in_range.Statement.{statement}
 use Rattle.text.proofs.in_range.Tie as tie
-use Rattle.text.proofs.in_range.Reads as reads
-use Rattle.text.proofs.in_range.Lts as lts
 
 returns : tie.Need-returns
 returns c = label-fits _ _ _ (c .match .keys1)

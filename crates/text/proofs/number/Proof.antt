@@ -5,9 +5,6 @@ use mathlib.Core.Bool.{true, false}
 use Rattle.text.proofs.Heads.{number-nothing, number-ends, number-is}
 use Rattle.text.proofs.number.Statement.{statement}
 use Rattle.text.proofs.number.Tie as tie
-use Rattle.text.proofs.number.Reads as reads
-use Rattle.text.proofs.number.Lts as lts
-use Rattle.text.proofs.in_range.Reads as in-range-reads
 
 returns : tie.Need-returns
 returns c = number-nothing _ _ _ _ (c .if1 .taken)

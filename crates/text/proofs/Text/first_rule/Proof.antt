@@ -1,0 +1,70 @@
+use borrow.Author.Needs.{needs}
+use mathlib.Core.Path.{sym, _∙_}
+use Rattle.text.proofs.Answers.{no-rule-long, no-rule, the-rule, rule-inside}
+use Rattle.text.proofs.Text.first_rule.Statement.{statement}
+use Rattle.text.proofs.Text.first_rule.Tie as tie
+
+sub-result : tie.Need-sub-result
+sub-result c = search needs
+
+part-result-start : tie.Need-part-result-start
+part-result-start c = search needs
+
+part-result-end : tie.Need-part-result-end
+part-result-end c = search needs
+
+returns : tie.Need-returns
+returns c = no-rule-long _ (c .before .if1 .taken)
+
+read-requires : tie.Need-read-requires
+read-requires c κs = search needs
+
+enum-known-step : tie.Need-enum-known-step
+enum-known-step c = search needs
+
+enum-told : tie.Need-enum-told
+enum-told c = search needs
+
+sub-result-2 : tie.Need-sub-result-2
+sub-result-2 c = search needs
+
+part-result-start-2 : tie.Need-part-result-start-2
+part-result-start-2 c = search needs
+
+part-result-end-2 : tie.Need-part-result-end-2
+part-result-end-2 c = search needs
+
+returns-2 : tie.Need-returns-2
+returns-2 c = no-rule _ (c .before .before .before .before .if1 .left) (sym (c .before .before .before .read .ensures) ∙ c .before .enum-told .given .1)
+
+sub-result-3 : tie.Need-sub-result-3
+sub-result-3 c = search needs
+
+part-result-start-3 : tie.Need-part-result-start-3
+part-result-start-3 c = search needs
+
+part-result-end-3 : tie.Need-part-result-end-3
+part-result-end-3 c = rule-inside _ (c .before .before .before .before .if1 .left) (sym (c .before .before .before .read .ensures) ∙ c .before .step .given .1)
+
+returns-3 : tie.Need-returns-3
+returns-3 c = the-rule _ (c .before .before .before .before .before .if1 .left) (sym (c .before .before .before .before .read .ensures) ∙ c .before .before .step .given .1)
+
+pub first-rule-spec : {M : Type 1} → statement M
+first-rule-spec =
+    tie.close
+    (tie.spec
+    sub-result
+    part-result-start
+    part-result-end
+    returns
+    read-requires
+    enum-known-step
+    enum-told
+    sub-result-2
+    part-result-start-2
+    part-result-end-2
+    returns-2
+    sub-result-3
+    part-result-start-3
+    part-result-end-3
+    returns-3)
