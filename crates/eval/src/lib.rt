@@ -1,1 +1,205 @@
-// Evaluating expressions and judging books.
+// Evaluating expressions and rules where they stand in a text, on the graph that a sheet stores.
+// Inner, all of them: the sheet is sound, and an expression in range stands at `at`. Levels have no bound here.
+ghost use mathlib.Core.Path.{_≡_};
+ghost use Prim.Native.Nat.{ℕ, _<_, _≤_};
+ghost use lib.ListN.{getD};
+ghost use Rattle.logic.specs.Syntax.{Expr, «node», arrow, rule};
+ghost use Rattle.logic.specs.Limits.{ranges};
+ghost use Rattle.text.specs.Stands.{Stands, SomeStands};
+ghost use Rattle.eval.specs.Evaluated.{Opened, IsSet, IsRelation, IsTruth, ruleOperation};
+use logic::{Arrow, Label, Node};
+use sheet::Sheet;
+
+// A set of nodes, and where the text goes on.
+pub struct NodeSet {
+    pub set: u64,
+    pub next: usize,
+}
+
+pub struct Relation {
+    pub rows: [u64; 64],
+    pub next: usize,
+}
+
+pub struct Truth {
+    pub holds: bool,
+    pub next: usize,
+}
+
+// 01 to 04.
+fn leaf_node(sheet: &[u8], n: usize, all: u64, text: &[u8], at: usize) -> NodeSet
+    requires { ⌜ Opened (now sheet) n all × SomeStands (ranges n) (now text) at node × (getD (now text) at 0 ≤ 0x04) ⌝ }
+    ensures { λ r. ⌜ ((e : Expr node) → Stands (ranges n) (now (text .entry)) at e → IsSet (now (sheet .entry)) n at e (r .set) (r .next)) ⌝ }
+{
+    let c = text[at];
+    if c <= 0x01 {
+        NodeSet { set: all, next: at + 1 }
+    } else if c <= 0x02 {
+        NodeSet { set: 0, next: at + 1 }
+    } else if c <= 0x03 {
+        NodeSet { set: Sheet::label_word(sheet, Label(text[at + 1])), next: at + 2 }
+    } else {
+        NodeSet { set: rows::nominal(all, Node(text[at + 1])), next: at + 2 }
+    }
+}
+
+// 11.
+fn arrow_kind(sheet: &[u8], n: usize, all: u64, text: &[u8], at: usize) -> Relation
+    requires { ⌜ Opened (now sheet) n all × SomeStands (ranges n) (now text) at arrow × (getD (now text) at 0 ≤ 0x11) ⌝ }
+    ensures { λ r. ⌜ ((e : Expr arrow) → Stands (ranges n) (now (text .entry)) at e → IsRelation (now (sheet .entry)) n at e (r .rows) (r .next)) ⌝ }
+{
+    let rows = rows::arrow_rows(sheet, n, Arrow(text[at + 1]));
+    Relation { rows, next: at + 2 }
+}
+
+// 17.
+fn one_pair(sheet: &[u8], n: usize, all: u64, text: &[u8], at: usize) -> Relation
+    requires { ⌜ Opened (now sheet) n all × SomeStands (ranges n) (now text) at arrow × (0x16 < getD (now text) at 0) ⌝ }
+    ensures { λ r. ⌜ ((e : Expr arrow) → Stands (ranges n) (now (text .entry)) at e → IsRelation (now (sheet .entry)) n at e (r .rows) (r .next)) ⌝ }
+{
+    let rows = rows::pair(all, Node(text[at + 1]), Node(text[at + 2]));
+    Relation { rows, next: at + 3 }
+}
+
+// How far behind the code of a quantifier its operands stand: 0A and 0B have a count between.
+fn ahead(c: u8) -> usize
+    ensures { λ r. ⌜ (c ≤ 0x09 → r ≡ 1) × (0x09 < c → r ≡ 2) ⌝ }
+{
+    if c <= 0x09 {
+        1
+    } else {
+        2
+    }
+}
+
+// The set that a node expression means.
+pub fn eval_node(sheet: &[u8], n: usize, all: u64, text: &[u8], at: usize) -> NodeSet
+    requires { ⌜ Opened (now sheet) n all × SomeStands (ranges n) (now text) at node ⌝ }
+    ensures { λ r. ⌜ ((e : Expr node) → Stands (ranges n) (now (text .entry)) at e → IsSet (now (sheet .entry)) n at e (r .set) (r .next)) ⌝ }
+{
+    let c = text[at];
+    if c <= 0x04 {
+        leaf_node(sheet, n, all, text, at)
+    } else if c <= 0x05 {
+        let e = eval_node(sheet, n, all, text, at + 1);
+        NodeSet { set: words::minus(all, e.set), next: e.next }
+    } else if c <= 0x07 {
+        let e = eval_node(sheet, n, all, text, at + 1);
+        let f = eval_node(sheet, n, all, text, e.next);
+        NodeSet { set: rows::combined_sets(c, e.set, f.set), next: f.next }
+    } else {
+        let k = ahead(c);
+        let m = text[at + k - 1];
+        let r = eval_arrow(sheet, n, all, text, at + k);
+        let e = eval_node(sheet, n, all, text, r.next);
+        let rows = r.rows;
+        NodeSet { set: rows::quantified(c, m, n, all, rows, e.set), next: e.next }
+    }
+}
+
+// The relation that an arrow expression means.
+pub fn eval_arrow(sheet: &[u8], n: usize, all: u64, text: &[u8], at: usize) -> Relation
+    requires { ⌜ Opened (now sheet) n all × SomeStands (ranges n) (now text) at arrow ⌝ }
+    ensures { λ r. ⌜ ((e : Expr arrow) → Stands (ranges n) (now (text .entry)) at e → IsRelation (now (sheet .entry)) n at e (r .rows) (r .next)) ⌝ }
+{
+    let c = text[at];
+    if c <= 0x11 {
+        arrow_kind(sheet, n, all, text, at)
+    } else if c <= 0x12 {
+        let r = eval_arrow(sheet, n, all, text, at + 1);
+        let rows = r.rows;
+        let back = rows::reversed(n, rows);
+        Relation { rows: back, next: r.next }
+    } else if c <= 0x15 {
+        let r = eval_arrow(sheet, n, all, text, at + 1);
+        let s = eval_arrow(sheet, n, all, text, r.next);
+        let first = r.rows;
+        let second = s.rows;
+        let rows = rows::combined_rows(c, n, first, second);
+        Relation { rows, next: s.next }
+    } else if c <= 0x16 {
+        let r = eval_arrow(sheet, n, all, text, at + 1);
+        let e = eval_node(sheet, n, all, text, r.next);
+        let first = r.rows;
+        let rows = rows::ending(n, first, e.set);
+        Relation { rows, next: e.next }
+    } else {
+        one_pair(sheet, n, all, text, at)
+    }
+}
+
+// 21.
+fn sub_nodes(sheet: &[u8], n: usize, all: u64, text: &[u8], at: usize) -> Truth
+    requires { ⌜ Opened (now sheet) n all × SomeStands (ranges n) (now text) at rule × (getD (now text) at 0 ≤ 0x21) ⌝ }
+    ensures { λ r. ⌜ ((e : Expr rule) → Stands (ranges n) (now (text .entry)) at e → IsTruth (now (sheet .entry)) at e (r .holds) (r .next)) ⌝ }
+{
+    let e = eval_node(sheet, n, all, text, at + 1);
+    let f = eval_node(sheet, n, all, text, e.next);
+    Truth { holds: rows::set_in(e.set, f.set), next: f.next }
+}
+
+// 22.
+fn sub_arrows(sheet: &[u8], n: usize, all: u64, text: &[u8], at: usize) -> Truth
+    requires { ⌜ Opened (now sheet) n all × SomeStands (ranges n) (now text) at rule × (0x21 < getD (now text) at 0) × (getD (now text) at 0 ≤ 0x22) ⌝ }
+    ensures { λ r. ⌜ ((e : Expr rule) → Stands (ranges n) (now (text .entry)) at e → IsTruth (now (sheet .entry)) at e (r .holds) (r .next)) ⌝ }
+{
+    let r = eval_arrow(sheet, n, all, text, at + 1);
+    let s = eval_arrow(sheet, n, all, text, r.next);
+    let first = r.rows;
+    let second = s.rows;
+    Truth { holds: rows::rows_in(n, first, second), next: s.next }
+}
+
+// 23.
+fn node_in(sheet: &[u8], n: usize, all: u64, text: &[u8], at: usize) -> Truth
+    requires { ⌜ Opened (now sheet) n all × SomeStands (ranges n) (now text) at rule × (0x22 < getD (now text) at 0) × (getD (now text) at 0 ≤ 0x23) ⌝ }
+    ensures { λ r. ⌜ ((e : Expr rule) → Stands (ranges n) (now (text .entry)) at e → IsTruth (now (sheet .entry)) at e (r .holds) (r .next)) ⌝ }
+{
+    let e = eval_node(sheet, n, all, text, at + 2);
+    Truth { holds: rows::node_in(e.set, Node(text[at + 1])), next: e.next }
+}
+
+// 24.
+fn pair_in(sheet: &[u8], n: usize, all: u64, text: &[u8], at: usize) -> Truth
+    requires { ⌜ Opened (now sheet) n all × SomeStands (ranges n) (now text) at rule × (0x23 < getD (now text) at 0) × (getD (now text) at 0 ≤ 0x24) ⌝ }
+    ensures { λ r. ⌜ ((e : Expr rule) → Stands (ranges n) (now (text .entry)) at e → IsTruth (now (sheet .entry)) at e (r .holds) (r .next)) ⌝ }
+{
+    let r = eval_arrow(sheet, n, all, text, at + 3);
+    let rows = r.rows;
+    Truth { holds: rows::pair_in(rows, Node(text[at + 1]), Node(text[at + 2])), next: r.next }
+}
+
+// 25, 26.
+fn combined_truth(c: u8, k: bool, l: bool) -> bool
+    ensures { λ r. ⌜ r ≡ ruleOperation c k l ⌝ }
+{
+    if c == 0x25 {
+        k & l
+    } else {
+        k | l
+    }
+}
+
+// Whether a rule holds. Both operands of 25 and 26 are evaluated, since the second one's end is wanted.
+pub fn eval_rule(sheet: &[u8], n: usize, all: u64, text: &[u8], at: usize) -> Truth
+    requires { ⌜ Opened (now sheet) n all × SomeStands (ranges n) (now text) at rule ⌝ }
+    ensures { λ r. ⌜ ((e : Expr rule) → Stands (ranges n) (now (text .entry)) at e → IsTruth (now (sheet .entry)) at e (r .holds) (r .next)) ⌝ }
+{
+    let c = text[at];
+    if c <= 0x21 {
+        sub_nodes(sheet, n, all, text, at)
+    } else if c <= 0x22 {
+        sub_arrows(sheet, n, all, text, at)
+    } else if c <= 0x23 {
+        node_in(sheet, n, all, text, at)
+    } else if c <= 0x24 {
+        pair_in(sheet, n, all, text, at)
+    } else if c <= 0x26 {
+        let k = eval_rule(sheet, n, all, text, at + 1);
+        let l = eval_rule(sheet, n, all, text, k.next);
+        Truth { holds: combined_truth(c, k.holds, l.holds), next: l.next }
+    } else {
+        let k = eval_rule(sheet, n, all, text, at + 1);
+        Truth { holds: !k.holds, next: k.next }
+    }
+}

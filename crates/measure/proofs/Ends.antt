@@ -1,15 +1,15 @@
 -- The end of an edit, step by step.
-use mathlib.Core.Path.{_≡_, refl, sym, ap, _∙_, subst}
+use mathlib.Core.Path.{_≡_, refl, ap, _∙_}
 use mathlib.Core.List.{List}
-use Prim.Native.Nat.{ℕ, _+_, _-_, _≤_, _<_}
+use Prim.Native.Nat.{ℕ, _+_, _≤_}
 use native.Mathlib.Omega.{arith}
 use lib.ListN.{length, getD}
-use Rattle.logic.specs.Syntax.{Edit, finish}
+use Rattle.logic.specs.Syntax.{Edit}
 use Rattle.text.specs.Code.{editCode}
 use Rattle.tree.specs.Tree.{Tree, size}
 use Rattle.measure.specs.Shapes.{At}
 use Rattle.measure.specs.Edits.{EditAt, SomeEdit, behindStep, NextAt}
-use Rattle.measure.proofs.Steps.{IsStep, IsChoose, as-step, as-choose, as-finish, finish-long, code-pos}
+use Rattle.measure.proofs.Steps.{as-step, as-choose, as-finish, finish-long}
 
 pub record Tail (text : List ℕ) (p end : ℕ) : Type 0 where
   pub tail : Edit

@@ -1,15 +1,12 @@
 -- An expression in range is a formed tree.
-use mathlib.Core.Path.{_≡_, refl}
-use mathlib.Core.List.{List, [], _∷_, _++_}
-use mathlib.Core.Logic.{_⊎_, inl, inr}
-use Prim.Native.Nat.{ℕ, _+_, _*_, _<_}
+use mathlib.Core.Path.{refl}
+use mathlib.Core.Logic.{inl, inr}
 use native.Mathlib.Omega.{arith}
 use lib.Dec.{ltb→lt}
-use lib.ListN.{length, getD}
-use Rattle.logic.specs.Syntax.{Sort, node, arrow, rule, Expr, all, none, label, nominal, complement, and, or, some, every, atLeast, atMost, arrowKind, reversed, union, common, minus, endingIn, pair, subNodes, subArrows, nodeIn, pairIn, both, either, notRule, Edit, finish, addLabel, takeLabel, addArrow, takeArrow, choose}
+use Rattle.logic.specs.Syntax.{Sort, Expr, all, none, label, nominal, complement, and, or, some, every, atLeast, atMost, arrowKind, reversed, union, common, minus, endingIn, pair, subNodes, subArrows, nodeIn, pairIn, both, either, notRule}
 use Rattle.logic.specs.Limits.{Ranges, InRange}
-use Rattle.tree.specs.Tree.{Tree, tree}
-use Rattle.measure.specs.Shapes.{shapes, Head, Formed}
+use Rattle.tree.specs.Tree.{tree}
+use Rattle.measure.specs.Shapes.{shapes, Formed}
 
 pub formed-tree : (lim : Ranges) {s : Sort} (e : Expr s) → InRange lim e → Formed (tree e)
 unfolding Formed tree InRange shapes

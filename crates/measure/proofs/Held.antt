@@ -1,18 +1,17 @@
 -- A measure in numbers: what writing one of them does.
 use mathlib.Core.Path.{_≡_, refl, sym, ap, ap₂, _∙_, subst}
 use mathlib.Core.Bool.{Bool, true, false, cond, _&&_}
-use mathlib.Core.List.{List, [], _∷_, _++_}
-use mathlib.Core.Logic.{_⊎_, inl, inr, ⊎-elim}
-use Prim.Native.Nat.{ℕ, zero, suc, _+_, _*_, _/_, max, _≤_, _<_}
+use mathlib.Core.List.{List}
+use mathlib.Core.Logic.{⊎-elim}
+use Prim.Native.Nat.{ℕ, zero, suc, _+_, _*_, max, _≤_, _<_}
 use native.Mathlib.Omega.{arith}
-use borrow.Author.Tests.{eq-eqb, ne-eqb, eqb-true, eqb-false}
-use lib.Dec.{eqb}
+use borrow.Author.Tests.{eq-eqb}
 use lib.ListN.{length, getD, set, length-set}
 use lib.Seq.{getD-set-same, getD-set-other}
-use Rattle.tree.specs.Tree.{Tree, name, leaf, one, two, size, height, count, deep, same, under}
+use Rattle.tree.specs.Tree.{Tree, name, leaf, one, two, height, count, deep, same, under}
 use Rattle.tree.specs.Sizes.{Measure, measure, passed, cut, cutM}
-use Rattle.tree.proofs.Measured.{under-max, max-under, under-under, under-one, under-nothing, same-eq}
-use Rattle.tree.proofs.Cut.{cut-cut, cut-max, cut-under, cut-under-under, cut-mul}
+use Rattle.tree.proofs.Measured.{under-max, under-under, under-nothing, same-eq}
+use Rattle.tree.proofs.Cut.{cut-max, cut-under, cut-mul}
 use Rattle.measure.specs.Shapes.{Named, cell}
 use Rattle.measure.specs.State.{Holds, added}
 

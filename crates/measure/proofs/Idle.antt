@@ -1,16 +1,16 @@
 -- Without its idle steps an edit carries each rule of the book to the same text, and stays in range.
 use mathlib.Core.Path.{_≡_, refl, sym, ap, ap₂, _∙_}
 use mathlib.Core.Bool.{Bool, true, false, cond}
-use mathlib.Core.List.{List, [], _∷_, _++_, map}
-use Prim.Native.Nat.{ℕ, zero, suc, _+_, _≤_, max}
+use mathlib.Core.List.{List, [], _∷_, _++_}
+use Prim.Native.Nat.{ℕ, _+_, max}
 use native.Mathlib.Omega.{arith}
 use borrow.Author.Tests.{eqb-true}
 use lib.Dec.{eqb}
 use lib.ListN.{length}
-use Rattle.logic.specs.Syntax.{node, arrow, rule, Expr, label, complement, and, or, arrowKind, union, minus, Edit, finish, addLabel, takeLabel, addArrow, takeArrow, choose}
+use Rattle.logic.specs.Syntax.{rule, Expr, label, complement, and, or, arrowKind, union, minus, Edit, finish, addLabel, takeLabel, addArrow, takeArrow, choose}
 use Rattle.logic.specs.Carry.{carry, carriedBook}
 use Rattle.logic.specs.Limits.{Ranges, EditInRange}
-use Rattle.text.specs.Code.{code, levels, bookCode, bookLevels}
+use Rattle.text.specs.Code.{levels, bookCode, bookLevels}
 use Rattle.tree.specs.Tree.{Tree, name, leaf, one, two, bytes, height, graft, only, same, count, tree}
 use Rattle.tree.specs.Sizes.{Measure, measure, back, join, nothing, measures}
 use Rattle.tree.proofs.Trees.{bytes-tree, height-tree, tree-putLabel, tree-putArrow}

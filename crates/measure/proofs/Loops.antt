@@ -1,25 +1,19 @@
 -- The loops over the numbers: copying them, and merging those of a choice's two ways.
 use mathlib.Core.Path.{_≡_, refl, sym, ap, ap₂, _∙_, subst}
 use mathlib.Core.List.{List}
-use mathlib.Core.Logic.{_⊎_, inl, inr, ⊎-elim}
 use Prim.Native.Nat.{ℕ, zero, suc, _+_, _*_, _-_, max, _≤_, _<_}
 use native.Mathlib.Omega.{arith}
-use native.Mathlib.Nat.{eq-or-lt-of-le, add-zero}
-use native.Mathlib.Numerals.{add-one}
 use native.Mathlib.Decide.{decLt}
 use lib.ListN.{length, getD, set, length-set}
 use lib.Seq.{getD-set-same, getD-set-other}
-use Rattle.logic.specs.Syntax.{Edit, finish}
 use Rattle.tree.specs.Tree.{Tree, size, height, under}
-use Rattle.tree.specs.Sizes.{Measure, measure, chosen, back, cut}
+use Rattle.tree.specs.Sizes.{Measure, measure, chosen, cut}
 use Rattle.tree.proofs.Measured.{under-max, under-under, under-more, height-pos}
 use Rattle.tree.proofs.Cut.{cut-max, cut-under, cut-under-under}
-use Rattle.measure.specs.Shapes.{Named, cell, At}
+use Rattle.measure.specs.Shapes.{cell, At}
 use Rattle.measure.specs.State.{Holds, added, Scanned}
-use Rattle.measure.specs.Edits.{EditAt, SomeEdit, Held, behindStep, after, Pushed, NextAt, Merged, Kept, Joined, Stepped, Backed}
+use Rattle.measure.specs.Edits.{after, Merged, Kept, Joined}
 use Rattle.measure.proofs.Held.{holds-is, holds-longer, longer, named-lt}
-use Rattle.text.specs.Code.{editCode}
-use Rattle.measure.proofs.Steps.{as-finish, edit-inside, as-choose}
 
 other : (l : List ℕ) (i j x : ℕ) → (i ≡ j → ⊥) → getD (set l i x) j 0 ≡ getD l j 0
 other l i j x n = getD-set-other l i j x 0 (λ e. n (sym e))

@@ -1,8 +1,8 @@
 -- What stands in a text at the place of a tree.
 use mathlib.Core.Path.{_≡_, refl, sym, ap, _∙_, subst}
 use mathlib.Core.List.{List, [], _∷_, _++_, append-assoc}
-use mathlib.Core.Logic.{_⊎_, inl, inr, ⊎-elim}
-use Prim.Native.Nat.{ℕ, suc, _+_, _*_, _-_, _%_, _≤_, _<_}
+use mathlib.Core.Logic.{⊎-elim}
+use Prim.Native.Nat.{ℕ, _+_, _-_, _%_, _≤_, _<_}
 use native.Mathlib.Nat.{add-zero}
 use native.Mathlib.Decide.{decLt}
 use native.Mathlib.Omega.{arith}
@@ -10,7 +10,7 @@ use lib.ListN.{length, getD, drop, length-append, length-drop}
 use lib.Seq.{getD-drop, drop-drop, drop-append-seam}
 use Rattle.tree.specs.Tree.{Tree, name, leaf, one, two, bytes, size}
 use Rattle.tree.proofs.Trees.{size-is}
-use Rattle.measure.specs.Shapes.{shapes, shapeOf, Named, Head, Formed, At, Some}
+use Rattle.measure.specs.Shapes.{shapes, shapeOf, Named, Formed, At}
 
 pub byte-at : (text : List ℕ) (at x : ℕ) (l : List ℕ) → drop at text ≡ x ∷ l → getD text at 0 ≡ x
 byte-at text at x l e = ap (λ (k : ℕ). getD text k 0) (sym (add-zero at)) ∙ sym (getD-drop at text 0 0) ∙ ap (λ (m : List ℕ). getD m 0 0) e

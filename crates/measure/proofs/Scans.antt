@@ -1,12 +1,12 @@
 -- What a walk over a tree does to a state.
 use mathlib.Core.Path.{_≡_, refl, sym, ap, ap₂, _∙_, subst}
-use mathlib.Core.List.{List, [], _∷_, _++_}
-use Prim.Native.Nat.{ℕ, zero, suc, _+_, _*_, _/_, _%_, max, _≤_, _<_}
+use mathlib.Core.List.{List}
+use Prim.Native.Nat.{ℕ, _+_, _%_, max, _≤_, _<_}
 use native.Mathlib.Omega.{arith}
 use lib.ListN.{length, getD, set, length-set}
-use Rattle.tree.specs.Tree.{Tree, name, leaf, one, two, size, under}
+use Rattle.tree.specs.Tree.{Tree, size, under}
 use Rattle.tree.specs.Sizes.{Measure, measure, cut, cutM}
-use Rattle.measure.specs.Shapes.{shapeOf, Named, cell, At}
+use Rattle.measure.specs.Shapes.{shapeOf, cell, At}
 use Rattle.measure.specs.State.{Holds, added, Scanned}
 use Rattle.measure.proofs.Places.{IsName, IsLeaf, IsOne, IsTwo}
 use Rattle.measure.proofs.Held.{holds-same, holds-is, holds-rise, holds-touch, risen, marked, named-lt, added-name, added-leaf, added-one, added-two, added-cut}

@@ -1,21 +1,21 @@
 -- Back over one step 31 to 34.
-use mathlib.Core.Path.{_≡_, refl, sym, ap, ap₂, _∙_, subst}
+use mathlib.Core.Path.{_≡_, sym, ap, ap₂, _∙_, subst}
 use mathlib.Core.Bool.{Bool, true, false, cond}
-use mathlib.Core.List.{List, [], _∷_, _++_, append-assoc}
-use Prim.Native.Nat.{ℕ, zero, suc, _+_, _*_, _-_, _≤_, _<_, max}
+use mathlib.Core.List.{List, _++_, append-assoc}
+use Prim.Native.Nat.{ℕ, suc, _+_, _*_, _-_, _≤_, _<_}
 use native.Mathlib.Omega.{arith}
 use native.Mathlib.Nat.{mul-le-mul}
 use borrow.Author.Tests.{eq-eqb, ne-eqb}
 use lib.Dec.{eqb, ltb}
-use lib.ListN.{length, getD, set, length-set}
+use lib.ListN.{length, getD, set}
 use Rattle.logic.specs.Syntax.{Edit}
 use Rattle.text.specs.Code.{editCode}
 use Rattle.tree.specs.Tree.{Tree, size, under}
-use Rattle.tree.specs.Sizes.{Measure, measure, passed, back, cut, cutM}
+use Rattle.tree.specs.Sizes.{Measure, measure, passed, back, cut}
 use Rattle.tree.proofs.Cut.{cut-under}
 use Rattle.measure.specs.Shapes.{cell, At}
 use Rattle.measure.specs.State.{Holds, added, Scanned}
-use Rattle.measure.specs.Edits.{EditAt, Held, behindStep, Stepped, Prefixed, PutBefore}
+use Rattle.measure.specs.Edits.{Held, behindStep, Stepped, Prefixed, PutBefore}
 use Rattle.measure.specs.Pruned.{pruned}
 use Rattle.measure.proofs.Puts.{head-of}
 use Rattle.measure.proofs.Held.{holds-same, holds-is, holds-lower, holds-longer, lowered, longer, together, twice, named-lt}

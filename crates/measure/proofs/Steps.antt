@@ -1,22 +1,20 @@
 -- The first step of an edit in a text.
-use mathlib.Core.Path.{_≡_, refl, sym, ap, ap₂, _∙_, subst}
+use mathlib.Core.Path.{_≡_, refl, sym, ap, _∙_}
 use mathlib.Core.Bool.{Bool, true, false, cond}
 use mathlib.Core.List.{List, [], _∷_, _++_, append-assoc}
-use mathlib.Core.Logic.{_⊎_, inl, inr, ⊎-elim}
-use Prim.Native.Nat.{ℕ, zero, suc, _+_, _*_, _-_, _≤_, _<_, max}
+use mathlib.Core.Logic.{inl, inr}
+use Prim.Native.Nat.{ℕ, _+_, _-_, _≤_, _<_}
 use native.Mathlib.Omega.{arith}
 use lib.Dec.{eqb, ltb, ltb→lt}
-use lib.ListN.{length, getD, drop, set, length-append, length-set}
-use lib.Seq.{getD-set-same, getD-set-other}
+use lib.ListN.{length, getD, drop, length-append}
 use Rattle.logic.specs.Syntax.{Sort, rule, Expr, Edit, finish, addLabel, takeLabel, addArrow, takeArrow, choose}
 use Rattle.logic.specs.Limits.{Ranges, InRange, EditInRange}
 use Rattle.text.specs.Code.{code, editCode}
-use Rattle.tree.specs.Tree.{Tree, tree, bytes, size, same, under}
+use Rattle.tree.specs.Tree.{Tree, tree, size}
 use Rattle.tree.proofs.Trees.{bytes-tree, size-is}
-use Rattle.tree.specs.Sizes.{Measure, measure, passed, chosen, back, cut, cutM}
-use Rattle.measure.specs.Shapes.{Named, cell, At, Formed}
-use Rattle.measure.specs.State.{Holds, added, Scanned}
-use Rattle.measure.specs.Edits.{EditAt, SomeEdit, Held, behindStep, after}
+use Rattle.tree.specs.Sizes.{Measure, measure, passed, chosen, back}
+use Rattle.measure.specs.Shapes.{Named, At}
+use Rattle.measure.specs.Edits.{EditAt, behindStep}
 use Rattle.measure.specs.Pruned.{pruned}
 use Rattle.measure.proofs.Places.{byte-at, behind, within}
 use Rattle.measure.proofs.Formed.{formed-tree}

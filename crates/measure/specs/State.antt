@@ -1,10 +1,9 @@
 -- A measure in 130 numbers, cut: 64 counts, 64 deepest levels, the length, the levels.
 use mathlib.Core.Path.{_≡_}
-use mathlib.Core.Bool.{cond}
 use mathlib.Core.List.{List}
 use Prim.Native.Nat.{ℕ, _+_, _*_, max}
 use lib.ListN.{length, getD}
-use Rattle.tree.specs.Tree.{Tree, same, under, size}
+use Rattle.tree.specs.Tree.{Tree, under, size}
 use Rattle.tree.specs.Sizes.{Measure, measure, cut}
 use Rattle.measure.specs.Shapes.{Named, cell}
 

@@ -1,19 +1,24 @@
-// Measuring a carried book: one walk back over the edit, nothing written.
+// Measuring a carried book without writing it: one walk back over the edit. Of the carried text 130 numbers are kept, each cut at 16,385:
+// how often each of the 64 names stands there (cells 0 to 63: labels, then arrows), its deepest level (64 to 127, 0 where it stands nowhere),
+// the length (128) and the levels (129). On the way the edit is written again without its idle steps.
+//
+// Stack: 33 kB of arrays (37 kB for one rule) and about 1.4 kB for each 35 inside a 35, of which there are at most 30: under 90 kB.
 ghost use mathlib.Core.Path.{_≡_};
-ghost use Prim.Native.Nat.{ℕ, _+_, _*_, _/_, _<_, _≤_, max};
-ghost use lib.ListN.{length, getD, set, replicate};
+ghost use mathlib.Core.Bool.{cond};
 ghost use mathlib.Core.List.{List};
-ghost use Rattle.tree.specs.Sizes.{cut};
-ghost use Rattle.tree.specs.Tree.{Tree, under, size};
+ghost use Prim.Native.Nat.{ℕ, _+_, _*_, _/_, _<_, _≤_, max};
+ghost use lib.Dec.{eqb, ltb};
+ghost use lib.ListN.{length, getD, set, replicate};
+ghost use Rattle.logic.specs.Syntax.{Edit, Expr, rule};
 ghost use Rattle.text.specs.Code.{editCode};
+ghost use Rattle.tree.specs.Tree.{Tree, under, size};
+ghost use Rattle.tree.specs.Sizes.{cut};
 ghost use Rattle.measure.specs.Shapes.{shapeOf, cell, At, Some};
 ghost use Rattle.measure.specs.State.{Scanned};
-ghost use mathlib.Core.Bool.{cond};
-ghost use lib.Dec.{eqb, ltb};
-ghost use Rattle.logic.specs.Syntax.{Edit, Expr, rule};
 ghost use Rattle.measure.specs.Edits.{EditAt, SomeEdit, EditRoom, StepRoom, Held, Stepped, Prefixed, Backed, PutBefore, EndBefore, NextAt, Pushed, Merged, Kept, Joined};
 ghost use Rattle.measure.specs.Book.{RuleAt, SomeRule, BookIs, SomeBook, RuleAdded, BookAdded, RuleSized, BookSized, BookKept};
 
+// How each code goes on: the length of the code byte with its numbers, plus 4 for each operand; 16 for a name (03, 11); 0 for no code.
 const SHAPES: [usize; 40] = [
     0,
     1,
@@ -64,12 +69,14 @@ pub fn shape(code: u8) -> usize
     if at < 40 { SHAPES[at] } else { 0 }
 }
 
+// The larger number.
 fn larger(a: usize, b: usize) -> usize
     ensures { λ r. ⌜ r ≡ max a b ⌝ }
 {
     if a < b { b } else { a }
 }
 
+// A sum, cut; no operand can make it wrap.
 fn sum(a: usize, b: usize) -> usize
     ensures { λ r. ⌜ r ≡ cut (a + b) ⌝ }
 {
@@ -82,6 +89,7 @@ fn sum(a: usize, b: usize) -> usize
     if a + b < 16385 { a + b } else { 16385 }
 }
 
+// One level below `v`, cut; 0 is nowhere and stays so.
 fn deeper(v: usize) -> usize
     ensures { λ r. ⌜ r ≡ cut (under v 2) ⌝ }
 {
@@ -91,12 +99,15 @@ fn deeper(v: usize) -> usize
     if v < 16385 { v + 1 } else { 16385 }
 }
 
+// The cell of a name: 03 k at k, 11 a at 48 + a.
 fn cell_of(code: u8, number: u8) -> usize
     ensures { λ r. ⌜ r ≡ cell code number ⌝ }
 {
     code as usize / 16 * 48 + number as usize
 }
 
+// A code on level `v`.
+// Inner: over the 130 numbers.
 fn rise(state: &mut [usize], v: usize)
     requires { ⌜ length (now state) ≡ 130 ⌝ }
     ensures { λ r. ⌜ now (state .exit) ≡ set (now (state .entry)) 129 (max (getD (now (state .entry)) 129 0) v) ⌝ }
@@ -104,6 +115,8 @@ fn rise(state: &mut [usize], v: usize)
     state[129] = larger(state[129], v);
 }
 
+// The name of cell `i`, `w` times more, on level `v` at the deepest.
+// Inner: over the 130 numbers.
 fn touch(state: &mut [usize], i: usize, w: usize, v: usize)
     requires { ⌜ (length (now state) ≡ 130) × (i < 64) ⌝ }
     ensures { λ r. ⌜ now (state .exit) ≡ set (set (now (state .entry)) i (cut (getD (now (state .entry)) i 0 + w))) (64 + i) (max (getD (now (state .entry)) (64 + i) 0) v) ⌝ }
@@ -114,7 +127,9 @@ fn touch(state: &mut [usize], i: usize, w: usize, v: usize)
     state[64 + i] = d;
 }
 
-pub fn scan(text: &[u8], at: usize, w: usize, v: usize, state: &mut [usize]) -> usize
+// Puts `w` copies of the expression at `at`, their first codes on level `v`, into the numbers, without their length; answers the place behind it.
+// One body serves every code. Inner: the text was read before.
+fn scan(text: &[u8], at: usize, w: usize, v: usize, state: &mut [usize]) -> usize
     requires { ⌜ Some (now text) at × (v ≤ 16385) × (length (now state) ≡ 130) ⌝ }
     ensures { λ r. ⌜ ((t : Tree) → At (now (text .entry)) at t → Scanned at w v t r (now (state .entry)) (now (state .exit))) ⌝ }
 {
@@ -144,14 +159,14 @@ fn name_code(op: u8) -> u8
     if op < 0x33 { 0x03 } else { 0x11 }
 }
 
-// How many codes a step puts above its expression.
+// How many codes a step puts above its expression: 32 puts 06 and 05.
 fn extra(op: u8) -> usize
     ensures { λ r. ⌜ r ≡ cond (eqb op 0x32) 2 1 ⌝ }
 {
     if op == 0x32 { 2 } else { 1 }
 }
 
-// The level of a step's expression, d being one below the name's.
+// The level of a step's expression, `d` being one below the name's.
 fn lower(op: u8, d: usize) -> usize
     ensures { λ r. ⌜ r ≡ cond (eqb op 0x32) (cut (under d 2)) d ⌝ }
 {
@@ -159,6 +174,7 @@ fn lower(op: u8, d: usize) -> usize
 }
 
 // Back over one step 31 to 34.
+// Inner: the text was read before.
 fn step_back(text: &[u8], at: usize, state: &mut [usize])
     requires { ⌜ SomeEdit (now text) at × Held (now state) × (length (now text) ≤ 4096) × (getD (now text) at 0 ≡ 0x30 → ⊥) × (getD (now text) at 0 ≡ 0x35 → ⊥) ⌝ }
     ensures { λ r. ⌜ ((Z : Edit) → EditAt (now (text .entry)) at Z → (rules : ℕ) → Stepped rules Z (now (state .entry)) (now (state .exit))) ⌝ }
@@ -172,7 +188,8 @@ fn step_back(text: &[u8], at: usize, state: &mut [usize])
     state[128] = sum(state[128], w * (extra(op) + (next - (at + 2))));
 }
 
-// The end of an expression.
+// The place behind the expression at `at`.
+// Inner: the text was read before.
 pub fn past(text: &[u8], at: usize) -> usize
     requires { ⌜ Some (now text) at ⌝ }
     ensures { λ r. ⌜ ((t : Tree) → At (now (text .entry)) at t → r ≡ at + size t) ⌝ }
@@ -193,7 +210,8 @@ pub fn past(text: &[u8], at: usize) -> usize
     past(text, second)
 }
 
-// What follows a step.
+// The place behind the first step of the edit at `at`.
+// Inner: the text was read before.
 fn next_step(text: &[u8], at: usize) -> usize
     requires { ⌜ SomeEdit (now text) at × (getD (now text) at 0 ≡ 0x30 → ⊥) ⌝ }
     ensures { λ r. ⌜ ((Z : Edit) → EditAt (now (text .entry)) at Z → NextAt (now (text .entry)) at Z r) ⌝ }
@@ -207,7 +225,8 @@ fn next_step(text: &[u8], at: usize) -> usize
     end_of(text, q)
 }
 
-// The end of an edit.
+// The place behind the edit at `at`.
+// Inner: the text was read before.
 pub fn end_of(text: &[u8], at: usize) -> usize
     requires { ⌜ SomeEdit (now text) at ⌝ }
     ensures { λ r. ⌜ ((Z : Edit) → EditAt (now (text .entry)) at Z → r ≡ at + length (editCode Z)) ⌝ }
@@ -219,7 +238,8 @@ pub fn end_of(text: &[u8], at: usize) -> usize
     p + 1
 }
 
-// The offsets of an edit's steps, put on a stack.
+// The places of an edit's steps, put on a stack; answers its new top. A step takes a byte at least, so a stack as long as the text suffices.
+// Inner: the text was read before.
 fn push(text: &[u8], at: usize, stack: &mut [usize], top: usize) -> usize
     requires { ⌜ SomeEdit (now text) at × (top ≤ at) × (length (now text) ≤ length (now stack)) ⌝ }
     ensures { λ r. ⌜ ((Z : Edit) → EditAt (now (text .entry)) at Z → Pushed (now (text .entry)) at Z (now (stack .exit)) top r) × Kept top (now (stack .entry)) (now (stack .exit)) ⌝ }
@@ -234,7 +254,8 @@ fn push(text: &[u8], at: usize, stack: &mut [usize], top: usize) -> usize
     n
 }
 
-// The numbers of src.
+// The 130 numbers of `src`.
+// Inner: over the 130 numbers.
 fn copy(src: &[usize], out: &mut [usize])
     requires { ⌜ (length (now src) ≡ 130) × (length (now out) ≡ 130) ⌝ }
     ensures { λ r. ⌜ Kept 130 (now (src .entry)) (now (out .exit)) ⌝ }
@@ -246,6 +267,8 @@ fn copy(src: &[usize], out: &mut [usize])
     }
 }
 
+// The numbers of one name in both ways of a 35, whose codes 25 26 27 and 25 26 put it two levels deeper.
+// Inner: over the 130 numbers.
 fn merge_one(t: &[usize], state: &mut [usize], i: usize)
     requires { ⌜ (length (now t) ≡ 130) × (length (now state) ≡ 130) × (i < 64) ⌝ }
     ensures { λ r. ⌜ now (state .exit) ≡ set (set (now (state .entry)) i (cut (getD (now (t .entry)) i 0 + getD (now (state .entry)) i 0))) (64 + i) (cut (under (cut (under (max (getD (now (t .entry)) (64 + i) 0) (getD (now (state .entry)) (64 + i) 0)) 2)) 2)) ⌝ }
@@ -256,6 +279,8 @@ fn merge_one(t: &[usize], state: &mut [usize], i: usize)
     state[64 + i] = d;
 }
 
+// The numbers of both ways of a 35.
+// Inner: over the 130 numbers.
 fn merge(t: &[usize], state: &mut [usize])
     requires { ⌜ (length (now t) ≡ 130) × (length (now state) ≡ 130) ⌝ }
     ensures { λ r. ⌜ Merged (now (t .entry)) (now (state .entry)) (now (state .exit)) ⌝ }
@@ -271,7 +296,8 @@ fn merge(t: &[usize], state: &mut [usize])
     state[129] = h;
 }
 
-// The two ways of a choice together, with its rule at a place.
+// The two ways of a 35 together, with its rule at `at`, which stands twice for each rule of the book: 25 26 27 K T 26 K U.
+// Inner: the text was read before.
 fn join_ways(text: &[u8], at: usize, rules: usize, t: &[usize], state: &mut [usize])
     requires { ⌜ Some (now text) at × (length (now text) ≤ 4096) × (rules ≤ 32) × (length (now t) ≡ 130) × (length (now state) ≡ 130) ⌝ }
     ensures { λ r. ⌜ ((K : Tree) → At (now (text .entry)) at K → Joined rules K (now (t .entry)) (now (state .entry)) (now (state .exit))) ⌝ }

@@ -157,6 +157,10 @@ module _ {n : ℕ} {v : Pairs} {a r : List ℕ} where
       swap false true = refl
       swap false false = refl
 
+-- 11
+pub rows-of-arrow : {n m i : ℕ} {v : Pairs} {r : List ℕ} → n ≡ m → n ≤ i → Filled i r (λ k. setOf m (v k)) → Rows n v r
+rows-of-arrow {n} {m} {i} {v} e h f = record { row = λ k l. f .row k (omega arith) ∙ ap (λ (j : ℕ). setOf j (v k)) (sym e) }
+
 -- 17
 module _ (n i j all : ℕ) (nodes : Nodes) (small : i < n) (a : all ≡ setOf n nodes) where
   pub pair-there : (x : ℕ) → member all i ≡ true → x ≡ setOf n (λ l. nodes l && eqb l j) → x ≡ setOf n (λ l. nodes i && (nodes l && eqb l j))

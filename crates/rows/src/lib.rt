@@ -5,12 +5,14 @@ ghost use mathlib.Core.Bool.{_&&_};
 ghost use Prim.Native.Nat.{ℕ, _<_, _≤_};
 ghost use lib.Dec.{eqb};
 ghost use Rattle.logic.specs.Graph.{Nodes, Pairs, allBelow, implies};
-ghost use Rattle.logic.specs.Limits.{maxNodes};
+ghost use Rattle.logic.specs.Limits.{maxNodes, arrowCount};
 ghost use Rattle.words.specs.Words.{setOf, combined};
-ghost use Rattle.sheet.specs.Sheet.{Rows};
+ghost use Rattle.sheet.specs.Sheet.{graphOf, Rows};
+ghost use Rattle.sheet.specs.Questions.{Sound};
 ghost use Rattle.rows.specs.Operations.{nodeOperation, arrowOperation, quantified, quantifiedNodes, Masked};
 use logic::Arrow;
 use logic::Node;
+use sheet::Sheet;
 
 // 06, 07 on two sets.
 pub fn combined_sets(c: u8, x: u64, y: u64) -> u64
@@ -72,6 +74,20 @@ pub fn quantified(c: u8, m: u8, n: usize, all: u64, rows: [u64; 64], e: u64) -> 
         i += 1;
     }
     if c == 0x08 { r } else { words::both(all, r) }
+}
+
+// 11: the rows of an arrow, from the sheet. Inner: the sheet is sound, n is its node count, and it has that arrow.
+pub fn arrow_rows(sheet: &[u8], n: usize, a: Arrow) -> [u64; 64]
+    requires { ⌜ Sound (now sheet) × (n ≡ graphOf (now sheet) .n) × (n ≤ maxNodes) × (a .0 < arrowCount) ⌝ }
+    ensures { λ r. ⌜ Rows n (graphOf (now (sheet .entry)) .joined (a .0)) r ⌝ }
+{
+    let mut r = [0u64; 64];
+    let mut i = 0;
+    while i < n {
+        r[i] = Sheet::row_word(sheet, a, Node(i as u8));
+        i += 1;
+    }
+    r
 }
 
 // 13, 14, 15. Inner: n is a sheet's, in this function and the next ones.

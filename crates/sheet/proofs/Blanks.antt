@@ -12,7 +12,7 @@ use Rattle.answer.specs.Asked.{Asked, passed, refused, _>>_, is}
 use Rattle.logic.specs.Limits.{maxNodes}
 use Rattle.words.specs.Words.{setOf, bytes}
 use Rattle.words.proofs.SetLaws.{setOf-none}
-use Rattle.seal.specs.Seal.{reseal}
+use Rattle.seal.specs.Seal.{bodyBytes, sumsFrom, seal, sealed, reseal}
 use Rattle.sheet.specs.Sheet.{sheetBytes, labelPad, arrowPad, chunks, labelBlock, arrowBlock, store, blank}
 use Rattle.sheet.specs.Questions.{askBlank}
 use Rattle.sheet.specs.Writes.{bareBlock}
@@ -96,3 +96,8 @@ module _ (n len : ℕ) where
     pub room : len ≡ sheetBytes → askBlank n len ≡ passed tt
     unfolding askBlank is _>>_
     room h = rw (le-leb 1 n l, le-leb n 60 u, eq-eqb _ _ h)
+
+-- Block 1 without arrows has 3 and 254.
+pub block-1-without-arrows : (n : ℕ) → drop bodyBytes (arrowBlock (blank n) 0) ≡ 3 ∷ 254 ∷ []
+unfolding reseal sealed seal sumsFrom bareBlock
+block-1-without-arrows n = ap (drop bodyBytes) (sym (blank-arrows n 0))

@@ -1,13 +1,10 @@
-use lib.ListN.{length, getD}
+use lib.ListN.{length}
 use denote.Ref.{now}
-use mathlib.Core.Path.{_≡_, refl, sym, _∙_, ap, subst}
-use Prim.Native.Nat.{ℕ, _<_, _≤_, _-_, _+_, _*_}
+use mathlib.Core.Path.{_∙_, ap}
+use Prim.Native.Nat.{ℕ, _<_, _-_, _+_, _*_}
 use native.Mathlib.Omega.{arith}
-use borrow.Author.Needs.{needs}
 use Rattle.text.specs.Code.{editCode}
-use Rattle.tree.specs.Tree.{size}
-use Rattle.measure.proofs.Places.{inside, fits}
-use Rattle.measure.proofs.Steps.{as-step, as-choose, edit-inside, code-pos}
+use Rattle.measure.proofs.Steps.{as-step, as-choose, edit-inside}
 use Rattle.measure.proofs.Ends.{Rest, rest-first, rest-more, rest-end, step-next, choose-next}
 use borrow.Fn.Kinds.{In}
 use borrow.Fn.PlainCycle.{Measures, is, falls, and}

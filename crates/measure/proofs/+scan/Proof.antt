@@ -1,7 +1,7 @@
 use lib.ListN.{length}
 use denote.Ref.{now}
 use mathlib.Core.Path.{refl, sym, _∙_, ap, subst}
-use Prim.Native.Nat.{ℕ, _<_, _≤_, _-_, _+_, _%_}
+use Prim.Native.Nat.{ℕ, _<_, _-_, _+_, _%_}
 use native.Mathlib.Omega.{arith}
 use borrow.Author.Needs.{needs}
 use Rattle.measure.proofs.Places.{inside, as-name, as-leaf, as-one, as-two, as-any}

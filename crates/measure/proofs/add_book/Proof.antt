@@ -1,6 +1,5 @@
 use native.Mathlib.Omega.{arith}
-use borrow.Author.Needs.{needs}
-use mathlib.Core.Path.{refl, _∙_, ap}
+use mathlib.Core.Path.{_∙_, ap}
 use Prim.Native.Nat.{_-_}
 use lib.ListN.{length}
 use Rattle.measure.proofs.Rules.{Adding, adding-first, first-left, adding-more, adding-end, rule-fits}

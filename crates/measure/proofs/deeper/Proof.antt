@@ -1,6 +1,3 @@
-use mathlib.Core.Path.{_≡_, refl, sym, ap, _∙_}
-use native.Mathlib.Omega.{arith}
-use Prim.Native.Nat.{ℕ}
 use borrow.Author.Needs.{needs}
 use Rattle.measure.proofs.Held.{deeper-none, deeper-some, deeper-cut}
 use Rattle.measure.proofs.deeper.Statement.{statement}

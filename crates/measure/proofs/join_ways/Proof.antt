@@ -1,10 +1,9 @@
 use native.Mathlib.Omega.{arith}
 use borrow.Author.Needs.{needs}
-use mathlib.Core.Path.{_≡_, refl, sym, ap, _∙_}
+use mathlib.Core.Path.{refl, _∙_}
 use Prim.Native.Nat.{ℕ, _≤_, _-_, _+_, _*_}
 use native.Mathlib.Nat.{mul-le-mul}
-use lib.ListN.{length, length-set, set}
-use denote.Ref.{now}
+use lib.ListN.{length-set}
 use Rattle.measure.proofs.Places.{fits}
 use Rattle.measure.proofs.Loops.{joined}
 use Rattle.measure.proofs.join_ways.Statement.{statement}

@@ -1,9 +1,8 @@
 use native.Mathlib.Omega.{arith}
 use borrow.Author.Needs.{needs}
-use mathlib.Core.Path.{_≡_, refl, sym, ap, _∙_}
+use mathlib.Core.Path.{_≡_, sym, ap, _∙_}
 use Prim.Native.Nat.{ℕ, _≤_, _-_, _+_}
 use lib.ListN.{length, length-set, set}
-use denote.Ref.{now}
 use Rattle.tree.specs.Sizes.{cut}
 use Rattle.measure.proofs.Loops.{Merging, merging-none, merging-more, merging-end}
 use Rattle.measure.proofs.merge.Statement.{statement}

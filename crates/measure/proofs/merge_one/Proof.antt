@@ -1,8 +1,8 @@
 use native.Mathlib.Omega.{arith}
 use borrow.Author.Needs.{needs}
-use mathlib.Core.Path.{_≡_, refl, sym, ap, ap₂, _∙_}
+use mathlib.Core.Path.{ap, ap₂, _∙_}
 use Prim.Native.Nat.{ℕ, _+_}
-use lib.ListN.{length, length-set, set}
+use lib.ListN.{length-set, set}
 use denote.Ref.{now}
 use Rattle.tree.specs.Sizes.{cut}
 use Rattle.tree.specs.Tree.{under}

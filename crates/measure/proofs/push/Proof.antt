@@ -1,9 +1,6 @@
 use native.Mathlib.Omega.{arith}
-use borrow.Author.Needs.{needs}
-use mathlib.Core.Path.{_≡_, refl, sym, ap, _∙_}
-use Prim.Native.Nat.{ℕ, _≤_, _-_, _+_}
-use lib.ListN.{length, length-set, set}
-use denote.Ref.{now}
+use Prim.Native.Nat.{_-_}
+use lib.ListN.{length}
 use Rattle.measure.proofs.Steps.{edit-inside}
 use Rattle.measure.proofs.Walks.{Going, going-first, going-more, going-end}
 use Rattle.measure.proofs.push.Statement.{statement}

@@ -1,5 +1,4 @@
 use native.Mathlib.Omega.{arith}
-use borrow.Author.Needs.{needs}
 use Rattle.measure.proofs.Puts.{Putting, putting-first, putting-more, putting-end}
 use Rattle.measure.proofs.put_before.Statement.{statement}
 use Rattle.measure.proofs.put_before.Tie as tie

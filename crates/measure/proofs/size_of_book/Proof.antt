@@ -1,6 +1,6 @@
 use native.Mathlib.Omega.{arith}
 use borrow.Author.Needs.{needs}
-use mathlib.Core.Path.{refl, _∙_}
+use mathlib.Core.Path.{refl}
 use Rattle.tree.specs.Sizes.{measures}
 use Rattle.measure.proofs.Rules.{no-book, book-sized, book-kept, edit-room}
 use Rattle.measure.proofs.size_of_book.Statement.{statement}

@@ -1,12 +1,12 @@
-use lib.ListN.{length, length-set, set, getD}
+use lib.ListN.{length-set, getD}
 use lib.Dec.{eqb}
 use denote.Ref.{now}
-use mathlib.Core.Path.{refl, sym, _∙_, ap, subst}
-use Prim.Native.Nat.{ℕ, _<_, _≤_, _-_, _+_}
+use mathlib.Core.Path.{refl, _∙_}
+use Prim.Native.Nat.{_≤_, _-_, _+_}
 use native.Mathlib.Omega.{arith}
 use borrow.Author.Needs.{needs}
-use Rattle.measure.proofs.Places.{inside, fits}
-use Rattle.measure.proofs.Steps.{as-step, IsStep, edit-inside}
+use Rattle.measure.proofs.Places.{fits}
+use Rattle.measure.proofs.Steps.{as-step, IsStep}
 use Rattle.measure.proofs.Stepping.{step-cell, step-low, stepped, step-fits, step-product, low-level, few}
 use Rattle.measure.proofs.step_back.Statement.{statement}
 use Rattle.measure.proofs.step_back.Tie as tie

@@ -1,0 +1,49 @@
+use Prim.Native.Nat.{ℕ, _<_, _-_}
+use lib.ListN.{length}
+use native.Mathlib.Omega.{arith}
+use borrow.Author.Needs.{needs}
+use Rattle.eval.proofs.Places.{starts-inside}
+use Rattle.eval.proofs.RuleCases.{as-two, as-not, two-truth, not-truth}
+use borrow.Fn.Kinds.{In}
+use borrow.Fn.PlainCycle.{Measures, is, falls, and}
+use Rattle.eval.proofs.eval_rule.Reads as eval-rule
+use Rattle.eval.proofs.eval_rule.Kinds as eval-rule-kinds
+use Rattle.eval.proofs.+eval_rule.Lts-eval_rule as eval-rule-lts
+use Rattle.eval.proofs.combined_truth.Reads as combined-truth-reads
+use Rattle.eval.proofs.pair_in.Reads as pair-in-reads
+use Rattle.eval.proofs.node_in.Reads as node-in-reads
+use Rattle.eval.proofs.sub_arrows.Reads as sub-arrows-reads
+use Rattle.eval.proofs.sub_nodes.Reads as sub-nodes-reads
+use Rattle.eval.proofs.+eval_rule.{statement}
+use Rattle.eval.proofs.+eval_rule.Tie.{close}
+
+abbrev μ-eval-rule : Measures 2 eval-rule-kinds.ps ℕ
+μ-eval-rule κs a = length (a .1 .1 .1 .0 .now) - a .1 .1 .1 .1 .0
+
+abbrev eval-rule-at : ℕ → In 2 eval-rule-kinds.ps
+eval-rule-at t = and 2 eval-rule-kinds.ps (is 2 eval-rule-kinds.ps μ-eval-rule t) eval-rule.Pre
+
+abbrev eval-rule-below : ℕ → In 2 eval-rule-kinds.ps
+eval-rule-below t =
+    and 2 eval-rule-kinds.ps (falls 2 eval-rule-kinds.ps _<_ μ-eval-rule t) eval-rule.Pre
+
+pub +eval-rule-spec : {M : Type 1} → statement M
++eval-rule-spec = close μ-eval-rule
+    (λ t. eval-rule-lts.spec (sub-nodes-reads.Asked, sub-nodes-reads.Learnt, sub-arrows-reads.Asked, sub-arrows-reads.Learnt, node-in-reads.Asked, node-in-reads.Learnt, pair-in-reads.Asked, pair-in-reads.Learnt, eval-rule-below t, eval-rule.Post, combined-truth-reads.Asked, combined-truth-reads.Learnt) (eval-rule-at t) eval-rule.Post
+      (λ c. let s = c .before .before .before in omega (arith, starts-inside _ _ _ (s .pre .1 .1 .what) (s .pre .1 .1 .stands)))
+      (λ c κs. let s = c .before .before .before .before in (s .pre .1 .0, s .pre .1 .1, c .if1 .taken))
+      (λ c κs. let s = c .before .before .before .before .before in (s .pre .1 .0, s .pre .1 .1, c .before .if1 .left, c .if2 .taken))
+      (λ c κs. let s = c .before .before .before .before .before .before in (s .pre .1 .0, s .pre .1 .1, c .before .if2 .left, c .if3 .taken))
+      (λ c κs. let s = c .before .before .before .before .before .before .before in (s .pre .1 .0, s .pre .1 .1, c .before .if3 .left, c .if4 .taken))
+      (λ c. let s = c .before .before .before .before .before .before .before .before in omega (arith, starts-inside _ _ _ (s .pre .1 .1 .what) (s .pre .1 .1 .stands)))
+      (λ c κs. let s = c .before .before .before .before .before .before .before .before in let q = as-two _ _ _ (s .pre .1 .1 .what) (s .pre .1 .1 .stands) (c .before .if4 .left) (c .if5 .taken) in (omega (arith, s .pre .0, q .parts .inside), (s .pre .1 .0, record { what = q .K; stands = q .parts .first })))
+      (λ c κs. let s = c .before .before .before .before .before .before .before .before .before in let q = as-two _ _ _ (s .pre .1 .1 .what) (s .pre .1 .1 .stands) (c .before .before .if4 .left) (c .before .if5 .taken) in let a = c .eval-rule .ensures (q .K) (q .parts .first) in (omega (arith, s .pre .0, q .parts .inside, a .after), (s .pre .1 .0, record { what = q .L; stands = q .parts .second _ (a .after) })))
+      (λ c κs. search needs)
+      (λ c. let s = c .before .before .before .before .before .before .before .before in omega (arith, starts-inside _ _ _ (s .pre .1 .1 .what) (s .pre .1 .1 .stands)))
+      (λ c κs. let s = c .before .before .before .before .before .before .before .before in let q = as-not _ _ _ (s .pre .1 .1 .what) (s .pre .1 .1 .stands) (c .if5 .left) in (omega (arith, s .pre .0, q .parts .inside), (s .pre .1 .0, record { what = q .K; stands = q .parts .first })))
+      (λ c. c .sub-nodes .ensures)
+      (λ c. c .sub-arrows .ensures)
+      (λ c. c .node-in .ensures)
+      (λ c. c .pair-in .ensures)
+      (λ c k h. two-truth _ _ _ _ k (as-two _ _ _ k h (c .before .before .before .before .if4 .left) (c .before .before .before .if5 .taken)) _ _ _ _ _ (c .before .before .eval-rule .ensures) (c .before .eval-rule2 .ensures) (c .combined-truth .ensures))
+      (λ c k h. not-truth _ _ _ _ k (as-not _ _ _ k h (c .before .before .if5 .left)) _ _ (c .before .eval-rule3 .ensures)))

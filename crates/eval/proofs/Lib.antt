@@ -1,0 +1,4 @@
+pub mod Places
+pub mod NodeCases
+pub mod ArrowCases
+pub mod RuleCases

@@ -1,0 +1,18 @@
+use native.Mathlib.Omega.{arith}
+use Rattle.eval.proofs.RuleCases.{IsPairIn, as-pair-in, pair-in-truth}
+use Rattle.eval.proofs.pair_in.Statement.{statement}
+use Rattle.eval.proofs.pair_in.Tie as tie
+
+case : (s : tie.Start) → IsPairIn (s .args .n) (s .args .text .now) (s .args .at) (s .pre .1 .what)
+case s = as-pair-in _ _ _ (s .pre .1 .what) (s .pre .1 .stands) (s .pre .2) (s .pre .3)
+
+pub pair-in-spec : {M : Type 1} → statement M
+pair-in-spec = tie.close (tie.spec
+    (λ c. omega (arith, case (c .before .before) .parts .inside))
+    (λ c κs. let s = c .before .before in (s .pre .0, record { what = case s .R; stands = case s .parts .first }))
+    (λ c. omega (arith, case (c .before .before .before .before) .parts .inside))
+    (λ c. omega (arith, case (c .before .before .before .before .before) .parts .inside))
+    (λ c. omega (arith, case (c .before .before .before .before .before) .parts .inside))
+    (λ c. omega (arith, case (c .before .before .before .before .before .before) .parts .inside))
+    (λ c κs. let s = c .before .before .before .before .before .before in (omega (arith, s .pre .0 .few, case s .range-i, case s .reads-i), omega (arith, s .pre .0 .few, case s .range-j, case s .reads-j)))
+    (λ c e h. let s = c .before .before .before .before .before .before .before in pair-in-truth _ _ _ _ _ (s .pre .0) e _ (as-pair-in _ _ _ e h (s .pre .2) (s .pre .3)) _ _ (c .before .before .before .before .eval-arrow .ensures) (c .pair-in .ensures)))

@@ -1,0 +1,16 @@
+use native.Mathlib.Omega.{arith}
+use borrow.Author.Needs.{needs}
+use Rattle.eval.proofs.RuleCases.{IsSubArrows, as-sub-arrows, sub-arrows-truth}
+use Rattle.eval.proofs.sub_arrows.Statement.{statement}
+use Rattle.eval.proofs.sub_arrows.Tie as tie
+
+case : (s : tie.Start) → IsSubArrows (s .args .n) (s .args .text .now) (s .args .at) (s .pre .1 .what)
+case s = as-sub-arrows _ _ _ (s .pre .1 .what) (s .pre .1 .stands) (s .pre .2) (s .pre .3)
+
+pub sub-arrows-spec : {M : Type 1} → statement M
+sub-arrows-spec = tie.close (tie.spec
+    (λ c. omega (arith, case (c .before .before) .parts .inside))
+    (λ c κs. let s = c .before .before in (s .pre .0, record { what = case s .R; stands = case s .parts .first }))
+    (λ c κs. let s = c .before .before .before in (s .pre .0, record { what = case s .S; stands = case s .parts .second _ (c .eval-arrow .ensures (case s .R) (case s .parts .first) .after) }))
+    (λ c κs. search needs)
+    (λ c e h. let s = c .before .before .before .before .before .before .before in sub-arrows-truth _ _ _ _ _ (s .pre .0) e _ (as-sub-arrows _ _ _ e h (s .pre .2) (s .pre .3)) _ _ _ _ (c .before .before .before .before .eval-arrow .ensures) (c .before .before .before .eval-arrow2 .ensures) (c .rows-in .ensures)))

@@ -1,0 +1,17 @@
+use native.Mathlib.Omega.{arith}
+use borrow.Author.Needs.{needs}
+use Rattle.eval.proofs.Places.{starts-inside}
+use Rattle.eval.proofs.RuleCases.{IsSubNodes, as-sub-nodes, sub-nodes-truth}
+use Rattle.eval.proofs.sub_nodes.Statement.{statement}
+use Rattle.eval.proofs.sub_nodes.Tie as tie
+
+case : (s : tie.Start) → IsSubNodes (s .args .n) (s .args .text .now) (s .args .at) (s .pre .1 .what)
+case s = as-sub-nodes _ _ _ (s .pre .1 .what) (s .pre .1 .stands) (s .pre .2)
+
+pub sub-nodes-spec : {M : Type 1} → statement M
+sub-nodes-spec = tie.close (tie.spec
+    (λ c. omega (arith, case (c .before .before) .parts .inside))
+    (λ c κs. let s = c .before .before in (s .pre .0, record { what = case s .E; stands = case s .parts .first }))
+    (λ c κs. let s = c .before .before .before in (s .pre .0, record { what = case s .F; stands = case s .parts .second _ (c .eval-node .ensures (case s .E) (case s .parts .first) .after) }))
+    (λ c κs. search needs)
+    (λ c e h. let s = c .before .before .before .before .before in sub-nodes-truth _ _ _ _ _ (s .pre .0) e _ (as-sub-nodes _ _ _ e h (s .pre .2)) _ _ _ _ (c .before .before .eval-node .ensures) (c .before .eval-node2 .ensures) (c .set-in .ensures)))

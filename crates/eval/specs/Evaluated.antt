@@ -1,0 +1,38 @@
+-- What the evaluators find at a place of a text, for an expression that stands there: its value on the sheet's graph, and where it ends.
+use mathlib.Core.Path.{_≡_}
+use mathlib.Core.Bool.{Bool, _&&_, _||_, cond}
+use mathlib.Core.List.{List}
+use Prim.Native.Nat.{ℕ, _+_, _≤_}
+use lib.Dec.{eqb}
+use lib.ListN.{length}
+use Rattle.logic.specs.Syntax.{Expr, node, arrow, rule}
+use Rattle.logic.specs.Graph.{isNode}
+use Rattle.logic.specs.Meaning.{value}
+use Rattle.logic.specs.Limits.{maxNodes}
+use Rattle.words.specs.Words.{setOf}
+use Rattle.sheet.specs.Sheet.{graphOf, Rows}
+use Rattle.sheet.specs.Questions.{Sound}
+use Rattle.text.specs.Code.{code}
+
+-- A sound sheet with its n and the word of its nodes, as they are handed down.
+pub record Opened (sheet : List ℕ) (n all : ℕ) : Type 0 where
+  pub sound : Sound sheet
+  pub count : n ≡ graphOf sheet .n
+  pub few : n ≤ maxNodes
+  pub nodes : all ≡ setOf n (isNode (graphOf sheet))
+
+pub record IsSet (sheet : List ℕ) (n at : ℕ) (e : Expr node) (x next : ℕ) : Type 0 where
+  pub set : x ≡ setOf n (value (graphOf sheet) e)
+  pub after : next ≡ at + length (code e)
+
+pub record IsRelation (sheet : List ℕ) (n at : ℕ) (e : Expr arrow) (rows : List ℕ) (next : ℕ) : Type 0 where
+  pub rows-are : Rows n (value (graphOf sheet) e) rows
+  pub after : next ≡ at + length (code e)
+
+pub record IsTruth (sheet : List ℕ) (at : ℕ) (e : Expr rule) (holds : Bool) (next : ℕ) : Type 0 where
+  pub truth : holds ≡ value (graphOf sheet) e
+  pub after : next ≡ at + length (code e)
+
+-- 25 and; 26 or
+abbrev pub ruleOperation : ℕ → Bool → Bool → Bool
+ruleOperation c x y = cond (eqb c 0x25) (x && y) (x || y)

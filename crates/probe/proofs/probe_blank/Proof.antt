@@ -1,0 +1,14 @@
+use mathlib.Core.Path.{_∙_}
+use borrow.Author.Needs.{needs}
+use Rattle.probe.proofs.NumberLaws.{answer-number, answer-place}
+use Rattle.probe.proofs.probe_blank.Statement.{statement}
+use Rattle.probe.proofs.probe_blank.Tie as tie
+
+returns : tie.Need-returns
+returns c =
+    let a = c .before .before .before .before .blank in
+    ((c .before .number .ensures ∙ answer-number (a .result) _ (a .ensures .0), c .place .ensures ∙ answer-place (a .result) _ (a .ensures .0)), a .ensures .1)
+
+pub probe-blank-spec : {M : Type 1} → statement M
+probe-blank-spec =
+    tie.close (tie.spec (λ c κs. search needs) (λ c κs. search needs) (λ c κs. search needs) (λ c. search needs) returns)
