@@ -4,3 +4,4 @@ pub mod Emitting
 pub mod Walking
 pub mod Choosing
 pub mod Carrying
+pub mod Rules

@@ -2,3 +2,4 @@ pub mod Laid
 pub mod Offsets
 pub mod Writing
 pub mod Ways
+pub mod Carried

@@ -7,10 +7,12 @@ ghost use lib.ListN.{length, getD, take, drop};
 ghost use Rattle.tree.specs.Tree.{Tree, same, bytes, graft};
 ghost use Rattle.tree.specs.Stack.{Step, touched, env};
 ghost use Rattle.tree.specs.Stack as words;
-ghost use Rattle.logic.specs.Syntax.{Edit};
+ghost use Rattle.logic.specs.Syntax.{rule, Expr, Edit};
 ghost use Rattle.measure.specs.Shapes.{At};
 ghost use Rattle.measure.specs.Edits.{EditAt, SomeEdit};
+ghost use Rattle.measure.specs.Book.{RuleAt, BookIs};
 ghost use Rattle.write.specs.Laid.{Wrote};
+ghost use Rattle.write.specs.Carried.{SomeRuleFits, RuleWritten, SomeBookFits, BookWritten};
 ghost use Rattle.write.specs.Offsets.{StackIs, SomeStack, Found};
 ghost use Rattle.write.specs.Ways.{SomeWay, resting, Passed, Walked, Chosen, SomeCarried, Carried};
 ghost use Rattle.write.specs.Writing.{SomeName, SomeShown, Emitted};
@@ -116,12 +118,13 @@ fn name(edit: &[u8], stack: &[usize], h: usize, c: u8, k: u8, out: &mut [u8], po
     if j == 0 {
         return put_two(c, k, out, pos);
     }
-    let o = stack[j - 1];
+    let below = j - 1;
+    let o = stack[below];
     let op = edit[o];
     out[pos] = lead(op);
-    let p = name(edit, stack, j - 1, c, k, out, pos + 1);
+    let p = name(edit, stack, below, c, k, out, pos + 1);
     let q = put_not(op, out, p);
-    let done = emit(edit, o + 2, edit, stack, j - 1, out, q);
+    let done = emit(edit, o + 2, edit, stack, below, out, q);
     done.pos
 }
 
@@ -292,4 +295,58 @@ fn write_way(
     let end = write_way(text, from, edit, second, stack, n, behind, m + 1, out, c);
     behind[m] = saved;
     end
+}
+
+// Writes the rule at `at` of a text as carried back through the edit that stands at `from`.
+// Inner: both were read before, and there is room. `stack` and `behind` are scratch.
+pub fn write_rule(
+    text: &[u8],
+    at: usize,
+    edit: &[u8],
+    from: usize,
+    stack: &mut [usize],
+    behind: &mut [usize],
+    out: &mut [u8],
+    pos: usize,
+) -> Place
+    requires { ⌜ SomeRuleFits (now text) at (now edit) from pos (length (now out)) × (length (now edit) ≤ length (now stack)) × (length (now edit) ≤ 2 * length (now behind)) ⌝ }
+    ensures { λ r. ⌜ ((K : Expr rule) (Z : Edit) → RuleAt (now (text .entry)) at K → EditAt (now (edit .entry)) from Z → RuleWritten Z K at (now (out .entry)) pos (r .at) (r .pos) (now (out .exit))) ⌝ }
+{
+    let next = measure::past(text, at);
+    let end = write_way(text, at, edit, from, stack, 0, behind, 0, out, pos);
+    Place { at: next, pos: end }
+}
+
+// Writes a carried book rule by rule at the start of a buffer, and answers its length.
+// Inner: as above.
+fn write_rules(
+    book: &[u8],
+    edit: &[u8],
+    from: usize,
+    stack: &mut [usize],
+    behind: &mut [usize],
+    out: &mut [u8],
+) -> usize
+    requires { ⌜ SomeBookFits (now book) (now edit) from (length (now out)) × (length (now edit) ≤ length (now stack)) × (length (now edit) ≤ 2 * length (now behind)) ⌝ }
+    ensures { λ r. ⌜ ((rules : List (Expr rule)) (Z : Edit) → BookIs (now (book .entry)) rules → EditAt (now (edit .entry)) from Z → BookWritten Z rules (now (out .entry)) r (now (out .exit))) ⌝ }
+{
+    let mut at = 0;
+    let mut pos = 0;
+    while at < book.len() {
+        let next = write_rule(book, at, edit, from, stack, behind, out, pos);
+        at = next.at;
+        pos = next.pos;
+    }
+    pos
+}
+
+// Writes a book carried back through the edit that stands at `from`, and answers its length.
+// Inner: both were read before, and there is room.
+pub fn write_book(book: &[u8], edit: &[u8], from: usize, out: &mut [u8]) -> usize
+    requires { ⌜ SomeBookFits (now book) (now edit) from (length (now out)) × (length (now edit) ≤ 4096) ⌝ }
+    ensures { λ r. ⌜ ((rules : List (Expr rule)) (Z : Edit) → BookIs (now (book .entry)) rules → EditAt (now (edit .entry)) from Z → BookWritten Z rules (now (out .entry)) r (now (out .exit))) ⌝ }
+{
+    let mut stack = [0usize; 4096];
+    let mut behind = [0usize; 2048];
+    write_rules(book, edit, from, &mut stack, &mut behind, out)
 }

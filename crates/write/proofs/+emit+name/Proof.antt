@@ -85,7 +85,6 @@ pub +emit+name-spec : {M : Type 1} → statement M
       (λ c. let w = c .before .before .before .before .before .before .before .pre .1 .0 in let H = parts.last-hit (c .before .before .before .find .ensures (w .steps) (w .is) (w .stands)) (c .before .before .if1 .left) in omega (arith, H .at .room))
       (λ c κs. search needs)
       (λ c. let w = c .before .before .before .before .before .before .before .before .pre .1 .0 in let H = parts.last-hit (c .before .before .before .before .find .ensures (w .steps) (w .is) (w .stands)) (c .before .before .before .if1 .left) in omega (arith, w .fits, parts.hit-length H _ (H .at .op-is)))
-      (λ c. omega (arith, c .before .before .before .if1 .left))
       (λ c. let s = c .before .before .before .before .before .before .before .before .before in let w = s .pre .1 .0 in let H = parts.last-hit (c .before .before .before .before .before .find .ensures (w .steps) (w .is) (w .stands)) (c .before .before .before .before .if1 .left) in omega (arith, w .fits, parts.hit-length H _ (H .at .op-is)))
       (λ c κs. let s = c .before .before .before .before .before .before .before .before .before in let w = s .pre .1 .0 in let f = c .before .before .before .before .before .find .ensures (w .steps) (w .is) (w .stands) in let H = parts.last-hit f (c .before .before .before .before .if1 .left) in
         let l = length-set (now (s .args .out)) (s .args .pos) (c .before .lead .result) in
@@ -93,7 +92,6 @@ pub +emit+name-spec : {M : Type 1} → statement M
       (λ c κs. let s = c .before .before .before .before .before .before .before .before .before .before .before .before .before in let w = s .pre .1 .0 in let H = parts.last-hit (c .before .before .before .before .before .before .before .before .before .find .ensures (w .steps) (w .is) (w .stands)) (c .before .before .before .before .before .before .before .before .if1 .left) in
         omega (arith, c .before .before .before .name .kept .1 .1 .1 .1 .1 .0, length-set (now (s .args .out)) (s .args .pos) (c .before .before .before .before .before .lead .result), w .fits, parts.hit-length H _ (H .at .op-is), c .before .before .before .name .ensures (H .below) (H .len) (H .stands) .counted))
       (λ c. let s = c .before .before .before .before .before .before .before .before .before .before .before .before .before .before .before .before in let w = s .pre .1 .0 in let H = parts.last-hit (c .before .before .before .before .before .before .before .before .before .before .before .before .find .ensures (w .steps) (w .is) (w .stands)) (c .before .before .before .before .before .before .before .before .before .before .before .if1 .left) in omega (arith, H .at .room, s .good .0 .0))
-      (λ c. omega (arith, c .before .before .before .before .before .before .before .before .before .before .before .if1 .left))
       (λ c κs. let s = c .before .before .before .before .before .before .before .before .before .before .before .before .before .before .before .before .before in let w = s .pre .1 .0 in let f = c .before .before .before .before .before .before .before .before .before .before .before .before .before .find .ensures (w .steps) (w .is) (w .stands) in let H = parts.last-hit f (c .before .before .before .before .before .before .before .before .before .before .before .before .if1 .left) in
         let l = c .before .before .before .put-not .kept .1 .0 ∙ c .before .before .before .before .before .before .before .name .kept .1 .1 .1 .1 .1 .0 ∙ length-set (now (s .args .out)) (s .args .pos) (c .before .before .before .before .before .before .before .before .before .lead .result) in
         let u = c .before .before .before .before .before .before .before .name .ensures (H .below) (H .len) (H .stands) .counted in

@@ -1,0 +1,140 @@
+-- A rule from the start of an edit; the rules of a book one behind the other.
+use mathlib.Core.Path.{_≡_, refl, sym, ap, _∙_, subst}
+use mathlib.Core.List.{List, [], _∷_, _++_, append-assoc, append-nil}
+use Prim.Native.Nat.{ℕ, zero, suc, _+_, _*_, _-_, _≤_, _<_}
+use native.Mathlib.Omega.{arith}
+use lib.ListN.{length, drop, length-append, length-drop}
+use Rattle.logic.specs.Syntax.{rule, Expr, Edit}
+use Rattle.logic.specs.Carry.{carry, carriedBook}
+use Rattle.logic.specs.Limits.{Ranges}
+use Rattle.text.specs.Code.{code, bookCode}
+use Rattle.tree.specs.Tree.{Tree, tree, size}
+use Rattle.tree.specs.Stack.{Step, written}
+use Rattle.tree.proofs.Written.{written-code}
+use Rattle.measure.specs.Shapes.{At, Some}
+use Rattle.measure.specs.Edits.{EditAt}
+use Rattle.measure.specs.Book.{RuleAt, RulesInRange, BookIs}
+use Rattle.measure.proofs.Places.{behind}
+use Rattle.measure.proofs.Rules.{rule-at, rule-size, rule-fits}
+use Rattle.write.specs.Laid.{laid, Wrote}
+use Rattle.write.specs.Offsets.{StackIs}
+use Rattle.write.specs.Ways.{followed, BehindIs, Way, SomeWay, SomeCarried, Carried}
+use Rattle.write.specs.Carried.{SomeRuleFits, RuleWritten, SomeBookFits, BookWritten}
+use Rattle.write.proofs.Laying.{laid-fits, wrote-none, wrote-more, wrote-as}
+
+start : (edit stack behind : List ℕ) (from : ℕ) (Z : Edit) → EditAt edit from Z → Way edit stack behind from 0 0 [] Z []
+unfolding StackIs BehindIs
+start edit stack behind from Z h = record { passed = refl; steps = tt; here = h; around = refl; rest = tt }
+
+start-written : (Z : Edit) (K : Expr rule) → written [] (followed Z []) K ≡ code (carry Z K)
+unfolding followed
+start-written Z K = written-code Z K
+
+pub rule-some : {text edit : List ℕ} {at from pos room : ℕ} → SomeRuleFits text at edit from pos room → Some text at
+rule-some {text} {edit} {at} w = record { what = tree (w .K); stands = rule-at text at (w .K) (w .K-at) }
+
+pub start-some : {text edit : List ℕ} {at from pos room : ℕ} (stack behind : List ℕ) → SomeRuleFits text at edit from pos room → SomeCarried text at edit stack behind from 0 0 pos room
+start-some {text} {edit} {at} {from} stack behind w = record {
+  way = record { steps = []; what = w .Z; later = []; way = start edit stack behind from (w .Z) (w .Z-at); low = omega arith; low-behind = omega arith };
+  K = w .K;
+  K-at = w .K-at;
+  fits = omega (arith, w .fits, ap length (start-written (w .Z) (w .K)));
+}
+
+pub rule-written : {text edit stack behind stack′ behind′ o o′ : List ℕ} {at from pos pos′ next : ℕ} → ((t : Tree) → At text at t → next ≡ at + size t) → Carried text at edit stack behind from 0 0 o pos pos′ stack′ behind′ o′
+    → (K : Expr rule) (Z : Edit) → RuleAt text at K → EditAt edit from Z → RuleWritten Z K at o pos next pos′ o′
+rule-written {text} {edit} {stack} {behind} {stack′} {behind′} {o} {o′} {at} {from} f c K Z r h = record {
+  read = f (tree K) (rule-at text at K r) ∙ ap (λ (n : ℕ). at + n) (rule-size K);
+  wrote = wrote-as (start-written Z K) (c .wrote [] Z [] (start edit stack behind from Z h) K r);
+}
+
+-- The rules not yet written.
+pub record Left (book : List ℕ) (rules : List (Expr rule)) (Z : Edit) (o : List ℕ) (at pos : ℕ) (out : List ℕ) : Type 0 where
+  pub left : List (Expr rule)
+  pub limits : Ranges
+  pub range : RulesInRange limits left
+  pub here : drop at book ≡ bookCode left
+  pub done : List ℕ
+  pub wrote : Wrote o 0 done pos out
+  pub whole : done ++ bookCode (carriedBook Z left) ≡ bookCode (carriedBook Z rules)
+
+-- while bytes are left, a rule is
+pub record Next (book : List ℕ) (rules : List (Expr rule)) (Z : Edit) (o : List ℕ) (at pos : ℕ) (out : List ℕ) : Type 0 where
+  pub K : Expr rule
+  pub K-at : RuleAt book at K
+  pub fits : pos + length (code (carry Z K)) ≤ length (bookCode (carriedBook Z rules))
+  pub more : (at′ pos′ : ℕ) (out′ : List ℕ) → RuleWritten Z K at out pos at′ pos′ out′ → Left book rules Z o at′ pos′ out′
+
+pub next-rule : {book : List ℕ} {rules : List (Expr rule)} {Z : Edit} {o : List ℕ} {at pos : ℕ} {out : List ℕ} → at < length book → Left book rules Z o at pos out → Next book rules Z o at pos out
+unfolding bookCode RulesInRange
+next-rule {book} {rules} {Z} {o} {at} {pos} {out} l h = go (h .left) (h .range) (h .here) (h .whole)
+  where
+    go : (left : List (Expr rule)) → RulesInRange (h .limits) left → drop at book ≡ bookCode left → h .done ++ bookCode (carriedBook Z left) ≡ bookCode (carriedBook Z rules) → Next book rules Z o at pos out
+    go [] r e w = absurd (omega (arith, ap length e, length-drop at book))
+    go (K ∷ Ks) r e w =
+        let x : List ℕ = code (carry Z K) in
+        let y : List ℕ = bookCode (carriedBook Z Ks) in
+        record {
+          K = K;
+          K-at = record { limits = h .limits; place = record { rest = bookCode Ks; here = e; range = r .0 } };
+          fits = omega (arith, h .wrote .counted, ap length w, length-append (h .done) (x ++ y), length-append x y);
+          more = λ at′ pos′ out′ a. record {
+            left = Ks;
+            limits = h .limits;
+            range = r .1;
+            here = ap (λ (n : ℕ). drop n book) (a .read) ∙ behind book at (code K) (bookCode Ks) e;
+            done = h .done ++ x;
+            wrote = wrote-more (h .wrote) (a .wrote);
+            whole = append-assoc (h .done) x y ∙ w;
+          };
+        }
+
+pub record Writing (book edit : List ℕ) (from : ℕ) (o stack₀ behind₀ : List ℕ) (at pos : ℕ) (out stack behind : List ℕ) : Type 0 where
+  pub long : length out ≡ length o
+  pub stack-long : length stack ≡ length stack₀
+  pub behind-long : length behind ≡ length behind₀
+  pub some : SomeBookFits book edit from (length o)
+  pub each : (rules : List (Expr rule)) (Z : Edit) → BookIs book rules → EditAt edit from Z → Left book rules Z o at pos out
+
+pub writing-first : {book edit : List ℕ} {from : ℕ} (o stack behind : List ℕ) → SomeBookFits book edit from (length o) → Writing book edit from o stack behind 0 0 o stack behind
+writing-first o stack behind w = record {
+  long = refl;
+  stack-long = refl;
+  behind-long = refl;
+  some = w;
+  each = λ rules Z b h. record { left = rules; limits = b .limits; range = b .range; here = b .is; done = []; wrote = wrote-none o 0; whole = refl };
+}
+
+module _ {book edit : List ℕ} {from : ℕ} {o stack₀ behind₀ : List ℕ} {at pos : ℕ} {out stack behind : List ℕ} (w : Writing book edit from o stack₀ behind₀ at pos out stack behind) where
+  some-next : at < length book → Next book (w .some .rules) (w .some .Z) o at pos out
+  some-next l = next-rule l (w .each (w .some .rules) (w .some .Z) (w .some .is) (w .some .Z-at))
+
+  pub rule-fits-next : at < length book → SomeRuleFits book at edit from pos (length out)
+  rule-fits-next l = let q = some-next l in record { K = q .K; K-at = q .K-at; Z = w .some .Z; Z-at = w .some .Z-at; fits = omega (arith, q .fits, w .some .fits, w .long) }
+
+  module _ {at′ pos′ : ℕ} {out′ : List ℕ} (l : at < length book) (f : (K : Expr rule) (Z : Edit) → RuleAt book at K → EditAt edit from Z → RuleWritten Z K at out pos at′ pos′ out′) where
+    pub writing-on : at < at′
+    writing-on = let q = some-next l in omega (arith, f (q .K) (w .some .Z) (q .K-at) (w .some .Z-at) .read, rule-fits book at (q .K) (q .K-at) .0)
+
+    pub writing-more : {stack′ behind′ : List ℕ} → length out′ ≡ length out → length stack′ ≡ length stack → length behind′ ≡ length behind → Writing book edit from o stack₀ behind₀ at′ pos′ out′ stack′ behind′
+    writing-more a b c = record {
+      long = a ∙ w .long;
+      stack-long = b ∙ w .stack-long;
+      behind-long = c ∙ w .behind-long;
+      some = w .some;
+      each = λ rules Z i h. let q = next-rule l (w .each rules Z i h) in q .more at′ pos′ out′ (f (q .K) Z (q .K-at) h);
+    }
+
+  pub writing-end : length book ≤ at → (rules : List (Expr rule)) (Z : Edit) → BookIs book rules → EditAt edit from Z → BookWritten Z rules o pos out
+  unfolding bookCode RulesInRange
+  writing-end l rules Z b h = let q = w .each rules Z b h in wrote-as (go (q .limits) (q .left) (q .range) (q .here) (q .done) (q .whole)) (q .wrote)
+    where
+      go : (r : Ranges) (left : List (Expr rule)) → RulesInRange r left → drop at book ≡ bookCode left → (done : List ℕ) → done ++ bookCode (carriedBook Z left) ≡ bookCode (carriedBook Z rules) → done ≡ bookCode (carriedBook Z rules)
+      go r [] i e done x = sym (append-nil done) ∙ x
+      go r (K ∷ Ks) i e done x =
+          let k : RuleAt book at K = record { limits = r; place = record { rest = bookCode Ks; here = e; range = i .0 } } in
+          absurd (omega (arith, rule-fits book at K k .0, rule-fits book at K k .1))
+
+-- Bytes laid at a buffer's start, where they fit: the rest of it is unchanged.
+pub at-start : {o bs o′ : List ℕ} {len : ℕ} → Wrote o 0 bs len o′ → length bs ≤ length o → o′ ≡ bs ++ drop (length bs) o
+at-start {o} {bs} w l = w .stored ∙ laid-fits o 0 bs (omega (arith, l)) ∙ ap (λ (n : ℕ). bs ++ drop n o) (let e : 0 + length bs ≡ length bs = omega arith in e)

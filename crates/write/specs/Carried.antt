@@ -1,0 +1,35 @@
+-- A rule and a book carried back through an edit, written into a buffer.
+use mathlib.Core.Path.{_≡_}
+use mathlib.Core.List.{List}
+use Prim.Native.Nat.{ℕ, _+_, _≤_}
+use lib.ListN.{length}
+use Rattle.logic.specs.Syntax.{rule, Expr, Edit}
+use Rattle.logic.specs.Carry.{carry, carriedBook}
+use Rattle.text.specs.Code.{code, bookCode}
+use Rattle.measure.specs.Edits.{EditAt}
+use Rattle.measure.specs.Book.{RuleAt, BookIs}
+use Rattle.write.specs.Laid.{Wrote}
+
+-- some rule and some edit stand in their texts, and the carried rule fits a buffer of `room` bytes from `pos` on
+pub record SomeRuleFits (text : List ℕ) (at : ℕ) (edit : List ℕ) (from pos room : ℕ) : Type 0 where
+  pub K : Expr rule
+  pub K-at : RuleAt text at K
+  pub Z : Edit
+  pub Z-at : EditAt edit from Z
+  pub fits : pos + length (code (carry Z K)) ≤ room
+
+-- what writing a carried rule leaves: the place behind the rule, the position behind its bytes, and the buffer
+pub record RuleWritten (Z : Edit) (K : Expr rule) (at : ℕ) (o : List ℕ) (pos at′ pos′ : ℕ) (o′ : List ℕ) : Type 0 where
+  pub read : at′ ≡ at + length (code K)
+  pub wrote : Wrote o pos (code (carry Z K)) pos′ o′
+
+-- a book likewise, from the buffer's start
+pub record SomeBookFits (book edit : List ℕ) (from room : ℕ) : Type 0 where
+  pub rules : List (Expr rule)
+  pub is : BookIs book rules
+  pub Z : Edit
+  pub Z-at : EditAt edit from Z
+  pub fits : length (bookCode (carriedBook Z rules)) ≤ room
+
+abbrev pub BookWritten : (Z : Edit) (rules : List (Expr rule)) (o : List ℕ) (len : ℕ) (o′ : List ℕ) → Type 0
+BookWritten Z rules o len o′ = Wrote o 0 (bookCode (carriedBook Z rules)) len o′
