@@ -3,7 +3,7 @@ use mathlib.Core.List.{List, _++_}
 use Prim.Native.Nat.{ℕ}
 use lib.Dec.{leb}
 use lib.ListN.{length, drop}
-use Rattle.answer.specs.Asked.{Asked, passed, _>>=_, _>>_, is}
+use Rattle.answer.specs.Asked.{Asked, passed, _>>=_, _>>_, is, after}
 use Rattle.logic.specs.Syntax.{Expr, rule}
 pub use Rattle.logic.specs.Carry.{carriedBook}
 use Rattle.logic.specs.Limits.{maxNodes}
@@ -36,3 +36,13 @@ askCarry bookText editText room = do
 -- A buffer with bytes written at its start, the rest of it unchanged.
 abbrev pub writtenAtStart : List ℕ → List ℕ → List ℕ
 writtenAtStart bytes buffer = bytes ++ drop (length bytes) buffer
+
+-- Its answer: the length of those bytes.
+unfoldable pub carryAnswer : (book edit : List ℕ) (room : ℕ) → Asked ℕ
+carryAnswer book edit room = do
+  bytes ← askCarry book edit room
+  passed (length bytes)
+
+-- The output after it.
+unfoldable pub carryOutput : (book edit output : List ℕ) → List ℕ
+carryOutput book edit output = after (askCarry book edit (length output)) (λ bytes. writtenAtStart bytes output) output

@@ -1,1 +1,65 @@
-// Carrying a book back through an edit.
+// Carrying a book back into an output ("Carrying back" and "The questions, in order" of document 01).
+use answer::Answer;
+use answer::Refusal;
+use text::Text;
+
+ghost use mathlib.Core.Path.{_≡_};
+ghost use mathlib.Core.List.{List};
+ghost use Prim.Native.Nat.{_≤_};
+ghost use lib.ListN.{length};
+ghost use Rattle.logic.specs.Syntax.{Edit, Expr, rule};
+ghost use Rattle.measure.specs.Edits.{EditAt, SomeEdit};
+ghost use Rattle.measure.specs.Book.{BookIs, SomeBook};
+ghost use Rattle.carry.specs.Carrying.{carriedBook, carryAnswer, carryOutput};
+ghost use Rattle.carry.specs.Answers.{carriedAsked};
+ghost use Rattle.carry.specs.Written.{Into};
+
+// Bytes and levels of a carried book.
+const LONGEST: usize = 16384;
+const DEEPEST: usize = 255;
+
+// The length of the carried book, or the refusal.
+pub enum Carried {
+    Length(usize),
+    Refused(Refusal),
+}
+
+// Carries a book back through an edit into an output: 31, 32, 33, and only then it is written, at the output's start.
+// The edit that is written with lacks the idle steps, which change nothing, so that none is passed more than once in vain.
+// Inner: book and edit were read before.
+pub fn carry_into(book: &[u8], edit: &[u8], out: &mut [u8]) -> Carried
+    requires { ⌜ SomeBook (now book) × SomeEdit (now edit) 0 × (length (now edit) ≤ 4096) ⌝ }
+    ensures { λ r. ⌜ ((rules : List (Expr rule)) (Z : Edit) → BookIs (now (book .entry)) rules → EditAt (now (edit .entry)) 0 Z → Into (carriedBook Z rules) r (now (out .entry)) (now (out .exit))) ⌝ }
+{
+    if book.len() == 0 {
+        return Carried::Length(0);
+    }
+    let mut kept = [0u8; 4096];
+    let size = measure::size_of_book(book, edit, &mut kept);
+    let len = size.len;
+    if len > LONGEST {
+        return Carried::Refused(Refusal::CarriedLength { place: 0 });
+    }
+    if size.levels > DEEPEST {
+        return Carried::Refused(Refusal::CarriedLevels { place: 0 });
+    }
+    if len > out.len() {
+        return Carried::Refused(Refusal::OutputLength { place: len });
+    }
+    let written = write::write_book(book, &kept, size.start, out);
+    Carried::Length(written)
+}
+
+// Carries a book back through an edit into an output: 11 to 16, 21 to 26, with n as 60, then 31 to 33. Answers the length.
+pub fn carry_back(book: &[u8], edit: &[u8], out: &mut [u8]) -> Carried
+    ensures { λ r. ⌜ carriedAsked r ≡ carryAnswer (now (book .entry)) (now (edit .entry)) (length (now (out .entry))) ⌝ }
+    ensures { λ r. ⌜ now (out .exit) ≡ carryOutput (now (book .entry)) (now (edit .entry)) (now (out .entry)) ⌝ }
+{
+    match Text::check_book(book, Text::NODES) {
+        Answer::Refused(r) => Carried::Refused(r),
+        Answer::Done => match Text::check_edit(edit, Text::NODES) {
+            Answer::Refused(r) => Carried::Refused(r),
+            Answer::Done => carry_into(book, edit, out),
+        },
+    }
+}

@@ -1,0 +1,150 @@
+-- 31 to 33 by the measured size, and writing with the edit without its idle steps.
+use mathlib.Core.Path.{_≡_, refl, sym, ap, _∙_}
+use mathlib.Core.Bool.{true, false}
+use mathlib.Core.List.{List, [], _∷_, _++_, append-nil}
+use Prim.Native.Nat.{ℕ, _+_, _≤_, _<_}
+use native.Mathlib.Omega.{arith}
+use native.Mathlib.Nat.{zero-add}
+use lib.Dec.{leb}
+use lib.ListN.{length, drop}
+use borrow.Author.Tests.{le-leb, lt-leb}
+use Rattle.answer.specs.Asked.{Asked, passed, refused, _>>_, is, after}
+use Rattle.answer.specs.Answers.{refusalNumber, refusalPlace}
+use Rattle.answer.specs.declared.Refusal.{Refusal}
+use Rattle.answer.specs.declared.Refusal.the-variants.{CarriedLength, CarriedLevels, OutputLength}
+use Rattle.logic.specs.Syntax.{rule, Expr, Edit}
+use Rattle.logic.specs.Carry.{carriedBook}
+use Rattle.text.specs.Code.{bookCode, bookLevels}
+use Rattle.tree.specs.Sizes.{measures, cut}
+use Rattle.measure.specs.Pruned.{pruned}
+use Rattle.measure.specs.Edits.{EditAt}
+use Rattle.measure.specs.Book.{BookIs, BookSized, BookKept}
+use Rattle.measure.proofs.Idle.{pruned-code, pruned-range}
+use Rattle.measure.proofs.Rules.{no-book}
+use Rattle.write.specs.Laid.{Wrote}
+use Rattle.write.specs.Carried.{SomeBookFits}
+use Rattle.write.proofs.Laying.{laid-fits}
+use Rattle.carry.specs.declared.Carried.the-variants.{Length, Refused}
+use Rattle.carry.specs.Carrying.{askSize, writtenAtStart}
+use Rattle.carry.specs.Written.{Into}
+
+module _ (carried : List (Expr rule)) (out : List ℕ) where
+  into-refused : (r : Refusal) → askSize carried (length out) ≡ refused (refusalNumber r) (refusalPlace r) → Into carried (Refused r) out out
+  unfolding _>>_ after
+  into-refused r e = record {
+    answer-is = sym (ap (λ (q : Asked (Unit {0})). q >> passed (length (bookCode carried))) e);
+    output-is = sym (ap (λ (q : Asked (Unit {0})). after q (λ u. writtenAtStart (bookCode carried) out) out) e);
+  }
+
+  into-passed : (n : ℕ) (out′ : List ℕ) → askSize carried (length out) ≡ passed tt → n ≡ length (bookCode carried) → out′ ≡ writtenAtStart (bookCode carried) out → Into carried (Length n) out out′
+  unfolding _>>_ after
+  into-passed n out′ e l w = record {
+    answer-is = ap passed l ∙ sym (ap (λ (q : Asked (Unit {0})). q >> passed (length (bookCode carried))) e);
+    output-is = w ∙ sym (ap (λ (q : Asked (Unit {0})). after q (λ u. writtenAtStart (bookCode carried) out) out) e);
+  }
+
+-- the questions of a length, a number of levels and a room
+sized : (len levels room : ℕ) → Asked (Unit {0})
+sized len levels room = is (leb len 16384) 31 0 >> (is (leb levels 255) 32 0 >> is (leb len room) 33 len)
+
+module _ (len levels room : ℕ) where
+  no-31 : 16384 < len → sized len levels room ≡ refused 31 0
+  unfolding sized is _>>_
+  no-31 h = rw (lt-leb len 16384 h)
+
+  module _ (h : len ≤ 16384) where
+    no-32 : 255 < levels → sized len levels room ≡ refused 32 0
+    unfolding sized is _>>_
+    no-32 k = rw (le-leb len 16384 h, lt-leb levels 255 k)
+
+    module _ (k : levels ≤ 255) where
+      no-33 : room < len → sized len levels room ≡ refused 33 len
+      unfolding sized is _>>_
+      no-33 i = rw (le-leb len 16384 h, le-leb levels 255 k, lt-leb len room i)
+
+      all-so : len ≤ room → sized len levels room ≡ passed tt
+      unfolding sized is _>>_
+      all-so i = rw (le-leb len 16384 h, le-leb levels 255 k, le-leb len room i)
+
+module _ {Z : Edit} {rules : List (Expr rule)} {len tall : ℕ} (s : BookSized Z rules len tall) (out : List ℕ) where
+  abbrev len-of : ℕ
+  len-of = length (bookCode (carriedBook Z rules))
+
+  abbrev levels-of : ℕ
+  levels-of = bookLevels (carriedBook Z rules)
+
+  asks : askSize (carriedBook Z rules) (length out) ≡ sized len-of levels-of (length out)
+  unfolding askSize sized _>>_
+  asks = refl
+
+  -- 31
+  pub too-long : 16384 < len → Into (carriedBook Z rules) (Refused (CarriedLength 0)) out out
+  too-long h = into-refused (carriedBook Z rules) out (CarriedLength 0) (asks ∙ no-31 len-of levels-of (length out) (omega (arith, s .len-is)))
+
+  module _ (h : len ≤ 16384) where
+    len-exact : len ≡ len-of
+    len-exact = omega (arith, s .len-is)
+
+    short : len-of ≤ 16384
+    short = omega (arith, s .len-is)
+
+    -- 32
+    pub too-deep : 255 < tall → Into (carriedBook Z rules) (Refused (CarriedLevels 0)) out out
+    too-deep k = into-refused (carriedBook Z rules) out (CarriedLevels 0) (asks ∙ no-32 len-of levels-of (length out) short (omega (arith, s .tall-is)))
+
+    module _ (k : tall ≤ 255) where
+      shallow : levels-of ≤ 255
+      shallow = omega (arith, s .tall-is)
+
+      -- 33, with the length needed
+      pub no-room : length out < len → Into (carriedBook Z rules) (Refused (OutputLength len)) out out
+      no-room i = into-refused (carriedBook Z rules) out (OutputLength len) (asks ∙ no-33 len-of levels-of (length out) short shallow (omega (arith, len-exact)) ∙ ap (refused 33) (sym len-exact))
+
+      module _ (i : len ≤ length out) where
+        pub fits-out : len-of ≤ length out
+        fits-out = omega (arith, len-exact)
+
+        pub into-written : (n : ℕ) (out′ : List ℕ) → n ≡ len-of → out′ ≡ writtenAtStart (bookCode (carriedBook Z rules)) out → Into (carriedBook Z rules) (Length n) out out′
+        into-written n out′ l w = into-passed (carriedBook Z rules) out n out′ (asks ∙ all-so len-of levels-of (length out) short shallow fits-out) l w
+
+-- the empty book
+pub empty-into : (book : List ℕ) → length book ≡ 0 → (rules : List (Expr rule)) (Z : Edit) → BookIs book rules → (out : List ℕ) → Into (carriedBook Z rules) (Length 0) out out
+empty-into book e rules Z h out =
+    let s = no-book book e rules Z h 0 [] .0 in
+    let l = len-exact s out (omega arith) in
+    into-written s out (omega arith) (omega arith) (omega arith) 0 out l (nothing-written (bookCode (carriedBook Z rules)) l)
+  where
+    nothing-written : (bytes : List ℕ) → 0 ≡ length bytes → out ≡ writtenAtStart bytes out
+    nothing-written [] n = refl
+    nothing-written (b ∷ bs) n = absurd (omega (arith, n))
+
+-- any other
+module _ {book : List ℕ} (ne : length book ≡ 0 → ⊥) {rules : List (Expr rule)} (h : BookIs book rules) where
+  some-rule : length rules ≡ 0 → ⊥
+  unfolding bookCode
+  some-rule = go rules (h .is)
+    where
+      go : (Ks : List (Expr rule)) → book ≡ bookCode Ks → length Ks ≡ 0 → ⊥
+      go [] e n = ne (ap length e)
+      go (K ∷ Ks) e n = omega (arith, n)
+
+  module _ {edit : List ℕ} {Z : Edit} (g : EditAt edit 0 Z) {start : ℕ} {kept : List ℕ} (b : BookKept Z rules start kept) where
+    abbrev busy : Edit
+    busy = pruned (length rules) Z (measures rules)
+
+    busy-at : EditAt kept start busy
+    busy-at = record { limits = g .limits; place = record { rest = []; here = b .text some-rule ∙ sym (append-nil _); range = pruned-range (g .limits) (length rules) Z (measures rules) (g .place .range) } }
+
+    pub book-fits : {room : ℕ} → length (bookCode (carriedBook Z rules)) ≤ room → SomeBookFits book kept start room
+    book-fits {room} f = record { rules = rules; is = h; Z = busy; Z-at = busy-at; fits = omega (arith, f, ap length (pruned-code Z rules)) }
+
+    module _ {out out′ : List ℕ} {n : ℕ} (f : (rules : List (Expr rule)) (Z : Edit) → BookIs book rules → EditAt kept start Z → Wrote out 0 (bookCode (carriedBook Z rules)) n out′) where
+      pub written-long : n ≡ length (bookCode (carriedBook Z rules))
+      written-long = omega (arith, f rules busy h busy-at .counted, ap length (pruned-code Z rules))
+
+      pub written-so : length (bookCode (carriedBook Z rules)) ≤ length out → out′ ≡ writtenAtStart (bookCode (carriedBook Z rules)) out
+      written-so l =
+          f rules busy h busy-at .stored
+          ∙ laid-fits out 0 (bookCode (carriedBook busy rules)) (omega (arith, l, ap length (pruned-code Z rules)))
+          ∙ ap (λ (n : ℕ). bookCode (carriedBook busy rules) ++ drop n out) (zero-add (length (bookCode (carriedBook busy rules))))
+          ∙ ap (λ (x : List ℕ). writtenAtStart x out) (pruned-code Z rules)

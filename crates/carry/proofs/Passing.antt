@@ -1,0 +1,102 @@
+-- What the questions of a book and an edit say of their texts, and carry back by its questions.
+use mathlib.Core.Path.{_≡_, refl, sym, ap, _∙_}
+use mathlib.Core.List.{List, [], _∷_, append-nil}
+use Prim.Native.Nat.{ℕ, _≤_}
+use native.Mathlib.Omega.{arith}
+use lib.ListN.{length}
+use Rattle.answer.specs.Asked.{Asked, passed, refused, _>>=_, _>>_, after}
+use Rattle.answer.specs.Answers.{refusalNumber, refusalPlace}
+use Rattle.answer.specs.declared.Refusal.{Refusal}
+use Rattle.logic.specs.Syntax.{rule, Expr, Edit}
+use Rattle.logic.specs.Carry.{carriedBook}
+use Rattle.logic.specs.Limits.{maxNodes}
+use Rattle.text.specs.Code.{bookCode}
+use Rattle.text.specs.Reading.{Limits, textLimits}
+use Rattle.text.specs.Questions.{askBook, askEdit, answered}
+use Rattle.text.proofs.Books.{EachAllowed, book-is-spelled, edit-is-spelled}
+use Rattle.measure.specs.Edits.{EditAt, SomeEdit}
+use Rattle.measure.specs.Book.{RulesInRange, BookIs, SomeBook}
+use Rattle.carry.specs.declared.Carried.{Carried}
+use Rattle.carry.specs.declared.Carried.the-variants.{Length, Refused}
+use Rattle.carry.specs.Carrying.{askSize, askCarry, carryAnswer, carryOutput, writtenAtStart}
+use Rattle.carry.specs.Answers.{carriedAsked}
+use Rattle.carry.specs.Written.{Into}
+
+-- questions that were all answered yes, and those that were not
+pub record Learned {A : Type 0} (q : Asked A) : Type 0 where
+  pub what : A
+  pub is : q ≡ passed what
+
+pub learned : {A : Type 0} (q : Asked A) → passed tt ≡ answered q → Learned q
+unfolding answered
+learned (passed a) e = record { what = a; is = refl }
+learned (refused n p) e = let z : _≡_ {A = ℕ} 0 1 = cc in absurd (omega arith)
+
+pub not-learned : {A : Type 0} (q : Asked A) (n p : ℕ) → refused n p ≡ answered q → q ≡ refused n p
+unfolding answered
+not-learned (passed a) n p e = let z : _≡_ {A = ℕ} 0 1 = cc in absurd (omega arith)
+not-learned (refused m o) n p e = cc
+
+-- a book and an edit that have passed, whatever n
+rules-in-range : (l : Limits) (rules : List (Expr rule)) → EachAllowed l rules → RulesInRange (l .numbers) rules
+unfolding RulesInRange
+rules-in-range l [] h = tt
+rules-in-range l (K ∷ Ks) h = (h .0 .numbers-fit, rules-in-range l Ks (h .1))
+
+module _ (n : ℕ) {t : List ℕ} where
+  pub book-passed : {rules : List (Expr rule)} → askBook (textLimits n) t ≡ passed rules → BookIs t rules
+  book-passed {rules} h = let s = book-is-spelled (textLimits n) t rules h in record { limits = textLimits n .numbers; is = s .spells .text-is; range = rules-in-range (textLimits n) rules (s .spells .rules); few = s .spells .few }
+
+  pub edit-passed : {Z : Edit} → askEdit (textLimits n) t ≡ passed Z → EditAt t 0 Z × (length t ≤ 4096)
+  edit-passed {Z} h = let s = edit-is-spelled (textLimits n) t Z h in (record { limits = textLimits n .numbers; place = record { rest = []; here = s .text-is ∙ sym (append-nil _); range = s .within .numbers-fit } }, s .short)
+
+-- the bytes learned once the size has passed
+length-of : (q : Asked (Unit {0})) (bytes : List ℕ) → (q >> passed (length bytes)) ≡ ((q >> passed bytes) >>= (λ b. passed (length b)))
+unfolding _>>_ _>>=_
+length-of (passed u) bytes = refl
+length-of (refused n p) bytes = refl
+
+output-of : (q : Asked (Unit {0})) (bytes out : List ℕ) → after q (λ u. writtenAtStart bytes out) out ≡ after (q >> passed bytes) (λ b. writtenAtStart b out) out
+unfolding _>>_ after
+output-of (passed u) bytes out = refl
+output-of (refused n p) bytes out = refl
+
+-- Carry back, by its answer.
+module _ (book edit out : List ℕ) where
+  abbrev Back : Carried → List ℕ → Type 0
+  Back r out′ = (carriedAsked r ≡ carryAnswer book edit (length out)) × (out′ ≡ carryOutput book edit out)
+
+  refused-back : (r : Refusal) → askCarry book edit (length out) ≡ refused (refusalNumber r) (refusalPlace r) → Back (Refused r) out
+  unfolding carryAnswer carryOutput _>>=_ after
+  refused-back r e = (sym (ap (λ (q : Asked (List ℕ)). q >>= (λ bytes. passed (length bytes))) e), sym (ap (λ (q : Asked (List ℕ)). after q (λ bytes. writtenAtStart bytes out) out) e))
+
+  pub book-refused : (r : Refusal) → refused (refusalNumber r) (refusalPlace r) ≡ answered (askBook (textLimits maxNodes) book) → Back (Refused r) out
+  unfolding askCarry _>>=_
+  book-refused r e = refused-back r (rw (not-learned _ _ _ e))
+
+  module _ (b : passed tt ≡ answered (askBook (textLimits maxNodes) book)) where
+    rules : Learned (askBook (textLimits maxNodes) book)
+    rules = learned (askBook (textLimits maxNodes) book) b
+
+    pub edit-refused : (r : Refusal) → refused (refusalNumber r) (refusalPlace r) ≡ answered (askEdit (textLimits maxNodes) edit) → Back (Refused r) out
+    unfolding askCarry _>>=_
+    edit-refused r e = refused-back r (rw (rules .is, not-learned _ _ _ e))
+
+    module _ (e : passed tt ≡ answered (askEdit (textLimits maxNodes) edit)) where
+      Z : Learned (askEdit (textLimits maxNodes) edit)
+      Z = learned (askEdit (textLimits maxNodes) edit) e
+
+      pub both-read : SomeBook book × SomeEdit edit 0 × (length edit ≤ 4096)
+      both-read = let s = edit-passed maxNodes (Z .is) in (record { what = rules .what; is = book-passed maxNodes (rules .is) }, record { what = Z .what; stands = s .0 }, s .1)
+
+      asks : askCarry book edit (length out) ≡ (askSize (carriedBook (Z .what) (rules .what)) (length out) >> passed (bookCode (carriedBook (Z .what) (rules .what))))
+      unfolding askCarry _>>=_
+      asks = rw (rules .is, Z .is)
+
+      pub into-back : {r : Carried} {out′ : List ℕ} → ((rules : List (Expr rule)) (Z : Edit) → BookIs book rules → EditAt edit 0 Z → Into (carriedBook Z rules) r out out′) → Back r out′
+      unfolding carryAnswer carryOutput
+      into-back f =
+          let i = f (rules .what) (Z .what) (book-passed maxNodes (rules .is)) (edit-passed maxNodes (Z .is) .0) in
+          let q = askSize (carriedBook (Z .what) (rules .what)) (length out) in
+          let bytes = bookCode (carriedBook (Z .what) (rules .what)) in
+          (i .answer-is ∙ length-of q bytes ∙ sym (ap (λ (x : Asked (List ℕ)). x >>= (λ b. passed (length b))) asks), i .output-is ∙ output-of q bytes out ∙ sym (ap (λ (x : Asked (List ℕ)). after x (λ b. writtenAtStart b out) out) asks))

@@ -1,0 +1,15 @@
+-- 31 to 33 asked of a carried book: the answer, and the output after it.
+use mathlib.Core.Path.{_≡_}
+use mathlib.Core.List.{List}
+use Prim.Native.Nat.{ℕ}
+use lib.ListN.{length}
+use Rattle.answer.specs.Asked.{passed, _>>_, after}
+use Rattle.logic.specs.Syntax.{rule, Expr}
+use Rattle.text.specs.Code.{bookCode}
+use Rattle.carry.specs.declared.Carried.{Carried}
+use Rattle.carry.specs.Carrying.{askSize, writtenAtStart}
+use Rattle.carry.specs.Answers.{carriedAsked}
+
+pub record Into (carried : List (Expr rule)) (answer : Carried) (output output′ : List ℕ) : Type 0 where
+  pub answer-is : carriedAsked answer ≡ (askSize carried (length output) >> passed (length (bookCode carried)))
+  pub output-is : output′ ≡ after (askSize carried (length output)) (λ u. writtenAtStart (bookCode carried) output) output
