@@ -19,7 +19,7 @@ use Rattle.tree.specs.Sizes.{measures, cut}
 use Rattle.measure.specs.Pruned.{pruned}
 use Rattle.measure.specs.Edits.{EditAt}
 use Rattle.measure.specs.Book.{BookIs, BookSized, BookKept}
-use Rattle.measure.proofs.Idle.{pruned-code, pruned-range}
+use Rattle.measure.proofs.Idle.{pruned-code, kept-stands}
 use Rattle.measure.proofs.Rules.{no-book}
 use Rattle.write.specs.Laid.{Wrote}
 use Rattle.write.specs.Carried.{SomeBookFits}
@@ -133,7 +133,7 @@ module _ {book : List ℕ} (ne : length book ≡ 0 → ⊥) {rules : List (Expr 
     busy = pruned (length rules) Z (measures rules)
 
     busy-at : EditAt kept start busy
-    busy-at = record { limits = g .limits; place = record { rest = []; here = b .text some-rule ∙ sym (append-nil _); range = pruned-range (g .limits) (length rules) Z (measures rules) (g .place .range) } }
+    busy-at = record { limits = g .limits; place = kept-stands (g .limits) Z rules _ _ (g .place .range) some-rule b }
 
     pub book-fits : {room : ℕ} → length (bookCode (carriedBook Z rules)) ≤ room → SomeBookFits book kept start room
     book-fits {room} f = record { rules = rules; is = h; Z = busy; Z-at = busy-at; fits = omega (arith, f, ap length (pruned-code Z rules)) }

@@ -2,7 +2,6 @@
 use answer::Answer;
 use answer::Refusal;
 use text::Text;
-
 ghost use mathlib.Core.Path.{_≡_};
 ghost use mathlib.Core.List.{List};
 ghost use Prim.Native.Nat.{_≤_};
@@ -16,6 +15,7 @@ ghost use Rattle.carry.specs.Written.{Into};
 
 // Bytes and levels of a carried book.
 const LONGEST: usize = 16384;
+
 const DEEPEST: usize = 255;
 
 // The length of the carried book, or the refusal.

@@ -1,0 +1,18 @@
+use borrow.Author.Needs.{needs}
+use mathlib.Core.Path.{refl, _∙_}
+use Rattle.answer.specs.Asked.{outcome}
+use Rattle.suite.proofs.Numbers.{judge-number, judge-place}
+use Rattle.suite.proofs.zamiathen_judge.Statement.{statement}
+use Rattle.suite.proofs.zamiathen_judge.Tie as tie
+
+returns : tie.Need-returns
+returns c =
+    let v = c .before .before .decide in (
+      c .before .number .ensures ∙ judge-number (v .result .answer) _ (v .ensures .0),
+      c .place .ensures ∙ judge-place (v .result .answer) _ (v .ensures .0),
+      v .ensures .1,
+      v .ensures .2,
+    )
+
+pub zamiathen-judge-spec : {M : Type 1} → statement M
+zamiathen-judge-spec = tie.close (tie.spec (λ c κs. search needs) (λ c κs. search needs) (λ c κs. search needs) returns)
