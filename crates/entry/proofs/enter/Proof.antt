@@ -1,0 +1,42 @@
+-- `entry::enter` meets its contract: question by question, and then the carried rules on the sheet as it is.
+use mathlib.Core.Path.{_≡_, sym, ap, _∙_}
+use borrow.Author.Needs.{needs}
+use Rattle.answer.specs.Answers.{asked}
+use Rattle.text.specs.Reading.{textLimits}
+use Rattle.text.specs.Questions.{askBook, askEdit}
+use Rattle.carry.proofs.Passing.{learned, book-passed, edit-passed}
+use Rattle.entry.proofs.Stages.{sheet-stops, book-stops, edit-stops, size-stops, rules-stand, edit-stands, settles}
+use Rattle.entry.proofs.enter.Statement.{statement}
+use Rattle.entry.proofs.enter.Tie as tie
+
+pub enter-spec : {M : Type 1} → statement M
+enter-spec =
+    tie.close
+    (tie.spec
+    (λ c κs. search needs)
+    (λ c. search needs)
+    (λ c. search needs)
+    (λ c. search needs)
+    (λ c. sheet-stops _ _ _ _ _ _ (c .before .before .check .ensures) (c .enum-told2 .given .1))
+    (λ c κs. sym (c .before .before .before .check .ensures) ∙ ap asked (c .before .enum-told .given .1))
+    (λ c κs. search needs)
+    (λ c. search needs)
+    (λ c. search needs)
+    (λ c. search needs)
+    (λ c. book-stops _ _ _ _ (sym (c .before .before .before .before .before .before .before .check .ensures) ∙ ap asked (c .before .before .before .before .before .enum-told .given .1)) _ (c .before .before .before .node-count .ensures .0) _ _ (c .before .before .check-book .ensures) (c .enum-told4 .given .1))
+    (λ c κs. search needs)
+    (λ c. search needs)
+    (λ c. search needs)
+    (λ c. search needs)
+    (λ c. let book = learned _ (sym (ap asked (c .before .before .before .enum-told3 .given .1)) ∙ c .before .before .before .before .before .check-book .ensures) in edit-stops _ _ _ _ (sym (c .before .before .before .before .before .before .before .before .before .before .check .ensures) ∙ ap asked (c .before .before .before .before .before .before .before .before .enum-told .given .1)) _ (c .before .before .before .before .before .before .node-count .ensures .0) (book .is) _ _ (c .before .before .check-edit .ensures) (c .enum-told6 .given .1))
+    (λ c κs. let book = learned _ (sym (ap asked (c .before .before .before .before .enum-told3 .given .1)) ∙ c .before .before .before .before .before .before .check-book .ensures) in let steps = learned _ (sym (ap asked (c .before .enum-told5 .given .1)) ∙ c .before .before .before .check-edit .ensures) in (record { what = book .what; is = book-passed _ (book .is) }, record { what = steps .what; stands = edit-passed _ (steps .is) .0 }, edit-passed _ (steps .is) .1))
+    (λ c. search needs)
+    (λ c. search needs)
+    (λ c κs. let book = learned _ (sym (ap asked (c .before .before .before .before .before .before .before .before .before .before .before .before .enum-told3 .given .1)) ∙ c .before .before .before .before .before .before .before .before .before .before .before .before .before .before .check-book .ensures) in let steps = learned _ (sym (ap asked (c .before .before .before .before .before .before .before .before .before .enum-told5 .given .1)) ∙ c .before .before .before .before .before .before .before .before .before .before .before .check-edit .ensures) in let sound = sym (c .before .before .before .before .before .before .before .before .before .before .before .before .before .before .before .before .before .before .before .check .ensures) ∙ ap asked (c .before .before .before .before .before .before .before .before .before .before .before .before .before .before .before .before .before .enum-told .given .1) in let into = c .before .before .before .before .before .before .before .carry-into .ensures (book .what) (steps .what) (book-passed _ (book .is)) (edit-passed _ (steps .is) .0) in (sound, record { what = _; stand = rules-stand _ _ _ _ sound _ (c .before .before .before .before .before .before .before .before .before .before .before .before .before .before .before .node-count .ensures .0) (book .is) (steps .is) _ _ _ into (c .before .before .before .size .given .1) }, record { what = _; stands = edit-stands _ _ _ _ sound _ (c .before .before .before .before .before .before .before .before .before .before .before .before .before .before .before .node-count .ensures .0) (book .is) (steps .is) _ _ _ into (c .before .before .before .size .given .1) }))
+    (λ c. search needs)
+    (λ c. search needs)
+    (λ c. let book = learned _ (sym (ap asked (c .before .before .before .before .before .before .before .before .before .before .enum-told3 .given .1)) ∙ c .before .before .before .before .before .before .before .before .before .before .before .before .check-book .ensures) in let steps = learned _ (sym (ap asked (c .before .before .before .before .before .before .before .enum-told5 .given .1)) ∙ c .before .before .before .before .before .before .before .before .before .check-edit .ensures) in let sound = sym (c .before .before .before .before .before .before .before .before .before .before .before .before .before .before .before .before .before .check .ensures) ∙ ap asked (c .before .before .before .before .before .before .before .before .before .before .before .before .before .before .before .enum-told .given .1) in let into = c .before .before .before .before .before .carry-into .ensures (book .what) (steps .what) (book-passed _ (book .is)) (edit-passed _ (steps .is) .0) in size-stops _ _ _ _ sound _ (c .before .before .before .before .before .before .before .before .before .before .before .before .before .node-count .ensures .0) (book .is) (steps .is) _ _ _ into (c .before .r .given .1))
+    (λ c. search needs)
+    (λ c. search needs)
+    (λ c. let book = learned _ (sym (ap asked (c .before .before .before .before .before .before .before .before .before .before .before .before .before .before .before .enum-told3 .given .1)) ∙ c .before .before .before .before .before .before .before .before .before .before .before .before .before .before .before .before .before .check-book .ensures) in let steps = learned _ (sym (ap asked (c .before .before .before .before .before .before .before .before .before .before .before .before .enum-told5 .given .1)) ∙ c .before .before .before .before .before .before .before .before .before .before .before .before .before .before .check-edit .ensures) in let sound = sym (c .before .before .before .before .before .before .before .before .before .before .before .before .before .before .before .before .before .before .before .before .before .before .check .ensures) ∙ ap asked (c .before .before .before .before .before .before .before .before .before .before .before .before .before .before .before .before .before .before .before .before .enum-told .given .1) in let into = c .before .before .before .before .before .before .before .before .before .before .carry-into .ensures (book .what) (steps .what) (book-passed _ (book .is)) (edit-passed _ (steps .is) .0) in let is = c .before .before .before .before .before .before .size .given .1 in let number = c .before .before .before .before .before .before .before .before .before .before .before .before .before .before .before .before .before .before .node-count .ensures .0 in settles _ _ _ _ sound _ number (book .is) (steps .is) _ _ _ into is _ _ (c .before .before .settle .ensures _ (steps .what) (rules-stand _ _ _ _ sound _ number (book .is) (steps .is) _ _ _ into is) (edit-stands _ _ _ _ sound _ number (book .is) (steps .is) _ _ _ into is)))
+    )
