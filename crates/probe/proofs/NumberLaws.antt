@@ -3,7 +3,7 @@ use mathlib.Core.Path.{_≡_, refl, ap, _∙_}
 use Rattle.answer.specs.declared.Answer.{Answer}
 use Rattle.answer.specs.declared.Answer.the-variants.{Done, Refused}
 use Rattle.answer.specs.Answers.{answerNumber, answerPlace, asked}
-use Rattle.answer.specs.Asked.{Asked, passed, refused}
+use Rattle.answer.specs.Asked.{Asked, passed, refused, outcome}
 use Rattle.text.specs.Questions.{answered}
 use Rattle.probe.specs.Numbers.{askedNumber, askedPlace}
 
@@ -35,5 +35,21 @@ unfolding answered
 text-place {A} a q e = answer-place a (answered q) e ∙ go q
   where
     go : (q : Asked A) → askedPlace (answered q) ≡ askedPlace q
+    go (passed x) = refl
+    go (refused m p) = refl
+
+pub outcome-number : {A : Type 0} (a : Answer) (q : Asked A) → asked a ≡ outcome q → answerNumber a ≡ askedNumber q
+unfolding outcome
+outcome-number {A} a q e = answer-number a (outcome q) e ∙ go q
+  where
+    go : (q : Asked A) → askedNumber (outcome q) ≡ askedNumber q
+    go (passed x) = refl
+    go (refused m p) = refl
+
+pub outcome-place : {A : Type 0} (a : Answer) (q : Asked A) → asked a ≡ outcome q → answerPlace a ≡ askedPlace q
+unfolding outcome
+outcome-place {A} a q e = answer-place a (outcome q) e ∙ go q
+  where
+    go : (q : Asked A) → askedPlace (outcome q) ≡ askedPlace q
     go (passed x) = refl
     go (refused m p) = refl

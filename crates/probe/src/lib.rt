@@ -8,6 +8,7 @@ ghost use Rattle.sheet.specs.Questions.{askSheet, askBlank, askLabelBit, askArr
 ghost use Rattle.sheet.specs.BitReads.{bitAsked};
 ghost use Rattle.text.specs.Reading.{textLimits};
 ghost use Rattle.text.specs.Questions.{askBook, askEdit, askRuleEnd, firstRule};
+ghost use Rattle.apply.specs.Apply.{askApply, appliedSheet};
 ghost use Rattle.probe.specs.Numbers.{askedNumber, askedPlace, askedBit};
 use logic::Arrow;
 use logic::Label;
@@ -134,5 +135,17 @@ pub extern "C" fn probe_first_rule(text: &[u8]) -> PartNumbers
         number: answer::number(a),
         place: answer::place(a),
         length: rule.len(),
+    }
+}
+
+#[no_mangle]
+pub extern "C" fn probe_apply(sheet: &mut [u8], edit: &[u8]) -> Numbers
+    ensures { λ r. ⌜ (r .number ≡ askedNumber (askApply (now (sheet .entry)) (now (edit .entry)))) × (r .place ≡ askedPlace (askApply (now (sheet .entry)) (now (edit .entry)))) ⌝ }
+    ensures { λ _. ⌜ now (sheet .exit) ≡ appliedSheet (now (sheet .entry)) (now (edit .entry)) ⌝ }
+{
+    let a = apply::apply(sheet, edit);
+    Numbers {
+        number: answer::number(a),
+        place: answer::place(a),
     }
 }

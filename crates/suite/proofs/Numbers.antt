@@ -10,8 +10,8 @@ unfolding outcome
 unit-outcome (passed u) = refl
 unit-outcome (refused n p) = refl
 
-pub judge-number : (a : Answer) (q : Asked (Unit {0})) → asked a ≡ q → answerNumber a ≡ askedNumber q
-judge-number a q e = number-of a q (e ∙ unit-outcome q)
+pub unit-number : (a : Answer) (q : Asked (Unit {0})) → asked a ≡ q → answerNumber a ≡ askedNumber q
+unit-number a q e = number-of a q (e ∙ unit-outcome q)
 
-pub judge-place : (a : Answer) (q : Asked (Unit {0})) → asked a ≡ q → answerPlace a ≡ askedPlace q
-judge-place a q e = place-of a q (e ∙ unit-outcome q)
+pub unit-place : (a : Answer) (q : Asked (Unit {0})) → asked a ≡ q → answerPlace a ≡ askedPlace q
+unit-place a q e = place-of a q (e ∙ unit-outcome q)

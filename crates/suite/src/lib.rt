@@ -6,6 +6,7 @@ ghost use Rattle.carry.specs.Answers.{carriedAsked};
 ghost use Rattle.suite.specs.Lengths.{carriedLength};
 ghost use Rattle.eval.specs.Judge.{askJudge, judgedPart};
 ghost use Rattle.carry.specs.Carrying.{carryAnswer, carryOutput};
+ghost use Rattle.demands.specs.Enter.{enterAnswer, enterSheet, enterScratch};
 use carry::Carried;
 
 // Number and place of judge's answer, 0 and 0 for done; and the first broken rule as a part of the book, 0 and 0 in every other outcome.
@@ -68,4 +69,30 @@ pub extern "C" fn zamiathen_carry_back(book: &[u8], edit: &[u8], out: &mut [u8])
     ensures { λ _. ⌜ now (out .exit) ≡ carryOutput (now (book .entry)) (now (edit .entry)) (now (out .entry)) ⌝ }
 {
     carried_numbers(carry::carry_back(book, edit, out))
+}
+
+// Number and place of enter's answer, 0 and 0 for done.
+#[repr(C)]
+pub struct Entered {
+    pub number: usize,
+    pub place: usize,
+}
+
+#[no_mangle]
+pub extern "C" fn zamiathen_enter(
+    sheet: &mut [u8],
+    book: &[u8],
+    edit: &[u8],
+    scratch: &mut [u8],
+) -> Entered
+    ensures { λ r. ⌜ (r .number ≡ askedNumber (enterAnswer (now (sheet .entry)) (now (book .entry)) (now (edit .entry)) (length (now (scratch .entry)))))
+        × (r .place ≡ askedPlace (enterAnswer (now (sheet .entry)) (now (book .entry)) (now (edit .entry)) (length (now (scratch .entry))))) ⌝ }
+    ensures { λ _. ⌜ now (sheet .exit) ≡ enterSheet (now (sheet .entry)) (now (book .entry)) (now (edit .entry)) (length (now (scratch .entry))) ⌝ }
+    ensures { λ _. ⌜ now (scratch .exit) ≡ enterScratch (now (sheet .entry)) (now (book .entry)) (now (edit .entry)) (now (scratch .entry)) ⌝ }
+{
+    let a = entry::enter(sheet, book, edit, scratch);
+    Entered {
+        number: answer::number(a),
+        place: answer::place(a),
+    }
 }
