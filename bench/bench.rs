@@ -1,58 +1,11 @@
 //! Times of the proved library beside those of plain Rust written for speed (`bench/fast`), on the station of
 //! `examples/station` and on the slow inputs of `bench/data`. Run by `bench/run`.
 
+mod library;
+
 use fast::Workspace;
+use library::{probe_apply, probe_sheet_check, zamiathen_carry_back, zamiathen_enter, zamiathen_judge};
 use std::time::{Duration, Instant};
-
-#[repr(C)]
-struct CAnswer {
-    number: usize,
-    place: usize,
-}
-
-#[repr(C)]
-struct CCarried {
-    number: usize,
-    place: usize,
-    length: usize,
-}
-
-#[repr(C)]
-struct CJudged {
-    number: usize,
-    place: usize,
-    start: usize,
-    length: usize,
-}
-
-#[link(name = "suite", kind = "static")]
-extern "C" {
-    fn zamiathen_judge(sheet: *const u8, sheet_len: usize, book: *const u8, book_len: usize) -> CJudged;
-    fn zamiathen_carry_back(
-        book: *const u8,
-        book_len: usize,
-        edit: *const u8,
-        edit_len: usize,
-        out: *mut u8,
-        out_len: usize,
-    ) -> CCarried;
-    fn zamiathen_enter(
-        sheet: *mut u8,
-        sheet_len: usize,
-        book: *const u8,
-        book_len: usize,
-        edit: *const u8,
-        edit_len: usize,
-        scratch: *mut u8,
-        scratch_len: usize,
-    ) -> CAnswer;
-}
-
-#[link(name = "probe", kind = "static")]
-extern "C" {
-    fn probe_sheet_check(sheet: *const u8, sheet_len: usize) -> CAnswer;
-    fn probe_apply(sheet: *mut u8, sheet_len: usize, edit: *const u8, edit_len: usize) -> CAnswer;
-}
 
 /// The buffers of a call, and what they are set to before it.
 struct Buffers {
@@ -209,8 +162,8 @@ fn main() {
     println!("are set to zero. The workspace of the plain Rust side is kept from call to call.");
     println!();
     println!("{:<28} {:<8} {:>11} {:>11} {:>7} {:>7}", "call", "answer", "library", "plain Rust", "ratio", "rounds");
-    let mut done = Buffers::new(station("sheet"), station("book"), station("edit"));
-    let mut broken = Buffers::new(station("sheet"), station("book"), station("edit41"));
+    let mut done = Buffers::new(station("sheet"), station("book"), station("move"));
+    let mut broken = Buffers::new(station("sheet"), station("book"), station("crowd"));
     compare("sheet check", &mut done, our_check, their_check, rounds);
     compare("judge", &mut done, our_judge, their_judge, rounds);
     compare("carry back", &mut done, our_carry_back, their_carry_back, rounds);

@@ -1,31 +1,15 @@
 //! One enter of the station's edit, by the library or by plain Rust, for `bench/callgrind.sh`.
 
+#[allow(dead_code)]
+mod library;
+
 use fast::Workspace;
-
-#[repr(C)]
-pub struct CAnswer {
-    number: usize,
-    place: usize,
-}
-
-#[link(name = "suite", kind = "static")]
-extern "C" {
-    fn zamiathen_enter(
-        sheet: *mut u8,
-        sheet_len: usize,
-        book: *const u8,
-        book_len: usize,
-        edit: *const u8,
-        edit_len: usize,
-        scratch: *mut u8,
-        scratch_len: usize,
-    ) -> CAnswer;
-}
+use library::{zamiathen_enter, CAnswer};
 
 /// A function of its own, by whose name the instructions are counted.
 #[no_mangle]
 #[inline(never)]
-pub extern "C" fn plain_enter(
+extern "C" fn plain_enter(
     work: &mut Workspace,
     sheet: &mut [u8; 8704],
     book: &Vec<u8>,
@@ -43,7 +27,7 @@ fn load(file: &str) -> Vec<u8> {
 fn main() {
     let mut sheet: [u8; 8704] = load("sheet").try_into().expect("a sheet");
     let mut scratch = [0; 16384];
-    let (book, edit) = (load("book"), load("edit"));
+    let (book, edit) = (load("book"), load("move"));
     let answer = if std::env::args().nth(1).as_deref() == Some("plain") {
         plain_enter(&mut Workspace::new(), &mut sheet, &book, &edit, &mut scratch)
     } else {

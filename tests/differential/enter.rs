@@ -317,9 +317,9 @@ fn limit_texts(tally: &mut Tally) {
 const SHEET: &[u8] = include_bytes!("../../examples/station/sheet.bin");
 const SHEET_AFTER: &[u8] = include_bytes!("../../examples/station/sheet_after.bin");
 const BOOK: &[u8] = include_bytes!("../../examples/station/book.bin");
-const EDIT: &[u8] = include_bytes!("../../examples/station/edit.bin");
-const EDIT_BACK: &[u8] = include_bytes!("../../examples/station/edit_back.bin");
-const EDIT_41: &[u8] = include_bytes!("../../examples/station/edit41.bin");
+const MOVE: &[u8] = include_bytes!("../../examples/station/move.bin");
+const MOVE_BACK: &[u8] = include_bytes!("../../examples/station/move_back.bin");
+const CROWD: &[u8] = include_bytes!("../../examples/station/crowd.bin");
 const CARRIED: &[u8] = include_bytes!("../../examples/station/carried.bin");
 
 /// An enter on the station against what is kept with it: the answer, the sheet and, where kept, the carried book.
@@ -338,10 +338,10 @@ fn kept(tally: &mut Tally, call: &Call, answer: [usize; 2], after: &[u8], carrie
 /// The station of the examples.
 fn station(tally: &mut Tally) {
     let on = |sheet, edit| Call { sheet, book: BOOK, edit, scratch: &[0xEE; 1000] };
-    kept(tally, &on(SHEET, EDIT), [0, 0], SHEET_AFTER, Some(CARRIED));
-    kept(tally, &on(SHEET_AFTER, EDIT_BACK), [0, 0], SHEET, None);
-    kept(tally, &on(SHEET, EDIT_41), [41, 2], SHEET, None);
-    for call in [on(SHEET, EDIT), on(SHEET_AFTER, EDIT_BACK), on(SHEET, EDIT_41)] {
+    kept(tally, &on(SHEET, MOVE), [0, 0], SHEET_AFTER, Some(CARRIED));
+    kept(tally, &on(SHEET_AFTER, MOVE_BACK), [0, 0], SHEET, None);
+    kept(tally, &on(SHEET, CROWD), [41, 2], SHEET, None);
+    for call in [on(SHEET, MOVE), on(SHEET_AFTER, MOVE_BACK), on(SHEET, CROWD)] {
         call.compare(tally);
         carry_back(tally, BOOK, call.edit, call.scratch);
         apply(tally, call.sheet, call.edit);

@@ -1,0 +1,294 @@
+/* The example station through the three functions of zamiathen.h, as a planning suite would call them.
+ *
+ *   demo DIRECTORY      the directory with station.txt, book.hex, sheet.bin, clash.bin and the edits
+ */
+#include "zamiathen.h"
+
+#include <stdio.h>
+#include <stdlib.h>
+#include <string.h>
+
+enum { NODES = 60, LABELS = 48, ARROWS = 16, LINES = 64, LINE = 256 };
+
+/* A text with the line, behind its #, that explains each part of it. */
+struct text {
+    uint8_t bytes[ZAMIATHEN_TEXT_BYTES];
+    size_t length;
+    struct {
+        size_t start, length;
+        char why[LINE];
+    } parts[LINES];
+    size_t count;
+    char title[LINE];
+};
+
+static const char *directory;
+static char labels[LABELS][LINE], arrows[ARROWS][LINE], nodes[NODES][LINE];
+static size_t node_count;
+static struct text book;
+static uint8_t sheet[ZAMIATHEN_SHEET_BYTES], before[ZAMIATHEN_SHEET_BYTES], scratch[ZAMIATHEN_CARRIED_BYTES];
+
+static FILE *open_file(const char *name) {
+    char path[1024];
+    snprintf(path, sizeof path, "%s/%s", directory, name);
+    FILE *file = fopen(path, "rb");
+    if (file == NULL) {
+        perror(path);
+        exit(1);
+    }
+    return file;
+}
+
+static void load_sheet(const char *name) {
+    FILE *file = open_file(name);
+    if (fread(sheet, 1, sizeof sheet, file) != sizeof sheet) {
+        fprintf(stderr, "%s is too short\n", name);
+        exit(1);
+    }
+    fclose(file);
+}
+
+static void load_names(void) {
+    char line[LINE], kind[LINE], name[LINE];
+    unsigned number;
+    FILE *file = open_file("station.txt");
+    while (fgets(line, sizeof line, file) != NULL) {
+        if (sscanf(line, "%s %u %s", kind, &number, name) != 3)
+            continue;
+        if (strcmp(kind, "label") == 0 && number < LABELS)
+            strcpy(labels[number], name);
+        if (strcmp(kind, "arrow") == 0 && number < ARROWS)
+            strcpy(arrows[number], name);
+        if (strcmp(kind, "node") == 0 && number < NODES) {
+            strcpy(nodes[number], name);
+            node_count = number + 1;
+        }
+    }
+    fclose(file);
+}
+
+/* One line of commented hexadecimal. A line without bytes is the text's title. */
+static void load_line(struct text *text, char *line) {
+    char *why = strchr(line, '#');
+    size_t start = text->length;
+    line[strcspn(line, "\r\n")] = 0;
+    if (why != NULL)
+        *why++ = 0;
+    for (char *at = line, *next;; at = next) {
+        unsigned long byte = strtoul(at, &next, 16);
+        if (next == at || text->length == sizeof text->bytes)
+            break;
+        text->bytes[text->length++] = (uint8_t)byte;
+    }
+    why = why == NULL ? "" : why + strspn(why, " ");
+    if (text->length == start) {
+        strcpy(text->title, why);
+    } else if (text->count < LINES) {
+        text->parts[text->count].start = start;
+        text->parts[text->count].length = text->length - start;
+        strcpy(text->parts[text->count++].why, why);
+    }
+}
+
+static void load_text(struct text *text, const char *name) {
+    char line[LINE];
+    FILE *file = open_file(name);
+    memset(text, 0, sizeof *text);
+    while (fgets(line, sizeof line, file) != NULL)
+        load_line(text, line);
+    fclose(file);
+}
+
+static void print_bytes(const uint8_t *bytes, size_t length) {
+    for (size_t i = 0; i < length; i++)
+        printf("%s%02X", i == 0 ? "" : " ", bytes[i]);
+}
+
+static void print_text(const struct text *text) {
+    printf("   %s\n\n", text->title);
+    for (size_t i = 0; i < text->count; i++) {
+        int width = 3 * (int)text->parts[i].length - 1;
+        printf("      ");
+        print_bytes(text->bytes + text->parts[i].start, text->parts[i].length);
+        printf("%*s%s\n", width < 38 ? 38 - width : 1, "", text->parts[i].why);
+    }
+    printf("\n");
+}
+
+/* Row i of a block: of block 0 the nodes with label i, of block a + 1 the nodes to which arrow a goes from node i. */
+static int bit(const uint8_t *bytes, size_t block, size_t i, size_t j) {
+    return bytes[512 * block + 16 + 8 * i + j / 8] >> j % 8 & 1;
+}
+
+static void print_changed_labels(void) {
+    for (size_t k = 0; k < LABELS; k++)
+        for (size_t i = 0; i < node_count; i++)
+            if (bit(before, 0, k, i) != bit(sheet, 0, k, i))
+                printf("      %c %s: %s\n", bit(sheet, 0, k, i) ? '+' : '-', labels[k], nodes[i]);
+}
+
+static void print_changed_arrows(size_t a) {
+    for (size_t i = 0; i < node_count; i++)
+        for (size_t j = 0; j < node_count; j++)
+            if (bit(before, a + 1, i, j) != bit(sheet, a + 1, i, j))
+                printf("      %c %s %s %s\n", bit(sheet, a + 1, i, j) ? '+' : '-', nodes[i], arrows[a], nodes[j]);
+}
+
+static int column_changed(size_t a, size_t j) {
+    for (size_t i = 0; i < node_count; i++)
+        if (bit(before, a + 1, i, j) != bit(sheet, a + 1, i, j))
+            return 1;
+    return 0;
+}
+
+/* Does arrow a go from node i into a changed column, before or after? */
+static int row_shown(size_t a, size_t i) {
+    for (size_t j = 0; j < node_count; j++)
+        if (column_changed(a, j) && (bit(before, a + 1, i, j) || bit(sheet, a + 1, i, j)))
+            return 1;
+    return 0;
+}
+
+static void print_heads(size_t a) {
+    for (size_t j = 0; j < node_count; j++)
+        if (column_changed(a, j))
+            printf("  %6s", nodes[j]);
+}
+
+static void print_squares(const uint8_t *bytes, size_t a, size_t i) {
+    for (size_t j = 0; j < node_count; j++)
+        if (column_changed(a, j))
+            printf("       %s", bit(bytes, a + 1, i, j) ? "■" : "□");
+}
+
+/* Arrow a before and after, cut to the columns that changed and the rows that have an arrow there. */
+static void print_picture(size_t a) {
+    printf("\n      %-12s", arrows[a]);
+    print_heads(a);
+    printf("          ");
+    print_heads(a);
+    printf("\n");
+    for (size_t i = 0, first = 1; i < node_count; i++) {
+        if (!row_shown(a, i))
+            continue;
+        printf("      %12s", nodes[i]);
+        print_squares(before, a, i);
+        printf("%s", first ? "    =>    " : "          ");
+        print_squares(sheet, a, i);
+        printf("\n");
+        first = 0;
+    }
+}
+
+static void print_changes(void) {
+    print_changed_labels();
+    for (size_t a = 0; a < ARROWS; a++)
+        print_changed_arrows(a);
+    for (size_t a = 0; a < ARROWS; a++)
+        for (size_t j = 0; j < node_count; j++)
+            if (column_changed(a, j)) {
+                print_picture(a);
+                break;
+            }
+}
+
+static void print_rule(size_t place) {
+    printf("      rule %zu   ", place);
+    print_bytes(book.bytes + book.parts[place].start, book.parts[place].length);
+    printf("\n               \"%s\"\n", book.parts[place].why);
+}
+
+/* What the broken rule asks of the sheet as it is: the carried book stands in the scratch and can be judged like any other. */
+static void print_condition(const struct text *edit) {
+    uint8_t carried[ZAMIATHEN_CARRIED_BYTES];
+    zamiathen_carried c =
+        zamiathen_carry_back(book.bytes, book.length, edit->bytes, edit->length, carried, sizeof carried);
+    zamiathen_judged j = zamiathen_judge(sheet, sizeof sheet, scratch, c.length);
+    if (j.number != ZAMIATHEN_RULE_BROKEN)
+        return;
+    printf("      Carried back through the edit it is a condition on the sheet as it is, which does not hold:\n");
+    printf("               ");
+    print_bytes(scratch + j.start, j.length);
+    printf("\n");
+}
+
+static void judge_sheet(void) {
+    zamiathen_judged j = zamiathen_judge(sheet, sizeof sheet, book.bytes, book.length);
+    printf("   zamiathen_judge answers %02zu %05zu: ", j.number, j.place);
+    if (j.number == ZAMIATHEN_DONE) {
+        printf("the sheet keeps all %zu rules.\n", book.count);
+    } else if (j.number == ZAMIATHEN_RULE_BROKEN) {
+        printf("the sheet breaks\n");
+        print_rule(j.place);
+    } else {
+        printf("refused.\n");
+    }
+}
+
+static void enter_edit(const struct text *edit) {
+    memcpy(before, sheet, sizeof sheet);
+    zamiathen_answer answer = zamiathen_enter(sheet, sizeof sheet, book.bytes, book.length, edit->bytes, edit->length,
+                                              scratch, sizeof scratch);
+    printf("   zamiathen_enter answers %02zu %05zu: ", answer.number, answer.place);
+    if (answer.number == ZAMIATHEN_DONE) {
+        printf("entered.\n");
+        print_changes();
+    } else if (answer.number == ZAMIATHEN_RULE_BROKEN) {
+        printf("refused. The sheet after it would break\n");
+        print_rule(answer.place);
+        print_condition(edit);
+        if (memcmp(before, sheet, sizeof sheet) == 0)
+            printf("   The sheet is as it was, to the byte.\n");
+    } else {
+        printf("refused.\n");
+    }
+}
+
+static void show_edit(const char *name) {
+    struct text edit;
+    load_text(&edit, name);
+    print_text(&edit);
+    enter_edit(&edit);
+}
+
+/* The edit's first line alone, as an edit. */
+static void show_first_step(const char *name) {
+    struct text edit;
+    load_text(&edit, name);
+    edit.length = edit.parts[0].length;
+    edit.bytes[edit.length++] = 0x30;
+    printf("   Its first step alone, %s:\n", edit.parts[0].why);
+    enter_edit(&edit);
+}
+
+int main(int count, char **words) {
+    if (count != 2) {
+        fprintf(stderr, "usage: demo DIRECTORY\n");
+        return 2;
+    }
+    directory = words[1];
+    load_names();
+    load_text(&book, "book.hex");
+    load_sheet("sheet.bin");
+    printf("A station (station.txt, book.hex): %zu nodes, %zu rules.\n", node_count, book.count);
+    printf("P1 is a platform, S1 a time slot, P1-S1 the berth that is P1 in S1, T34 a train, C1 a crew.\n");
+    printf("+ and - before a label or an arrow: it is new, it is gone. In pictures ■ is an arrow and □ is none.\n\n");
+    judge_sheet();
+    printf("\n1. An edit that is entered (move.hex)\n\n");
+    show_edit("move.hex");
+    printf("\n2. An edit that would break a rule (crowd.hex)\n\n");
+    load_sheet("sheet.bin");
+    show_edit("crowd.hex");
+    printf("\n3. An edit is judged as a whole: this one passes through a broken state and is entered (swap.hex)\n\n");
+    show_edit("swap.hex");
+    printf("\n");
+    load_sheet("sheet.bin");
+    show_first_step("swap.hex");
+    printf("\n4. A sheet that breaks a rule, and the edit that repairs it (clash.txt, repair.hex)\n\n");
+    load_sheet("clash.bin");
+    judge_sheet();
+    printf("\n");
+    show_edit("repair.hex");
+    judge_sheet();
+    return 0;
+}
