@@ -1,4 +1,4 @@
-//! Questions of books and edits and rule ends of the library, compared with the reference.
+//! Questions of books and edits, rule ends and rule starts of the library, compared with the reference.
 
 use common::compare::{CAnswer, CThree, Lent, Outcome, Tally};
 use common::random::Random;
@@ -11,6 +11,7 @@ extern "C" {
     fn probe_book(book: *const u8, length: usize, n: usize) -> CAnswer;
     fn probe_edit(edit: *const u8, length: usize, n: usize) -> CAnswer;
     fn probe_first_rule(text: *const u8, length: usize) -> CThree;
+    fn probe_rule_start(book: *const u8, length: usize, n: usize, i: usize) -> usize;
 }
 
 fn book(tally: &mut Tally, text: &[u8], n: usize) {
@@ -39,10 +40,23 @@ fn first_rule(tally: &mut Tally, text: &[u8]) {
     tally.compare("first rule", &found, &wanted, &[("text", text)]);
 }
 
+/// Where rules 0 to 34 start, and one that no text has.
+fn rule_starts(tally: &mut Tally, text: &[u8], n: usize) {
+    let asked: Vec<usize> = (0..=34).chain([usize::MAX]).collect();
+    let lent = Lent::of(text);
+    let found: Vec<usize> = asked.iter().map(|i| unsafe { probe_rule_start(lent.ptr(), lent.len(), n, *i) }).collect();
+    let found = Outcome::new(&found, vec![lent]);
+    let starts = reader::rule_starts(text, n);
+    let wanted: Vec<usize> = asked.iter().map(|i| starts.get(*i).copied().unwrap_or(text.len())).collect();
+    let wanted = Outcome::new(&wanted, vec![Lent::of(text)]);
+    tally.compare_numbers("rule starts", &found, &wanted, &[("book", text), ("n", &[n as u8])]);
+}
+
 fn all(tally: &mut Tally, text: &[u8], n: usize) {
     book(tally, text, n);
     edit(tally, text, n);
     first_rule(tally, text);
+    rule_starts(tally, text, n);
 }
 
 /// Every text of at most two bytes, and of three with a code first.

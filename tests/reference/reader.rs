@@ -1,4 +1,4 @@
-//! The questions 11 to 16 of a book, 21 to 26 of an edit, and the end of the first rule.
+//! The questions 11 to 16 of a book, 21 to 26 of an edit, the end of the first rule, and where rules start.
 
 use crate::answer::{refuse, Asked};
 use crate::graph::{ARROWS, LABELS, MOST_NODES};
@@ -52,6 +52,16 @@ pub fn edit(text: &[u8], n: usize) -> Asked<Edit> {
 pub fn first_rule(text: &[u8]) -> Asked<usize> {
     let mut reader = Reader::begin(text, MOST_NODES, 10)?;
     Ok(reader.placed_rule()?.part.len())
+}
+
+/// Where each rule of a text of any length starts, as far as rules can be read, and then where the last of them ends.
+pub fn rule_starts(text: &[u8], n: usize) -> Vec<usize> {
+    let mut reader = Reader { text, at: 0, n, tens: 10 };
+    let mut starts = vec![0];
+    while let Ok(placed) = reader.placed_rule() {
+        starts.push(placed.part.end);
+    }
+    starts
 }
 
 impl<'t> Reader<'t> {

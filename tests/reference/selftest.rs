@@ -124,6 +124,7 @@ fn reading(tally: &mut Tally) {
     tally.same("more after the end", reader::edit(&hex("30 30"), 60).unwrap_err(), Answer { number: 26, place: 1 });
     tally.same("empty text", reader::first_rule(&[]).unwrap_err(), Answer { number: 12, place: 0 });
     tally.same("first rule", reader::first_rule(&hex("21 01 01 FF")), Ok(3));
+    tally.same("rule starts", reader::rule_starts(&hex("21 01 01 23 00 01 FF"), 60), vec![0, 3, 6]);
 }
 
 /// The sums in the words of document 01, a remainder for each byte.

@@ -2,12 +2,12 @@
 use mathlib.Core.Path.{_≡_, refl, sym, ap, _∙_, subst}
 use mathlib.Core.List.{List, [], append-nil}
 use Prim.Native.Nat.{ℕ}
-use native.Mathlib.Omega.{arith}
 use Rattle.answer.specs.declared.Refusal.{Refusal}
 use Rattle.answer.specs.declared.Answer.{Answer}
 use Rattle.answer.specs.declared.Answer.the-variants.{Done, Refused}
 use Rattle.answer.specs.Asked.{Asked, passed, refused, _>>_, after, outcome}
 use Rattle.answer.specs.Answers.{asked, refusalNumber, refusalPlace}
+use Rattle.answer.proofs.AnswerLaws.{Learned, learned, not-learned}
 use Rattle.logic.specs.Syntax.{Edit}
 use Rattle.logic.specs.Steps.{run}
 use Rattle.logic.specs.Limits.{ranges, EditInRange}
@@ -15,7 +15,7 @@ use Rattle.sheet.specs.Sheet.{store, graphOf}
 use Rattle.sheet.specs.Questions.{askSheet, Sound}
 use Rattle.text.specs.Code.{editCode}
 use Rattle.text.specs.Reading.{textLimits}
-use Rattle.text.specs.Questions.{askEdit, answered}
+use Rattle.text.specs.Questions.{askEdit}
 use Rattle.text.specs.Stands.{EditStands, SomeEditStands}
 use Rattle.text.proofs.Books.{edit-is-spelled}
 use Rattle.apply.specs.Apply.{askApply, appliedSheet}
@@ -44,42 +44,28 @@ module _ (sheet edit : List ℕ) where
     unfolding askApply _>>_
     asks-edit = ap (_>> askEdit (textLimits (graphOf sheet .n)) edit) sound ∙ ap (λ (m : ℕ). askEdit (textLimits m) edit) (sym count)
 
-    pub edit-refused : (b : Answer) (r : Refusal) → asked b ≡ answered (askEdit (textLimits n) edit) → b ≡ Refused r → Applied sheet edit b sheet
-    unfolding answered
-    edit-refused b r s e = stays b r e (asks-edit ∙ go (askEdit (textLimits n) edit) (sym (ap asked e) ∙ s))
-      where
-        go : (x : Asked Edit) → refused (refusalNumber r) (refusalPlace r) ≡ answered x → x ≡ refused (refusalNumber r) (refusalPlace r)
-        go (passed Z) q = cc
-        go (refused m p) q = cc
+    pub edit-refused : (b : Answer) (r : Refusal) → asked b ≡ outcome (askEdit (textLimits n) edit) → b ≡ Refused r → Applied sheet edit b sheet
+    edit-refused b r s e = stays b r e (asks-edit ∙ not-learned (askEdit (textLimits n) edit) (refusalNumber r) (refusalPlace r) (sym (ap asked e) ∙ s))
 
     -- The edit that was read.
-    record Reads : Type 0 where
-      Z : Edit
-      is : askEdit (textLimits n) edit ≡ passed Z
-
-    reads : (b : Answer) → asked b ≡ answered (askEdit (textLimits n) edit) → b ≡ Done → Reads
-    unfolding answered
-    reads b s e = go (askEdit (textLimits n) edit) refl (sym (ap asked e) ∙ s)
-      where
-        go : (x : Asked Edit) → askEdit (textLimits n) edit ≡ x → passed tt ≡ answered x → Reads
-        go (passed Z) i q = record { Z = Z; is = i }
-        go (refused m p) i q = absurd (let z : _≡_ {A = ℕ} 0 1 = cc in omega arith)
+    reads : (b : Answer) → asked b ≡ outcome (askEdit (textLimits n) edit) → b ≡ Done → Learned (askEdit (textLimits n) edit)
+    reads b s e = learned (askEdit (textLimits n) edit) (sym (ap asked e) ∙ s)
 
     abbrev Stands : Edit → Type 0
     Stands Z = EditStands (ranges (graphOf sheet .n)) edit 0 Z
 
-    stands : (q : Reads) → Stands (q .Z)
+    stands : (q : Learned (askEdit (textLimits n) edit)) → Stands (q .what)
     stands q =
-        let w = edit-is-spelled (textLimits n) edit (q .Z) (q .is) in
-        record { rest = []; here = w .text-is ∙ sym (append-nil (editCode (q .Z))); range = subst (λ (m : ℕ). EditInRange (ranges m) (q .Z)) count (w .within .numbers-fit) }
+        let w = edit-is-spelled (textLimits n) edit (q .what) (q .is) in
+        record { rest = []; here = w .text-is ∙ sym (append-nil (editCode (q .what))); range = subst (λ (m : ℕ). EditInRange (ranges m) (q .what)) count (w .within .numbers-fit) }
 
-    module _ (b : Answer) (s : asked b ≡ answered (askEdit (textLimits n) edit)) (e : b ≡ Done) where
+    module _ (b : Answer) (s : asked b ≡ outcome (askEdit (textLimits n) edit)) (e : b ≡ Done) where
       pub edit-stands : SomeEditStands (ranges (graphOf sheet .n)) edit 0
-      edit-stands = record { what = reads b s e .Z; stands = stands (reads b s e) }
+      edit-stands = record { what = reads b s e .what; stands = stands (reads b s e) }
 
       pub edit-made : (next : ℕ) (now : List ℕ) → ((Z : Edit) → Stands Z → Made 0 Z next sheet now) → Applied sheet edit Done now
       unfolding outcome appliedSheet after
       edit-made next now f =
           let q = reads b s e in
-          let a : askApply sheet edit ≡ passed (q .Z) = asks-edit ∙ q .is in
-          record { answer = ap outcome (sym a); sheet-is = f (q .Z) (stands q) .sheet-is ∙ ap (λ (x : Asked Edit). after x (λ Z. store (run Z (graphOf sheet))) sheet) (sym a) }
+          let a : askApply sheet edit ≡ passed (q .what) = asks-edit ∙ q .is in
+          record { answer = ap outcome (sym a); sheet-is = f (q .what) (stands q) .sheet-is ∙ ap (λ (x : Asked Edit). after x (λ Z. store (run Z (graphOf sheet))) sheet) (sym a) }

@@ -4,45 +4,26 @@ use mathlib.Core.List.{List, [], _∷_, append-nil}
 use Prim.Native.Nat.{ℕ, _≤_}
 use native.Mathlib.Omega.{arith}
 use lib.ListN.{length}
-use Rattle.answer.specs.Asked.{Asked, passed, refused, _>>=_, _>>_, after}
+use Rattle.answer.specs.Asked.{Asked, passed, refused, _>>=_, _>>_, after, outcome}
 use Rattle.answer.specs.Answers.{refusalNumber, refusalPlace}
 use Rattle.answer.specs.declared.Refusal.{Refusal}
+use Rattle.answer.proofs.AnswerLaws.{Learned, learned, not-learned}
 use Rattle.logic.specs.Syntax.{rule, Expr, Edit}
 use Rattle.logic.specs.Carry.{carriedBook}
 use Rattle.logic.specs.Limits.{maxNodes}
 use Rattle.text.specs.Code.{bookCode}
 use Rattle.text.specs.Reading.{Limits, textLimits}
-use Rattle.text.specs.Questions.{askBook, askEdit, answered}
-use Rattle.text.proofs.Books.{EachAllowed, book-is-spelled, edit-is-spelled}
+use Rattle.text.specs.Questions.{askBook, askEdit}
+use Rattle.text.proofs.Books.{rules-in-range, book-is-spelled, edit-is-spelled}
 use Rattle.measure.specs.Edits.{EditAt, SomeEdit}
-use Rattle.measure.specs.Book.{RulesInRange, BookIs, SomeBook}
+use Rattle.measure.specs.Book.{BookIs, SomeBook}
 use Rattle.carry.specs.declared.Carried.{Carried}
 use Rattle.carry.specs.declared.Carried.the-variants.{Length, Refused}
 use Rattle.carry.specs.Carrying.{askSize, askCarry, carryAnswer, carryOutput, writtenAtStart}
 use Rattle.carry.specs.Answers.{carriedAsked}
 use Rattle.carry.specs.Written.{Into}
 
--- questions that were all answered yes, and those that were not
-pub record Learned {A : Type 0} (q : Asked A) : Type 0 where
-  pub what : A
-  pub is : q ≡ passed what
-
-pub learned : {A : Type 0} (q : Asked A) → passed tt ≡ answered q → Learned q
-unfolding answered
-learned (passed a) e = record { what = a; is = refl }
-learned (refused n p) e = let z : _≡_ {A = ℕ} 0 1 = cc in absurd (omega arith)
-
-pub not-learned : {A : Type 0} (q : Asked A) (n p : ℕ) → refused n p ≡ answered q → q ≡ refused n p
-unfolding answered
-not-learned (passed a) n p e = let z : _≡_ {A = ℕ} 0 1 = cc in absurd (omega arith)
-not-learned (refused m o) n p e = cc
-
 -- a book and an edit that have passed, whatever n
-rules-in-range : (l : Limits) (rules : List (Expr rule)) → EachAllowed l rules → RulesInRange (l .numbers) rules
-unfolding RulesInRange
-rules-in-range l [] h = tt
-rules-in-range l (K ∷ Ks) h = (h .0 .numbers-fit, rules-in-range l Ks (h .1))
-
 module _ (n : ℕ) {t : List ℕ} where
   pub book-passed : {rules : List (Expr rule)} → askBook (textLimits n) t ≡ passed rules → BookIs t rules
   book-passed {rules} h = let s = book-is-spelled (textLimits n) t rules h in record { limits = textLimits n .numbers; is = s .spells .text-is; range = rules-in-range (textLimits n) rules (s .spells .rules); few = s .spells .few }
@@ -70,19 +51,19 @@ module _ (book edit out : List ℕ) where
   unfolding carryAnswer carryOutput _>>=_ after
   refused-back r e = (sym (ap (λ (q : Asked (List ℕ)). q >>= (λ bytes. passed (length bytes))) e), sym (ap (λ (q : Asked (List ℕ)). after q (λ bytes. writtenAtStart bytes out) out) e))
 
-  pub book-refused : (r : Refusal) → refused (refusalNumber r) (refusalPlace r) ≡ answered (askBook (textLimits maxNodes) book) → Back (Refused r) out
+  pub book-refused : (r : Refusal) → refused (refusalNumber r) (refusalPlace r) ≡ outcome (askBook (textLimits maxNodes) book) → Back (Refused r) out
   unfolding askCarry _>>=_
   book-refused r e = refused-back r (rw (not-learned _ _ _ e))
 
-  module _ (b : passed tt ≡ answered (askBook (textLimits maxNodes) book)) where
+  module _ (b : passed tt ≡ outcome (askBook (textLimits maxNodes) book)) where
     rules : Learned (askBook (textLimits maxNodes) book)
     rules = learned (askBook (textLimits maxNodes) book) b
 
-    pub edit-refused : (r : Refusal) → refused (refusalNumber r) (refusalPlace r) ≡ answered (askEdit (textLimits maxNodes) edit) → Back (Refused r) out
+    pub edit-refused : (r : Refusal) → refused (refusalNumber r) (refusalPlace r) ≡ outcome (askEdit (textLimits maxNodes) edit) → Back (Refused r) out
     unfolding askCarry _>>=_
     edit-refused r e = refused-back r (rw (rules .is, not-learned _ _ _ e))
 
-    module _ (e : passed tt ≡ answered (askEdit (textLimits maxNodes) edit)) where
+    module _ (e : passed tt ≡ outcome (askEdit (textLimits maxNodes) edit)) where
       Z : Learned (askEdit (textLimits maxNodes) edit)
       Z = learned (askEdit (textLimits maxNodes) edit) e
 

@@ -16,20 +16,21 @@ use Rattle.sheet.specs.Sheet.{graphOf}
 use Rattle.sheet.specs.Questions.{askSheet, Sound}
 use Rattle.text.specs.Code.{bookCode, editCode}
 use Rattle.text.specs.Reading.{textLimits}
-use Rattle.text.specs.Questions.{askBook, askEdit, answered}
-use Rattle.text.specs.Stands.{EditStands, SomeEditStands}
+use Rattle.text.specs.Questions.{askBook, askEdit}
+use Rattle.text.specs.Stands.{EditStands, SomeEditStands, RulesInRange}
 use Rattle.text.proofs.Books.{EachAllowed, SpellsBook, SpellsEdit, book-is-spelled, edit-is-spelled}
 use Rattle.text.proofs.Carried.{carry-in}
 use Rattle.eval.specs.Judge.{askRules, askSheetAndBook}
 use Rattle.measure.specs.Edits.{EditAt, SomeEdit}
 use Rattle.measure.specs.Book.{BookIs, SomeBook}
-use Rattle.judge.specs.Judging.{EachInRange, RulesStand, SomeRulesStand}
+use Rattle.judge.specs.Judging.{RulesStand, SomeRulesStand}
 use Rattle.carry.specs.Carrying.{askSize, writtenAtStart}
 use Rattle.carry.specs.Written.{Into}
 use Rattle.carry.specs.Answers.{carriedAsked}
 use Rattle.carry.specs.declared.Carried as into
 use Rattle.carry.specs.declared.Carried.the-variants as into-case
-use Rattle.carry.proofs.Passing.{Learned, learned, not-learned, book-passed, edit-passed}
+use Rattle.carry.proofs.Passing.{book-passed, edit-passed}
+use Rattle.answer.proofs.AnswerLaws.{Learned, learned, not-learned}
 use Rattle.demands.specs.Enter.{Carried, afterSteps, askCarried, askEnter, enterAnswer, enterSheet, enterScratch}
 use Rattle.entry.specs.Settled.{Settled}
 
@@ -54,8 +55,8 @@ size-passed (passed u) l n e = (refl, cc)
 size-passed (refused m o) l n e = let z : _≡_ {A = ℕ} 0 1 = cc in absurd (omega arith)
 
 -- The carried rules are in range.
-each-carried : (n : ℕ) (Z : Edit) → EditInRange (ranges n) Z → (rules : List (Expr rule)) → EachAllowed (textLimits n) rules → EachInRange (ranges n) (carriedBook Z rules)
-unfolding EachInRange
+each-carried : (n : ℕ) (Z : Edit) → EditInRange (ranges n) Z → (rules : List (Expr rule)) → EachAllowed (textLimits n) rules → RulesInRange (ranges n) (carriedBook Z rules)
+unfolding RulesInRange
 each-carried n Z z [] h = tt
 each-carried n Z z (K ∷ Ks) h = (carry-in (ranges n) Z K z (h .0 .numbers-fit), each-carried n Z z Ks (h .1))
 
@@ -91,7 +92,7 @@ module _ (s b e scratch : List ℕ) where
     unfolding askCarried askSheetAndBook _>>_
     from-book = ap (λ x. (x >> askBook (textLimits (graphOf s .n)) b) >>= then-edit) sound ∙ ap (λ m. askBook (textLimits m) b >>= then-edit) (sym n-is)
 
-    pub book-stops : (a : Answer) (r : Refusal) → asked a ≡ answered (askBook (textLimits n) b) → a ≡ Refused r → Left a s scratch
+    pub book-stops : (a : Answer) (r : Refusal) → asked a ≡ outcome (askBook (textLimits n) b) → a ≡ Refused r → Left a s scratch
     unfolding _>>=_
     book-stops a r q p = stops a r p (from-book ∙ ap (_>>= then-edit) (not-learned _ _ _ (sym (ap asked p) ∙ q)))
 
@@ -100,7 +101,7 @@ module _ (s b e scratch : List ℕ) where
       unfolding _>>=_
       from-edit = from-book ∙ ap (_>>= then-edit) book ∙ ap (λ m. askEdit (textLimits m) e >>= then-size rules) (sym n-is)
 
-      pub edit-stops : (a : Answer) (r : Refusal) → asked a ≡ answered (askEdit (textLimits n) e) → a ≡ Refused r → Left a s scratch
+      pub edit-stops : (a : Answer) (r : Refusal) → asked a ≡ outcome (askEdit (textLimits n) e) → a ≡ Refused r → Left a s scratch
       unfolding _>>=_
       edit-stops a r q p = stops a r p (from-edit ∙ ap (_>>= then-size rules) (not-learned _ _ _ (sym (ap asked p) ∙ q)))
 
@@ -133,7 +134,7 @@ module _ (s b e scratch : List ℕ) where
                 rest = drop (length (bookCode (carriedBook Z rules))) scratch;
                 here = written;
                 ends = fits .1 ∙ (let o : length (bookCode (carriedBook Z rules)) ≡ 0 + length (bookCode (carriedBook Z rules)) = omega arith in o);
-                range = subst (λ m. EachInRange (ranges m) (carriedBook Z rules)) n-is (each-carried n Z (z .within .numbers-fit) rules (h .spells .rules));
+                range = subst (λ m. RulesInRange (ranges m) (carriedBook Z rules)) n-is (each-carried n Z (z .within .numbers-fit) rules (h .spells .rules));
               }
 
           pub edit-stands : EditStands (ranges (graphOf s .n)) e 0 Z

@@ -8,37 +8,18 @@ use Rattle.answer.specs.declared.Refusal.{Refusal}
 use Rattle.answer.specs.declared.Answer.{Answer}
 use Rattle.answer.specs.declared.Answer.the-variants.{Done, Refused}
 use Rattle.answer.specs.Answers.{refusalNumber, refusalPlace, asked}
-use Rattle.answer.specs.Asked.{Asked, passed, refused, _>>=_, _>>_, after}
+use Rattle.answer.specs.Asked.{Asked, passed, refused, _>>=_, _>>_, after, outcome}
+use Rattle.answer.proofs.AnswerLaws.{Learned, learned, not-learned}
 use Rattle.logic.specs.Syntax.{Expr, rule}
 use Rattle.logic.specs.Limits.{ranges}
 use Rattle.sheet.specs.Sheet.{graphOf}
 use Rattle.sheet.specs.Questions.{askSheet}
 use Rattle.text.specs.Code.{bookCode}
 use Rattle.text.specs.Reading.{textLimits}
-use Rattle.text.specs.Questions.{askBook, answered}
-use Rattle.text.proofs.Books.{EachAllowed, book-is-spelled}
+use Rattle.text.specs.Questions.{askBook}
+use Rattle.text.proofs.Books.{rules-in-range, book-is-spelled}
 use Rattle.eval.specs.Judge.{Part, noPart, askRules, brokenPart, askSheetAndBook, askJudge, judgedPart}
-use Rattle.judge.specs.Judging.{EachInRange, RulesStand}
-
--- What was learned from questions that were passed.
-pub record Learned {A : Type 0} (x : Asked A) : Type 0 where
-  pub what : A
-  pub is : x ≡ passed what
-
-answered-passed : {A : Type 0} (x : Asked A) → answered x ≡ passed tt → Learned x
-unfolding answered
-answered-passed (passed a) e = record { what = a; is = refl }
-answered-passed (refused q p) e = let z : _≡_ {A = ℕ} 0 1 = cc in absurd (omega arith)
-
-answered-refused : {A : Type 0} (x : Asked A) (q p : ℕ) → answered x ≡ refused q p → x ≡ refused q p
-unfolding answered
-answered-refused (passed a) q p e = let z : _≡_ {A = ℕ} 0 1 = cc in absurd (omega arith)
-answered-refused (refused m l) q p e = let a : m ≡ q = cc in let b : l ≡ p = cc in ap₂ refused a b
-
-each-in-range : (n : ℕ) (rules : List (Expr rule)) → EachAllowed (textLimits n) rules → EachInRange (ranges n) rules
-unfolding EachInRange
-each-in-range n [] h = tt
-each-in-range n (K ∷ rules) h = (h .0 .numbers-fit, each-in-range n rules (h .1))
+use Rattle.judge.specs.Judging.{RulesStand}
 
 module _ (sheet book : List ℕ) where
   -- What judge says: the answer and the part.
@@ -62,36 +43,36 @@ module _ (sheet book : List ℕ) where
   sheet-refused a r h e =
       rw e (refused-both (refusalNumber r) (refusalPlace r) (ap (_>> askBook (textLimits (graphOf sheet .n)) book) (sym h ∙ ap asked e)))
 
-  module _ (n : ℕ) (count : n ≡ graphOf sheet .n) (a : Answer) (sound : asked a ≡ askSheet sheet) (d : a ≡ Done) (b : Answer) (h : asked b ≡ answered (askBook (textLimits n) book)) where
+  module _ (n : ℕ) (count : n ≡ graphOf sheet .n) (a : Answer) (sound : asked a ≡ askSheet sheet) (d : a ≡ Done) (b : Answer) (h : asked b ≡ outcome (askBook (textLimits n) book)) where
     sheet-then-book : askSheetAndBook sheet book ≡ askBook (textLimits n) book
     unfolding askSheetAndBook _>>_
     sheet-then-book = ap (_>> askBook (textLimits (graphOf sheet .n)) book) (sym sound ∙ ap asked d) ∙ ap (λ (m : ℕ). askBook (textLimits m) book) (sym count)
 
     pub book-refused : (r : Refusal) → b ≡ Refused r → Says (asked b) 0 0
     book-refused r e =
-        rw e (refused-both (refusalNumber r) (refusalPlace r) (sheet-then-book ∙ answered-refused (askBook (textLimits n) book) (refusalNumber r) (refusalPlace r) (sym h ∙ ap asked e)))
+        rw e (refused-both (refusalNumber r) (refusalPlace r) (sheet-then-book ∙ not-learned (askBook (textLimits n) book) (refusalNumber r) (refusalPlace r) (sym (ap asked e) ∙ h)))
 
     module _ (e : b ≡ Done) where
-      pub learned : Learned (askBook (textLimits n) book)
-      learned = answered-passed (askBook (textLimits n) book) (sym h ∙ ap asked e)
+      pub rules-read : Learned (askBook (textLimits n) book)
+      rules-read = learned (askBook (textLimits n) book) (sym (ap asked e) ∙ h)
 
-      pub rules-stand : RulesStand (ranges (graphOf sheet .n)) book 0 (length book) (learned .what)
+      pub rules-stand : RulesStand (ranges (graphOf sheet .n)) book 0 (length book) (rules-read .what)
       rules-stand =
-          let s = book-is-spelled (textLimits n) book (learned .what) (learned .is) .spells in
+          let s = book-is-spelled (textLimits n) book (rules-read .what) (rules-read .is) .spells in
           rw (← count) (record {
             rest = [];
-            here = s .text-is ∙ sym (append-nil (bookCode (learned .what)));
+            here = s .text-is ∙ sym (append-nil (bookCode (rules-read .what)));
             ends = omega (arith, ap length (s .text-is));
-            range = each-in-range n (learned .what) (s .rules);
+            range = rules-in-range (textLimits n) (rules-read .what) (s .rules);
           })
 
-      pub judged : (x : Asked (Unit {0})) (start size : ℕ) → x ≡ askRules (graphOf sheet) (learned .what) 0
-          → start ≡ brokenPart (graphOf sheet) (learned .what) 0 .start → size ≡ brokenPart (graphOf sheet) (learned .what) 0 .size → Says x start size
+      pub judged : (x : Asked (Unit {0})) (start size : ℕ) → x ≡ askRules (graphOf sheet) (rules-read .what) 0
+          → start ≡ brokenPart (graphOf sheet) (rules-read .what) 0 .start → size ≡ brokenPart (graphOf sheet) (rules-read .what) 0 .size → Says x start size
       unfolding askJudge judgedPart _>>=_ after
       judged x start size p q r =
-          let f : judgedPart sheet book ≡ brokenPart (graphOf sheet) (learned .what) 0 = ap (λ (x : Asked (List (Expr rule))). after x (λ rules. brokenPart (graphOf sheet) rules 0) noPart) (sheet-then-book ∙ learned .is) in
+          let f : judgedPart sheet book ≡ brokenPart (graphOf sheet) (rules-read .what) 0 = ap (λ (x : Asked (List (Expr rule))). after x (λ rules. brokenPart (graphOf sheet) rules 0) noPart) (sheet-then-book ∙ rules-read .is) in
           record {
-            answer = p ∙ sym (ap (λ (x : Asked (List (Expr rule))). x >>= (λ rules. askRules (graphOf sheet) rules 0)) (sheet-then-book ∙ learned .is));
+            answer = p ∙ sym (ap (λ (x : Asked (List (Expr rule))). x >>= (λ rules. askRules (graphOf sheet) rules 0)) (sheet-then-book ∙ rules-read .is));
             starts = q ∙ sym (ap (λ (s : Part). s .start) f);
             sized = r ∙ sym (ap (λ (s : Part). s .size) f);
           }

@@ -15,11 +15,11 @@ use Rattle.words.specs.Words.{setOf}
 use Rattle.sheet.specs.Sheet.{graphOf}
 use Rattle.sheet.specs.Questions.{Sound}
 use Rattle.text.specs.Code.{code, bookCode}
-use Rattle.text.specs.Stands.{Stands}
+use Rattle.text.specs.Stands.{Stands, RulesInRange}
 use Rattle.eval.specs.Evaluated.{Opened, IsTruth}
 use Rattle.eval.specs.Judge.{noPart, askRules, brokenPart}
 use Rattle.eval.proofs.Places.{filled, behind, within}
-use Rattle.judge.specs.Judging.{EachInRange, RulesStand}
+use Rattle.judge.specs.Judging.{RulesStand}
 
 -- What the evaluators ask of the sheet.
 pub opened : (sheet : List ℕ) (n all : ℕ) → Sound sheet → n ≡ graphOf sheet .n → n ≤ maxNodes → all ≡ setOf (graphOf sheet .n) (isNode (graphOf sheet)) → Opened sheet n all
@@ -40,7 +40,7 @@ pub record First (n : ℕ) (text : List ℕ) (at end : ℕ) (rules : List (Expr 
   pub some : 0 < length (code K)
 
 pub first-of : (n : ℕ) (text : List ℕ) (at end : ℕ) (rules : List (Expr rule)) → RulesStand (ranges n) text at end rules → at < end → First n text at end rules
-unfolding bookCode EachInRange
+unfolding bookCode RulesInRange
 first-of n text at end [] s h = absurd (omega (arith, s .ends))
 first-of n text at end (K ∷ others) s h =
     let e : drop at text ≡ code K ++ (bookCode others ++ s .rest) = s .here ∙ append-assoc (code K) (bookCode others) (s .rest) in

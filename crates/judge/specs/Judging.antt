@@ -4,8 +4,9 @@ use mathlib.Core.List.{List, [], _∷_, _++_}
 use Prim.Native.Nat.{ℕ, _+_}
 use lib.ListN.{length, take, drop}
 use Rattle.logic.specs.Syntax.{Expr, rule}
-use Rattle.logic.specs.Limits.{Ranges, InRange}
+use Rattle.logic.specs.Limits.{Ranges}
 use Rattle.text.specs.Code.{bookCode}
+use Rattle.text.specs.Stands.{RulesInRange}
 use Rattle.eval.specs.Judge.{Part, judgedPart}
 
 -- The bytes of a part.
@@ -16,16 +17,12 @@ cut book p = take (p .size) (drop (p .start) book)
 unfoldable pub judgedRule : List ℕ → List ℕ → List ℕ
 judgedRule sheet book = cut book (judgedPart sheet book)
 
-unfoldable pub EachInRange : Ranges → List (Expr rule) → Type 0
-EachInRange r [] = Unit {0}
-EachInRange r (K ∷ rules) = InRange r K × EachInRange r rules
-
 -- Rules that stand from a place to an end. An inner function asks for some and speaks of all such.
 pub record RulesStand (r : Ranges) (text : List ℕ) (at end : ℕ) (rules : List (Expr rule)) : Type 0 where
   pub rest : List ℕ
   pub here : drop at text ≡ bookCode rules ++ rest
   pub ends : end ≡ at + length (bookCode rules)
-  pub range : EachInRange r rules
+  pub range : RulesInRange r rules
 
 pub record SomeRulesStand (r : Ranges) (text : List ℕ) (at end : ℕ) : Type 0 where
   pub what : List (Expr rule)

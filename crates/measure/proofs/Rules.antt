@@ -9,6 +9,7 @@ use Rattle.logic.specs.Syntax.{rule, Expr, Edit}
 use Rattle.logic.specs.Carry.{carry, carriedBook}
 use Rattle.logic.specs.Limits.{Ranges}
 use Rattle.text.specs.Code.{code, editCode, bookCode, bookLevels}
+use Rattle.text.specs.Stands.{RulesInRange}
 use Rattle.tree.specs.Tree.{Tree, tree, size, height, under}
 use Rattle.tree.proofs.Trees.{bytes-tree, height-tree, size-is}
 use Rattle.tree.specs.Sizes.{Measure, measure, back, join, nothing, measures, cut}
@@ -19,7 +20,7 @@ use Rattle.measure.specs.State.{Holds, added, Scanned}
 use Rattle.measure.specs.Edits.{SomeEdit, EditRoom, Backed}
 use Rattle.measure.specs.Pruned.{pruned}
 use Rattle.measure.proofs.Steps.{edit-long, edit-inside}
-use Rattle.measure.specs.Book.{RuleAt, RulesInRange, BookIs, SomeBook, RuleAdded, BookAdded, RuleSized, BookSized, BookKept}
+use Rattle.measure.specs.Book.{RuleAt, BookIs, SomeBook, RuleAdded, BookAdded, RuleSized, BookSized, BookKept}
 use Rattle.measure.proofs.Places.{behind, fits, inside, size-pos}
 use Rattle.measure.proofs.Held.{holds-is, holds-longer, longer}
 use Rattle.measure.proofs.Formed.{formed-tree}

@@ -5,10 +5,10 @@ use Prim.Native.Nat.{ℕ, _+_, _≤_}
 use lib.ListN.{length, drop}
 use Rattle.logic.specs.Syntax.{rule, Expr, Edit}
 use Rattle.logic.specs.Carry.{carry, carriedBook}
-use Rattle.logic.specs.Limits.{Ranges, InRange}
+use Rattle.logic.specs.Limits.{Ranges}
 use Rattle.text.specs.Code.{code, levels, editCode, bookCode, bookLevels}
 use Rattle.text.specs.Questions.{mostRules}
-use Rattle.text.specs.Stands.{Stands}
+use Rattle.text.specs.Stands.{Stands, RulesInRange}
 use Rattle.tree.specs.Tree.{tree}
 use Rattle.tree.specs.Sizes.{Measure, measure, join, measures, cut}
 use Rattle.measure.specs.State.{Holds}
@@ -22,10 +22,6 @@ pub record RuleAt (text : List ℕ) (at : ℕ) (K : Expr rule) : Type 0 where
 pub record SomeRule (text : List ℕ) (at : ℕ) : Type 0 where
   pub what : Expr rule
   pub stands : RuleAt text at what
-
-unfoldable pub RulesInRange : Ranges → List (Expr rule) → Type 0
-RulesInRange r [] = Unit {0}
-RulesInRange r (K ∷ rules) = InRange r K × RulesInRange r rules
 
 -- a text is a book of these rules
 pub record BookIs (book : List ℕ) (rules : List (Expr rule)) : Type 0 where

@@ -1,15 +1,15 @@
 // The calls that the product does not export, for tests and benches: a thin layer of numbers and byte slices.
 ghost use mathlib.Core.Path.{_≡_};
 ghost use lib.ListN.{length};
-ghost use Rattle.answer.specs.Asked.{after};
+ghost use Rattle.answer.specs.Asked.{after, askedNumber, askedPlace};
 ghost use Rattle.words.specs.Words.{digit};
 ghost use Rattle.sheet.specs.Sheet.{store, blank};
 ghost use Rattle.sheet.specs.Questions.{askSheet, askBlank, askLabelBit, askArrowBit};
 ghost use Rattle.sheet.specs.BitReads.{bitAsked};
 ghost use Rattle.text.specs.Reading.{textLimits};
-ghost use Rattle.text.specs.Questions.{askBook, askEdit, askRuleEnd, firstRule};
+ghost use Rattle.text.specs.Questions.{askBook, askEdit, askRuleEnd, firstRule, ruleStart};
 ghost use Rattle.apply.specs.Apply.{askApply, appliedSheet};
-ghost use Rattle.probe.specs.Numbers.{askedNumber, askedPlace, askedBit};
+ghost use Rattle.probe.specs.Numbers.{askedBit};
 use logic::Arrow;
 use logic::Label;
 use logic::Node;
@@ -136,6 +136,13 @@ pub extern "C" fn probe_first_rule(text: &[u8]) -> PartNumbers
         place: answer::place(a),
         length: rule.len(),
     }
+}
+
+#[no_mangle]
+pub extern "C" fn probe_rule_start(book: &[u8], n: usize, i: usize) -> usize
+    ensures { λ r. ⌜ r ≡ ruleStart (textLimits n) i (now (book .entry)) ⌝ }
+{
+    Text::rule_start(book, n, i)
 }
 
 #[no_mangle]

@@ -13,9 +13,6 @@ abbrev pub sheetBytes : ℕ
 sheetBytes = 8704
 
 -- Words start at byte 16 of a block; behind them zeros fill the body: 48 words in block 0, 60 in the others.
-abbrev pub wordsStart : ℕ
-wordsStart = 16
-
 abbrev pub labelPad : ℕ
 labelPad = 110
 

@@ -1,5 +1,5 @@
--- What the checks of a book, an edit and a first rule answer in each of their cases.
-use mathlib.Core.Path.{_≡_, refl, sym, _∙_, ap}
+-- What the checks of a book, an edit and a first rule answer in each of their cases, and where a rule starts.
+use mathlib.Core.Path.{_≡_, refl, sym, _∙_, ap, ap₂}
 use mathlib.Core.List.{List, [], _∷_}
 use Prim.Native.Nat.{ℕ, zero, suc, _-_, _≤_, _<_}
 use native.Mathlib.Nat.{sub-zero}
@@ -7,16 +7,17 @@ use native.Mathlib.Omega.{arith}
 use lib.ListN.{length, drop, take, length-drop, drop-of-length-le}
 use lib.Seq.{drop-cons, take-at}
 use borrow.Author.Tests.{le-leb, lt-leb}
-use Rattle.answer.specs.Asked.{Asked, passed, refused, _>>=_, _>>_, is, after}
+use Rattle.answer.specs.Asked.{Asked, passed, refused, _>>=_, _>>_, is, after, outcome}
 use Rattle.logic.specs.Syntax.{rule, Expr, Edit}
 use Rattle.text.specs.declared.Stop.{Stop}
 use Rattle.text.specs.declared.Step.the-variants.{Next, Stopped}
 use Rattle.text.specs.Code.{code}
-use Rattle.text.specs.Reading.{textLimits, Want, expr, edit, operand, done, Fault, missing, wrongSort, tooDeep, outOfRange, Read, got, fault, follow, readAs}
-use Rattle.text.specs.Questions.{faultNumber, first, whole, rulesOf, askBook, askFirst, askEdit, askRuleEnd, firstRule, answered}
+use Rattle.text.specs.Reading.{textLimits, Want, Thing, expr, edit, operand, done, Fault, missing, wrongSort, tooDeep, outOfRange, Read, got, fault, follow, readAs}
+use Rattle.text.specs.Questions.{faultNumber, first, whole, rulesOf, rulesEnd, askBook, askFirst, askEdit, askRuleEnd, firstRule}
 use Rattle.text.specs.Rows.{rowPlan, stopOf, stepOf, stepAt, stepAnswer}
-use Rattle.text.proofs.Converse.{Wrote, wrote}
+use Rattle.text.proofs.Converse.{read-is-written}
 use Rattle.text.proofs.Books.{rules-step, rules-fault}
+use Rattle.text.proofs.RuleStart.{end-step, end-fault}
 use Rattle.text.proofs.Compose.{same-operand, same-end, alike-steps, ReachedBy, reached}
 use Rattle.text.proofs.Heads.{digit, here-row, here-digit}
 
@@ -28,10 +29,24 @@ stop-answer base wrongSort p = refl
 stop-answer base tooDeep p = refl
 stop-answer base outOfRange p = refl
 
-answered-bind : {A B : Type 0} (x : Asked A) (f : A → B) → answered (x >>= (λ a. passed (f a))) ≡ answered x
-unfolding answered _>>=_
-answered-bind (passed a) f = refl
-answered-bind (refused q p) f = refl
+outcome-bind : {A B : Type 0} (x : Asked A) (f : A → B) → outcome (x >>= (λ a. passed (f a))) ≡ outcome x
+unfolding outcome _>>=_
+outcome-bind (passed a) f = refl
+outcome-bind (refused q p) f = refl
+
+-- What the code has read at a place: a thing that ends at p; or a fault.
+pub record WasRead (t : List ℕ) (n : ℕ) (w : Want) (at p : ℕ) : Type 0 where
+  pub thing : Thing w
+  pub reading : readAs (textLimits n) w (drop at t) at ≡ got thing (drop p t) p
+  pub inside : at ≤ length t → p ≤ length t
+
+record WasFault (t : List ℕ) (n : ℕ) (w : Want) (at : ℕ) : Type 0 where
+  why : Fault
+  place : ℕ
+  reading : readAs (textLimits n) w (drop at t) at ≡ fault why place
+
+less-one : (k : ℕ) → suc k - 1 ≡ k
+less-one k = omega arith
 
 module _ (t : List ℕ) (n : ℕ) where
   -- a row of one thing reads that thing
@@ -39,111 +54,128 @@ module _ (t : List ℕ) (n : ℕ) where
   unfolding stepAt
   one-thing w at = ap (λ z. stepOf (follow (textLimits n) (drop at t) z at)) (here-row (digit w) 1 w (here-digit w)) ∙ alike-steps (textLimits n) (same-operand (λ e. same-end)) (drop at t) at
 
+  module _ (w : Want) (at : ℕ) where
+    pub was-read : {p : ℕ} → stepAt t n (rowPlan (digit w) 1) at ≡ Next p → WasRead t n w at p
+    unfolding stepOf
+    was-read {p} e = go (readAs (textLimits n) w (drop at t) at) refl (reached (textLimits n) t (operand w 1 done) at) (sym (one-thing w at) ∙ e)
+      where
+        go : (x : Read (Thing w)) → readAs (textLimits n) w (drop at t) at ≡ x → ReachedBy t at x → stepOf x ≡ Next p → WasRead t n w at p
+        go (got a rest q) i r e = let z : q ≡ p = cc in record { thing = a; reading = i ∙ ap₂ (got a) (r .rest-is ∙ ap (λ k. drop k t) z) z; inside = λ j. omega (arith, r .inside j) }
+        go (fault why q) i r e = let z : _≡_ {A = ℕ} 0 1 = cc in absurd (omega arith)
+
+    was-fault : {s : Stop} → stepAt t n (rowPlan (digit w) 1) at ≡ Stopped s → WasFault t n w at
+    unfolding stepOf
+    was-fault {s} e = go (readAs (textLimits n) w (drop at t) at) refl (sym (one-thing w at) ∙ e)
+      where
+        go : (x : Read (Thing w)) → readAs (textLimits n) w (drop at t) at ≡ x → stepOf x ≡ Stopped s → WasFault t n w at
+        go (got a rest q) i e = let z : _≡_ {A = ℕ} 0 1 = cc in absurd (omega arith)
+        go (fault why q) i e = record { why = why; place = q; reading = i }
+
+    fault-answer : (base : ℕ) (f : WasFault t n w at) → stepAnswer base (stepAt t n (rowPlan (digit w) 1) at) ≡ refused (faultNumber base (f .why)) (f .place)
+    unfolding stepOf
+    fault-answer base f = ap (stepAnswer base) (one-thing w at ∙ ap stepOf (f .reading)) ∙ stop-answer base (f .why) (f .place)
+
   -- BOOK
-  pub book-long : 4096 < length t → refused 11 0 ≡ answered (askBook (textLimits n) t)
-  unfolding askBook answered is _>>_
+  pub book-long : 4096 < length t → refused 11 0 ≡ outcome (askBook (textLimits n) t)
+  unfolding askBook outcome is _>>_
   book-long h = rw (lt-leb (length t) 4096 h) refl
 
-  pub book-short : length t ≤ 4096 → answered (rulesOf (textLimits n) 32 t 0) ≡ answered (askBook (textLimits n) t)
+  pub book-short : length t ≤ 4096 → outcome (rulesOf (textLimits n) 32 t 0) ≡ outcome (askBook (textLimits n) t)
   unfolding askBook is _>>_
   book-short h = rw (le-leb (length t) 4096 h) refl
 
   module _ (m at : ℕ) where
-    pub rules-end : length t ≤ at → passed tt ≡ answered (rulesOf (textLimits n) m (drop at t) at)
-    unfolding rulesOf answered
+    pub rules-end : length t ≤ at → passed tt ≡ outcome (rulesOf (textLimits n) m (drop at t) at)
+    unfolding rulesOf outcome
     rules-end h = rw (drop-of-length-le t h) (go m)
       where
-        go : (k : ℕ) → passed tt ≡ answered (rulesOf (textLimits n) k [] at)
+        go : (k : ℕ) → passed tt ≡ outcome (rulesOf (textLimits n) k [] at)
         go zero = refl
         go (suc k) = refl
 
     module _ (more : at < length t) where
-      pub rules-full : m ≡ 0 → refused 16 at ≡ answered (rulesOf (textLimits n) m (drop at t) at)
-      unfolding rulesOf answered
+      pub rules-full : m ≡ 0 → refused 16 at ≡ outcome (rulesOf (textLimits n) m (drop at t) at)
+      unfolding rulesOf outcome
       rules-full h = rw (h, drop-cons t at 0 more) refl
 
       module _ (some : m ≡ 0 → ⊥) where
-        pub rules-next : {p : ℕ} → stepAt t n (rowPlan 14 1) at ≡ Next p → answered (rulesOf (textLimits n) (m - 1) (drop p t) p) ≡ answered (rulesOf (textLimits n) m (drop at t) at)
-        unfolding stepOf
-        rules-next {p} e = go m some (readAs (textLimits n) (expr rule) (drop at t) at) refl (reached (textLimits n) t (operand (expr rule) 1 done) at) (sym (one-thing (expr rule) at) ∙ e)
+        pub rules-next : {p : ℕ} → stepAt t n (rowPlan 14 1) at ≡ Next p → outcome (rulesOf (textLimits n) (m - 1) (drop p t) p) ≡ outcome (rulesOf (textLimits n) m (drop at t) at)
+        rules-next {p} e = go m some (was-read (expr rule) at e)
           where
-            less : (k : ℕ) → suc k - 1 ≡ k
-            less k = omega arith
+            go : (k : ℕ) → (k ≡ 0 → ⊥) → WasRead t n (expr rule) at p → outcome (rulesOf (textLimits n) (k - 1) (drop p t) p) ≡ outcome (rulesOf (textLimits n) k (drop at t) at)
+            go zero s r = absurd (s refl)
+            go (suc k) s r =
+                ap (λ j. outcome (rulesOf (textLimits n) j (drop p t) p)) (less-one k)
+                ∙ sym (ap outcome (rules-step (textLimits n) k (drop at t) at (r .thing) (drop p t) p (r .reading)) ∙ outcome-bind (rulesOf (textLimits n) k (drop p t) p) (λ book. r .thing ∷ book))
 
-            go : (k : ℕ) → (k ≡ 0 → ⊥) → (x : Read (Expr rule)) → readAs (textLimits n) (expr rule) (drop at t) at ≡ x → ReachedBy t at x → stepOf x ≡ Next p → answered (rulesOf (textLimits n) (k - 1) (drop p t) p) ≡ answered (rulesOf (textLimits n) k (drop at t) at)
-            go zero s x i r e = absurd (s refl)
-            go (suc k) s (got K rest q) i r e =
-                let z : q ≡ p = cc in
-                sym
-                (ap answered (rules-step (textLimits n) k (drop at t) at K rest q i)
-                ∙ answered-bind (rulesOf (textLimits n) k rest q) (λ book. K ∷ book)
-                ∙ ap (λ u. answered (rulesOf (textLimits n) k u q)) (r .rest-is)
-                ∙ ap (λ u. answered (rulesOf (textLimits n) k (drop u t) u)) z
-                ∙ ap (λ j. answered (rulesOf (textLimits n) j (drop p t) p)) (sym (less k)))
-            go (suc k) s (fault why q) i r e = let z : _≡_ {A = ℕ} 0 1 = cc in absurd (omega arith)
-
-        pub rules-stopped : {s : Stop} → stepAt t n (rowPlan 14 1) at ≡ Stopped s → stepAnswer 10 (stepAt t n (rowPlan 14 1) at) ≡ answered (rulesOf (textLimits n) m (drop at t) at)
-        unfolding stepOf answered
-        rules-stopped {s} e = ap (stepAnswer 10) (one-thing (expr rule) at) ∙ go m some (readAs (textLimits n) (expr rule) (drop at t) at) refl (sym (one-thing (expr rule) at) ∙ e)
+        pub rules-stopped : {s : Stop} → stepAt t n (rowPlan 14 1) at ≡ Stopped s → stepAnswer 10 (stepAt t n (rowPlan 14 1) at) ≡ outcome (rulesOf (textLimits n) m (drop at t) at)
+        unfolding outcome
+        rules-stopped e = go m some (was-fault (expr rule) at e)
           where
             left : drop at t ≡ [] → ⊥
             left z = omega (arith, sym (length-drop at t) ∙ ap length z)
 
-            go : (k : ℕ) → (k ≡ 0 → ⊥) → (x : Read (Expr rule)) → readAs (textLimits n) (expr rule) (drop at t) at ≡ x → stepOf x ≡ Stopped s → stepAnswer 10 (stepOf x) ≡ answered (rulesOf (textLimits n) k (drop at t) at)
-            go zero h x i e = absurd (h refl)
-            go (suc k) h (got K rest q) i e = let z : _≡_ {A = ℕ} 0 1 = cc in absurd (omega arith)
-            go (suc k) h (fault why q) i e = stop-answer 10 why q ∙ sym (ap answered (rules-fault (textLimits n) k (drop at t) at why q left i))
+            go : (k : ℕ) → (k ≡ 0 → ⊥) → WasFault t n (expr rule) at → stepAnswer 10 (stepAt t n (rowPlan 14 1) at) ≡ outcome (rulesOf (textLimits n) k (drop at t) at)
+            go zero h f = absurd (h refl)
+            go (suc k) h f = fault-answer (expr rule) at 10 f ∙ sym (ap outcome (rules-fault (textLimits n) k (drop at t) at (f .why) (f .place) left (f .reading)))
+
+  -- RULE START
+  module _ (left at : ℕ) where
+    pub start-here : left ≤ 0 → at ≡ rulesEnd (textLimits n) left (drop at t) at
+    unfolding rulesEnd
+    start-here h = let e : left ≡ 0 = omega arith in rw e refl
+
+    module _ (some : 0 < left) where
+      one-more : left ≡ suc (left - 1)
+      one-more = omega arith
+
+      pub start-next : {p : ℕ} → stepAt t n (rowPlan 14 1) at ≡ Next p → rulesEnd (textLimits n) (left - 1) (drop p t) p ≡ rulesEnd (textLimits n) left (drop at t) at
+      start-next e = sym (ap (λ k. rulesEnd (textLimits n) k (drop at t) at) one-more ∙ end-step (textLimits n) (left - 1) (drop at t) at (was-read (expr rule) at e .reading))
+
+      pub start-stopped : {s : Stop} → at ≤ length t → stepAt t n (rowPlan 14 1) at ≡ Stopped s → length t ≡ rulesEnd (textLimits n) left (drop at t) at
+      start-stopped h e =
+          omega (arith, length-drop at t)
+          ∙ sym (ap (λ k. rulesEnd (textLimits n) k (drop at t) at) one-more ∙ end-fault (textLimits n) (left - 1) (drop at t) at (was-fault (expr rule) at e .reading))
 
   -- EDIT
-  pub edit-long : 4096 < length t → refused 21 0 ≡ answered (askEdit (textLimits n) t)
-  unfolding askEdit answered is _>>_
+  pub edit-long : 4096 < length t → refused 21 0 ≡ outcome (askEdit (textLimits n) t)
+  unfolding askEdit outcome is _>>_
   edit-long h = rw (lt-leb (length t) 4096 h) refl
 
-  edit-short : length t ≤ 4096 → answered (whole (readAs (textLimits n) edit t 0)) ≡ answered (askEdit (textLimits n) t)
+  edit-short : length t ≤ 4096 → outcome (whole (readAs (textLimits n) edit t 0)) ≡ outcome (askEdit (textLimits n) t)
   unfolding askEdit is _>>_
   edit-short h = rw (le-leb (length t) 4096 h) refl
 
-  whole-end : (Z : Edit) (rest : List ℕ) (p : ℕ) → rest ≡ [] → passed tt ≡ answered (whole (got Z rest p))
-  unfolding whole answered
+  whole-end : (Z : Edit) (rest : List ℕ) (p : ℕ) → rest ≡ [] → passed tt ≡ outcome (whole (got Z rest p))
+  unfolding whole outcome
   whole-end Z rest p e = rw e refl
 
-  whole-more : (Z : Edit) (rest : List ℕ) (p c : ℕ) (r : List ℕ) → rest ≡ c ∷ r → refused 26 p ≡ answered (whole (got Z rest p))
-  unfolding whole answered
+  whole-more : (Z : Edit) (rest : List ℕ) (p c : ℕ) (r : List ℕ) → rest ≡ c ∷ r → refused 26 p ≡ outcome (whole (got Z rest p))
+  unfolding whole outcome
   whole-more Z rest p c r e = rw e refl
 
   module _ (short : length t ≤ 4096) where
-    pub edit-stopped : {s : Stop} → stepAt t n (rowPlan 15 1) 0 ≡ Stopped s → stepAnswer 20 (stepAt t n (rowPlan 15 1) 0) ≡ answered (askEdit (textLimits n) t)
-    unfolding stepOf answered whole
-    edit-stopped {s} e = ap (stepAnswer 20) (one-thing edit 0) ∙ go (readAs (textLimits n) edit t 0) (sym (one-thing edit 0) ∙ e) ∙ edit-short short
-      where
-        go : (x : Read Edit) → stepOf x ≡ Stopped s → stepAnswer 20 (stepOf x) ≡ answered (whole x)
-        go (got Z rest q) e = let z : _≡_ {A = ℕ} 0 1 = cc in absurd (omega arith)
-        go (fault why q) e = stop-answer 20 why q
+    pub edit-stopped : {s : Stop} → stepAt t n (rowPlan 15 1) 0 ≡ Stopped s → stepAnswer 20 (stepAt t n (rowPlan 15 1) 0) ≡ outcome (askEdit (textLimits n) t)
+    unfolding outcome whole
+    edit-stopped e = let f = was-fault edit 0 e in fault-answer edit 0 20 f ∙ ap (λ x. outcome (whole x)) (sym (f .reading)) ∙ edit-short short
 
-    pub edit-done : {p : ℕ} → stepAt t n (rowPlan 15 1) 0 ≡ Next p → p ≡ length t → passed tt ≡ answered (askEdit (textLimits n) t)
-    unfolding stepOf
-    edit-done {p} e h = go (readAs (textLimits n) edit t 0) (reached (textLimits n) t (operand edit 1 done) 0) (sym (one-thing edit 0) ∙ e) ∙ edit-short short
-      where
-        go : (x : Read Edit) → ReachedBy t 0 x → stepOf x ≡ Next p → passed tt ≡ answered (whole x)
-        go (got Z rest q) r e = let z : q ≡ p = cc in let k : length t ≤ q = omega arith in whole-end Z rest q (r .rest-is ∙ drop-of-length-le t k)
-        go (fault why q) r e = let z : _≡_ {A = ℕ} 0 1 = cc in absurd (omega arith)
+    pub edit-done : {p : ℕ} → stepAt t n (rowPlan 15 1) 0 ≡ Next p → p ≡ length t → passed tt ≡ outcome (askEdit (textLimits n) t)
+    edit-done {p} e h =
+        let r = was-read edit 0 e in
+        let k : length t ≤ p = omega arith in
+        whole-end (r .thing) (drop p t) p (drop-of-length-le t k) ∙ ap (λ x. outcome (whole x)) (sym (r .reading)) ∙ edit-short short
 
-    pub edit-extra : {p : ℕ} → stepAt t n (rowPlan 15 1) 0 ≡ Next p → (p ≡ length t → ⊥) → refused 26 p ≡ answered (askEdit (textLimits n) t)
-    unfolding stepOf
-    edit-extra {p} e h = go (readAs (textLimits n) edit t 0) (reached (textLimits n) t (operand edit 1 done) 0) (sym (one-thing edit 0) ∙ e) ∙ edit-short short
-      where
-        go : (x : Read Edit) → ReachedBy t 0 x → stepOf x ≡ Next p → refused 26 p ≡ answered (whole x)
-        go (got Z rest q) r e =
-            let z : q ≡ p = cc in
-            let i : q ≤ length t = r .inside (omega arith) in
-            let k : q < length t = omega arith in
-            ap (refused 26) (sym z) ∙ whole-more Z rest q _ _ (r .rest-is ∙ drop-cons t q 0 k)
-        go (fault why q) r e = let z : _≡_ {A = ℕ} 0 1 = cc in absurd (omega arith)
+    pub edit-extra : {p : ℕ} → stepAt t n (rowPlan 15 1) 0 ≡ Next p → (p ≡ length t → ⊥) → refused 26 p ≡ outcome (askEdit (textLimits n) t)
+    edit-extra {p} e h =
+        let r = was-read edit 0 e in
+        let i : p ≤ length t = r .inside (omega arith) in
+        let k : p < length t = omega arith in
+        whole-more (r .thing) (drop p t) p _ _ (drop-cons t p 0 k) ∙ ap (λ x. outcome (whole x)) (sym (r .reading)) ∙ edit-short short
 
 -- RULE END
 module _ (t : List ℕ) where
-  pub first-long : 4096 < length t → refused 11 0 ≡ answered (askRuleEnd t)
-  unfolding askFirst answered is _>>_
+  pub first-long : 4096 < length t → refused 11 0 ≡ outcome (askRuleEnd t)
+  unfolding askFirst outcome is _>>_
   first-long h = rw (lt-leb (length t) 4096 h) refl
 
   pub no-rule-long : 4096 < length t → [] ≡ firstRule t
@@ -155,34 +187,28 @@ module _ (t : List ℕ) where
     unfolding askFirst is _>>_
     asked-first = rw (le-leb (length t) 4096 short) refl
 
-    pub first-answer : stepAnswer 10 (stepAt t 60 (rowPlan 14 1) 0) ≡ answered (askRuleEnd t)
-    unfolding first answered stepOf
-    first-answer = ap (stepAnswer 10) (one-thing t 60 (expr rule) 0) ∙ go (readAs (textLimits 60) (expr rule) t 0) ∙ ap answered asked-first
+    pub first-answer : stepAnswer 10 (stepAt t 60 (rowPlan 14 1) 0) ≡ outcome (askRuleEnd t)
+    unfolding first outcome stepOf
+    first-answer = ap (stepAnswer 10) (one-thing t 60 (expr rule) 0) ∙ go (readAs (textLimits 60) (expr rule) t 0) ∙ ap outcome asked-first
       where
-        go : (x : Read (Expr rule)) → stepAnswer 10 (stepOf x) ≡ answered (first x)
+        go : (x : Read (Expr rule)) → stepAnswer 10 (stepOf x) ≡ outcome (first x)
         go (got K rest q) = refl
         go (fault why q) = stop-answer 10 why q
 
     pub no-rule : {s : Stop} → stepAt t 60 (rowPlan 14 1) 0 ≡ Stopped s → [] ≡ firstRule t
-    unfolding firstRule first after stepOf
-    no-rule {s} e = go (readAs (textLimits 60) (expr rule) t 0) (sym (one-thing t 60 (expr rule) 0) ∙ e) ∙ ap (λ q. after q code []) asked-first
-      where
-        go : (x : Read (Expr rule)) → stepOf x ≡ Stopped s → [] ≡ after (first x) code []
-        go (got K rest q) e = let z : _≡_ {A = ℕ} 0 1 = cc in absurd (omega arith)
-        go (fault why q) e = refl
+    unfolding firstRule first after
+    no-rule e = ap (λ x. after (first x) code []) (sym (was-fault t 60 (expr rule) 0 e .reading)) ∙ ap (λ q. after q code []) asked-first
 
     pub the-rule : {p : ℕ} → stepAt t 60 (rowPlan 14 1) 0 ≡ Next p → take (p - 0) t ≡ firstRule t
-    unfolding firstRule first after stepOf
-    the-rule {p} e = ap (λ k. take k t) (sub-zero p) ∙ go (readAs (textLimits 60) (expr rule) t 0) (wrote (textLimits 60) (expr rule) 1 t 0) (sym (one-thing t 60 (expr rule) 0) ∙ e) ∙ ap (λ q. after q code []) asked-first
-      where
-        go : (x : Read (Expr rule)) → Wrote (textLimits 60) (expr rule) 1 t 0 x → stepOf x ≡ Next p → take p t ≡ after (first x) code []
-        go (got K rest q) w e = let z : q ≡ p = cc in ap (take p) (w .text-is) ∙ take-at (code K) rest p (omega (arith, w .place-is))
-        go (fault why q) w e = let z : _≡_ {A = ℕ} 0 1 = cc in absurd (omega arith)
+    unfolding firstRule first after
+    the-rule {p} e =
+        let r = was-read t 60 (expr rule) 0 e in
+        let w = read-is-written (textLimits 60) (expr rule) 1 t 0 (r .reading) in
+        ap (λ k. take k t) (sub-zero p)
+        ∙ ap (take p) (w .text-is)
+        ∙ take-at (code (r .thing)) (drop p t) p (omega (arith, w .place-is))
+        ∙ ap (λ x. after (first x) code []) (sym (r .reading))
+        ∙ ap (λ q. after q code []) asked-first
 
     pub rule-inside : {p : ℕ} → stepAt t 60 (rowPlan 14 1) 0 ≡ Next p → p ≤ length t
-    unfolding stepOf
-    rule-inside {p} e = go (readAs (textLimits 60) (expr rule) t 0) (reached (textLimits 60) t (operand (expr rule) 1 done) 0) (sym (one-thing t 60 (expr rule) 0) ∙ e)
-      where
-        go : (x : Read (Expr rule)) → ReachedBy t 0 x → stepOf x ≡ Next p → p ≤ length t
-        go (got K rest q) r e = let z : q ≡ p = cc in let i : q ≤ length t = r .inside (omega arith) in omega arith
-        go (fault why q) r e = let z : _≡_ {A = ℕ} 0 1 = cc in absurd (omega arith)
+    rule-inside e = was-read t 60 (expr rule) 0 e .inside (omega arith)

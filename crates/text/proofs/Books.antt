@@ -10,6 +10,7 @@ use Rattle.answer.specs.Asked.{Asked, passed, refused, _>>=_, _>>_, is}
 use Rattle.logic.specs.Syntax.{Expr, rule, Edit}
 use Rattle.text.specs.Code.{code, editCode, bookCode}
 use Rattle.text.specs.Reading.{Limits, expr, edit, Fault, Read, got, fault, follow, readAs}
+use Rattle.text.specs.Stands.{RulesInRange}
 use Rattle.text.specs.Questions.{faultNumber, mostRules, first, whole, rulesOf, askBook, askFirst, askEdit}
 use Rattle.text.proofs.Converse.{Allowed, Written, Wrote, wrote}
 use Rattle.text.proofs.ReadBack.{reads}
@@ -31,6 +32,11 @@ is-passed true q p x h = refl
 abbrev pub EachAllowed : Limits → List (Expr rule) → Type 0
 EachAllowed l [] = Unit {0}
 EachAllowed l (K ∷ book) = Allowed l (expr rule) 1 K × EachAllowed l book
+
+pub rules-in-range : (l : Limits) (rules : List (Expr rule)) → EachAllowed l rules → RulesInRange (l .numbers) rules
+unfolding RulesInRange
+rules-in-range l [] h = tt
+rules-in-range l (K ∷ Ks) h = (h .0 .numbers-fit, rules-in-range l Ks (h .1))
 
 -- A text that spells a book of at most m rules within the limits.
 pub record SpellsRules (l : Limits) (m : ℕ) (t : List ℕ) (book : List (Expr rule)) : Type 0 where

@@ -4,6 +4,7 @@ pub mod Places
 pub mod Converse
 pub mod ReadBack
 pub mod Books
+pub mod RuleStart
 pub mod Carried
 pub mod Marked
 pub mod Compose

@@ -1,4 +1,4 @@
--- The questions that a book, the first rule of a text, and an edit are asked: 11 to 16, 11 to 15, 21 to 26.
+-- The questions that a book, the first rule of a text, and an edit are asked: 11 to 16, 11 to 15, 21 to 26. And where a rule of a book stands.
 use mathlib.Core.List.{List, [], _∷_}
 use Prim.Native.Nat.{ℕ, zero, suc, _+_}
 use lib.Dec.{leb}
@@ -43,6 +43,15 @@ module _ (l : Limits) where
         | fault why p ↦ refused (faultNumber 10 why) p
       ]
 
+  -- The place behind i rules of a text that begins at a place. Where they cannot be read, the text's end.
+  unfoldable pub rulesEnd : (i : ℕ) → List ℕ → ℕ → ℕ
+  rulesEnd zero t at = at
+  rulesEnd (suc i) t at = elim (readAs l (expr rule) t at) [ got K rest p ↦ rulesEnd i rest p | fault why p ↦ at + length t ]
+
+  -- Where rule i of a text stands, from 0: behind i rules.
+  unfoldable pub ruleStart : (i : ℕ) → List ℕ → ℕ
+  ruleStart i t = rulesEnd i t 0
+
   -- A book: 11 to 16.
   unfoldable pub askBook : List ℕ → Asked (List (Expr rule))
   askBook t = do
@@ -60,11 +69,6 @@ module _ (l : Limits) where
   askEdit t = do
     is (leb (length t) (l .longest)) 21 0
     whole (readAs l edit t 0)
-
--- What is answered to questions, without what was learned.
-unfoldable pub answered : {A : Type 0} → Asked A → Asked (Unit {0})
-answered (passed a) = passed tt
-answered (refused q p) = refused q p
 
 -- Rule end: n as 60. The part of the text that holds the first rule, empty when refused.
 abbrev pub askRuleEnd : List ℕ → Asked (Expr rule)

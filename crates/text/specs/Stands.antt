@@ -1,9 +1,9 @@
 -- An expression or an edit that stands at a place of a text. Inner functions ask for some such thing and speak of every one.
 use mathlib.Core.Path.{_≡_}
-use mathlib.Core.List.{List, _++_}
+use mathlib.Core.List.{List, [], _∷_, _++_}
 use Prim.Native.Nat.{ℕ, _+_}
 use lib.ListN.{length, drop}
-use Rattle.logic.specs.Syntax.{Sort, Expr, Edit}
+use Rattle.logic.specs.Syntax.{Sort, rule, Expr, Edit}
 use Rattle.logic.specs.Limits.{Ranges, InRange, EditInRange}
 use Rattle.text.specs.Code.{code, editCode}
 
@@ -24,6 +24,11 @@ pub record EditStands (r : Ranges) (text : List ℕ) (at : ℕ) (Z : Edit) : Typ
 pub record SomeEditStands (r : Ranges) (text : List ℕ) (at : ℕ) : Type 0 where
   pub what : Edit
   pub stands : EditStands r text at what
+
+-- The numbers of each rule of a book are in range.
+unfoldable pub RulesInRange : Ranges → List (Expr rule) → Type 0
+RulesInRange r [] = Unit {0}
+RulesInRange r (K ∷ rules) = InRange r K × RulesInRange r rules
 
 -- Something stands there, whatever its sort and ranges; and a place that is the end of it.
 pub data SomethingStands (text : List ℕ) (at : ℕ) : Type 0 where

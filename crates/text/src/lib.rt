@@ -5,8 +5,9 @@ ghost use mathlib.Core.Path.{_≡_};
 ghost use Prim.Native.Nat.{_<_, _≤_};
 ghost use Rattle.text.specs.Rows.{itemOf, rowOf, itemPlan, finished, rowPlan, sortOf, numberFits, stepAt, headAt, stepAnswer, isNumber, isThing, numbersIn, thingsIn};
 ghost use Rattle.answer.specs.Answers.{asked};
+ghost use Rattle.answer.specs.Asked.{outcome};
 ghost use Rattle.text.specs.Reading.{textLimits};
-ghost use Rattle.text.specs.Questions.{askBook, askEdit, askRuleEnd, answered, firstRule};
+ghost use Rattle.text.specs.Questions.{askBook, askEdit, askRuleEnd, firstRule, ruleStart};
 ghost use Rattle.text.specs.Stands.{SomethingStands, EndsAt};
 
 // What is wrong with the bytes, and where: 12 to 15 of a book, 22 to 25 of an edit.
@@ -284,7 +285,7 @@ impl Text {
 
     // Is a book within the limits for n nodes? 11 to 16.
     pub fn check_book(book: &[u8], n: usize) -> Answer
-        ensures { λ r. ⌜ asked r ≡ answered (askBook (textLimits n) (now (book .entry))) ⌝ }
+        ensures { λ r. ⌜ asked r ≡ outcome (askBook (textLimits n) (now (book .entry))) ⌝ }
     {
         if book.len() > Text::LONGEST {
             return Answer::Refused(Refusal::BookLength { place: 0 });
@@ -307,7 +308,7 @@ impl Text {
 
     // Is an edit? 21 to 26.
     pub fn check_edit(edit: &[u8], n: usize) -> Answer
-        ensures { λ r. ⌜ asked r ≡ answered (askEdit (textLimits n) (now (edit .entry))) ⌝ }
+        ensures { λ r. ⌜ asked r ≡ outcome (askEdit (textLimits n) (now (edit .entry))) ⌝ }
     {
         if edit.len() > Text::LONGEST {
             return Answer::Refused(Refusal::EditLength { place: 0 });
@@ -338,12 +339,30 @@ impl Text {
 
     // The answer that goes with it: 11 to 15.
     pub fn first_rule_answer(text: &[u8]) -> Answer
-        ensures { λ r. ⌜ asked r ≡ answered (askRuleEnd (now (text .entry))) ⌝ }
+        ensures { λ r. ⌜ asked r ≡ outcome (askRuleEnd (now (text .entry))) ⌝ }
     {
         if text.len() > Text::LONGEST {
             return Answer::Refused(Refusal::BookLength { place: 0 });
         }
         book_answer(read(text, Text::NODES, RULE, 0, 1))
+    }
+
+    // Where rule i of a book stands, from 0: behind i rules; the book's length where there are not so many, or where they can't be read.
+    // No rule stands at the book's end, so that reading stops there too.
+    pub fn rule_start(book: &[u8], n: usize, i: usize) -> usize
+        ensures { λ r. ⌜ r ≡ ruleStart (textLimits n) i (now (book .entry)) ⌝ }
+    {
+        let mut p = 0;
+        let mut left = i;
+        while 0 < left {
+            let step = read(book, n, RULE, p, 1);
+            let Step::Next(q) = step else {
+                return book.len();
+            };
+            p = q;
+            left -= 1;
+        }
+        p
     }
 
     // Where the expression or the edit that stands at a place ends. It keeps no stack.

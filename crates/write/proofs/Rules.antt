@@ -8,12 +8,13 @@ use Rattle.logic.specs.Syntax.{rule, Expr, Edit}
 use Rattle.logic.specs.Carry.{carry, carriedBook}
 use Rattle.logic.specs.Limits.{Ranges}
 use Rattle.text.specs.Code.{code, bookCode}
+use Rattle.text.specs.Stands.{RulesInRange}
 use Rattle.tree.specs.Tree.{Tree, tree, size}
 use Rattle.tree.specs.Stack.{written}
 use Rattle.tree.proofs.Written.{written-code}
 use Rattle.measure.specs.Shapes.{At, Some}
 use Rattle.measure.specs.Edits.{EditAt}
-use Rattle.measure.specs.Book.{RuleAt, RulesInRange, BookIs}
+use Rattle.measure.specs.Book.{RuleAt, BookIs}
 use Rattle.measure.proofs.Places.{behind}
 use Rattle.measure.proofs.Rules.{rule-at, rule-size, rule-fits}
 use Rattle.write.specs.Laid.{Wrote}

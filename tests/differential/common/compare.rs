@@ -41,7 +41,8 @@ impl Lent {
     }
 }
 
-/// What a call leaves: its numbers, the first of them the answer's number, and all buffers that it was lent.
+/// What a call leaves: its numbers, the first of them the answer's number where it has one, and all buffers that it was
+/// lent.
 #[derive(PartialEq)]
 pub struct Outcome {
     pub numbers: Vec<usize>,
@@ -92,13 +93,19 @@ impl Tally {
         Tally::default()
     }
 
-    /// Counts two equal outcomes; the first difference ends the program with the inputs in hexadecimal.
+    /// Counts two equal outcomes and their answer.
     pub fn compare(&mut self, what: &'static str, found: &Outcome, wanted: &Outcome, inputs: &[(&str, &[u8])]) {
+        self.compare_numbers(what, found, wanted, inputs);
+        *self.reached.entry((what, wanted.numbers[0])).or_insert(0) += 1;
+    }
+
+    /// Counts two equal outcomes whose numbers are no answer. The first difference ends the program with the inputs in
+    /// hexadecimal.
+    pub fn compare_numbers(&mut self, what: &str, found: &Outcome, wanted: &Outcome, inputs: &[(&str, &[u8])]) {
         if found != wanted {
             self.fail(what, found, wanted, inputs);
         }
         self.passed += 1;
-        *self.reached.entry((what, wanted.numbers[0])).or_insert(0) += 1;
     }
 
     /// How often a number came, whatever was called.

@@ -4,7 +4,8 @@ use borrow.Author.Needs.{needs}
 use Rattle.answer.specs.Answers.{asked}
 use Rattle.text.specs.Reading.{textLimits}
 use Rattle.text.specs.Questions.{askBook, askEdit}
-use Rattle.carry.proofs.Passing.{learned, book-passed, edit-passed}
+use Rattle.answer.proofs.AnswerLaws.{learned}
+use Rattle.carry.proofs.Passing.{book-passed, edit-passed}
 use Rattle.entry.proofs.Stages.{sheet-stops, book-stops, edit-stops, size-stops, rules-stand, edit-stands, settles}
 use Rattle.entry.proofs.enter.Statement.{statement}
 use Rattle.entry.proofs.enter.Tie as tie

@@ -1,7 +1,7 @@
 use mathlib.Core.Path.{_≡_, sym, ap, _∙_}
 use borrow.Author.Needs.{needs}
 use Rattle.answer.specs.Answers.{asked}
-use Rattle.judge.proofs.Deciding.{sheet-refused, book-refused, learned, rules-stand, judged}
+use Rattle.judge.proofs.Deciding.{sheet-refused, book-refused, rules-read, rules-stand, judged}
 use Rattle.judge.proofs.decide.Statement.{statement}
 use Rattle.judge.proofs.decide.Tie as tie
 
@@ -27,7 +27,7 @@ judge-rules-requires c κs =
     let b = c .before .before .check-book .ensures in (
       sym a ∙ ap asked (t .enum-told .given .1),
       record {
-        what = learned _ _ _ n _ a (t .enum-told .given .1) _ b (c .enum-told3 .given .1) .what;
+        what = rules-read _ _ _ n _ a (t .enum-told .given .1) _ b (c .enum-told3 .given .1) .what;
         stand = rules-stand _ _ _ n _ a (t .enum-told .given .1) _ b (c .enum-told3 .given .1);
       },
     )
@@ -39,7 +39,7 @@ returns-3 c =
     let a = t .before .before .check .ensures in
     let b = c .before .before .before .check-book .ensures in
     let e = c .before .enum-told3 .given .1 in
-    let r = c .judge-rules .ensures (learned _ _ _ n _ a (t .enum-told .given .1) _ b e .what) (rules-stand _ _ _ n _ a (t .enum-told .given .1) _ b e) in
+    let r = c .judge-rules .ensures (rules-read _ _ _ n _ a (t .enum-told .given .1) _ b e .what) (rules-stand _ _ _ n _ a (t .enum-told .given .1) _ b e) in
     let q = judged _ _ _ n _ a (t .enum-told .given .1) _ b e _ _ _ (r .0) (r .1) (r .2) in
     (q .answer, q .starts, q .sized)
 

@@ -1,6 +1,7 @@
 use mathlib.Core.Path.{ap, _∙_}
 use borrow.Author.Needs.{needs}
-use Rattle.probe.specs.Numbers.{askedNumber, askedPlace, askedBit}
+use Rattle.answer.specs.Asked.{askedNumber, askedPlace}
+use Rattle.probe.specs.Numbers.{askedBit}
 use Rattle.probe.proofs.probe_arrow_bit.Statement.{statement}
 use Rattle.probe.proofs.probe_arrow_bit.Tie as tie
 

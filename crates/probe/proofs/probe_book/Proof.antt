@@ -1,13 +1,13 @@
 use mathlib.Core.Path.{_∙_}
 use borrow.Author.Needs.{needs}
-use Rattle.probe.proofs.NumberLaws.{text-number, text-place}
+use Rattle.answer.proofs.AnswerLaws.{number-of, place-of}
 use Rattle.probe.proofs.probe_book.Statement.{statement}
 use Rattle.probe.proofs.probe_book.Tie as tie
 
 returns : tie.Need-returns
 returns c =
     let a = c .before .before .check-book in
-    (c .before .number .ensures ∙ text-number (a .result) _ (a .ensures), c .place .ensures ∙ text-place (a .result) _ (a .ensures))
+    (c .before .number .ensures ∙ number-of (a .result) _ (a .ensures), c .place .ensures ∙ place-of (a .result) _ (a .ensures))
 
 pub probe-book-spec : {M : Type 1} → statement M
 probe-book-spec = tie.close (tie.spec (λ c κs. search needs) (λ c κs. search needs) (λ c κs. search needs) returns)

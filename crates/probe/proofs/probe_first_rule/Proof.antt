@@ -1,14 +1,14 @@
 use mathlib.Core.Path.{ap, _∙_}
 use borrow.Author.Needs.{needs}
 use lib.ListN.{length}
-use Rattle.probe.proofs.NumberLaws.{text-number, text-place}
+use Rattle.answer.proofs.AnswerLaws.{number-of, place-of}
 use Rattle.probe.proofs.probe_first_rule.Statement.{statement}
 use Rattle.probe.proofs.probe_first_rule.Tie as tie
 
 returns : tie.Need-returns
 returns c =
     let a = c .before .before .before .first-rule-answer in
-    (c .before .number .ensures ∙ text-number (a .result) _ (a .ensures), c .place .ensures ∙ text-place (a .result) _ (a .ensures), ap length (c .before .before .first-rule .ensures))
+    (c .before .number .ensures ∙ number-of (a .result) _ (a .ensures), c .place .ensures ∙ place-of (a .result) _ (a .ensures), ap length (c .before .before .first-rule .ensures))
 
 pub probe-first-rule-spec : {M : Type 1} → statement M
 probe-first-rule-spec = tie.close (tie.spec (λ c κs. search needs) (λ c κs. search needs) (λ c κs. search needs) (λ c κs. search needs) returns)

@@ -1,6 +1,6 @@
 use mathlib.Core.Path.{_∙_}
 use borrow.Author.Needs.{needs}
-use Rattle.suite.proofs.Numbers.{unit-number, unit-place}
+use Rattle.answer.proofs.AnswerLaws.{unit-number, unit-place}
 use Rattle.suite.proofs.zamiathen_enter.Statement.{statement}
 use Rattle.suite.proofs.zamiathen_enter.Tie as tie
 

@@ -1,0 +1,54 @@
+-- The loop's invariant: behind the rules that are left lies the place asked for. A turn takes one of them.
+use borrow.Author.Needs.{needs}
+use mathlib.Core.Path.{_≡_, refl, sym, _∙_}
+use Prim.Native.Nat.{_≤_}
+use lib.ListN.{length, drop}
+use Rattle.logic.specs.Syntax.{rule}
+use Rattle.text.specs.Reading.{textLimits, expr}
+use Rattle.text.specs.Questions.{rulesEnd, ruleStart}
+use Rattle.text.proofs.Answers.{was-read, start-here, start-next, start-stopped}
+use Rattle.text.proofs.Text.rule_start.Statement.{statement}
+use Rattle.text.proofs.Text.rule_start.Tie as tie
+
+abbrev Inv-loop : tie.InvT-loop
+Inv-loop book n i p₀ left₀ p left = (p ≤ length book) × (rulesEnd (textLimits n) left (drop p book) p ≡ ruleStart (textLimits n) i book)
+
+abbrev μ-loop : tie.MeasureT-loop
+μ-loop book n i p₀ left₀ p left = left
+
+loop-holds : tie.Need-loop-holds Inv-loop μ-loop
+unfolding ruleStart
+loop-holds c = (search needs, refl)
+
+read-requires : tie.Need-read-requires Inv-loop μ-loop
+read-requires c κs = search needs
+
+enum-known-step : tie.Need-enum-known-step Inv-loop μ-loop
+enum-known-step c = search needs
+
+enum-told : tie.Need-enum-told Inv-loop μ-loop
+enum-told c = search needs
+
+returns : tie.Need-returns Inv-loop μ-loop
+returns c =
+    let e = sym (c .before .before .read .ensures) ∙ c .enum-told .given .1 in
+    let l = c .before .before .before .before .loop in
+    start-stopped _ _ (l .left) _ (search needs) (l .inv .0) e ∙ l .inv .1
+
+sub-left : tie.Need-sub-left Inv-loop μ-loop
+sub-left c = search needs
+
+loop-less : tie.Need-loop-less Inv-loop μ-loop
+loop-less c = search needs
+
+loop-again : tie.Need-loop-again Inv-loop μ-loop
+loop-again c =
+    let e = sym (c .before .before .before .read .ensures) ∙ c .before .step .given .1 in
+    let l = c .before .before .before .before .before .loop in
+    (was-read _ _ (expr rule) _ e .inside (l .inv .0), start-next _ _ (l .left) _ (search needs) e ∙ l .inv .1)
+
+returns-2 : tie.Need-returns-2 Inv-loop μ-loop
+returns-2 c = start-here _ _ _ _ (c .loop-test .left) ∙ c .before .loop .inv .1
+
+pub rule-start-spec : {M : Type 1} → statement M
+rule-start-spec = tie.close (tie.spec Inv-loop μ-loop loop-holds read-requires enum-known-step enum-told returns sub-left loop-less loop-again returns-2)
