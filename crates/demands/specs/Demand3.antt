@@ -24,19 +24,26 @@ pub record RunRight (opening book : List ℕ) (calls : List Call) : Type 0 where
   -- After each call the sheet keeps the book
   pub kept : Each (λ l. Keeps book (l .sheet)) (log book opening calls)
   -- and is, byte for byte, what the entered edits alone, in their order, leave from the opening sheet,
-  pub alone : map (λ l. l .sheet) (log book opening calls) ≡ map (madeInOrder opening) (enteredAfterEach [] (log book opening calls))
+  pub alone : map (λ l. l .sheet) (log book opening calls)
+      ≡ map (madeInOrder opening) (enteredAfterEach [] (log book opening calls))
   -- and answers and sheets are those of the plain clerk.
   pub clerks : log book opening calls ≡ clerk opening book (map fed calls)
 
 pub record Demand3 : Type 1 where
   -- A rule carried back holds on the sheet before exactly when the rule holds on the sheet that the edit's steps leave.
-  pub carried-holds : {book edit sheet : List ℕ} (i : Given book edit sheet) (K : Expr rule) → T (value (graphOf sheet) (carry (i .steps) K)) ↔ T (value (graphOf (afterSteps (i .steps) sheet)) K)
+  pub carried-holds : {book edit sheet : List ℕ} (i : Given book edit sheet) (K : Expr rule)
+      → T (value (graphOf sheet) (carry (i .steps) K)) ↔ T (value (graphOf (afterSteps (i .steps) sheet)) K)
   -- Whatever condition on the sheet before ensures the rules after, it holds only where all carried rules do.
-  pub weakest : {book edit : List ℕ} (C : Condition book edit) → Ensures C → (sheet : List ℕ) (c : C .has sheet) → Hold (graphOf sheet) (carriedBook (C .given sheet c .steps) (C .given sheet c .rules))
+  pub weakest : {book edit : List ℕ} (C : Condition book edit) → Ensures C → (sheet : List ℕ) (c : C .has sheet)
+      → Hold (graphOf sheet) (carriedBook (C .given sheet c .steps) (C .given sheet c .rules))
   -- They are such a condition themselves: where they all hold, the steps leave a sheet that keeps the book.
-  pub carried-ensure : {book edit sheet : List ℕ} (i : Given book edit sheet) → Hold (graphOf sheet) (carriedBook (i .steps) (i .rules)) → Keeps book (afterSteps (i .steps) sheet)
+  pub carried-ensure : {book edit sheet : List ℕ} (i : Given book edit sheet)
+      → Hold (graphOf sheet) (carriedBook (i .steps) (i .rules)) → Keeps book (afterSteps (i .steps) sheet)
   -- The edit is entered exactly when all of them hold; the sheet is then the one that its steps leave.
-  pub entered-when : {book edit sheet : List ℕ} (i : Given book edit sheet) (room : ℕ) → askSize (carriedBook (i .steps) (i .rules)) room ≡ passed tt → (enterAnswer sheet book edit room ≡ passed tt) ↔ Hold (graphOf sheet) (carriedBook (i .steps) (i .rules))
-  pub entered-leaves : {book edit sheet : List ℕ} (i : Given book edit sheet) (room : ℕ) → enterAnswer sheet book edit room ≡ passed tt → enterSheet sheet book edit room ≡ afterSteps (i .steps) sheet
+  pub entered-when : {book edit sheet : List ℕ} (i : Given book edit sheet) (room : ℕ)
+      → askSize (carriedBook (i .steps) (i .rules)) room ≡ passed tt
+      → (enterAnswer sheet book edit room ≡ passed tt) ↔ Hold (graphOf sheet) (carriedBook (i .steps) (i .rules))
+  pub entered-leaves : {book edit sheet : List ℕ} (i : Given book edit sheet) (room : ℕ)
+      → enterAnswer sheet book edit room ≡ passed tt → enterSheet sheet book edit room ≡ afterSteps (i .steps) sheet
   -- For every list of enter calls under one book, refused ones included, from a sheet that keeps the book.
   pub every-run : (opening book : List ℕ) (calls : List Call) → Bytes opening → Keeps book opening → RunRight opening book calls

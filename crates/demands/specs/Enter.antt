@@ -47,4 +47,5 @@ enterSheet sheet book edit room = after (askEnter sheet book edit room) (λ Z. a
 
 -- The scratch after it: after done or 41, which is when 1 to 33 have passed, the carried book at its start.
 unfoldable pub enterScratch : (sheet book edit scratch : List ℕ) → List ℕ
-enterScratch sheet book edit scratch = after (askCarried sheet book edit (length scratch)) (λ c. writtenAtStart (bookCode (c .rules)) scratch) scratch
+enterScratch sheet book edit scratch =
+    after (askCarried sheet book edit (length scratch)) (λ c. writtenAtStart (bookCode (c .rules)) scratch) scratch

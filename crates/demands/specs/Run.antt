@@ -38,7 +38,12 @@ fed c = record { edit = c .edit; room = length (c .scratch) }
 
 -- One call of enter.
 abbrev pub enterLine : (book sheet : List ℕ) → Call → Line
-enterLine book sheet c = record { edit = c .edit; answer = enterAnswer sheet book (c .edit) (length (c .scratch)); sheet = enterSheet sheet book (c .edit) (length (c .scratch)) }
+enterLine book sheet c =
+    record {
+      edit = c .edit;
+      answer = enterAnswer sheet book (c .edit) (length (c .scratch));
+      sheet = enterSheet sheet book (c .edit) (length (c .scratch));
+    }
 
 -- The log of a run: each call has the sheet as the call before it left it.
 unfoldable pub log : (book sheet : List ℕ) → List Call → List Line

@@ -19,8 +19,13 @@ use text::Text;
 // Judges the carried rules, which stand at the scratch's start up to `size`, on the sheet as it is, and makes the edit's steps when all hold.
 // Inner: the sheet is sound, and rules and edit were read for its n.
 fn settle(sheet: &mut [u8], edit: &[u8], scratch: &[u8], size: usize) -> Answer
-    requires { ⌜ Sound (now sheet) × SomeRulesStand (ranges (graphOf (now sheet) .n)) (now scratch) 0 size × SomeEditStands (ranges (graphOf (now sheet) .n)) (now edit) 0 ⌝ }
-    ensures { λ r. ⌜ ((rules : List (Expr rule)) (Z : Edit) → RulesStand (ranges (graphOf (now (sheet .entry)) .n)) (now (scratch .entry)) 0 size rules → EditStands (ranges (graphOf (now (sheet .entry)) .n)) (now (edit .entry)) 0 Z → Settled rules Z r (now (sheet .entry)) (now (sheet .exit))) ⌝ }
+    requires { ⌜ Sound (now sheet)
+        × SomeRulesStand (ranges (graphOf (now sheet) .n)) (now scratch) 0 size
+        × SomeEditStands (ranges (graphOf (now sheet) .n)) (now edit) 0 ⌝ }
+    ensures { λ r. ⌜ ((rules : List (Expr rule)) (Z : Edit)
+        → RulesStand (ranges (graphOf (now (sheet .entry)) .n)) (now (scratch .entry)) 0 size rules
+        → EditStands (ranges (graphOf (now (sheet .entry)) .n)) (now (edit .entry)) 0 Z
+        → Settled rules Z r (now (sheet .entry)) (now (sheet .exit))) ⌝ }
 {
     let verdict = judge::judge_rules(sheet, scratch, size);
     let answer = verdict.answer;
@@ -33,9 +38,12 @@ fn settle(sheet: &mut [u8], edit: &[u8], scratch: &[u8], size: usize) -> Answer
 
 // Enters an edit: all questions in order; the carried book into the scratch's start; judged there on the present sheet; then the steps.
 pub fn enter(sheet: &mut [u8], book: &[u8], edit: &[u8], scratch: &mut [u8]) -> Answer
-    ensures { λ r. ⌜ asked r ≡ enterAnswer (now (sheet .entry)) (now (book .entry)) (now (edit .entry)) (length (now (scratch .entry))) ⌝ }
-    ensures { λ _. ⌜ now (sheet .exit) ≡ enterSheet (now (sheet .entry)) (now (book .entry)) (now (edit .entry)) (length (now (scratch .entry))) ⌝ }
-    ensures { λ _. ⌜ now (scratch .exit) ≡ enterScratch (now (sheet .entry)) (now (book .entry)) (now (edit .entry)) (now (scratch .entry)) ⌝ }
+    ensures { λ r. ⌜ asked r
+        ≡ enterAnswer (now (sheet .entry)) (now (book .entry)) (now (edit .entry)) (length (now (scratch .entry))) ⌝ }
+    ensures { λ _. ⌜ now (sheet .exit)
+        ≡ enterSheet (now (sheet .entry)) (now (book .entry)) (now (edit .entry)) (length (now (scratch .entry))) ⌝ }
+    ensures { λ _. ⌜ now (scratch .exit)
+        ≡ enterScratch (now (sheet .entry)) (now (book .entry)) (now (edit .entry)) (now (scratch .entry)) ⌝ }
 {
     let sound = Sheet::check(sheet);
     let Answer::Done = sound else {

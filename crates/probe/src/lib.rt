@@ -79,7 +79,8 @@ pub extern "C" fn probe_sheet_check(sheet: &[u8]) -> Numbers
 
 #[no_mangle]
 pub extern "C" fn probe_blank(buf: &mut [u8], n: usize) -> Numbers
-    ensures { λ r. ⌜ (r .number ≡ askedNumber (askBlank n (length (now (buf .entry))))) × (r .place ≡ askedPlace (askBlank n (length (now (buf .entry))))) ⌝ }
+    ensures { λ r. ⌜ (r .number ≡ askedNumber (askBlank n (length (now (buf .entry)))))
+        × (r .place ≡ askedPlace (askBlank n (length (now (buf .entry))))) ⌝ }
     ensures { λ _. ⌜ now (buf .exit) ≡ after (askBlank n (length (now (buf .entry)))) (λ _. store (blank n)) (now (buf .entry)) ⌝ }
 {
     let a = Sheet::blank(buf, n);
@@ -91,21 +92,26 @@ pub extern "C" fn probe_blank(buf: &mut [u8], n: usize) -> Numbers
 
 #[no_mangle]
 pub extern "C" fn probe_label_bit(sheet: &[u8], label: u8, node: u8) -> BitNumbers
-    ensures { λ r. ⌜ (r .number ≡ askedNumber (askLabelBit (now (sheet .entry)) label node)) × (r .place ≡ askedPlace (askLabelBit (now (sheet .entry)) label node)) × (r .bit ≡ askedBit (askLabelBit (now (sheet .entry)) label node)) ⌝ }
+    ensures { λ r. ⌜ (r .number ≡ askedNumber (askLabelBit (now (sheet .entry)) label node))
+        × (r .place ≡ askedPlace (askLabelBit (now (sheet .entry)) label node))
+        × (r .bit ≡ askedBit (askLabelBit (now (sheet .entry)) label node)) ⌝ }
 {
     bit_numbers(Sheet::label_bit(sheet, Label(label), Node(node)))
 }
 
 #[no_mangle]
 pub extern "C" fn probe_arrow_bit(sheet: &[u8], arrow: u8, from: u8, to: u8) -> BitNumbers
-    ensures { λ r. ⌜ (r .number ≡ askedNumber (askArrowBit (now (sheet .entry)) arrow from to)) × (r .place ≡ askedPlace (askArrowBit (now (sheet .entry)) arrow from to)) × (r .bit ≡ askedBit (askArrowBit (now (sheet .entry)) arrow from to)) ⌝ }
+    ensures { λ r. ⌜ (r .number ≡ askedNumber (askArrowBit (now (sheet .entry)) arrow from to))
+        × (r .place ≡ askedPlace (askArrowBit (now (sheet .entry)) arrow from to))
+        × (r .bit ≡ askedBit (askArrowBit (now (sheet .entry)) arrow from to)) ⌝ }
 {
     bit_numbers(Sheet::arrow_bit(sheet, Arrow(arrow), Node(from), Node(to)))
 }
 
 #[no_mangle]
 pub extern "C" fn probe_book(book: &[u8], n: usize) -> Numbers
-    ensures { λ r. ⌜ (r .number ≡ askedNumber (askBook (textLimits n) (now (book .entry)))) × (r .place ≡ askedPlace (askBook (textLimits n) (now (book .entry)))) ⌝ }
+    ensures { λ r. ⌜ (r .number ≡ askedNumber (askBook (textLimits n) (now (book .entry))))
+        × (r .place ≡ askedPlace (askBook (textLimits n) (now (book .entry)))) ⌝ }
 {
     let a = Text::check_book(book, n);
     Numbers {
@@ -116,7 +122,8 @@ pub extern "C" fn probe_book(book: &[u8], n: usize) -> Numbers
 
 #[no_mangle]
 pub extern "C" fn probe_edit(edit: &[u8], n: usize) -> Numbers
-    ensures { λ r. ⌜ (r .number ≡ askedNumber (askEdit (textLimits n) (now (edit .entry)))) × (r .place ≡ askedPlace (askEdit (textLimits n) (now (edit .entry)))) ⌝ }
+    ensures { λ r. ⌜ (r .number ≡ askedNumber (askEdit (textLimits n) (now (edit .entry))))
+        × (r .place ≡ askedPlace (askEdit (textLimits n) (now (edit .entry)))) ⌝ }
 {
     let a = Text::check_edit(edit, n);
     Numbers {
@@ -127,7 +134,9 @@ pub extern "C" fn probe_edit(edit: &[u8], n: usize) -> Numbers
 
 #[no_mangle]
 pub extern "C" fn probe_first_rule(text: &[u8]) -> PartNumbers
-    ensures { λ r. ⌜ (r .number ≡ askedNumber (askRuleEnd (now (text .entry)))) × (r .place ≡ askedPlace (askRuleEnd (now (text .entry)))) × (r .length ≡ length (firstRule (now (text .entry)))) ⌝ }
+    ensures { λ r. ⌜ (r .number ≡ askedNumber (askRuleEnd (now (text .entry))))
+        × (r .place ≡ askedPlace (askRuleEnd (now (text .entry))))
+        × (r .length ≡ length (firstRule (now (text .entry)))) ⌝ }
 {
     let a = Text::first_rule_answer(text);
     let rule = Text::first_rule(text);
@@ -147,7 +156,8 @@ pub extern "C" fn probe_rule_start(book: &[u8], n: usize, i: usize) -> usize
 
 #[no_mangle]
 pub extern "C" fn probe_apply(sheet: &mut [u8], edit: &[u8]) -> Numbers
-    ensures { λ r. ⌜ (r .number ≡ askedNumber (askApply (now (sheet .entry)) (now (edit .entry)))) × (r .place ≡ askedPlace (askApply (now (sheet .entry)) (now (edit .entry)))) ⌝ }
+    ensures { λ r. ⌜ (r .number ≡ askedNumber (askApply (now (sheet .entry)) (now (edit .entry))))
+        × (r .place ≡ askedPlace (askApply (now (sheet .entry)) (now (edit .entry)))) ⌝ }
     ensures { λ _. ⌜ now (sheet .exit) ≡ appliedSheet (now (sheet .entry)) (now (edit .entry)) ⌝ }
 {
     let a = apply::apply(sheet, edit);

@@ -45,7 +45,9 @@ pub extern "C" fn zamiathen_judge(sheet: &[u8], book: &[u8]) -> Judged
 
 // The numbers of what carry back answers.
 fn carried_numbers(carried: Carried) -> CarriedBack
-    ensures { λ r. ⌜ (r .number ≡ askedNumber (carriedAsked carried)) × (r .place ≡ askedPlace (carriedAsked carried)) × (r .length ≡ carriedLength (carriedAsked carried)) ⌝ }
+    ensures { λ r. ⌜ (r .number ≡ askedNumber (carriedAsked carried))
+        × (r .place ≡ askedPlace (carriedAsked carried))
+        × (r .length ≡ carriedLength (carriedAsked carried)) ⌝ }
 {
     match carried {
         Carried::Length(n) => CarriedBack {
