@@ -58,12 +58,13 @@ fn arrow_step(sheet: &mut [u8], n: usize, all: u64, edit: &[u8], at: usize) -> u
 {
     let c = edit[at];
     let a = Arrow(edit[at + 1]);
-    let r = eval::eval_arrow(sheet, n, all, edit, at + 2);
-    let old = rows::arrow_rows(sheet, n, a);
-    let new = r.rows;
-    let rows = rows::combined_rows(arrow_code(c), n, old, new);
+    let mut new = [0u64; 64];
+    let next = eval::eval_arrow(sheet, n, all, edit, at + 2, &mut new);
+    let mut rows = [0u64; 64];
+    rows::arrow_rows(sheet, n, a, &mut rows);
+    rows::combine_rows(arrow_code(c), n, &mut rows, &new);
     Sheet::put_rows(sheet, a, rows);
-    r.next
+    next
 }
 
 // 35: P where its rule holds, else Q; the other is passed over.

@@ -1,8 +1,9 @@
 // Evaluating expressions and rules where they stand in a text, on the graph that a sheet stores.
 // Inner, all of them: the sheet is sound, and an expression in range stands at `at`. Levels have no bound here.
+// A relation is put into `out`, which is 64 zeros before; what is returned is then where the text goes on.
 ghost use mathlib.Core.Path.{_≡_};
 ghost use Prim.Native.Nat.{ℕ, _<_, _≤_};
-ghost use lib.ListN.{getD};
+ghost use lib.ListN.{length, getD, replicate};
 ghost use Rattle.logic.specs.Syntax.{Expr, «node», arrow, rule};
 ghost use Rattle.logic.specs.Limits.{ranges};
 ghost use Rattle.text.specs.Stands.{Stands, SomeStands};
@@ -15,11 +16,6 @@ use sheet::Sheet;
 // A set of nodes, and where the text goes on.
 pub struct NodeSet {
     pub set: u64,
-    pub next: usize,
-}
-
-pub struct Relation {
-    pub rows: [u64; 64],
     pub next: usize,
 }
 
@@ -58,21 +54,21 @@ fn leaf_node(sheet: &[u8], n: usize, all: u64, text: &[u8], at: usize) -> NodeSe
 }
 
 // 11.
-fn arrow_kind(sheet: &[u8], n: usize, all: u64, text: &[u8], at: usize) -> Relation
-    requires { ⌜ Opened (now sheet) n all × SomeStands (ranges n) (now text) at arrow × (getD (now text) at 0 ≤ 0x11) ⌝ }
-    ensures { λ r. ⌜ ((e : Expr arrow) → Stands (ranges n) (now (text .entry)) at e → IsRelation (now (sheet .entry)) n at e (r .rows) (r .next)) ⌝ }
+fn arrow_kind(sheet: &[u8], n: usize, all: u64, text: &[u8], at: usize, out: &mut [u64]) -> usize
+    requires { ⌜ Opened (now sheet) n all × SomeStands (ranges n) (now text) at arrow × (getD (now text) at 0 ≤ 0x11) × (now out ≡ replicate 64 0) ⌝ }
+    ensures { λ r. ⌜ ((e : Expr arrow) → Stands (ranges n) (now (text .entry)) at e → IsRelation (now (sheet .entry)) n at e (now (out .exit)) r) × (length (now (out .exit)) ≡ 64) ⌝ }
 {
-    let rows = rows::arrow_rows(sheet, n, Arrow(text[at + 1]));
-    Relation { rows, next: at + 2 }
+    rows::arrow_rows(sheet, n, Arrow(text[at + 1]), out);
+    at + 2
 }
 
 // 17.
-fn one_pair(sheet: &[u8], n: usize, all: u64, text: &[u8], at: usize) -> Relation
-    requires { ⌜ Opened (now sheet) n all × SomeStands (ranges n) (now text) at arrow × (0x16 < getD (now text) at 0) ⌝ }
-    ensures { λ r. ⌜ ((e : Expr arrow) → Stands (ranges n) (now (text .entry)) at e → IsRelation (now (sheet .entry)) n at e (r .rows) (r .next)) ⌝ }
+fn one_pair(sheet: &[u8], n: usize, all: u64, text: &[u8], at: usize, out: &mut [u64]) -> usize
+    requires { ⌜ Opened (now sheet) n all × SomeStands (ranges n) (now text) at arrow × (0x16 < getD (now text) at 0) × (now out ≡ replicate 64 0) ⌝ }
+    ensures { λ r. ⌜ ((e : Expr arrow) → Stands (ranges n) (now (text .entry)) at e → IsRelation (now (sheet .entry)) n at e (now (out .exit)) r) × (length (now (out .exit)) ≡ 64) ⌝ }
 {
-    let rows = rows::pair(all, Node(text[at + 1]), Node(text[at + 2]));
-    Relation { rows, next: at + 3 }
+    rows::pair_rows(all, Node(text[at + 1]), Node(text[at + 2]), out);
+    at + 3
 }
 
 // How far behind the code of a quantifier its operands stand: 0A and 0B have a count between.
@@ -106,47 +102,48 @@ pub fn eval_node(sheet: &[u8], n: usize, all: u64, text: &[u8], at: usize) -> No
     } else {
         let k = ahead(c);
         let m = text[at + k - 1];
-        let r = eval_arrow(sheet, n, all, text, at + k);
-        let e = eval_node(sheet, n, all, text, r.next);
-        let rows = r.rows;
+        let mut rows = [0u64; 64];
+        let second = eval_arrow(sheet, n, all, text, at + k, &mut rows);
+        let e = eval_node(sheet, n, all, text, second);
         NodeSet {
-            set: rows::quantified(c, m, n, all, rows, e.set),
+            set: rows::quantified(c, m, n, all, &rows, e.set),
             next: e.next,
         }
     }
 }
 
 // The relation that an arrow expression means.
-pub fn eval_arrow(sheet: &[u8], n: usize, all: u64, text: &[u8], at: usize) -> Relation
-    requires { ⌜ Opened (now sheet) n all × SomeStands (ranges n) (now text) at arrow ⌝ }
-    ensures { λ r. ⌜ ((e : Expr arrow) → Stands (ranges n) (now (text .entry)) at e → IsRelation (now (sheet .entry)) n at e (r .rows) (r .next)) ⌝ }
+pub fn eval_arrow(
+    sheet: &[u8],
+    n: usize,
+    all: u64,
+    text: &[u8],
+    at: usize,
+    out: &mut [u64],
+) -> usize
+    requires { ⌜ Opened (now sheet) n all × SomeStands (ranges n) (now text) at arrow × (now out ≡ replicate 64 0) ⌝ }
+    ensures { λ r. ⌜ ((e : Expr arrow) → Stands (ranges n) (now (text .entry)) at e → IsRelation (now (sheet .entry)) n at e (now (out .exit)) r) × (length (now (out .exit)) ≡ 64) ⌝ }
 {
     let c = text[at];
     if c <= 0x11 {
-        arrow_kind(sheet, n, all, text, at)
+        arrow_kind(sheet, n, all, text, at, out)
     } else if c <= 0x12 {
-        let r = eval_arrow(sheet, n, all, text, at + 1);
-        let rows = r.rows;
-        let back = rows::reversed(n, rows);
-        Relation {
-            rows: back,
-            next: r.next,
-        }
+        let next = eval_arrow(sheet, n, all, text, at + 1, out);
+        rows::reverse_rows(n, out);
+        next
     } else if c <= 0x15 {
-        let r = eval_arrow(sheet, n, all, text, at + 1);
-        let s = eval_arrow(sheet, n, all, text, r.next);
-        let first = r.rows;
-        let second = s.rows;
-        let rows = rows::combined_rows(c, n, first, second);
-        Relation { rows, next: s.next }
+        let second = eval_arrow(sheet, n, all, text, at + 1, out);
+        let mut other = [0u64; 64];
+        let next = eval_arrow(sheet, n, all, text, second, &mut other);
+        rows::combine_rows(c, n, out, &other);
+        next
     } else if c <= 0x16 {
-        let r = eval_arrow(sheet, n, all, text, at + 1);
-        let e = eval_node(sheet, n, all, text, r.next);
-        let first = r.rows;
-        let rows = rows::ending(n, first, e.set);
-        Relation { rows, next: e.next }
+        let second = eval_arrow(sheet, n, all, text, at + 1, out);
+        let e = eval_node(sheet, n, all, text, second);
+        rows::end_rows(n, out, e.set);
+        e.next
     } else {
-        one_pair(sheet, n, all, text, at)
+        one_pair(sheet, n, all, text, at, out)
     }
 }
 
@@ -168,13 +165,13 @@ fn sub_arrows(sheet: &[u8], n: usize, all: u64, text: &[u8], at: usize) -> Truth
     requires { ⌜ Opened (now sheet) n all × SomeStands (ranges n) (now text) at rule × (0x21 < getD (now text) at 0) × (getD (now text) at 0 ≤ 0x22) ⌝ }
     ensures { λ r. ⌜ ((e : Expr rule) → Stands (ranges n) (now (text .entry)) at e → IsTruth (now (sheet .entry)) at e (r .holds) (r .next)) ⌝ }
 {
-    let r = eval_arrow(sheet, n, all, text, at + 1);
-    let s = eval_arrow(sheet, n, all, text, r.next);
-    let first = r.rows;
-    let second = s.rows;
+    let mut rows = [0u64; 64];
+    let second = eval_arrow(sheet, n, all, text, at + 1, &mut rows);
+    let mut other = [0u64; 64];
+    let next = eval_arrow(sheet, n, all, text, second, &mut other);
     Truth {
-        holds: rows::rows_in(n, first, second),
-        next: s.next,
+        holds: rows::rows_in(n, &rows, &other),
+        next,
     }
 }
 
@@ -195,11 +192,28 @@ fn pair_in(sheet: &[u8], n: usize, all: u64, text: &[u8], at: usize) -> Truth
     requires { ⌜ Opened (now sheet) n all × SomeStands (ranges n) (now text) at rule × (0x23 < getD (now text) at 0) × (getD (now text) at 0 ≤ 0x24) ⌝ }
     ensures { λ r. ⌜ ((e : Expr rule) → Stands (ranges n) (now (text .entry)) at e → IsTruth (now (sheet .entry)) at e (r .holds) (r .next)) ⌝ }
 {
-    let r = eval_arrow(sheet, n, all, text, at + 3);
-    let rows = r.rows;
+    let mut rows = [0u64; 64];
+    let next = eval_arrow(sheet, n, all, text, at + 3, &mut rows);
     Truth {
-        holds: rows::pair_in(rows, Node(text[at + 1]), Node(text[at + 2])),
-        next: r.next,
+        holds: rows::pair_in(&rows, Node(text[at + 1]), Node(text[at + 2])),
+        next,
+    }
+}
+
+// 21 to 24: the rules without a rule inside. A function of its own, so that a level of 25, 26 or 27 has no relation on the stack.
+fn leaf_rule(sheet: &[u8], n: usize, all: u64, text: &[u8], at: usize) -> Truth
+    requires { ⌜ Opened (now sheet) n all × SomeStands (ranges n) (now text) at rule × (getD (now text) at 0 ≤ 0x24) ⌝ }
+    ensures { λ r. ⌜ ((e : Expr rule) → Stands (ranges n) (now (text .entry)) at e → IsTruth (now (sheet .entry)) at e (r .holds) (r .next)) ⌝ }
+{
+    let c = text[at];
+    if c <= 0x21 {
+        sub_nodes(sheet, n, all, text, at)
+    } else if c <= 0x22 {
+        sub_arrows(sheet, n, all, text, at)
+    } else if c <= 0x23 {
+        node_in(sheet, n, all, text, at)
+    } else {
+        pair_in(sheet, n, all, text, at)
     }
 }
 
@@ -216,14 +230,8 @@ pub fn eval_rule(sheet: &[u8], n: usize, all: u64, text: &[u8], at: usize) -> Tr
     ensures { λ r. ⌜ ((e : Expr rule) → Stands (ranges n) (now (text .entry)) at e → IsTruth (now (sheet .entry)) at e (r .holds) (r .next)) ⌝ }
 {
     let c = text[at];
-    if c <= 0x21 {
-        sub_nodes(sheet, n, all, text, at)
-    } else if c <= 0x22 {
-        sub_arrows(sheet, n, all, text, at)
-    } else if c <= 0x23 {
-        node_in(sheet, n, all, text, at)
-    } else if c <= 0x24 {
-        pair_in(sheet, n, all, text, at)
+    if c <= 0x24 {
+        leaf_rule(sheet, n, all, text, at)
     } else if c <= 0x26 {
         let k = eval_rule(sheet, n, all, text, at + 1);
         let l = eval_rule(sheet, n, all, text, k.next);

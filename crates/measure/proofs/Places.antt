@@ -1,5 +1,5 @@
 -- What stands in a text at the place of a tree.
-use mathlib.Core.Path.{_≡_, refl, sym, ap, _∙_, subst}
+use mathlib.Core.Path.{_≡_, refl, sym, ap, _∙_}
 use mathlib.Core.List.{List, [], _∷_, _++_, append-assoc}
 use mathlib.Core.Logic.{⊎-elim}
 use Prim.Native.Nat.{ℕ, _+_, _-_, _%_, _≤_, _<_}
@@ -27,12 +27,12 @@ byte-head text at (x ∷ h) l p e = byte-at text at x (h ++ l) e
 
 -- what the table says of a tree's first byte
 abbrev pub tag : Tree → ℕ
-tag (name c k) = 16
+tag (name c k) = 18
 tag (leaf h) = length h
 tag (one h x) = length h + 4
 tag (two h x y) = length h + 8
 
-shape-named : (c k : ℕ) → Named c k → shapeOf c ≡ 16
+shape-named : (c k : ℕ) → Named c k → shapeOf c ≡ 18
 unfolding shapes
 shape-named c k n = ⊎-elim (λ (p : (c ≡ 0x03) × (k < 48)). ap shapeOf (p .0)) (λ (p : (c ≡ 0x11) × (k < 16)). ap shapeOf (p .0)) n
 
@@ -92,7 +92,7 @@ module _ (text : List ℕ) (at : ℕ) where
     pub second : (next : ℕ) → next ≡ at + shapeOf (getD text at 0) % 4 + size x → At text next y
     pub room : at + length h + size x + size y ≤ length text
 
-  pub as-name : (t : Tree) → At text at t → shapeOf (getD text at 0) ≡ 16 → IsName t
+  pub as-name : (t : Tree) → At text at t → 16 ≤ shapeOf (getD text at 0) → IsName t
   unfolding bytes Formed size
   as-name (name c k) h s = record {
     c = c;
@@ -107,18 +107,18 @@ module _ (text : List ℕ) (at : ℕ) where
   as-name (one l x) h s = absurd (omega (arith, tag-at text at (one l x) h, h .formed .0 .short))
   as-name (two l x y) h s = absurd (omega (arith, tag-at text at (two l x y) h, h .formed .0 .short))
 
-  pub as-leaf : (t : Tree) → At text at t → (shapeOf (getD text at 0) ≡ 16 → ⊥) → shapeOf (getD text at 0) < 4 → IsLeaf t
+  pub as-leaf : (t : Tree) → At text at t → shapeOf (getD text at 0) < 4 → IsLeaf t
   unfolding bytes Formed size
-  as-leaf (name c k) h n s = absurd (n (tag-at text at (name c k) h))
-  as-leaf (leaf l) h n s = record { h = l; is = refl; head = omega (arith, tag-at text at (leaf l) h, h .formed .short); room = omega (arith, fits text at (leaf l) h, inside text at (leaf l) h) }
-  as-leaf (one l x) h n s = absurd (omega (arith, tag-at text at (one l x) h, h .formed .0 .short))
-  as-leaf (two l x y) h n s = absurd (omega (arith, tag-at text at (two l x y) h, h .formed .0 .short))
+  as-leaf (name c k) h s = absurd (omega (arith, tag-at text at (name c k) h))
+  as-leaf (leaf l) h s = record { h = l; is = refl; head = omega (arith, tag-at text at (leaf l) h, h .formed .short); room = omega (arith, fits text at (leaf l) h, inside text at (leaf l) h) }
+  as-leaf (one l x) h s = absurd (omega (arith, tag-at text at (one l x) h, h .formed .0 .short))
+  as-leaf (two l x y) h s = absurd (omega (arith, tag-at text at (two l x y) h, h .formed .0 .short))
 
-  pub as-one : (t : Tree) → At text at t → (shapeOf (getD text at 0) ≡ 16 → ⊥) → 4 ≤ shapeOf (getD text at 0) → shapeOf (getD text at 0) < 8 → IsOne t
+  pub as-one : (t : Tree) → At text at t → 4 ≤ shapeOf (getD text at 0) → shapeOf (getD text at 0) < 8 → IsOne t
   unfolding bytes Formed size
-  as-one (name c k) h n s u = absurd (n (tag-at text at (name c k) h))
-  as-one (leaf l) h n s u = absurd (omega (arith, tag-at text at (leaf l) h, h .formed .short))
-  as-one (one l x) h n s u =
+  as-one (name c k) h s u = absurd (omega (arith, tag-at text at (name c k) h))
+  as-one (leaf l) h s u = absurd (omega (arith, tag-at text at (leaf l) h, h .formed .short))
+  as-one (one l x) h s u =
       let e : length l ≡ shapeOf (getD text at 0) % 4 = omega (arith, tag-at text at (one l x) h, h .formed .0 .short) in
       record {
         h = l;
@@ -129,11 +129,11 @@ module _ (text : List ℕ) (at : ℕ) where
         first = record { rest = h .rest; here = ap (λ (n : ℕ). drop (at + n) text) (sym e) ∙ behind text at l (bytes x ++ h .rest) (h .here ∙ append-assoc l (bytes x) (h .rest)); formed = h .formed .1 };
         room = omega (arith, fits text at (one l x) h, inside text at (one l x) h);
       }
-  as-one (two l x y) h n s u = absurd (omega (arith, tag-at text at (two l x y) h, h .formed .0 .short, h .formed .0 .pos))
+  as-one (two l x y) h s u = absurd (omega (arith, tag-at text at (two l x y) h, h .formed .0 .short, h .formed .0 .pos))
 
-  pub as-two : (t : Tree) → At text at t → (shapeOf (getD text at 0) ≡ 16 → ⊥) → 8 ≤ shapeOf (getD text at 0) → IsTwo t
+  pub as-two : (t : Tree) → At text at t → shapeOf (getD text at 0) < 16 → 8 ≤ shapeOf (getD text at 0) → IsTwo t
   unfolding bytes Formed size
-  as-two (name c k) h n s = absurd (n (tag-at text at (name c k) h))
+  as-two (name c k) h n s = absurd (omega (arith, tag-at text at (name c k) h))
   as-two (leaf l) h n s = absurd (omega (arith, tag-at text at (leaf l) h, h .formed .short))
   as-two (one l x) h n s = absurd (omega (arith, tag-at text at (one l x) h, h .formed .0 .short))
   as-two (two l x y) h n s =
@@ -159,34 +159,9 @@ module _ (text : List ℕ) (at : ℕ) where
     pub head : 0 < shapeOf (getD text at 0) % 4
     pub room : at + shapeOf (getD text at 0) % 4 < length text
 
-  pub as-any : (t : Tree) → At text at t → (shapeOf (getD text at 0) ≡ 16 → ⊥) → 4 ≤ shapeOf (getD text at 0) → IsAny t
+  pub as-any : (t : Tree) → At text at t → shapeOf (getD text at 0) < 16 → 4 ≤ shapeOf (getD text at 0) → IsAny t
   as-any t h n s = go (decLt (shapeOf (getD text at 0)) 8)
     where
       go : Dec (shapeOf (getD text at 0) < 8) → IsAny t
-      go (yes l) = let q = as-one t h n s l in record { x = q .x; first = q .first; head = omega (arith, q .head, q .pos); room = inside text _ (q .x) (q .first) }
+      go (yes l) = let q = as-one t h s l in record { x = q .x; first = q .first; head = omega (arith, q .head, q .pos); room = inside text _ (q .x) (q .first) }
       go (no l) = let q = as-two t h n (omega arith) in record { x = q .x; first = q .first; head = omega (arith, q .head, q .pos); room = inside text _ (q .x) (q .first) }
-
-  module _ (s first : ℕ) (e : s ≡ shapeOf (getD text at 0)) (f : first ≡ at + s % 4) where
-    start : first ≡ at + shapeOf (getD text at 0) % 4
-    start = f ∙ ap (λ (x : ℕ). at + x % 4) e
-
-    pub leaf-size : (t : Tree) → IsLeaf t → first ≡ at + size t
-    unfolding size
-    leaf-size t q = start ∙ ap (λ (x : ℕ). at + x) (sym (q .head)) ∙ ap (λ (u : Tree). at + size u) (sym (q .is))
-
-    pub one-size : (t : Tree) → IsOne t → (next : ℕ) → ((x : Tree) → At text first x → next ≡ first + size x) → next ≡ at + size t
-    unfolding size
-    one-size t q next r =
-        let a : next ≡ first + size (q .x) = r (q .x) (subst (λ (p : ℕ). At text p (q .x)) (sym start) (q .first)) in
-        (let g : next ≡ at + (length (q .h) + size (q .x)) = omega (arith, a, start, q .head) in g) ∙ ap (λ (u : Tree). at + size u) (sym (q .is))
-
-    pub two-size : (t : Tree) → IsTwo t → (second next : ℕ) → ((x : Tree) → At text first x → second ≡ first + size x) → ((x : Tree) → At text second x → next ≡ second + size x) → next ≡ at + size t
-    unfolding size
-    two-size t q second next r r′ =
-        let a : second ≡ first + size (q .x) = r (q .x) (subst (λ (p : ℕ). At text p (q .x)) (sym start) (q .first)) in
-        let b : next ≡ second + size (q .y) = r′ (q .y) (q .second second (a ∙ ap (λ (p : ℕ). p + size (q .x)) start)) in
-        (let g : next ≡ at + (length (q .h) + (size (q .x) + size (q .y))) = omega (arith, a, b, start, q .head) in g) ∙ ap (λ (u : Tree). at + size u) (sym (q .is))
-
-  pub name-size : (t : Tree) → IsName t → at + 2 ≡ at + size t
-  unfolding size
-  name-size t q = ap (λ (u : Tree). at + size u) (sym (q .is))

@@ -1,4 +1,4 @@
--- How each code goes on: its length with its numbers, plus 4 for each operand; 16 for a name; 0 for no code of an expression.
+-- How each code goes on: its length with its numbers, plus 4 for each operand, plus 16 for a name; 0 for no code of an expression.
 use mathlib.Core.Path.{_≡_}
 use mathlib.Core.List.{List, [], _∷_, _++_}
 use mathlib.Core.Logic.{_⊎_}
@@ -8,8 +8,8 @@ use Rattle.tree.specs.Tree.{Tree, name, leaf, one, two, bytes}
 
 unfoldable pub shapes : List ℕ
 shapes =
-    0 ∷ 1 ∷ 1 ∷ 16 ∷ 2 ∷ 5 ∷ 9 ∷ 9 ∷ 9 ∷ 9 ∷ 10 ∷ 10 ∷ 0 ∷ 0 ∷ 0 ∷ 0
-    ∷ 0 ∷ 16 ∷ 5 ∷ 9 ∷ 9 ∷ 9 ∷ 9 ∷ 3 ∷ 0 ∷ 0 ∷ 0 ∷ 0 ∷ 0 ∷ 0 ∷ 0 ∷ 0
+    0 ∷ 1 ∷ 1 ∷ 18 ∷ 2 ∷ 5 ∷ 9 ∷ 9 ∷ 9 ∷ 9 ∷ 10 ∷ 10 ∷ 0 ∷ 0 ∷ 0 ∷ 0
+    ∷ 0 ∷ 18 ∷ 5 ∷ 9 ∷ 9 ∷ 9 ∷ 9 ∷ 3 ∷ 0 ∷ 0 ∷ 0 ∷ 0 ∷ 0 ∷ 0 ∷ 0 ∷ 0
     ∷ 0 ∷ 9 ∷ 9 ∷ 6 ∷ 7 ∷ 9 ∷ 9 ∷ 5 ∷ []
 
 abbrev pub shapeOf : ℕ → ℕ

@@ -6,7 +6,7 @@
 ghost use mathlib.Core.Path.{_≡_};
 ghost use mathlib.Core.Bool.{cond};
 ghost use mathlib.Core.List.{List};
-ghost use Prim.Native.Nat.{ℕ, _+_, _*_, _/_, _<_, _≤_, max};
+ghost use Prim.Native.Nat.{ℕ, _+_, _*_, _/_, _%_, _^_, _<_, _≤_, max};
 ghost use lib.Dec.{eqb, ltb};
 ghost use lib.ListN.{length, getD, set, replicate};
 ghost use Rattle.logic.specs.Syntax.{Edit, Expr, rule};
@@ -18,55 +18,38 @@ ghost use Rattle.measure.specs.State.{Scanned};
 ghost use Rattle.measure.specs.Edits.{EditAt, SomeEdit, EditRoom, StepRoom, Held, Stepped, Prefixed, Backed, PutBefore, EndBefore, NextAt, Pushed, Merged, Kept, Joined};
 ghost use Rattle.measure.specs.Book.{RuleAt, SomeRule, BookIs, SomeBook, RuleAdded, BookAdded, RuleSized, BookSized, BookKept};
 
-// How each code goes on: the length of the code byte with its numbers, plus 4 for each operand; 16 for a name (03, 11); 0 for no code.
-const SHAPES: [usize; 40] = [
-    0,
-    1,
-    1,
-    16,
-    2,
-    5,
-    9,
-    9,
-    9,
-    9,
-    10,
-    10,
-    0,
-    0,
-    0,
-    0,
-    0,
-    16,
-    5,
-    9,
-    9,
-    9,
-    9,
-    3,
-    0,
-    0,
-    0,
-    0,
-    0,
-    0,
-    0,
-    0,
-    0,
-    9,
-    9,
-    6,
-    7,
-    9,
-    9,
-    5,
-];
+// How each code goes on: the length of the code byte with its numbers, plus 4 for each operand, plus 16 for a name (03, 11); 0 for no code.
+// The table is in specs/Shapes.antt. Here it is a word for each binary digit of its entries, with a bit for each code: a table of 40 entries
+// would be stored anew at each use.
+const ONES: u64 = 0xF600FC03E6;
 
+const TWOS: u64 = 0x1800820C18;
+
+const FOURS: u64 = 0x9800040020;
+
+const EIGHTS: u64 = 0x6600780FC0;
+
+const SIXTEENS: u64 = 0x20008;
+
+// The bit of a code in a word.
+// Inner: asks for a code of the table.
+fn digit(word: u64, code: u8) -> usize
+    requires { ⌜ code < 40 ⌝ }
+    ensures { λ r. ⌜ r ≡ word / 2 ^ code % 2 ⌝ }
+{
+    (word >> code) as usize % 2
+}
+
+// Inner: asks for a code of the table.
 pub fn shape(code: u8) -> usize
+    requires { ⌜ code < 40 ⌝ }
     ensures { λ r. ⌜ r ≡ shapeOf code ⌝ }
 {
-    let at = code as usize;
-    if at < 40 { SHAPES[at] } else { 0 }
+    digit(ONES, code)
+        + 2 * digit(TWOS, code)
+        + 4 * digit(FOURS, code)
+        + 8 * digit(EIGHTS, code)
+        + 16 * digit(SIXTEENS, code)
 }
 
 // The larger number.
@@ -136,7 +119,7 @@ fn scan(text: &[u8], at: usize, w: usize, v: usize, state: &mut [usize]) -> usiz
     let c = text[at];
     let s = shape(c);
     rise(state, v);
-    if s == 16 {
+    if s >= 16 {
         touch(state, cell_of(c, text[at + 1]), w, v);
         return at + 2;
     }
@@ -188,26 +171,20 @@ fn step_back(text: &[u8], at: usize, state: &mut [usize])
     state[128] = sum(state[128], w * (extra(op) + (next - (at + 2))));
 }
 
-// The place behind the expression at `at`.
+// The place behind the expression at `at`: each code takes one from the expressions that are wanted, and adds its operands.
 // Inner: the text was read before.
 pub fn past(text: &[u8], at: usize) -> usize
     requires { ⌜ Some (now text) at ⌝ }
     ensures { λ r. ⌜ ((t : Tree) → At (now (text .entry)) at t → r ≡ at + size t) ⌝ }
 {
-    let c = text[at];
-    let s = shape(c);
-    if s == 16 {
-        return at + 2;
+    let mut p = at;
+    let mut wanted: usize = 1;
+    while 0 < wanted {
+        let s = shape(text[p]);
+        p += s % 4;
+        wanted = wanted - 1 + s / 4 % 4;
     }
-    let first = at + s % 4;
-    if s < 4 {
-        return first;
-    }
-    let second = past(text, first);
-    if s < 8 {
-        return second;
-    }
-    past(text, second)
+    p
 }
 
 // The place behind the first step of the edit at `at`.

@@ -18,20 +18,22 @@ use Rattle.sheet.specs.Sheet.{Rows}
 use Rattle.words.specs.Transpose.{Transposed}
 use Rattle.rows.specs.Operations.{nodeOperation, arrowOperation, quantified, quantifiedNodes, Masked}
 
--- The rows of l below i are f: what a loop that fills rows from the front has done.
-pub record Filled (i : ℕ) (l : List ℕ) (f : ℕ → ℕ) : Type 0 where
+-- What a loop that changes the rows a in place has done up to row i: below i they are f, from i on still those of a.
+pub record Changed (i : ℕ) (a l : List ℕ) (f : ℕ → ℕ) : Type 0 where
   pub row : (k : ℕ) → k < i → getD l k 0 ≡ f k
+  pub rest : (k : ℕ) → i ≤ k → getD l k 0 ≡ getD a k 0
 
-pub filled-none : {l : List ℕ} {f : ℕ → ℕ} → Filled 0 l f
-filled-none = record { row = λ k h. absurd (omega arith) }
+pub changed-none : {a : List ℕ} {f : ℕ → ℕ} → Changed 0 a a f
+changed-none = record { row = λ k h. absurd (omega arith); rest = λ k h. refl }
 
-pub filled-more : {i : ℕ} {l : List ℕ} {f : ℕ → ℕ} {v : ℕ} → i < length l → Filled i l f → v ≡ f i → Filled (i + 1) (set l i v) f
-filled-more {i} {l} {f} {v} h all e =
+pub changed-more : {i : ℕ} {a l : List ℕ} {f : ℕ → ℕ} {v : ℕ} → i < length l → Changed i a l f → v ≡ f i → Changed (i + 1) a (set l i v) f
+changed-more {i} {l = l} {f = f} {v = v} h c e =
     record {
       row = λ k lt. ⊎-elim
           (λ (q : k ≡ i). ap (λ (j : ℕ). getD (set l i v) j 0) q ∙ getD-set-same l i v 0 h ∙ e ∙ ap f (sym q))
-          (λ (q : k < i). getD-set-other l i k v 0 (λ z. omega arith) ∙ all .row k q)
+          (λ (q : k < i). getD-set-other l i k v 0 (λ z. omega arith) ∙ c .row k q)
           (eq-or-lt-of-le (le-of-suc-le-suc (rw add-one at lt)));
+      rest = λ k b. getD-set-other l i k v 0 (λ z. omega arith) ∙ c .rest k (omega arith);
     }
 
 -- what is at each index of zeros
@@ -130,10 +132,10 @@ combined-wide n p q h =
     go true b c = refl
     go false b c = refl
 
-module _ {n : ℕ} {v w : Pairs} {a b r : List ℕ} where
-  pub rows-combined : (c : ℕ) → n ≤ 64 → Rows n v a → Rows n w b → Filled n r (λ i. combined (arrowOperation c) (getD a i 0) (getD b i 0)) → Rows n (λ i j. arrowOperation c (v i j) (w i j)) r
-  rows-combined c h p q f =
-      record { row = λ i l. f .row i l ∙ ap₂ (combined (arrowOperation c)) (p .row i l) (q .row i l) ∙ combined-sets (arrowOperation c) (arrow-operation-none c) n (v i) (w i) h }
+module _ {n k : ℕ} {v w : Pairs} {a b r : List ℕ} where
+  pub rows-combined : (c : ℕ) → n ≤ 64 → n ≤ k → Rows n v a → Rows n w b → Changed k a r (λ i. combined (arrowOperation c) (getD a i 0) (getD b i 0)) → Rows n (λ i j. arrowOperation c (v i j) (w i j)) r
+  rows-combined c h e p q f =
+      record { row = λ i l. f .row i (omega arith) ∙ ap₂ (combined (arrowOperation c)) (p .row i l) (q .row i l) ∙ combined-sets (arrowOperation c) (arrow-operation-none c) n (v i) (w i) h }
 
 module _ {n : ℕ} {v : Pairs} {a r : List ℕ} where
   pub rows-ending : (w : Nodes) (e : ℕ) → n ≤ 64 → Rows n v a → e ≡ setOf n w → Masked n a e r → Rows n (λ i j. v i j && w j) r
@@ -158,7 +160,7 @@ module _ {n : ℕ} {v : Pairs} {a r : List ℕ} where
       swap false false = refl
 
 -- 11
-pub rows-of-arrow : {n m i : ℕ} {v : Pairs} {r : List ℕ} → n ≡ m → n ≤ i → Filled i r (λ k. setOf m (v k)) → Rows n v r
+pub rows-of-arrow : {n m i : ℕ} {v : Pairs} {a r : List ℕ} → n ≡ m → n ≤ i → Changed i a r (λ k. setOf m (v k)) → Rows n v r
 rows-of-arrow {n} {m} {i} {v} e h f = record { row = λ k l. f .row k (omega arith) ∙ ap (λ (j : ℕ). setOf j (v k)) (sym e) }
 
 -- 17
@@ -169,8 +171,8 @@ module _ (n i j all : ℕ) (nodes : Nodes) (small : i < n) (a : all ≡ setOf n 
   pub pair-gone : member all i ≡ false → 0 ≡ setOf n (λ l. nodes i && (nodes l && eqb l j))
   pair-gone e = sym (setOf-none n) ∙ setOf-cong n _ _ (λ l k. ap (_&& (nodes l && eqb l j)) (sym (sym (member-setOf n nodes i small) ∙ ap (λ (y : ℕ). member y i) (sym a) ∙ e)))
 
-pub rows-pair : (n : ℕ) (nodes : Nodes) (i j k x : ℕ) → k ≡ i → i < 64 → (i < n → x ≡ setOf n (λ l. nodes i && (nodes l && eqb l j))) → Rows n (λ s l. (nodes s && eqb s i) && (nodes l && eqb l j)) (set (replicate 64 0) k x)
-rows-pair n nodes i j k x e h f = record { row = λ s l. go s l (eqb s i) refl }
+pub rows-pair : (n : ℕ) (nodes : Nodes) (out : List ℕ) (i j k x : ℕ) → out ≡ replicate 64 0 → k ≡ i → i < 64 → (i < n → x ≡ setOf n (λ l. nodes i && (nodes l && eqb l j))) → Rows n (λ s l. (nodes s && eqb s i) && (nodes l && eqb l j)) (set out k x)
+rows-pair n nodes out i j k x o e h f = record { row = λ s l. ap (λ (y : List ℕ). getD (set y k x) s 0) o ∙ go s l (eqb s i) refl }
   where
     go : (s : ℕ) → s < n → (b : Bool) → eqb s i ≡ b → getD (set (replicate 64 0) k x) s 0 ≡ setOf n (λ l. (nodes s && eqb s i) && (nodes l && eqb l j))
     go s l true d =

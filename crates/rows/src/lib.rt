@@ -1,9 +1,10 @@
 // Node sets as words and arrow relations as rows of words: what each code with operands does to them.
-// Relations have 64 rows, of which the first n count; `all` is the word of the graph's nodes.
+// Relations have 64 rows, of which the first n count; they are changed in place. `all` is the word of the graph's nodes.
 ghost use mathlib.Core.Path.{_≡_};
 ghost use mathlib.Core.Bool.{_&&_};
 ghost use Prim.Native.Nat.{ℕ, _<_, _≤_};
 ghost use lib.Dec.{eqb};
+ghost use lib.ListN.{length, replicate};
 ghost use Rattle.logic.specs.Graph.{Nodes, Pairs, allBelow, implies};
 ghost use Rattle.logic.specs.Limits.{maxNodes, arrowCount};
 ghost use Rattle.words.specs.Words.{setOf, combined};
@@ -60,10 +61,10 @@ fn holds(c: u8, m: u8, row: u64, e: u64) -> bool
     }
 }
 
-// 08, 09, 0A, 0B: the nodes of which it holds. Inner: n is a sheet's.
-pub fn quantified(c: u8, m: u8, n: usize, all: u64, rows: [u64; 64], e: u64) -> u64
-    requires { ⌜ n ≤ maxNodes ⌝ }
-    ensures { λ r. ⌜ ((nodes : Nodes) (v : Pairs) (w : Nodes) → all ≡ setOf n nodes → Rows n v rows → e ≡ setOf n w → r ≡ setOf n (quantifiedNodes c m n nodes v w)) ⌝ }
+// 08, 09, 0A, 0B: the nodes of which it holds. Inner: n is a sheet's and there are 64 rows, as in all functions below.
+pub fn quantified(c: u8, m: u8, n: usize, all: u64, rows: &[u64], e: u64) -> u64
+    requires { ⌜ (n ≤ maxNodes) × (length (now rows) ≡ 64) ⌝ }
+    ensures { λ r. ⌜ ((nodes : Nodes) (v : Pairs) (w : Nodes) → all ≡ setOf n nodes → Rows n v (now (rows .entry)) → e ≡ setOf n w → r ≡ setOf n (quantifiedNodes c m n nodes v w)) ⌝ }
 {
     let mut r: u64 = 0;
     let mut i = 0;
@@ -77,68 +78,62 @@ pub fn quantified(c: u8, m: u8, n: usize, all: u64, rows: [u64; 64], e: u64) -> 
 }
 
 // 11: the rows of an arrow, from the sheet. Inner: the sheet is sound, n is its node count, and it has that arrow.
-pub fn arrow_rows(sheet: &[u8], n: usize, a: Arrow) -> [u64; 64]
-    requires { ⌜ Sound (now sheet) × (n ≡ graphOf (now sheet) .n) × (n ≤ maxNodes) × (a .0 < arrowCount) ⌝ }
-    ensures { λ r. ⌜ Rows n (graphOf (now (sheet .entry)) .joined (a .0)) r ⌝ }
+pub fn arrow_rows(sheet: &[u8], n: usize, a: Arrow, out: &mut [u64])
+    requires { ⌜ Sound (now sheet) × (n ≡ graphOf (now sheet) .n) × (n ≤ maxNodes) × (a .0 < arrowCount) × (length (now out) ≡ 64) ⌝ }
+    ensures { λ _. ⌜ Rows n (graphOf (now (sheet .entry)) .joined (a .0)) (now (out .exit)) × (length (now (out .exit)) ≡ 64) ⌝ }
 {
-    let mut r = [0u64; 64];
     let mut i = 0;
     while i < n {
-        r[i] = Sheet::row_word(sheet, a, Node(i as u8));
+        out[i] = Sheet::row_word(sheet, a, Node(i as u8));
         i += 1;
     }
-    r
 }
 
-// 13, 14, 15. Inner: n is a sheet's, in this function and the next ones.
-pub fn combined_rows(c: u8, n: usize, a: [u64; 64], b: [u64; 64]) -> [u64; 64]
-    requires { ⌜ n ≤ maxNodes ⌝ }
-    ensures { λ r. ⌜ ((v w : Pairs) → Rows n v a → Rows n w b → Rows n (λ i j. arrowOperation c (v i j) (w i j)) r) ⌝ }
+// 13, 14, 15: a becomes what both make.
+pub fn combine_rows(c: u8, n: usize, a: &mut [u64], b: &[u64])
+    requires { ⌜ (n ≤ maxNodes) × (length (now a) ≡ 64) × (length (now b) ≡ 64) ⌝ }
+    ensures { λ _. ⌜ ((v w : Pairs) → Rows n v (now (a .entry)) → Rows n w (now (b .entry)) → Rows n (λ i j. arrowOperation c (v i j) (w i j)) (now (a .exit))) × (length (now (a .exit)) ≡ 64) ⌝ }
 {
-    let mut r = [0u64; 64];
     let mut i = 0;
     while i < n {
-        r[i] = combined_row(c, a[i], b[i]);
+        a[i] = combined_row(c, a[i], b[i]);
         i += 1;
     }
-    r
 }
 
 // Each row with the mask e. Inner: the rows as words, whatever they stand for.
-fn masked(n: usize, rows: [u64; 64], e: u64) -> [u64; 64]
-    requires { ⌜ n ≤ maxNodes ⌝ }
-    ensures { λ r. ⌜ Masked n rows e r ⌝ }
+fn mask_rows(n: usize, rows: &mut [u64], e: u64)
+    requires { ⌜ (n ≤ maxNodes) × (length (now rows) ≡ 64) ⌝ }
+    ensures { λ _. ⌜ Masked n (now (rows .entry)) e (now (rows .exit)) × (length (now (rows .exit)) ≡ 64) ⌝ }
 {
-    let mut r = [0u64; 64];
     let mut i = 0;
     while i < n {
-        r[i] = words::both(rows[i], e);
+        rows[i] = words::both(rows[i], e);
         i += 1;
     }
-    r
 }
 
 // 16: the arrows that end in e.
-pub fn ending(n: usize, rows: [u64; 64], e: u64) -> [u64; 64]
-    requires { ⌜ n ≤ maxNodes ⌝ }
-    ensures { λ r. ⌜ ((v : Pairs) (w : Nodes) → Rows n v rows → e ≡ setOf n w → Rows n (λ i j. v i j && w j) r) ⌝ }
+pub fn end_rows(n: usize, rows: &mut [u64], e: u64)
+    requires { ⌜ (n ≤ maxNodes) × (length (now rows) ≡ 64) ⌝ }
+    ensures { λ _. ⌜ ((v : Pairs) (w : Nodes) → Rows n v (now (rows .entry)) → e ≡ setOf n w → Rows n (λ i j. v i j && w j) (now (rows .exit))) × (length (now (rows .exit)) ≡ 64) ⌝ }
 {
-    masked(n, rows, e)
+    mask_rows(n, rows, e);
 }
 
 // 12: rows and columns exchanged. Rows from n on are free, so that as columns they are masked out.
-pub fn reversed(n: usize, rows: [u64; 64]) -> [u64; 64]
-    requires { ⌜ n ≤ maxNodes ⌝ }
-    ensures { λ r. ⌜ ((v : Pairs) → Rows n v rows → Rows n (λ i j. v j i) r) ⌝ }
+pub fn reverse_rows(n: usize, rows: &mut [u64])
+    requires { ⌜ (n ≤ maxNodes) × (length (now rows) ≡ 64) ⌝ }
+    ensures { λ _. ⌜ ((v : Pairs) → Rows n v (now (rows .entry)) → Rows n (λ i j. v j i) (now (rows .exit))) × (length (now (rows .exit)) ≡ 64) ⌝ }
 {
-    let columns = words::transposed(rows);
-    masked(n, columns, words::lowest(n))
+    words::transpose(rows);
+    mask_rows(n, rows, words::lowest(n));
 }
 
 // 22: whether each arrow of a is one of b.
-pub fn rows_in(n: usize, a: [u64; 64], b: [u64; 64]) -> bool
-    requires { ⌜ n ≤ maxNodes ⌝ }
-    ensures { λ r. ⌜ ((v w : Pairs) → Rows n v a → Rows n w b → r ≡ allBelow n (λ i. allBelow n (λ j. implies (v i j) (w i j)))) ⌝ }
+pub fn rows_in(n: usize, a: &[u64], b: &[u64]) -> bool
+    requires { ⌜ (n ≤ maxNodes) × (length (now a) ≡ 64) × (length (now b) ≡ 64) ⌝ }
+    ensures { λ r. ⌜ ((v w : Pairs) → Rows n v (now (a .entry)) → Rows n w (now (b .entry)) → r ≡ allBelow n (λ i. allBelow n (λ j. implies (v i j) (w i j)))) ⌝ }
 {
     let mut i = 0;
     while i < n {
@@ -177,14 +172,13 @@ fn pair_row(all: u64, i: Node, j: Node) -> u64
     }
 }
 
-// 17: that pair only.
-pub fn pair(all: u64, i: Node, j: Node) -> [u64; 64]
-    requires { ⌜ (i .0 < maxNodes) × (j .0 < maxNodes) ⌝ }
-    ensures { λ r. ⌜ ((n : ℕ) (nodes : Nodes) → n ≤ 64 → all ≡ setOf n nodes → Rows n (λ k l. (nodes k && eqb k (i .0)) && (nodes l && eqb l (j .0))) r) ⌝ }
+// 17: that pair only. Inner: the rows are zeros before.
+pub fn pair_rows(all: u64, i: Node, j: Node, out: &mut [u64])
+    requires { ⌜ (i .0 < maxNodes) × (j .0 < maxNodes) × (now out ≡ replicate 64 0) ⌝ }
+    ensures { λ _. ⌜ ((n : ℕ) (nodes : Nodes) → n ≤ 64 → all ≡ setOf n nodes → Rows n (λ k l. (nodes k && eqb k (i .0)) && (nodes l && eqb l (j .0))) (now (out .exit))) × (length (now (out .exit)) ≡ 64) ⌝ }
 {
-    let mut r = [0u64; 64];
-    r[index(i)] = pair_row(all, i, j);
-    r
+    let at = index(i);
+    out[at] = pair_row(all, i, j);
 }
 
 // 23: whether node i is in the set.
@@ -196,9 +190,10 @@ pub fn node_in(x: u64, i: Node) -> bool
 }
 
 // 24: whether the relation has the pair of i and j.
-pub fn pair_in(rows: [u64; 64], i: Node, j: Node) -> bool
-    requires { ⌜ (i .0 < maxNodes) × (j .0 < maxNodes) ⌝ }
-    ensures { λ r. ⌜ ((n : ℕ) (v : Pairs) → i .0 < n → j .0 < n → Rows n v rows → r ≡ v (i .0) (j .0)) ⌝ }
+pub fn pair_in(rows: &[u64], i: Node, j: Node) -> bool
+    requires { ⌜ (i .0 < maxNodes) × (j .0 < maxNodes) × (length (now rows) ≡ 64) ⌝ }
+    ensures { λ r. ⌜ ((n : ℕ) (v : Pairs) → i .0 < n → j .0 < n → Rows n v (now (rows .entry)) → r ≡ v (i .0) (j .0)) ⌝ }
 {
-    node_in(rows[index(i)], j)
+    let at = index(i);
+    node_in(rows[at], j)
 }

@@ -18,7 +18,7 @@ use Rattle.text.specs.declared.Stop.the-variants.{Missing, WrongSort, To
 use Rattle.text.specs.declared.Step.{Step}
 use Rattle.text.specs.declared.Step.the-variants.{Next, Stopped}
 use Rattle.text.specs.Reading.{textLimits, Want, expr, edit, Thing, Plan, number, operand, _>>=_, Entry, Read, fault, tooDeep, outOfRange, codes, choice, follow}
-use Rattle.text.specs.Rows.{Item, nothing, takes, deeper, here, items, itemOf, rows, rowOf, itemPlan, finished, rowPlan, pick, sortOf, numberFits, stopOf, stepOf, stepAt, headAt}
+use Rattle.text.specs.Rows.{Item, nothing, takes, deeper, here, items, itemOf, nodeRows, arrowRows, ruleRows, editRows, CodeSort, nodes, arrows, rules, edits, noCode, codeSort, rowIn, sortDigit, rowOf, itemPlan, finished, rowPlan, pick, sortOf, numberFits, stopOf, stepOf, stepAt, headAt}
 use Rattle.text.proofs.Compose.{Alike, same-end, same-number, same-operand, alike-bind, alike-steps, andThen, step-then}
 
 -- What holds of each number below m.
@@ -129,7 +129,7 @@ abbrev _&_ : {A B : Type 0} → A → B → A × B
 a & b = (a, b)
 
 codes-rows : (w : Want) (d : ℕ) → EachRow w d (codes d w)
-unfolding codes rows rowPlan itemPlan itemOf items sortOf _>>=_
+unfolding codes nodeRows arrowRows ruleRows editRows codeSort rowIn sortDigit rowPlan itemPlan itemOf items _>>=_
 codes-rows (expr node) d =
     (refl, same-end)
     & (refl, same-end)
@@ -205,7 +205,8 @@ in-range lo hi c h = let q = both-true (leb lo c) (leb c hi) h in (leb-true lo c
 abbrev Chosen : ℕ → Bool → Bool → Bool → Bool → Type 0
 Chosen x p q r s = ((x ≡ 0xC → p ≡ true) × (x ≡ 0xD → q ≡ true)) × ((x ≡ 0xE → r ≡ true) × (x ≡ 0xF → s ≡ true))
 
-chosen : (p q r s : Bool) → Chosen (pick p 0xC (pick q 0xD (pick r 0xE (pick s 0xF 0)))) p q r s
+chosen : (p q r s : Bool) → Chosen (sortDigit (pick p nodes (pick q arrows (pick r rules (pick s edits noCode))))) p q r s
+unfolding sortDigit
 chosen true q r s = ((λ h. refl, λ h. absurd (omega arith)), (λ h. absurd (omega arith), λ h. absurd (omega arith)))
 chosen false true r s = ((λ h. absurd (omega arith), λ h. refl), (λ h. absurd (omega arith), λ h. absurd (omega arith)))
 chosen false false true s = ((λ h. absurd (omega arith), λ h. absurd (omega arith)), (λ h. refl, λ h. absurd (omega arith)))
@@ -213,7 +214,7 @@ chosen false false false true = ((λ h. absurd (omega arith), λ h. absurd (omeg
 chosen false false false false = ((λ h. absurd (omega arith), λ h. absurd (omega arith)), (λ h. absurd (omega arith), λ h. absurd (omega arith)))
 
 sorts : (c : ℕ) → Chosen (sortOf c) (leb 0x01 c && leb c 0x0B) (leb 0x11 c && leb c 0x17) (leb 0x21 c && leb c 0x27) (leb 0x30 c && leb c 0x35)
-unfolding sortOf
+unfolding codeSort sortDigit
 sorts c = chosen (leb 0x01 c && leb c 0x0B) (leb 0x11 c && leb c 0x17) (leb 0x21 c && leb c 0x27) (leb 0x30 c && leb c 0x35)
 
 -- a number in a range of six, or of seven, is one of them
@@ -454,5 +455,12 @@ small-at (x ∷ xs) zero h = ltb-true x 65536 (both-true (ltb x 65536) (small xs
 small-at (x ∷ xs) (suc i) h = small-at xs i (both-true (ltb x 65536) (small xs) h .1)
 
 pub row-small : (c : ℕ) → rowOf c < 65536
-unfolding small rows
-row-small c = small-at rows c refl
+unfolding rowIn small nodeRows arrowRows ruleRows editRows
+row-small c = go (codeSort c)
+  where
+    go : (s : CodeSort) → rowIn s c < 65536
+    go nodes = small-at nodeRows (c - 0x01) refl
+    go arrows = small-at arrowRows (c - 0x11) refl
+    go rules = small-at ruleRows (c - 0x21) refl
+    go edits = small-at editRows (c - 0x30) refl
+    go noCode = omega arith

@@ -10,4 +10,3 @@ pub mod Marked
 pub mod Compose
 pub mod Heads
 pub mod Answers
-pub mod Pending

@@ -1,7 +1,7 @@
 -- The codes as a table of rows, one number for each code, and how the code's steps follow the plans of a reading.
 use mathlib.Core.Bool.{Bool, true, false, _&&_}
 use mathlib.Core.List.{List, [], _∷_}
-use Prim.Native.Nat.{ℕ, suc, _+_, _/_, _%_}
+use Prim.Native.Nat.{ℕ, suc, _+_, _-_, _/_, _%_}
 use lib.Dec.{leb, ltb, eqb}
 use lib.ListN.{length, getD, drop}
 use Rattle.answer.specs.Asked.{Asked, passed, refused}
@@ -33,10 +33,13 @@ items =
 unfoldable pub itemOf : ℕ → Item
 itemOf x = getD items x nothing
 
+abbrev pub pick : {A : Type 0} → Bool → A → A → A
+pick true a b = a
+pick false a b = b
+
 -- The row of each code: its items as hexadecimal digits, the first item is the last digit.
-unfoldable pub rows : List ℕ
-rows =
-    0x0000 ∷  -- 00
+unfoldable pub nodeRows : List ℕ
+nodeRows =
     0x0000 ∷  -- 01 all
     0x0000 ∷  -- 02 none
     0x0003 ∷  -- 03 k
@@ -48,11 +51,10 @@ rows =
     0x0089 ∷  -- 09 R E
     0x0896 ∷  -- 0A m R E
     0x0897 ∷  -- 0B m R E
-    0x0000 ∷  -- 0C
-    0x0000 ∷  -- 0D
-    0x0000 ∷  -- 0E
-    0x0000 ∷  -- 0F
-    0x0000 ∷  -- 10
+    []
+
+unfoldable pub arrowRows : List ℕ
+arrowRows =
     0x0004 ∷  -- 11 a
     0x0009 ∷  -- 12 R
     0x0099 ∷  -- 13 R S
@@ -60,15 +62,10 @@ rows =
     0x0099 ∷  -- 15 R S
     0x0089 ∷  -- 16 R E
     0x0055 ∷  -- 17 i j
-    0x0000 ∷  -- 18
-    0x0000 ∷  -- 19
-    0x0000 ∷  -- 1A
-    0x0000 ∷  -- 1B
-    0x0000 ∷  -- 1C
-    0x0000 ∷  -- 1D
-    0x0000 ∷  -- 1E
-    0x0000 ∷  -- 1F
-    0x0000 ∷  -- 20
+    []
+
+unfoldable pub ruleRows : List ℕ
+ruleRows =
     0x0088 ∷  -- 21 E F
     0x0099 ∷  -- 22 R S
     0x0085 ∷  -- 23 i E
@@ -76,14 +73,10 @@ rows =
     0x00AA ∷  -- 25 K L
     0x00AA ∷  -- 26 K L
     0x000A ∷  -- 27 K
-    0x0000 ∷  -- 28
-    0x0000 ∷  -- 29
-    0x0000 ∷  -- 2A
-    0x0000 ∷  -- 2B
-    0x0000 ∷  -- 2C
-    0x0000 ∷  -- 2D
-    0x0000 ∷  -- 2E
-    0x0000 ∷  -- 2F
+    []
+
+unfoldable pub editRows : List ℕ
+editRows =
     0x0000 ∷  -- 30 end
     0x0F83 ∷  -- 31 k E Z
     0x0F83 ∷  -- 32 k E Z
@@ -92,8 +85,37 @@ rows =
     0xFBBA ∷  -- 35 K P Q Z
     []
 
+-- The sort of a code byte.
+pub data CodeSort : Type 0 where
+  nodes arrows rules edits noCode : CodeSort
+
+unfoldable pub codeSort : ℕ → CodeSort
+codeSort c =
+    pick (leb 0x01 c && leb c 0x0B) nodes
+    (pick (leb 0x11 c && leb c 0x17) arrows
+    (pick (leb 0x21 c && leb c 0x27) rules
+    (pick (leb 0x30 c && leb c 0x35) edits noCode)))
+
+-- The row of a code of a sort, and the sort as the digit of an item that stands on the code's level; 0 where the byte is no code.
+unfoldable pub rowIn : CodeSort → ℕ → ℕ
+rowIn nodes c = getD nodeRows (c - 0x01) 0
+rowIn arrows c = getD arrowRows (c - 0x11) 0
+rowIn rules c = getD ruleRows (c - 0x21) 0
+rowIn edits c = getD editRows (c - 0x30) 0
+rowIn noCode c = 0
+
+unfoldable pub sortDigit : CodeSort → ℕ
+sortDigit nodes = 0xC
+sortDigit arrows = 0xD
+sortDigit rules = 0xE
+sortDigit edits = 0xF
+sortDigit noCode = 0
+
 abbrev pub rowOf : ℕ → ℕ
-rowOf c = getD rows c 0
+rowOf c = rowIn (codeSort c) c
+
+abbrev pub sortOf : ℕ → ℕ
+sortOf c = sortDigit (codeSort c)
 
 -- Nothing more is wanted.
 abbrev pub finished : Plan (Unit {0})
@@ -108,18 +130,6 @@ itemPlan (here w) d rest = operand w d (λ e. finished)
 
 unfoldable pub rowPlan : (row d : ℕ) → Plan (Unit {0})
 rowPlan row d = itemPlan (itemOf (row % 16)) d (itemPlan (itemOf (row / 16 % 16)) d (itemPlan (itemOf (row / 256 % 16)) d (itemPlan (itemOf (row / 4096 % 16)) d finished)))
-
-abbrev pub pick : {A : Type 0} → Bool → A → A → A
-pick true a b = a
-pick false a b = b
-
--- The sort of a code, as the digit of an item that stands on its level; 0 where the byte is no code.
-unfoldable pub sortOf : ℕ → ℕ
-sortOf c =
-    pick (leb 0x01 c && leb c 0x0B) 0xC
-    (pick (leb 0x11 c && leb c 0x17) 0xD
-    (pick (leb 0x21 c && leb c 0x27) 0xE
-    (pick (leb 0x30 c && leb c 0x35) 0xF 0)))
 
 -- Whether a number is in the range that an item gives it, for n nodes.
 unfoldable pub numberFits : ℕ → Item → ℕ → Bool
@@ -146,19 +156,6 @@ stepAnswer base (Stopped (Missing p)) = refused (faultNumber base missing) p
 stepAnswer base (Stopped (WrongSort p)) = refused (faultNumber base wrongSort) p
 stepAnswer base (Stopped (TooDeep p)) = refused (faultNumber base tooDeep) p
 stepAnswer base (Stopped (OutOfRange p)) = refused (faultNumber base outOfRange) p
-
--- How many items of a row are numbers, and how many are things.
-abbrev pub isNumber : ℕ → ℕ
-isNumber x = pick (ltb x 3) 0 (pick (ltb x 8) 1 0)
-
-abbrev pub isThing : ℕ → ℕ
-isThing x = pick (ltb x 8) 0 1
-
-unfoldable pub numbersIn : ℕ → ℕ
-numbersIn row = isNumber (row % 16) + isNumber (row / 16 % 16) + isNumber (row / 256 % 16) + isNumber (row / 4096 % 16)
-
-unfoldable pub thingsIn : ℕ → ℕ
-thingsIn row = isThing (row % 16) + isThing (row / 16 % 16) + isThing (row / 256 % 16) + isThing (row / 4096 % 16)
 
 -- A plan followed from a place of a text.
 unfoldable pub stepAt : {A : Type 0} → List ℕ → ℕ → Plan A → ℕ → Step

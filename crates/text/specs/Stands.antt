@@ -1,8 +1,8 @@
 -- An expression or an edit that stands at a place of a text. Inner functions ask for some such thing and speak of every one.
 use mathlib.Core.Path.{_≡_}
 use mathlib.Core.List.{List, [], _∷_, _++_}
-use Prim.Native.Nat.{ℕ, _+_}
-use lib.ListN.{length, drop}
+use Prim.Native.Nat.{ℕ}
+use lib.ListN.{drop}
 use Rattle.logic.specs.Syntax.{Sort, rule, Expr, Edit}
 use Rattle.logic.specs.Limits.{Ranges, InRange, EditInRange}
 use Rattle.text.specs.Code.{code, editCode}
@@ -29,12 +29,3 @@ pub record SomeEditStands (r : Ranges) (text : List ℕ) (at : ℕ) : Type 0 whe
 unfoldable pub RulesInRange : Ranges → List (Expr rule) → Type 0
 RulesInRange r [] = Unit {0}
 RulesInRange r (K ∷ rules) = InRange r K × RulesInRange r rules
-
--- Something stands there, whatever its sort and ranges; and a place that is the end of it.
-pub data SomethingStands (text : List ℕ) (at : ℕ) : Type 0 where
-  an-expression : (r : Ranges) (s : Sort) → SomeStands r text at s → SomethingStands text at
-  an-edit : (r : Ranges) → SomeEditStands r text at → SomethingStands text at
-
-pub record EndsAt (text : List ℕ) (at place : ℕ) : Type 0 where
-  pub of-expression : (r : Ranges) (s : Sort) (e : Expr s) → Stands r text at e → place ≡ at + length (code e)
-  pub of-edit : (r : Ranges) (Z : Edit) → EditStands r text at Z → place ≡ at + length (editCode Z)

@@ -3,12 +3,11 @@ use answer::Answer;
 use answer::Refusal;
 ghost use mathlib.Core.Path.{_≡_};
 ghost use Prim.Native.Nat.{_<_, _≤_};
-ghost use Rattle.text.specs.Rows.{itemOf, rowOf, itemPlan, finished, rowPlan, sortOf, numberFits, stepAt, headAt, stepAnswer, isNumber, isThing, numbersIn, thingsIn};
+ghost use Rattle.text.specs.Rows.{itemOf, rowOf, itemPlan, finished, rowPlan, sortOf, numberFits, stepAt, headAt, stepAnswer};
 ghost use Rattle.answer.specs.Answers.{asked};
 ghost use Rattle.answer.specs.Asked.{outcome};
 ghost use Rattle.text.specs.Reading.{textLimits};
 ghost use Rattle.text.specs.Questions.{askBook, askEdit, askRuleEnd, firstRule, ruleStart};
-ghost use Rattle.text.specs.Stands.{SomethingStands, EndsAt};
 
 // What is wrong with the bytes, and where: 12 to 15 of a book, 22 to 25 of an edit.
 pub enum Stop {
@@ -26,8 +25,8 @@ pub enum Step {
 
 // What follows each code, a hexadecimal digit for each item, the first item last. 3 label, 4 arrow, 5 node number; 6, 7 the counts of 0A
 // and 0B; 8 nodes, 9 arrows, A rule, B edit, one level deeper; C nodes, D arrows, E rule, F edit, on the code's own level.
-const ROWS: [u32; 54] = [
-    0x0000, // 00
+// A table is stored anew at each use, so each sort has its own short one.
+const NODE_ROWS: [u32; 11] = [
     0x0000, // 01 all
     0x0000, // 02 none
     0x0003, // 03 k
@@ -39,11 +38,9 @@ const ROWS: [u32; 54] = [
     0x0089, // 09 R E
     0x0896, // 0A m R E
     0x0897, // 0B m R E
-    0x0000, // 0C
-    0x0000, // 0D
-    0x0000, // 0E
-    0x0000, // 0F
-    0x0000, // 10
+];
+
+const ARROW_ROWS: [u32; 7] = [
     0x0004, // 11 a
     0x0009, // 12 R
     0x0099, // 13 R S
@@ -51,15 +48,9 @@ const ROWS: [u32; 54] = [
     0x0099, // 15 R S
     0x0089, // 16 R E
     0x0055, // 17 i j
-    0x0000, // 18
-    0x0000, // 19
-    0x0000, // 1A
-    0x0000, // 1B
-    0x0000, // 1C
-    0x0000, // 1D
-    0x0000, // 1E
-    0x0000, // 1F
-    0x0000, // 20
+];
+
+const RULE_ROWS: [u32; 7] = [
     0x0088, // 21 E F
     0x0099, // 22 R S
     0x0085, // 23 i E
@@ -67,14 +58,9 @@ const ROWS: [u32; 54] = [
     0x00AA, // 25 K L
     0x00AA, // 26 K L
     0x000A, // 27 K
-    0x0000, // 28
-    0x0000, // 29
-    0x0000, // 2A
-    0x0000, // 2B
-    0x0000, // 2C
-    0x0000, // 2D
-    0x0000, // 2E
-    0x0000, // 2F
+];
+
+const EDIT_ROWS: [u32; 6] = [
     0x0000, // 30 end
     0x0F83, // 31 k E Z
     0x0F83, // 32 k E Z
@@ -93,7 +79,13 @@ fn row_of(code: u8) -> u32
     ensures { λ r. ⌜ r ≡ rowOf code ⌝ }
 {
     let at = code as usize;
-    if at < 54 { ROWS[at] } else { 0 }
+    match code {
+        0x01..=0x0B => NODE_ROWS[at - 0x01],
+        0x11..=0x17 => ARROW_ROWS[at - 0x11],
+        0x21..=0x27 => RULE_ROWS[at - 0x21],
+        0x30..=0x35 => EDIT_ROWS[at - 0x30],
+        _ => 0,
+    }
 }
 
 // The sort of a code, as the digit of an item on its level.
@@ -228,44 +220,6 @@ fn edit_answer(step: Step) -> Answer
     }
 }
 
-fn is_number(item: u32) -> usize
-    ensures { λ r. ⌜ (r ≡ isNumber item) × (r ≤ 1) ⌝ }
-{
-    if item < 3 {
-        0
-    } else if item < 8 {
-        1
-    } else {
-        0
-    }
-}
-
-fn is_thing(item: u32) -> usize
-    ensures { λ r. ⌜ (r ≡ isThing item) × (r ≤ 1) ⌝ }
-{
-    if item < 8 { 0 } else { 1 }
-}
-
-// How many items of a row are numbers.
-fn numbers_in(row: u32) -> usize
-    ensures { λ r. ⌜ (r ≡ numbersIn row) × (r ≤ 4) ⌝ }
-{
-    is_number(row % 16)
-        + is_number(row / 16 % 16)
-        + is_number(row / 256 % 16)
-        + is_number(row / 4096 % 16)
-}
-
-// How many are things.
-fn things_in(row: u32) -> usize
-    ensures { λ r. ⌜ (r ≡ thingsIn row) × (r ≤ 4) ⌝ }
-{
-    is_thing(row % 16)
-        + is_thing(row / 16 % 16)
-        + is_thing(row / 256 % 16)
-        + is_thing(row / 4096 % 16)
-}
-
 // Texts. Each function goes over a text once.
 pub struct Text;
 
@@ -361,22 +315,6 @@ impl Text {
             };
             p = q;
             left -= 1;
-        }
-        p
-    }
-
-    // Where the expression or the edit that stands at a place ends. It keeps no stack.
-    // Inner: asks that one stands there, so that each byte it wants is there.
-    pub fn past(text: &[u8], at: usize) -> usize
-        requires { ⌜ SomethingStands (now text) at ⌝ }
-        ensures { λ r. ⌜ EndsAt (now (text .entry)) at r ⌝ }
-    {
-        let mut p = at;
-        let mut wanted: usize = 1;
-        while 0 < wanted {
-            let row = row_of(text[p]);
-            p = p + 1 + numbers_in(row);
-            wanted = wanted - 1 + things_in(row);
         }
         p
     }

@@ -1,6 +1,6 @@
 -- The laws of one exchange of blocks.
-use mathlib.Core.Path.{_≡_, refl, sym, ap, ap₂, _∙_}
-use mathlib.Core.Bool.{Bool, true, false, not, _&&_, _||_, cond}
+use mathlib.Core.Path.{_≡_, refl, sym, ap, ap₂, _∙_, subst}
+use mathlib.Core.Bool.{Bool, true, false, true≢false, not, _&&_, _||_, cond}
 use mathlib.Core.List.{List}
 use mathlib.Core.Logic.{⊎-elim}
 use Prim.Native.Nat.{ℕ, _+_, _-_, _*_, _/_, _%_, _^_, _≤_, _<_}
@@ -9,14 +9,14 @@ use native.Mathlib.Numerals.{add-one}
 use native.Mathlib.Omega.{arith}
 use lib.Dec.{leb}
 use lib.Bits.{bitAnd, bitOr, and-lt, or-lt}
-use lib.ListN.{length, getD, set}
+use lib.ListN.{length, getD, set, length-set}
 use lib.Pow.{pow-pos, shr-le}
 use lib.Seq.{getD-set-same, getD-set-other}
-use borrow.Author.Tests.{eq-eqb, ne-eqb, leb-true}
+use borrow.Author.Tests.{le-leb, lt-leb}
 use Rattle.words.specs.Words.{setOf, member}
-use Rattle.words.specs.Transpose.{lowHalf, fromRow, fromColumn, Blocks}
+use Rattle.words.specs.Transpose.{lowHalf, fromRow, fromColumn, Blocks, LowFrom, exchangedRow, MovedFrom}
 use Rattle.words.proofs.SetLaws.{setOf-cong, is-setOf, member-setOf}
-use Rattle.words.proofs.BitLaws.{member-and, member-or, member-shr, member-shl}
+use Rattle.words.proofs.BitLaws.{below-or-not, member-and, member-or, member-shr, member-shl}
 
 either-half : (x y n : Bool) → ((x && not n) || (y && n)) ≡ cond (not n) x y
 either-half true true true = refl
@@ -72,51 +72,136 @@ module _ (x y s m : ℕ) (B : Blocks s m) (hx : x < 2 ^ 64) (hy : y < 2 ^ 64) (h
       is-setOf 64 _ _ (or-lt 64 _ _ (and-lt 64 (x / 2 ^ s) m (omega (arith, shr-le x s)) hm) (and-lt 64 y (m * 2 ^ s % 2 ^ 64) hy (mod-lt (m * 2 ^ s) (pow-pos 64))))
       (high-bit x y s m B)
 
--- the rows below i of r are as the exchange leaves them
-pub record Done (i : ℕ) (a r : List ℕ) (s : ℕ) : Type 0 where
-  pub rows : (k : ℕ) → k < i → getD r k 0 ≡ setOf 64 (λ j. member (getD a (fromRow s k j) 0) (fromColumn s k j))
+-- the rows of a low half, and those behind them
+module _ {s m : ℕ} (B : Blocks s m) where
+  low-first : (i : ℕ) → i < s → i < 64 → lowHalf s i ≡ true
+  low-first i h l = sym (not-not (lowHalf s i)) ∙ ap not (sym (B .halves i l) ∙ ap (_&& lowHalf s (i - s)) (lt-leb s i h))
 
-pub done-none : (a r : List ℕ) (s : ℕ) → Done 0 a r s
-done-none a r s = record { rows = λ k h. absurd (omega arith) }
+  behind-half : (i : ℕ) → i + s < 64 → lowHalf s (i + s) ≡ not (lowHalf s i)
+  behind-half i h =
+      let e : i + s - s ≡ i = omega arith in
+      sym (not-not (lowHalf s (i + s)))
+      ∙ ap not (sym (B .halves (i + s) h) ∙ ap₂ _&&_ (le-leb s (i + s) (omega arith)) (ap (lowHalf s) e))
 
--- the test of the loop, and what it says
-pub is-low : (s i : ℕ) → i / s % 2 ≡ 0 → lowHalf s i ≡ true
-unfolding lowHalf
-is-low s i e = eq-eqb (i / s % 2) 0 e
+  pub low-none : LowFrom s 0
+  low-none = record { low = λ i h l k. low-first i (omega arith) k }
 
-is-high : (s i : ℕ) → (i / s % 2 ≡ 0 → ⊥) → lowHalf s i ≡ false
-unfolding lowHalf
-is-high s i e = ne-eqb (i / s % 2) 0 e
+  module _ (b : ℕ) (L : LowFrom s b) where
+    -- a low half that starts in the word has room for itself and as much again
+    pub low-room : b < 64 → b + s + s ≤ 64
+    low-room h =
+        let r : b + s < 64 = B .room b h (L .low b (omega arith) (omega (arith, B .some)) h) in
+        let q : b + s - 1 < 64 = omega arith in
+        omega (arith, B .some, B .room (b + s - 1) q (L .low (b + s - 1) (omega (arith, B .some)) (omega (arith, B .some)) q))
 
-pub high-le : (s m i : ℕ) → Blocks s m → i < 64 → (i / s % 2 ≡ 0 → ⊥) → s ≤ i
-high-le s m i B h e = leb-true s i (left (leb s i) (lowHalf s (i - s)) (B .halves i h ∙ ap not (is-high s i e)))
+    pub low-more : LowFrom s (b + 2 * s)
+    low-more = record {
+      low = λ i h l k.
+          let e : i ≡ i - s - s + s + s = omega arith in
+          ap (lowHalf s) e ∙ behind-half (i - s - s + s) (omega arith) ∙ ap not (behind-half (i - s - s) (omega arith))
+          ∙ not-not (lowHalf s (i - s - s)) ∙ L .low (i - s - s) (omega arith) (omega arith) (omega arith);
+    }
+
+    -- what is exchanged with a row from b on is a row from b on
+    from-row-le : (i j : ℕ) → b ≤ i → i < 64 → b ≤ fromRow s i j
+    unfolding fromRow
+    from-row-le i j h l = go (lowHalf s i) (lowHalf s j) refl
+      where
+        go : (x y : Bool) → lowHalf s i ≡ x → b ≤ cond x (cond y i (i + s)) (cond y (i - s) i)
+        go true true e = h
+        go true false e = omega arith
+        go false true e = ⊎-elim (λ (k : i < b + s). absurd (true≢false (sym (L .low i h k l) ∙ e))) (λ (k : b + s ≤ i). omega arith) (below-or-not i (b + s))
+        go false false e = h
+
+-- What the loop over the rows of a low half has done up to row i.
+pub record Moving (b i s : ℕ) (a r : List ℕ) : Type 0 where
+  pub low : (k : ℕ) → b ≤ k → k < i → getD r k 0 ≡ exchangedRow s a k
+  pub high : (k : ℕ) → b ≤ k → k < i → getD r (k + s) 0 ≡ exchangedRow s a (k + s)
+  pub before : (k : ℕ) → k < b → getD r k 0 ≡ getD a k 0
+  pub between : (k : ℕ) → i ≤ k → k < b + s → getD r k 0 ≡ getD a k 0
+  pub behind : (k : ℕ) → i + s ≤ k → getD r k 0 ≡ getD a k 0
+
+pub moving-none : {b s : ℕ} {a : List ℕ} → Moving b b s a a
+moving-none = record { low = λ k h l. absurd (omega arith); high = λ k h l. absurd (omega arith); before = λ k h. refl; between = λ k h l. refl; behind = λ k h. refl }
+
+pub moving-end : {b i s : ℕ} {a r : List ℕ} → b + s ≤ i → i ≤ b + s → Moving b i s a r → MovedFrom b s a r
+moving-end h l d = record { low = λ k p q. d .low k p (omega arith); high = λ k p q. d .high k p (omega arith); before = d .before; behind = λ k p. d .behind k (omega arith) }
+
+-- the pair of rows i and i + s put
+module _ (r : List ℕ) (i s v w : ℕ) (some : 0 < s) (h : i + s < length r) where
+  put-low : getD (set (set r i v) (i + s) w) i 0 ≡ v
+  put-low = getD-set-other (set r i v) (i + s) i w 0 (λ z. omega arith) ∙ getD-set-same r i v 0 (omega arith)
+
+  put-high : getD (set (set r i v) (i + s) w) (i + s) 0 ≡ w
+  put-high = getD-set-same (set r i v) (i + s) w 0 (simp length-set (omega arith))
+
+  put-other : (k : ℕ) → (k ≡ i → ⊥) → (k ≡ i + s → ⊥) → getD (set (set r i v) (i + s) w) k 0 ≡ getD r k 0
+  put-other k p q = getD-set-other (set r i v) (i + s) k w 0 q ∙ getD-set-other r i k v 0 p
+
+module _ {s m : ℕ} (B : Blocks s m) (b : ℕ) (L : LowFrom s b) (i : ℕ) (a r : List ℕ) (h : b ≤ i) (l : i < b + s) (room : b + s + s ≤ 64) (size : length r ≡ 64) (d : Moving b i s a r) where
+  is-low : lowHalf s i ≡ true
+  is-low = L .low i h l (omega arith)
+
+  low-exchanged : (v : ℕ) → v ≡ setOf 64 (λ j. cond (lowHalf s j) (member (getD r i 0) j) (member (getD r (i + s) 0) (j - s))) → v ≡ exchangedRow s a i
+  unfolding fromRow fromColumn
+  low-exchanged v e =
+      e ∙ setOf-cong 64 _ _ (λ j k. rw (is-low, d .between i (omega arith) l, d .behind (i + s) (omega arith)) (go j (lowHalf s j)))
+    where
+      go : (j : ℕ) (x : Bool) → cond x (member (getD a i 0) j) (member (getD a (i + s) 0) (j - s)) ≡ member (getD a (cond x i (i + s)) 0) (cond x j (j - s))
+      go j true = refl
+      go j false = refl
+
+  high-exchanged : (w : ℕ) → w ≡ setOf 64 (λ j. cond (lowHalf s j) (member (getD r i 0) (j + s)) (member (getD r (i + s) 0) j)) → w ≡ exchangedRow s a (i + s)
+  unfolding fromRow fromColumn
+  high-exchanged w e =
+      let c : i + s - s ≡ i = omega arith in
+      let f : lowHalf s (i + s) ≡ false = behind-half B i (omega arith) ∙ ap not is-low in
+      e ∙ setOf-cong 64 _ _ (λ j k. rw (f, c, d .between i (omega arith) l, d .behind (i + s) (omega arith)) (go j (lowHalf s j)))
+    where
+      go : (j : ℕ) (x : Bool) → cond x (member (getD a i 0) (j + s)) (member (getD a (i + s) 0) j) ≡ member (getD a (cond x i (i + s)) 0) (cond x (j + s) j)
+      go j true = refl
+      go j false = refl
+
+  pub moving-more : (v w : ℕ)
+      → v ≡ setOf 64 (λ j. cond (lowHalf s j) (member (getD r i 0) j) (member (getD r (i + s) 0) (j - s)))
+      → w ≡ setOf 64 (λ j. cond (lowHalf s j) (member (getD r i 0) (j + s)) (member (getD r (i + s) 0) j))
+      → Moving b (i + 1) s a (set (set r i v) (i + s) w)
+  moving-more v w e f =
+      let in-list : i + s < length r = omega arith in
+      let other = put-other r i s v w (B .some) in-list in
+      record {
+        low = λ k p q. ⊎-elim
+            (λ (z : k ≡ i). subst (λ (n : ℕ). getD (set (set r i v) (i + s) w) n 0 ≡ exchangedRow s a n) (sym z) (put-low r i s v w (B .some) in-list ∙ low-exchanged v e))
+            (λ (z : k < i). other k (λ y. omega arith) (λ y. omega arith) ∙ d .low k p z)
+            (eq-or-lt-of-le (le-of-suc-le-suc (rw add-one at q)));
+        high = λ k p q. ⊎-elim
+            (λ (z : k ≡ i). subst (λ (n : ℕ). getD (set (set r i v) (i + s) w) (n + s) 0 ≡ exchangedRow s a (n + s)) (sym z) (put-high r i s v w (B .some) in-list ∙ high-exchanged w f))
+            (λ (z : k < i). other (k + s) (λ y. omega arith) (λ y. omega arith) ∙ d .high k p z)
+            (eq-or-lt-of-le (le-of-suc-le-suc (rw add-one at q)));
+        before = λ k p. other k (λ y. omega arith) (λ y. omega arith) ∙ d .before k p;
+        between = λ k p q. other k (λ y. omega arith) (λ y. omega arith) ∙ d .between k (omega arith) q;
+        behind = λ k p. other k (λ y. omega (arith, B .some)) (λ y. omega arith) ∙ d .behind k (omega arith);
+      }
+
+-- What the loop over the low halves has done: the rows below b are exchanged, the others as they were.
+pub record Done (b s : ℕ) (a r : List ℕ) : Type 0 where
+  pub below : (k : ℕ) → k < b → k < 64 → getD r k 0 ≡ exchangedRow s a k
+  pub above : (k : ℕ) → b ≤ k → getD r k 0 ≡ getD a k 0
+
+pub done-none : {s : ℕ} {a : List ℕ} → Done 0 s a a
+done-none = record { below = λ k h l. absurd (omega arith); above = λ k h. refl }
+
+pub done-more : {s m : ℕ} → Blocks s m → (b : ℕ) → LowFrom s b → (a r t : List ℕ) → Done b s a r → MovedFrom b s r t → Done (b + 2 * s) s a t
+done-more {s} B b L a r t d e = record {
+  below = λ k h l. ⊎-elim
+      (λ (p : k < b). e .before k p ∙ d .below k p l)
+      (λ (p : b ≤ k). ⊎-elim
+      (λ (q : k < b + s). e .low k p q ∙ same k p l)
+      (λ (q : b + s ≤ k). let z : k ≡ k - s + s = omega arith in subst (λ (n : ℕ). getD t n 0 ≡ exchangedRow s r n) (sym z) (e .high (k - s) (omega arith) (omega arith)) ∙ same k p l)
+      (below-or-not k (b + s)))
+      (below-or-not k b);
+  above = λ k h. e .behind k (omega arith) ∙ d .above k (omega arith);
+}
   where
-    left : (x y : Bool) → (x && y) ≡ true → x ≡ true
-    left true y p = refl
-    left false y p = p
-
-module _ (i : ℕ) (a r : List ℕ) (s v : ℕ) (h : i < length r) (d : Done i a r s) where
-  done-more : v ≡ setOf 64 (λ j. member (getD a (fromRow s i j) 0) (fromColumn s i j)) → Done (i + 1) a (set r i v) s
-  done-more e = record {
-    rows = λ k lt. ⊎-elim
-        (λ (q : k ≡ i). ap (λ (n : ℕ). getD (set r i v) n 0) q ∙ getD-set-same r i v 0 h ∙ e
-        ∙ ap (λ (n : ℕ). setOf 64 (λ j. member (getD a (fromRow s n j) 0) (fromColumn s n j))) (sym q))
-        (λ (q : k < i). getD-set-other r i k v 0 (λ z. omega arith) ∙ d .rows k q)
-        (eq-or-lt-of-le (le-of-suc-le-suc (rw add-one at lt)));
-  }
-
-  pub done-low : i / s % 2 ≡ 0 → v ≡ setOf 64 (λ j. cond (lowHalf s j) (member (getD a i 0) j) (member (getD a (i + s) 0) (j - s))) → Done (i + 1) a (set r i v) s
-  unfolding fromRow fromColumn
-  done-low t e = done-more (e ∙ setOf-cong 64 _ _ (λ j l. rw (is-low s i t) (go j (lowHalf s j))))
-    where
-      go : (j : ℕ) (b : Bool) → cond b (member (getD a i 0) j) (member (getD a (i + s) 0) (j - s)) ≡ member (getD a (cond b i (i + s)) 0) (cond b j (j - s))
-      go j true = refl
-      go j false = refl
-
-  pub done-high : (i / s % 2 ≡ 0 → ⊥) → v ≡ setOf 64 (λ j. cond (lowHalf s j) (member (getD a (i - s) 0) (j + s)) (member (getD a i 0) j)) → Done (i + 1) a (set r i v) s
-  unfolding fromRow fromColumn
-  done-high t e = done-more (e ∙ setOf-cong 64 _ _ (λ j l. rw (is-high s i t) (go j (lowHalf s j))))
-    where
-      go : (j : ℕ) (b : Bool) → cond b (member (getD a (i - s) 0) (j + s)) (member (getD a i 0) j) ≡ member (getD a (cond b (i - s) i) 0) (cond b (j + s) j)
-      go j true = refl
-      go j false = refl
+    same : (k : ℕ) → b ≤ k → k < 64 → exchangedRow s r k ≡ exchangedRow s a k
+    same k p l = setOf-cong 64 _ _ (λ j q. ap (λ (x : ℕ). member x (fromColumn s k j)) (d .above (fromRow s k j) (from-row-le B b L k j p l)))

@@ -8,20 +8,12 @@ use native.Mathlib.Nat.{pow-suc, mod-one, mod-eq-of-lt, zero-div}
 use native.Mathlib.Omega.{arith}
 use lib.Arith.{mod-mul}
 use lib.Dec.{eqb, ltb, lit<}
-use borrow.Author.Tests.{ltb-true, ltb-false}
 use lib.ListN.{length, getD, take, drop, set, length-append, length-take, length-drop, List·getD-append, List·getD-eq-default}
 use lib.Pow.{shr-shr}
 use lib.Seq.{sets, sets-eq, drop-cons, length-take-le, getD-take, getD-drop, getD-append-add, ext-getD}
 use Rattle.words.specs.Words.{member, bytes, numberOf, wordAt, putWord}
 use Rattle.words.proofs.SetLaws.{member-low}
-use Rattle.words.proofs.BitLaws.{member-shr}
-
-below-or-not : (i n : ℕ) → (i < n) ⊎ (n ≤ i)
-below-or-not i n = go (ltb i n) refl
-  where
-    go : (b : Bool) → ltb i n ≡ b → (i < n) ⊎ (n ≤ i)
-    go true e = inl (ltb-true i n e)
-    go false e = inr (ltb-false i n e)
+use Rattle.words.proofs.BitLaws.{below-or-not, member-shr}
 
 -- bytes of a number, and the number of bytes
 

@@ -2,7 +2,7 @@
 use mathlib.Core.Path.{_≡_}
 use mathlib.Core.Bool.{true, not, _&&_, cond}
 use mathlib.Core.List.{List}
-use Prim.Native.Nat.{ℕ, _+_, _-_, _/_, _%_, _<_}
+use Prim.Native.Nat.{ℕ, _+_, _-_, _/_, _%_, _<_, _≤_}
 use lib.Dec.{eqb, leb}
 use lib.ListN.{getD}
 use Rattle.logic.specs.Graph.{Nodes}
@@ -32,6 +32,21 @@ pub record Blocks (s m : ℕ) : Type 0 where
   pub halves : (j : ℕ) → j < 64 → (leb s j && lowHalf s (j - s)) ≡ not (lowHalf s j)
   pub room : (j : ℕ) → j < 64 → lowHalf s j ≡ true → j + s < 64
   pub mask : m ≡ setOf 64 (lowHalf s)
+
+-- The s rows from b on are in a low half.
+pub record LowFrom (s b : ℕ) : Type 0 where
+  pub low : (i : ℕ) → b ≤ i → i < b + s → i < 64 → lowHalf s i ≡ true
+
+-- Row i after the exchange, of the rows a before it.
+abbrev pub exchangedRow : ℕ → List ℕ → ℕ → ℕ
+exchangedRow s a i = setOf 64 (λ j. member (getD a (fromRow s i j) 0) (fromColumn s i j))
+
+-- The s rows from b on and the s rows behind them have exchanged blocks; the other rows of r are those of a.
+pub record MovedFrom (b s : ℕ) (a r : List ℕ) : Type 0 where
+  pub low : (i : ℕ) → b ≤ i → i < b + s → getD r i 0 ≡ exchangedRow s a i
+  pub high : (i : ℕ) → b ≤ i → i < b + s → getD r (i + s) 0 ≡ exchangedRow s a (i + s)
+  pub before : (i : ℕ) → i < b → getD r i 0 ≡ getD a i 0
+  pub behind : (i : ℕ) → b + s + s ≤ i → getD r i 0 ≡ getD a i 0
 
 -- The bit of row i and column j of r comes from row f i j and column g i j of a.
 pub record Moved (a r : List ℕ) (f g : ℕ → ℕ → ℕ) : Type 0 where

@@ -6,7 +6,7 @@ ghost use lib.Dec.{eqb, ltb};
 ghost use lib.ListN.{length};
 ghost use Rattle.logic.specs.Graph.{countBelow};
 ghost use Rattle.words.specs.Words.{setOf, member, combined, wordAt, putWord};
-ghost use Rattle.words.specs.Transpose.{Transposed, lowHalf, fromRow, fromColumn, Blocks, Moved};
+ghost use Rattle.words.specs.Transpose.{Transposed, lowHalf, fromRow, fromColumn, Blocks, LowFrom, Moved, MovedFrom};
 
 // Whether node i is in the set x. Inner: i is the number of a bit.
 pub fn member(x: u64, i: usize) -> bool
@@ -120,32 +120,43 @@ fn high_row(x: u64, y: u64, s: usize, m: u64) -> u64
     (x >> s & m) | (y & m << s)
 }
 
-// Exchanges blocks of s rows and s columns. Inner: m is the mask of s.
-fn exchange_blocks(a: [u64; 64], s: usize, m: u64) -> [u64; 64]
-    requires { ⌜ Blocks s m ⌝ }
-    ensures { λ r. ⌜ Moved a r (fromRow s) (fromColumn s) ⌝ }
+// Exchanges blocks in the s rows from b on and the s rows behind them. Inner: m is the mask of s, and b starts a low half.
+fn exchange_rows(rows: &mut [u64], b: usize, s: usize, m: u64)
+    requires { ⌜ Blocks s m × LowFrom s b × (b + s + s ≤ 64) × (length (now rows) ≡ 64) ⌝ }
+    ensures { λ _. ⌜ MovedFrom b s (now (rows .entry)) (now (rows .exit)) × (length (now (rows .exit)) ≡ 64) ⌝ }
 {
-    let mut r = [0u64; 64];
-    let mut i = 0;
-    while i < 64 {
-        if i / s % 2 == 0 {
-            r[i] = low_row(a[i], a[i + s], s, m);
-        } else {
-            r[i] = high_row(a[i - s], a[i], s, m);
-        }
+    let end = b + s;
+    let mut i = b;
+    while i < end {
+        let x = rows[i];
+        let y = rows[i + s];
+        rows[i] = low_row(x, y, s, m);
+        rows[i + s] = high_row(x, y, s, m);
         i += 1;
     }
-    r
 }
 
-// Exchanges rows and columns: by halves, then by quarters, and so on down to single bits.
-pub fn transposed(rows: [u64; 64]) -> [u64; 64]
-    ensures { λ r. ⌜ Transposed rows r ⌝ }
+// Exchanges blocks of s rows and s columns in all 64 rows. Inner: m is the mask of s.
+fn exchange_blocks(rows: &mut [u64], s: usize, m: u64)
+    requires { ⌜ Blocks s m × (length (now rows) ≡ 64) ⌝ }
+    ensures { λ _. ⌜ Moved (now (rows .entry)) (now (rows .exit)) (fromRow s) (fromColumn s) × (length (now (rows .exit)) ≡ 64) ⌝ }
 {
-    let by32 = exchange_blocks(rows, 32, 0x0000_0000_FFFF_FFFF);
-    let by16 = exchange_blocks(by32, 16, 0x0000_FFFF_0000_FFFF);
-    let by8 = exchange_blocks(by16, 8, 0x00FF_00FF_00FF_00FF);
-    let by4 = exchange_blocks(by8, 4, 0x0F0F_0F0F_0F0F_0F0F);
-    let by2 = exchange_blocks(by4, 2, 0x3333_3333_3333_3333);
-    exchange_blocks(by2, 1, 0x5555_5555_5555_5555)
+    let mut b = 0;
+    while b < 64 {
+        exchange_rows(rows, b, s, m);
+        b += 2 * s;
+    }
+}
+
+// Exchanges rows and columns in place: by halves, then by quarters, and so on down to single bits. Inner: there are 64 rows.
+pub fn transpose(rows: &mut [u64])
+    requires { ⌜ length (now rows) ≡ 64 ⌝ }
+    ensures { λ _. ⌜ Transposed (now (rows .entry)) (now (rows .exit)) × (length (now (rows .exit)) ≡ 64) ⌝ }
+{
+    exchange_blocks(rows, 32, 0x0000_0000_FFFF_FFFF);
+    exchange_blocks(rows, 16, 0x0000_FFFF_0000_FFFF);
+    exchange_blocks(rows, 8, 0x00FF_00FF_00FF_00FF);
+    exchange_blocks(rows, 4, 0x0F0F_0F0F_0F0F_0F0F);
+    exchange_blocks(rows, 2, 0x3333_3333_3333_3333);
+    exchange_blocks(rows, 1, 0x5555_5555_5555_5555);
 }

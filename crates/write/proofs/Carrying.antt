@@ -14,7 +14,7 @@ use Rattle.measure.proofs.Steps.{edit-inside}
 use Rattle.measure.proofs.Rules.{rule-at}
 use Rattle.write.specs.Laid.{Wrote}
 use Rattle.write.specs.Offsets.{StackIs}
-use Rattle.write.specs.Writing.{SomeShown, Emitted}
+use Rattle.write.specs.Writing.{SomeShown}
 use Rattle.write.specs.Ways.{followed, Walked, Chosen, SomeCarried, Carried}
 use Rattle.write.proofs.Laying.{wrote-more, wrote-as}
 use Rattle.write.proofs.Walking.{steps-kept, kept-more}
@@ -35,10 +35,10 @@ place-inside {text} {edit} {stack} {behind} {from} {at} w = edit-inside edit at 
 pub end-some : {text edit stack behind : List ℕ} {from at h d pos room : ℕ} → SomeCarried text from edit stack behind at h d pos room → getD edit at 0 ≡ 0x30 → d ≡ 0 → SomeShown text from edit stack h pos room
 end-some {text} {edit} {stack} {behind} {from} w c z = record { steps = w .way .steps; is = w .way .way .passed; stands = w .way .way .steps; what = tree (w .K); what-at = rule-at text from (w .K) (w .K-at); fits = omega (arith, w .fits, ap length (end-written (w .way .way) c z (w .K))) }
 
-pub end-carried : {text edit stack behind stack′ o o′ : List ℕ} {from at h d at′ h′ d′ pos next pos′ : ℕ} → Walked edit stack behind at h d stack′ at′ h′ d′ → getD edit at′ 0 ≡ 0x30 → d′ ≡ 0
-    → ((σ : List Step) (t : Tree) → h′ ≡ length σ → StackIs edit stack′ σ → At text from t → Emitted σ t from o pos next pos′ o′) → Carried text from edit stack behind at h d o pos pos′ stack′ behind o′
+pub end-carried : {text edit stack behind stack′ o o′ : List ℕ} {from at h d at′ h′ d′ pos pos′ : ℕ} → Walked edit stack behind at h d stack′ at′ h′ d′ → getD edit at′ 0 ≡ 0x30 → d′ ≡ 0
+    → ((σ : List Step) (t : Tree) → h′ ≡ length σ → StackIs edit stack′ σ → At text from t → Wrote o pos (bytes (graft (env σ) t)) pos′ o′) → Carried text from edit stack behind at h d o pos pos′ stack′ behind o′
 end-carried {text} {edit} {stack} {behind} {stack′} {o} {o′} {from} a c z f = record {
-  wrote = λ σ Z Ws y K r. let m = a .each σ Z Ws y in wrote-as (end-written (m .way) c z K ∙ sym (m .same K)) (f (m .steps) (tree K) (m .way .passed) (m .way .steps) (rule-at text from K r) .wrote);
+  wrote = λ σ Z Ws y K r. let m = a .each σ Z Ws y in wrote-as (end-written (m .way) c z K ∙ sym (m .same K)) (f (m .steps) (tree K) (m .way .passed) (m .way .steps) (rule-at text from K r));
   kept = a .kept;
   again = refl;
 }

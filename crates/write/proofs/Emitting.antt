@@ -1,22 +1,22 @@
 -- A name and an expression written under the steps passed, from their parts.
 use mathlib.Core.Path.{_≡_, refl, sym, ap, ap₂, _∙_, subst}
 use mathlib.Core.Bool.{Bool, true, false, cond}
-use mathlib.Core.List.{List, [], _∷_, _++_, append-assoc}
-use Prim.Native.Nat.{ℕ, _+_, _-_, _%_, _≤_, _<_}
+use mathlib.Core.List.{List, [], _∷_, _++_, append-assoc, append-nil}
+use Prim.Native.Nat.{ℕ, _+_, _-_, _/_, _%_, _≤_, _<_}
 use native.Mathlib.Omega.{arith}
-use native.Mathlib.Decide.{decLt}
 use lib.Dec.{eqb}
 use lib.ListN.{length, getD, set, take, drop, length-append}
 use lib.Seq.{take-append-seam}
-use Rattle.tree.specs.Tree.{Tree, name, leaf, one, two, bytes, graft, size}
+use Rattle.tree.specs.Tree.{Tree, name, leaf, one, two, bytes, graft}
 use Rattle.tree.specs.Stack.{Step, env, lead, inner}
 use Rattle.tree.proofs.Written.{bytes-becomes}
 use Rattle.measure.specs.Shapes.{At, shapeOf}
-use Rattle.measure.proofs.Places.{IsName, IsLeaf, IsOne, IsTwo, as-name, as-leaf, as-one, as-two}
+use Rattle.measure.proofs.Places.{IsName, as-name, tag, tag-at}
+use Rattle.measure.proofs.Pending.{headOf, partsOf, texts, texts-append, bytes-opened, Pending, pending-one, First, first, Turn, turn}
 use Rattle.write.specs.Laid.{Wrote}
 use Rattle.write.specs.Offsets.{StackIs, Hit, Found}
-use Rattle.write.specs.Writing.{SomeName, SomeShown, Emitted}
-use Rattle.write.proofs.Laying.{wrote-one, wrote-more, wrote-as}
+use Rattle.write.specs.Writing.{SomeName, SomeShown}
+use Rattle.write.proofs.Laying.{wrote-none, wrote-one, wrote-more, wrote-as}
 
 -- A name that no step touches, and one that the step at index j touches last.
 pub untouched : {edit stack : List ℕ} {σ : List Step} {c k r : ℕ} → Found edit stack σ c k r → r ≡ 0 → c ∷ k ∷ [] ≡ bytes (env σ c k)
@@ -52,207 +52,131 @@ module _ {edit stack : List ℕ} {σ : List Step} {c k j : ℕ} (H : Hit edit st
       → Wrote o₂ q (bytes (graft (env (H .below)) (H .s .what))) r o₃ → Wrote o pos (bytes (env σ c k)) r o₃
   hit-wrote {o} {o₁} {o₂} {o₃} {pos} {b} {p} {q} {r} f u v w = wrote-as hit-bytes (wrote-more (wrote-more (wrote-more (wrote-as (ap (λ (n : ℕ). n ∷ []) f) (wrote-one o pos b)) u) v) w)
 
--- The head of what stands in a text: its code byte with its numbers.
-abbrev headOf : Tree → List ℕ
-headOf (name c k) = c ∷ k ∷ []
-headOf (leaf h) = h
-headOf (one h x) = h
-headOf (two h x y) = h
+-- The text of a tree under the steps passed, and of one that is no name by its head and its operands.
+abbrev shownBy : List Step → Tree → List ℕ
+shownBy σ t = bytes (graft (env σ) t)
 
-head-taken : (text : List ℕ) (at : ℕ) (t : Tree) → At text at t → take (length (headOf t)) (drop at text) ≡ headOf t
-unfolding bytes
-head-taken text at (name c k) a = ap (take 2) (a .here)
-head-taken text at (leaf h) a = ap (take (length h)) (a .here) ∙ take-append-seam h (a .rest)
-head-taken text at (one h x) a = ap (take (length h)) (a .here ∙ append-assoc h (bytes x) (a .rest)) ∙ take-append-seam h (bytes x ++ a .rest)
-head-taken text at (two h x y) a = ap (take (length h)) (a .here ∙ append-assoc (h ++ bytes x) (bytes y) (a .rest) ∙ append-assoc h (bytes x) (bytes y ++ a .rest)) ∙ take-append-seam h (bytes x ++ (bytes y ++ a .rest))
+opened : (σ : List Step) (t : Tree) → tag t < 16 → shownBy σ t ≡ headOf t ++ texts (shownBy σ) (partsOf t)
+unfolding graft bytes texts
+opened σ (name c k) l = absurd (omega arith)
+opened σ (leaf h) l = sym (append-nil h)
+opened σ (one h x) l = ap (λ (r : List ℕ). h ++ r) (sym (append-nil (shownBy σ x)))
+opened σ (two h x y) l = append-assoc h (shownBy σ x) (shownBy σ y) ∙ ap (λ (r : List ℕ). h ++ (shownBy σ x ++ r)) (sym (append-nil (shownBy σ y)))
 
-module _ (text : List ℕ) (at s : ℕ) (e : s ≡ shapeOf (getD text at 0)) where
-  head-is : (t : Tree) → At text at t → length (headOf t) ≡ shapeOf (getD text at 0) % 4 → take (s % 4) (drop at text) ≡ headOf t
-  head-is t a l = ap (λ (n : ℕ). take (n % 4) (drop at text)) e ∙ ap (λ (n : ℕ). take n (drop at text)) (sym l) ∙ head-taken text at t a
+head-taken : (text : List ℕ) (at : ℕ) (t : Tree) → At text at t → (n : ℕ) → length (headOf t) ≡ n → take n (drop at text) ≡ headOf t
+head-taken text at t a n e =
+    let r : List ℕ = texts bytes (partsOf t) ++ a .rest in
+    let here : drop at text ≡ headOf t ++ r = a .here ∙ ap (λ (l : List ℕ). l ++ a .rest) (bytes-opened t) ∙ append-assoc (headOf t) (texts bytes (partsOf t)) (a .rest) in
+    ap (take n) here ∙ ap (λ (m : ℕ). take m (headOf t ++ r)) (sym e) ∙ take-append-seam (headOf t) r
 
-  module _ (m : s ≡ 16) where
-    named : (t : Tree) → At text at t → IsName text at t
-    named t a = as-name text at t a (sym e ∙ m)
+-- An expression partly written: so many trees are wanted at p, and their texts are still to be written.
+pub record Shown (text : List ℕ) (σ : List Step) (t : Tree) (p wanted : ℕ) (o : List ℕ) (pos q : ℕ) (o′ : List ℕ) : Type 0 where
+  pub parts : List Tree
+  pub pending : Pending text p wanted parts
+  pub done : List ℕ
+  pub whole : done ++ texts (shownBy σ) parts ≡ shownBy σ t
+  pub wrote : Wrote o pos done q o′
 
-    name-bytes : (σ : List Step) (t : Tree) → At text at t → bytes (env σ (getD text at 0) (getD text (at + 1) 0)) ≡ bytes (graft (env σ) t)
-    unfolding graft
-    name-bytes σ t a = let q = named t a in ap₂ (λ (c k : ℕ). bytes (env σ c k)) (q .reads-c) (q .reads-k) ∙ sym (ap (λ (u : Tree). bytes (graft (env σ) u)) (q .is))
+shown-more : {text : List ℕ} {σ : List Step} {t : Tree} {p wanted : ℕ} {o : List ℕ} {pos q : ℕ} {o′ : List ℕ} (w : Shown text σ t p wanted o pos q o′) {p′ wanted′ : ℕ} {parts′ : List Tree} {b : List ℕ} {q′ : ℕ} {o″ : List ℕ}
+    → Pending text p′ wanted′ parts′ → texts (shownBy σ) (w .parts) ≡ b ++ texts (shownBy σ) parts′ → Wrote o′ q b q′ o″ → Shown text σ t p′ wanted′ o pos q′ o″
+shown-more {text} {σ} {t} {p} {wanted} {o} {pos} {q} {o′} w {p′} {wanted′} {parts′} {b} n e u = record {
+  parts = parts′;
+  pending = n;
+  done = w .done ++ b;
+  whole = append-assoc (w .done) b (texts (shownBy σ) parts′) ∙ ap (λ (l : List ℕ). w .done ++ l) (sym e) ∙ w .whole;
+  wrote = wrote-more (w .wrote) u;
+}
 
-    pub name-room : {edit stack : List ℕ} {h pos room : ℕ} → SomeShown text at edit stack h pos room → at + 2 ≤ length text
-    name-room w = named (w .what) (w .what-at) .room
+-- whatever expression stands there, and whatever the steps on the stack
+pub record Showing (text : List ℕ) (at : ℕ) (edit stack : List ℕ) (h p wanted : ℕ) (o : List ℕ) (pos q : ℕ) (o′ : List ℕ) : Type 0 where
+  pub each : (σ : List Step) (t : Tree) → h ≡ length σ → StackIs edit stack σ → At text at t → Shown text σ t p wanted o pos q o′
+  pub long : length o′ ≡ length o
 
-    pub name-some : {edit stack : List ℕ} {h pos room : ℕ} → SomeShown text at edit stack h pos room → SomeName edit stack h (getD text at 0) (getD text (at + 1) 0) pos room
-    name-some w = record { steps = w .steps; is = w .is; stands = w .stands; fits = omega (arith, w .fits, ap length (name-bytes (w .steps) (w .what) (w .what-at))) }
+pub showing-first : (text : List ℕ) (at : ℕ) (edit stack : List ℕ) (h : ℕ) (o : List ℕ) (pos : ℕ) → Showing text at edit stack h at 1 o pos pos o
+unfolding texts
+showing-first text at edit stack h o pos = record { each = λ σ t e i a. record { parts = t ∷ []; pending = pending-one text at t a; done = []; whole = append-nil (shownBy σ t); wrote = wrote-none o pos }; long = refl }
 
-    pub name-emitted : (σ : List Step) (t : Tree) → At text at t → {o o′ : List ℕ} {pos p : ℕ} → Wrote o pos (bytes (env σ (getD text at 0) (getD text (at + 1) 0))) p o′ → Emitted σ t at o pos (at + 2) p o′
-    unfolding size
-    name-emitted σ t a u = record { read = ap (λ (u : Tree). at + size u) (sym (named t a .is)); wrote = wrote-as (name-bytes σ t a) u }
+pub showing-end : {text edit stack o o′ : List ℕ} {at h p wanted pos q : ℕ} → Showing text at edit stack h p wanted o pos q o′ → wanted ≤ 0
+    → (σ : List Step) (t : Tree) → h ≡ length σ → StackIs edit stack σ → At text at t → Wrote o pos (bytes (graft (env σ) t)) q o′
+unfolding texts
+showing-end {text} {edit} {stack} {o} {o′} {at} {h} {p} {wanted} {pos} {q} I l σ t e i a = let w = I .each σ t e i a in go w (w .parts) (w .pending .count) (w .whole)
+  where
+    go : (w : Shown text σ t p wanted o pos q o′) (parts : List Tree) → length parts ≡ wanted → w .done ++ texts (shownBy σ) parts ≡ shownBy σ t → Wrote o pos (shownBy σ t) q o′
+    go w [] n e = wrote-as (sym (append-nil (w .done)) ∙ e) (w .wrote)
+    go w (x ∷ more) n e = absurd (omega (arith, n, l))
 
-  module _ (n : s ≡ 16 → ⊥) where
-    other : shapeOf (getD text at 0) ≡ 16 → ⊥
-    other m = n (e ∙ m)
+module _ {text edit stack o o′ : List ℕ} {at h p wanted pos q : ℕ} (I : Showing text at edit stack h p wanted o pos q o′) (l : 0 < wanted) where
+  module _ {room : ℕ} (w : SomeShown text at edit stack h pos room) where
+    pub some : Shown text (w .steps) (w .what) p wanted o pos q o′
+    some = I .each (w .steps) (w .what) (w .is) (w .stands) (w .what-at)
 
-    -- the head and the operands' texts
-    module _ (low : s < 4) (t : Tree) (a : At text at t) where
-      is-leaf : IsLeaf text at t
-      is-leaf = as-leaf text at t a other (omega (arith, e))
+    pub head-first : First text p (some .parts)
+    head-first = first (some .pending) l
 
-      leaf-bytes : (σ : List Step) → take (s % 4) (drop at text) ≡ bytes (graft (env σ) t)
-      unfolding graft bytes
-      leaf-bytes σ = let q = is-leaf in head-is t a (ap (λ (u : Tree). length (headOf u)) (q .is) ∙ q .head) ∙ ap headOf (q .is) ∙ sym (ap (λ (u : Tree). bytes (graft (env σ) u)) (q .is))
+    pub still : (q + length (texts (λ (t : Tree). bytes (graft (env (w .steps)) t)) (some .parts)) ≤ room) × (pos ≤ q)
+    still = (omega (arith, w .fits, some .wrote .counted, ap length (some .whole), length-append (some .done) (texts (shownBy (w .steps)) (some .parts))), omega (arith, some .wrote .counted))
 
-      pub leaf-emitted : (σ : List Step) {o o′ : List ℕ} {pos p : ℕ} → Wrote o pos (take (s % 4) (drop at text)) p o′ → Emitted σ t at o pos (at + s % 4) p o′
-      unfolding size
-      leaf-emitted σ u = let q = is-leaf in record { read = ap (λ (x : ℕ). at + x % 4) e ∙ ap (λ (x : ℕ). at + x) (sym (q .head)) ∙ ap (λ (u : Tree). at + size u) (sym (q .is)); wrote = wrote-as (leaf-bytes σ) u }
+  module _ (s : ℕ) (e : s ≡ shapeOf (getD text p 0)) where
+    -- a name
+    module _ (high : 16 ≤ s) where
+      named : {t : Tree} → At text p t → IsName text p t
+      named {t} a = as-name text p t a (omega (arith, high, e))
 
-    module _ (some : 4 ≤ s) (low : s < 8) (t : Tree) (a : At text at t) where
-      is-one : IsOne text at t
-      is-one = as-one text at t a other (omega (arith, e)) (omega (arith, e))
+      name-text : (σ : List Step) (parts : List Tree) (f : First text p parts) → texts (shownBy σ) parts ≡ bytes (env σ (getD text p 0) (getD text (p + 1) 0)) ++ texts (shownBy σ) (f .more)
+      unfolding graft texts
+      name-text σ parts f =
+          let q = named (f .at) in
+          ap (texts (shownBy σ)) (f .is) ∙ ap (λ (u : Tree). shownBy σ u ++ texts (shownBy σ) (f .more)) (q .is)
+          ∙ sym (ap₂ (λ (c k : ℕ). bytes (env σ c k) ++ texts (shownBy σ) (f .more)) (q .reads-c) (q .reads-k))
 
-      one-bytes : (σ : List Step) → take (s % 4) (drop at text) ++ bytes (graft (env σ) (is-one .x)) ≡ bytes (graft (env σ) t)
-      unfolding graft bytes
-      one-bytes σ = let q = is-one in ap (λ (l : List ℕ). l ++ bytes (graft (env σ) (q .x))) (head-is t a (ap (λ (u : Tree). length (headOf u)) (q .is) ∙ q .head) ∙ ap headOf (q .is)) ∙ sym (ap (λ (u : Tree). bytes (graft (env σ) u)) (q .is))
+      name-next : {parts : List Tree} → Pending text p wanted parts → (f : First text p parts) → Pending text (p + 2) (wanted - 1) (f .more)
+      name-next {parts} v f =
+          let q = named (f .at) in
+          let n = turn v f s e .next in
+          let is : s ≡ 18 = e ∙ tag-at text p (f .t) (f .at) ∙ ap tag (q .is) in
+          let parts-are : partsOf (f .t) ++ f .more ≡ f .more = ap (λ (u : Tree). partsOf u ++ f .more) (q .is) in
+          let place : p + s % 4 ≡ p + 2 = ap (λ (x : ℕ). p + x % 4) is in
+          let count : wanted - 1 + s / 4 % 4 ≡ wanted - 1 = ap (λ (x : ℕ). wanted - 1 + x / 4 % 4) is ∙ (let z : wanted - 1 + 0 ≡ wanted - 1 = omega arith in z) in
+          subst (Pending text (p + 2) (wanted - 1)) parts-are (subst (λ (x : ℕ). Pending text x (wanted - 1) (partsOf (f .t) ++ f .more)) place (subst (λ (x : ℕ). Pending text (p + s % 4) x (partsOf (f .t) ++ f .more)) count n))
 
-      one-first : At text (at + s % 4) (is-one .x)
-      one-first = subst (λ (x : ℕ). At text (at + x % 4) (is-one .x)) (sym e) (is-one .first)
+      module _ {room : ℕ} (w : SomeShown text at edit stack h pos room) where
+        pub name-room : p + 2 ≤ length text
+        name-room = named (head-first w .at) .room
 
-      pub one-emitted : (σ : List Step) {o o₁ o′ : List ℕ} {pos p at′ pos′ : ℕ} → Wrote o pos (take (s % 4) (drop at text)) p o₁
-          → ((x : Tree) → At text (at + s % 4) x → Emitted σ x (at + s % 4) o₁ p at′ pos′ o′) → Emitted σ t at o pos at′ pos′ o′
-      unfolding size
-      one-emitted σ {o} {o₁} {o′} {pos} {p} {at′} {pos′} u f =
-          let q = is-one in
-          let v = f (q .x) one-first in
-          let r : at′ ≡ at + (length (q .h) + size (q .x)) = omega (arith, v .read, q .head, e) in
-          record { read = r ∙ ap (λ (u : Tree). at + size u) (sym (q .is)); wrote = wrote-as (one-bytes σ) (wrote-more u (v .wrote)) }
+        pub name-some : SomeName edit stack h (getD text p 0) (getD text (p + 1) 0) q room
+        name-some = record { steps = w .steps; is = w .is; stands = w .stands; fits = omega (arith, still w .0, ap length (name-text (w .steps) (some w .parts) (head-first w)), length-append (bytes (env (w .steps) (getD text p 0) (getD text (p + 1) 0))) (texts (shownBy (w .steps)) (head-first w .more))) }
 
-    module _ (some : 8 ≤ s) (t : Tree) (a : At text at t) where
-      is-two : IsTwo text at t
-      is-two = as-two text at t a other (omega (arith, e))
+      pub name-shown : {q′ : ℕ} {o″ : List ℕ} → ((σ : List Step) → h ≡ length σ → StackIs edit stack σ → Wrote o′ q (bytes (env σ (getD text p 0) (getD text (p + 1) 0))) q′ o″) → length o″ ≡ length o′ → Showing text at edit stack h (p + 2) (wanted - 1) o pos q′ o″
+      name-shown u m = record { each = λ σ t g i a. let v = I .each σ t g i a in let f = first (v .pending) l in shown-more v (name-next (v .pending) f) (name-text σ (v .parts) f) (u σ g i); long = m ∙ I .long }
 
-      two-bytes : (σ : List Step) → take (s % 4) (drop at text) ++ bytes (graft (env σ) (is-two .x)) ++ bytes (graft (env σ) (is-two .y)) ≡ bytes (graft (env σ) t)
-      unfolding graft bytes
-      two-bytes σ = let q = is-two in ap (λ (l : List ℕ). l ++ bytes (graft (env σ) (q .x)) ++ bytes (graft (env σ) (q .y))) (head-is t a (ap (λ (u : Tree). length (headOf u)) (q .is) ∙ q .head) ∙ ap headOf (q .is)) ∙ sym (ap (λ (u : Tree). bytes (graft (env σ) u)) (q .is))
+    -- any other code
+    module _ (low : s < 16) where
+      head-text : (σ : List Step) (parts : List Tree) (f : First text p parts) → (g : Turn text p wanted (f .t) (f .more) s) → texts (shownBy σ) parts ≡ take (s % 4) (drop p text) ++ texts (shownBy σ) (partsOf (f .t) ++ f .more)
+      unfolding texts
+      head-text σ parts f g =
+          let t : Tree = f .t in
+          let m : List ℕ = texts (shownBy σ) (f .more) in
+          ap (texts (shownBy σ)) (f .is) ∙ ap (λ (l : List ℕ). l ++ m) (opened σ t (omega (arith, low, e, tag-at text p t (f .at)))) ∙ append-assoc (headOf t) (texts (shownBy σ) (partsOf t)) m
+          ∙ ap (λ (l : List ℕ). headOf t ++ l) (sym (texts-append (shownBy σ) (partsOf t) (f .more)))
+          ∙ ap (λ (l : List ℕ). l ++ texts (shownBy σ) (partsOf t ++ f .more)) (sym (head-taken text p t (f .at) (s % 4) (g .head)))
 
-      two-first : At text (at + s % 4) (is-two .x)
-      two-first = subst (λ (x : ℕ). At text (at + x % 4) (is-two .x)) (sym e) (is-two .first)
+      module _ {room : ℕ} (w : SomeShown text at edit stack h pos room) where
+        pub head-turn : Turn text p wanted (head-first w .t) (head-first w .more) s
+        head-turn = turn (some w .pending) (head-first w) s e
 
-      two-second : (next : ℕ) → next ≡ at + s % 4 + size (is-two .x) → At text next (is-two .y)
-      two-second next r = is-two .second next (r ∙ ap (λ (x : ℕ). at + x % 4 + size (is-two .x)) e)
+        pub head-room : q + s % 4 ≤ room
+        head-room =
+            omega (
+              arith,
+              still w .0,
+              head-turn .head,
+              ap length (head-taken text p (head-first w .t) (head-first w .at) (s % 4) (head-turn .head)),
+              ap length (head-text (w .steps) (some w .parts) (head-first w) head-turn),
+              length-append (take (s % 4) (drop p text)) (texts (shownBy (w .steps)) (partsOf (head-first w .t) ++ head-first w .more)),
+            )
 
-      pub two-emitted : (σ : List Step) {o o₁ o₂ o₃ : List ℕ} {pos p at₂ p₂ at₃ p₃ : ℕ} → Wrote o pos (take (s % 4) (drop at text)) p o₁
-          → ((x : Tree) → At text (at + s % 4) x → Emitted σ x (at + s % 4) o₁ p at₂ p₂ o₂) → ((x : Tree) → At text at₂ x → Emitted σ x at₂ o₂ p₂ at₃ p₃ o₃)
-          → Emitted σ t at o pos at₃ p₃ o₃
-      unfolding size
-      two-emitted σ {o} {o₁} {o₂} {o₃} {pos} {p} {at₂} {p₂} {at₃} {p₃} u f g =
-          let q = is-two in
-          let v = f (q .x) two-first in
-          let w = g (q .y) (two-second at₂ (v .read)) in
-          let r : at₃ ≡ at + (length (q .h) + (size (q .x) + size (q .y))) = omega (arith, v .read, w .read, q .head, e) in
-          record { read = r ∙ ap (λ (u : Tree). at + size u) (sym (q .is)); wrote = wrote-as (two-bytes σ) (wrote-more (wrote-more u (v .wrote)) (w .wrote)) }
-
-    -- what the parts ask for, where some expression and its text fit
-    record Sized (σ : List Step) (t : Tree) : Type 0 where
-      long : length (take (s % 4) (drop at text)) ≡ s % 4
-      in-text : at + s % 4 ≤ length text
-      in-out : s % 4 ≤ length (bytes (graft (env σ) t))
-
-    sized : (σ : List Step) (t : Tree) → At text at t → Sized σ t
-    sized σ t a = go (decLt s 4) (decLt s 8)
-      where
-        long : length (headOf t) ≡ shapeOf (getD text at 0) % 4 → length (take (s % 4) (drop at text)) ≡ s % 4
-        long l = ap length (head-is t a l) ∙ l ∙ sym (ap (λ (x : ℕ). x % 4) e)
-
-        go : Dec (s < 4) → Dec (s < 8) → Sized σ t
-        go (yes low) d =
-            let q = is-leaf low t a in
-            let l = long (ap (λ (u : Tree). length (headOf u)) (q .is) ∙ q .head) in
-            record { long = l; in-text = omega (arith, q .head, q .room, e); in-out = omega (arith, l, ap length (leaf-bytes low t a σ)) }
-        go (no high) (yes low) =
-            let some : 4 ≤ s = omega arith in
-            let q = is-one some low t a in
-            let l = long (ap (λ (u : Tree). length (headOf u)) (q .is) ∙ q .head) in
-            record { long = l; in-text = omega (arith, q .head, q .room, e); in-out = omega (arith, l, ap length (one-bytes some low t a σ), length-append (take (s % 4) (drop at text)) (bytes (graft (env σ) (q .x)))) }
-        go (no high) (no higher) =
-            let some : 8 ≤ s = omega arith in
-            let q = is-two some t a in
-            let l = long (ap (λ (u : Tree). length (headOf u)) (q .is) ∙ q .head) in
-            record {
-              long = l;
-              in-text = omega (arith, q .head, q .room, e);
-              in-out = omega (arith, l, ap length (two-bytes some t a σ), length-append (take (s % 4) (drop at text) ++ bytes (graft (env σ) (q .x))) (bytes (graft (env σ) (q .y))), length-append (take (s % 4) (drop at text)) (bytes (graft (env σ) (q .x))));
-            }
-
-    module _ {edit stack : List ℕ} {h pos room : ℕ} (w : SomeShown text at edit stack h pos room) where
-      pub head-in-text : at + s % 4 ≤ length text
-      head-in-text = sized (w .steps) (w .what) (w .what-at) .in-text
-
-      pub head-in-out : pos + s % 4 ≤ room
-      head-in-out = omega (arith, w .fits, sized (w .steps) (w .what) (w .what-at) .in-out)
-
-      module _ {p room′ : ℕ} (c : p ≡ pos + length (take (s % 4) (drop at text))) (same : room′ ≡ room) where
-        pub head-counted : p ≡ pos + s % 4
-        head-counted = omega (arith, c, sized (w .steps) (w .what) (w .what-at) .long)
-
-        pub record First : Type 0 where
-          pub head : 0 < s % 4
-          pub some : SomeShown text (at + s % 4) edit stack h p room′
-
-        pub first-some : 4 ≤ s → First
-        first-some some = go (decLt s 8)
-          where
-            go : Dec (s < 8) → First
-            go (yes low) =
-                let q = is-one some low (w .what) (w .what-at) in
-                let l = length-append (take (s % 4) (drop at text)) (bytes (graft (env (w .steps)) (q .x))) in
-                record {
-                  head = omega (arith, q .head, q .pos, e);
-                  some = record {
-                    steps = w .steps;
-                    is = w .is;
-                    stands = w .stands;
-                    what = q .x;
-                    what-at = one-first some low (w .what) (w .what-at);
-                    fits = omega (arith, w .fits, c, same, l, ap length (one-bytes some low (w .what) (w .what-at) (w .steps)));
-                  };
-                }
-            go (no high) =
-                let more : 8 ≤ s = omega arith in
-                let q = is-two more (w .what) (w .what-at) in
-                let l = length-append (take (s % 4) (drop at text)) (bytes (graft (env (w .steps)) (q .x))) in
-                let m = length-append (take (s % 4) (drop at text) ++ bytes (graft (env (w .steps)) (q .x))) (bytes (graft (env (w .steps)) (q .y))) in
-                record {
-                  head = omega (arith, q .head, q .pos, e);
-                  some = record {
-                    steps = w .steps;
-                    is = w .is;
-                    stands = w .stands;
-                    what = q .x;
-                    what-at = two-first more (w .what) (w .what-at);
-                    fits = omega (arith, w .fits, c, same, l, m, ap length (two-bytes more (w .what) (w .what-at) (w .steps)));
-                  };
-                }
-
-        pub record Second (at₂ p₂ : ℕ) : Type 0 where
-          pub on : p ≤ p₂
-          pub some : SomeShown text at₂ edit stack h p₂ room′
-
-        pub second-some : 8 ≤ s → {o₁ o₂ : List ℕ} {at₂ p₂ : ℕ} → ((σ : List Step) (t : Tree) → h ≡ length σ → StackIs edit stack σ → At text (at + s % 4) t → Emitted σ t (at + s % 4) o₁ p at₂ p₂ o₂) → Second at₂ p₂
-        second-some more {o₁} {o₂} {at₂} {p₂} f =
-            let q = is-two more (w .what) (w .what-at) in
-            let v = f (w .steps) (q .x) (w .is) (w .stands) (two-first more (w .what) (w .what-at)) in
-            let l = length-append (take (s % 4) (drop at text)) (bytes (graft (env (w .steps)) (q .x))) in
-            let m = length-append (take (s % 4) (drop at text) ++ bytes (graft (env (w .steps)) (q .x))) (bytes (graft (env (w .steps)) (q .y))) in
-            record {
-              on = omega (arith, v .wrote .counted);
-              some = record {
-                steps = w .steps;
-                is = w .is;
-                stands = w .stands;
-                what = q .y;
-                what-at = two-second more (w .what) (w .what-at) at₂ (v .read);
-                fits = omega (arith, w .fits, c, same, l, m, v .wrote .counted, ap length (two-bytes more (w .what) (w .what-at) (w .steps)));
-              };
-            }
+      pub head-shown : {q′ : ℕ} {o″ : List ℕ} → Wrote o′ q (take (s % 4) (drop p text)) q′ o″ → length o″ ≡ length o′ → Showing text at edit stack h (p + s % 4) (wanted - 1 + s / 4 % 4) o pos q′ o″
+      head-shown u m = record { each = λ σ t g i a. let v = I .each σ t g i a in let f = first (v .pending) l in let n = turn (v .pending) f s e in shown-more v (n .next) (head-text σ (v .parts) f n) u; long = m ∙ I .long }
 
 pub shown-moved : {text edit stack : List ℕ} {at h pos pos′ room room′ : ℕ} → SomeShown text at edit stack h pos room → pos′ ≡ pos → room′ ≡ room → SomeShown text at edit stack h pos′ room′
 shown-moved w p r = record { steps = w .steps; is = w .is; stands = w .stands; what = w .what; what-at = w .what-at; fits = omega (arith, w .fits, p, r) }

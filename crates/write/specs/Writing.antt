@@ -3,10 +3,9 @@ use mathlib.Core.Path.{_≡_}
 use mathlib.Core.List.{List}
 use Prim.Native.Nat.{ℕ, _+_, _≤_}
 use lib.ListN.{length}
-use Rattle.tree.specs.Tree.{Tree, size, bytes, graft}
+use Rattle.tree.specs.Tree.{Tree, bytes, graft}
 use Rattle.tree.specs.Stack.{Step, env}
 use Rattle.measure.specs.Shapes.{At}
-use Rattle.write.specs.Laid.{Wrote}
 use Rattle.write.specs.Offsets.{StackIs}
 
 -- some steps are on the stack, and what a name becomes under them fits a buffer of `room` bytes from `pos` on
@@ -24,8 +23,3 @@ pub record SomeShown (text : List ℕ) (at : ℕ) (edit stack : List ℕ) (h pos
   pub what : Tree
   pub what-at : At text at what
   pub fits : pos + length (bytes (graft (env steps) what)) ≤ room
-
--- what writing an expression leaves
-pub record Emitted (σ : List Step) (t : Tree) (at : ℕ) (o : List ℕ) (pos at′ pos′ : ℕ) (o′ : List ℕ) : Type 0 where
-  pub read : at′ ≡ at + size t
-  pub wrote : Wrote o pos (bytes (graft (env σ) t)) pos′ o′

@@ -15,7 +15,7 @@ ghost use Rattle.write.specs.Laid.{Wrote};
 ghost use Rattle.write.specs.Carried.{SomeRuleFits, RuleWritten, SomeBookFits, BookWritten};
 ghost use Rattle.write.specs.Offsets.{StackIs, SomeStack, Found};
 ghost use Rattle.write.specs.Ways.{SomeWay, resting, Passed, Walked, Chosen, SomeCarried, Carried};
-ghost use Rattle.write.specs.Writing.{SomeName, SomeShown, Emitted};
+ghost use Rattle.write.specs.Writing.{SomeName, SomeShown};
 
 // Where reading and writing stand.
 pub struct Place {
@@ -124,11 +124,11 @@ fn name(edit: &[u8], stack: &[usize], h: usize, c: u8, k: u8, out: &mut [u8], po
     out[pos] = lead(op);
     let p = name(edit, stack, below, c, k, out, pos + 1);
     let q = put_not(op, out, p);
-    let done = emit(edit, o + 2, edit, stack, below, out, q);
-    done.pos
+    emit(edit, o + 2, edit, stack, below, out, q)
 }
 
-// Writes an expression of a text under h steps.
+// Writes an expression of a text under h steps, code by code: a name as it is under them, any other code with its numbers as it stands.
+// Each code takes one from the expressions that are wanted, and adds its operands.
 // Inner: it stands there, the stack holds offsets of steps, and there is room.
 fn emit(
     text: &[u8],
@@ -138,28 +138,27 @@ fn emit(
     h: usize,
     out: &mut [u8],
     pos: usize,
-) -> Place
+) -> usize
     requires { ⌜ SomeShown (now text) at (now edit) (now stack) h pos (length (now out)) × (h ≤ length (now stack)) ⌝ }
-    ensures { λ r. ⌜ ((σ : List Step) (t : Tree) → h ≡ length σ → StackIs (now (edit .entry)) (now (stack .entry)) σ → At (now (text .entry)) at t → Emitted σ t at (now (out .entry)) pos (r .at) (r .pos) (now (out .exit))) ⌝ }
+    ensures { λ r. ⌜ ((σ : List Step) (t : Tree) → h ≡ length σ → StackIs (now (edit .entry)) (now (stack .entry)) σ → At (now (text .entry)) at t → Wrote (now (out .entry)) pos (bytes (graft (env σ) t)) r (now (out .exit))) ⌝ }
 {
-    let c = text[at];
-    let s = measure::shape(c);
-    if s == 16 {
-        let p = name(edit, stack, h, c, text[at + 1], out, pos);
-        return Place { at: at + 2, pos: p };
+    let mut p = at;
+    let mut q = pos;
+    let mut wanted: usize = 1;
+    while 0 < wanted {
+        let c = text[p];
+        let s = measure::shape(c);
+        if s >= 16 {
+            q = name(edit, stack, h, c, text[p + 1], out, q);
+            p += 2;
+            wanted -= 1;
+        } else {
+            q = copy(text, p, s % 4, out, q);
+            p += s % 4;
+            wanted = wanted - 1 + s / 4 % 4;
+        }
     }
-    let n = s % 4;
-    let p = copy(text, at, n, out, pos);
-    if s < 4 {
-        return Place { at: at + n, pos: p };
-    }
-    let one = emit(text, at + n, edit, stack, h, out, p);
-    if s < 8 {
-        return one;
-    }
-    let next = one.at;
-    let q = one.pos;
-    emit(text, next, edit, stack, h, out, q)
+    q
 }
 
 // Where a walk rests: the place in the edit, the number of steps passed, the number of edits behind.
@@ -263,8 +262,7 @@ fn open_first(
 {
     let p = put_two(0x25, 0x26, out, pos);
     out[p] = 0x27;
-    let done = emit(edit, at, edit, stack, h, out, p + 1);
-    done.pos
+    emit(edit, at, edit, stack, h, out, p + 1)
 }
 
 // Writes 26 and the rule at a place of the edit.
@@ -281,8 +279,7 @@ fn open_second(
     ensures { λ r. ⌜ ((σ : List Step) (t : Tree) → h ≡ length σ → StackIs (now (edit .entry)) (now (stack .entry)) σ → At (now (edit .entry)) at t → Wrote (now (out .entry)) pos (0x26 ∷ bytes (graft (env σ) t)) r (now (out .exit))) ⌝ }
 {
     out[pos] = 0x26;
-    let done = emit(edit, at, edit, stack, h, out, pos + 1);
-    done.pos
+    emit(edit, at, edit, stack, h, out, pos + 1)
 }
 
 // Writes the rule at `from` of a text as carried back along a way of the edit.
@@ -307,8 +304,7 @@ fn write_way(
     let n = rest.h;
     let m = rest.d;
     if edit[p] == 0x30 {
-        let done = emit(text, from, edit, stack, n, out, pos);
-        return done.pos;
+        return emit(text, from, edit, stack, n, out, pos);
     }
     let ways = ways_at(edit, p);
     let first = ways.first;

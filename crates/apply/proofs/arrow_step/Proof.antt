@@ -1,3 +1,4 @@
+use mathlib.Core.Path.{refl, sym}
 use native.Mathlib.Omega.{arith}
 use borrow.Author.Needs.{needs}
 use denote.Ref.{now}
@@ -17,12 +18,16 @@ arrow-step-spec = tie.close (tie.spec
     (λ c. omega (arith, step (c .before .before .before) .room))
     (λ c. omega (arith, step (c .before .before .before .before) .room))
     (λ c. omega (arith, step (c .before .before .before .before .before) .room))
-    (λ c κs. let s = c .before .before .before .before .before in (opened _ _ _ (s .pre .0), record { what = step s .what; stands = step s .first }))
-    (λ c κs. let s = c .before .before .before .before .before .before .before in let o = opened _ _ _ (s .pre .0) in (o .sound, o .count, o .few, omega (arith, step s .range, step s .reads)))
-    (λ c κs. search needs)
-    (λ c κs. opened _ _ _ (c .before .before .before .before .before .before .before .before .before .before .pre .0) .few)
-    (λ c κs. let s = c .before .before .before .before .before .before .before .before .before .before .before .before in (opened _ _ _ (s .pre .0) .sound, omega (arith, step s .range, step s .reads)))
     (λ c. search needs)
-    (λ c. let s = c .before .before .before .before .before .before .before .before .before .before .before .before .before .before .before in
-    each-made _ _ _ _ _ _ _ (s .pre .1) (λ Z h. arrow-made _ _ _ (s .pre .0) _ _ Z (as-arrow _ _ _ Z h (s .pre .2) (s .pre .3)) _ _ _ _ _ _ (c .before .before .before .before .before .before .before .arrow-rows .ensures) (c .before .before .before .before .before .before .before .before .before .eval-arrow .ensures) (c .before .before .before .before .before .arrow-code .ensures) (c .before .before .before .before .combined-rows .ensures) (c .before .before .put-rows .ensures)))
+    (λ c κs. let s = c .before .before .before .before .before .before in (opened _ _ _ (s .pre .0), record { what = step s .what; stands = step s .first }, refl))
+    (λ c. search needs)
+    (λ c κs. let s = c .before .before .before .before .before .before .before .before .before .before in let o = opened _ _ _ (s .pre .0) in (o .sound, o .count, o .few, omega (arith, step s .range, step s .reads), refl))
+    (λ c κs. search needs)
+    (λ c. sym (c .before .before .before .arrow-rows .ensures .1))
+    (λ c. sym (c .before .before .before .before .before .before .before .before .eval-arrow .ensures .1))
+    (λ c κs. (opened _ _ _ (c .before .before .before .before .before .before .before .before .before .before .before .before .before .before .before .pre .0) .few, c .before .before .before .before .arrow-rows .ensures .1, c .before .before .before .before .before .before .before .before .eval-arrow .ensures .1))
+    (λ c κs. let s = c .before .before .before .before .before .before .before .before .before .before .before .before .before .before .before .before .before .before in (opened _ _ _ (s .pre .0) .sound, omega (arith, step s .range, step s .reads)))
+    (λ c. search needs)
+    (λ c. let s = c .before .before .before .before .before .before .before .before .before .before .before .before .before .before .before .before .before .before .before .before .before in
+    each-made _ _ _ _ _ _ _ (s .pre .1) (λ Z h. arrow-made _ _ _ (s .pre .0) _ _ Z (as-arrow _ _ _ Z h (s .pre .2) (s .pre .3)) _ _ _ _ _ _ (c .before .before .before .before .before .before .before .before .before .before .arrow-rows .ensures .0) (c .before .before .before .before .before .before .before .before .before .before .before .before .before .before .eval-arrow .ensures .0) (c .before .before .before .before .before .before .before .before .arrow-code .ensures) (c .before .before .before .before .before .combine-rows .ensures .0) (c .before .before .put-rows .ensures)))
     )

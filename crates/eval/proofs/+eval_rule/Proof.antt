@@ -10,10 +10,7 @@ use Rattle.eval.proofs.eval_rule.Reads as eval-rule
 use Rattle.eval.proofs.eval_rule.Kinds as eval-rule-kinds
 use Rattle.eval.proofs.+eval_rule.Lts-eval_rule as eval-rule-lts
 use Rattle.eval.proofs.combined_truth.Reads as combined-truth-reads
-use Rattle.eval.proofs.pair_in.Reads as pair-in-reads
-use Rattle.eval.proofs.node_in.Reads as node-in-reads
-use Rattle.eval.proofs.sub_arrows.Reads as sub-arrows-reads
-use Rattle.eval.proofs.sub_nodes.Reads as sub-nodes-reads
+use Rattle.eval.proofs.leaf_rule.Reads as leaf-rule-reads
 use Rattle.eval.proofs.+eval_rule.{statement}
 use Rattle.eval.proofs.+eval_rule.Tie.{close}
 
@@ -29,21 +26,16 @@ eval-rule-below t =
 
 pub +eval-rule-spec : {M : Type 1} → statement M
 +eval-rule-spec = close μ-eval-rule
-    (λ t. eval-rule-lts.spec (sub-nodes-reads.Asked, sub-nodes-reads.Learnt, sub-arrows-reads.Asked, sub-arrows-reads.Learnt, node-in-reads.Asked, node-in-reads.Learnt, pair-in-reads.Asked, pair-in-reads.Learnt, eval-rule-below t, eval-rule.Post, combined-truth-reads.Asked, combined-truth-reads.Learnt) (eval-rule-at t) eval-rule.Post
-    (λ c. let s = c .before .before .before in omega (arith, starts-inside _ _ _ (s .pre .1 .1 .what) (s .pre .1 .1 .stands)))
+    (λ t. eval-rule-lts.spec (leaf-rule-reads.Asked, leaf-rule-reads.Learnt, eval-rule-below t, eval-rule.Post, combined-truth-reads.Asked, combined-truth-reads.Learnt) (eval-rule-at t) eval-rule.Post
+    (λ c. omega (arith, starts-inside _ _ _ (c .before .before .before .pre .1 .1 .what) (c .before .before .before .pre .1 .1 .stands)))
     (λ c κs. let s = c .before .before .before .before in (s .pre .1 .0, s .pre .1 .1, c .if1 .taken))
-    (λ c κs. let s = c .before .before .before .before .before in (s .pre .1 .0, s .pre .1 .1, c .before .if1 .left, c .if2 .taken))
-    (λ c κs. let s = c .before .before .before .before .before .before in (s .pre .1 .0, s .pre .1 .1, c .before .if2 .left, c .if3 .taken))
-    (λ c κs. let s = c .before .before .before .before .before .before .before in (s .pre .1 .0, s .pre .1 .1, c .before .if3 .left, c .if4 .taken))
-    (λ c. let s = c .before .before .before .before .before .before .before .before in omega (arith, starts-inside _ _ _ (s .pre .1 .1 .what) (s .pre .1 .1 .stands)))
-    (λ c κs. let s = c .before .before .before .before .before .before .before .before in let q = as-two _ _ _ (s .pre .1 .1 .what) (s .pre .1 .1 .stands) (c .before .if4 .left) (c .if5 .taken) in (omega (arith, s .pre .0, q .parts .inside), (s .pre .1 .0, record { what = q .K; stands = q .parts .first })))
-    (λ c κs. let s = c .before .before .before .before .before .before .before .before .before in let q = as-two _ _ _ (s .pre .1 .1 .what) (s .pre .1 .1 .stands) (c .before .before .if4 .left) (c .before .if5 .taken) in let a = c .eval-rule .ensures (q .K) (q .parts .first) in (omega (arith, s .pre .0, q .parts .inside, a .after), (s .pre .1 .0, record { what = q .L; stands = q .parts .second _ (a .after) })))
+    (λ c. omega (arith, starts-inside _ _ _ (c .before .before .before .before .before .pre .1 .1 .what) (c .before .before .before .before .before .pre .1 .1 .stands)))
+    (λ c κs. let s = c .before .before .before .before .before in let q = as-two _ _ _ (s .pre .1 .1 .what) (s .pre .1 .1 .stands) (c .before .if1 .left) (c .if2 .taken) in (omega (arith, s .pre .0, q .parts .inside), (s .pre .1 .0, record { what = q .K; stands = q .parts .first })))
+    (λ c κs. let s = c .before .before .before .before .before .before in let q = as-two _ _ _ (s .pre .1 .1 .what) (s .pre .1 .1 .stands) (c .before .before .if1 .left) (c .before .if2 .taken) in let a = c .eval-rule .ensures (q .K) (q .parts .first) in (omega (arith, s .pre .0, q .parts .inside, a .after), (s .pre .1 .0, record { what = q .L; stands = q .parts .second _ (a .after) })))
     (λ c κs. search needs)
-    (λ c. let s = c .before .before .before .before .before .before .before .before in omega (arith, starts-inside _ _ _ (s .pre .1 .1 .what) (s .pre .1 .1 .stands)))
-    (λ c κs. let s = c .before .before .before .before .before .before .before .before in let q = as-not _ _ _ (s .pre .1 .1 .what) (s .pre .1 .1 .stands) (c .if5 .left) in (omega (arith, s .pre .0, q .parts .inside), (s .pre .1 .0, record { what = q .K; stands = q .parts .first })))
-    (λ c. c .sub-nodes .ensures)
-    (λ c. c .sub-arrows .ensures)
-    (λ c. c .node-in .ensures)
-    (λ c. c .pair-in .ensures)
-    (λ c k h. two-truth _ _ _ _ k (as-two _ _ _ k h (c .before .before .before .before .if4 .left) (c .before .before .before .if5 .taken)) _ _ _ _ _ (c .before .before .eval-rule .ensures) (c .before .eval-rule2 .ensures) (c .combined-truth .ensures))
-    (λ c k h. not-truth _ _ _ _ k (as-not _ _ _ k h (c .before .before .if5 .left)) _ _ (c .before .eval-rule3 .ensures)))
+    (λ c. omega (arith, starts-inside _ _ _ (c .before .before .before .before .before .pre .1 .1 .what) (c .before .before .before .before .before .pre .1 .1 .stands)))
+    (λ c κs. let s = c .before .before .before .before .before in let q = as-not _ _ _ (s .pre .1 .1 .what) (s .pre .1 .1 .stands) (c .if2 .left) in (omega (arith, s .pre .0, q .parts .inside), (s .pre .1 .0, record { what = q .K; stands = q .parts .first })))
+    (λ c. c .leaf-rule .ensures)
+    (λ c. λ k h. two-truth _ _ _ _ k (as-two _ _ _ k h (c .before .before .before .before .if1 .left) (c .before .before .before .if2 .taken)) _ _ _ _ _ (c .before .before .eval-rule .ensures) (c .before .eval-rule2 .ensures) (c .combined-truth .ensures))
+    (λ c. λ k h. not-truth _ _ _ _ k (as-not _ _ _ k h (c .before .before .if2 .left)) _ _ (c .before .eval-rule3 .ensures))
+    )

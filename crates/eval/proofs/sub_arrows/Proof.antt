@@ -1,3 +1,4 @@
+use mathlib.Core.Path.{refl, sym}
 use native.Mathlib.Omega.{arith}
 use borrow.Author.Needs.{needs}
 use Rattle.eval.proofs.RuleCases.{IsSubArrows, as-sub-arrows, sub-arrows-truth}
@@ -10,7 +11,12 @@ case s = as-sub-arrows _ _ _ (s .pre .1 .what) (s .pre .1 .stands) (s .pre .2) (
 pub sub-arrows-spec : {M : Type 1} → statement M
 sub-arrows-spec = tie.close (tie.spec
     (λ c. omega (arith, case (c .before .before) .parts .inside))
-    (λ c κs. let s = c .before .before in (s .pre .0, record { what = case s .R; stands = case s .parts .first }))
-    (λ c κs. let s = c .before .before .before in (s .pre .0, record { what = case s .S; stands = case s .parts .second _ (c .eval-arrow .ensures (case s .R) (case s .parts .first) .after) }))
-    (λ c κs. search needs)
-    (λ c e h. let s = c .before .before .before .before .before .before .before in sub-arrows-truth _ _ _ _ _ (s .pre .0) e _ (as-sub-arrows _ _ _ e h (s .pre .2) (s .pre .3)) _ _ _ _ (c .before .before .before .before .eval-arrow .ensures) (c .before .before .before .eval-arrow2 .ensures) (c .rows-in .ensures)))
+    (λ c. search needs)
+    (λ c κs. let s = c .before .before .before in (s .pre .0, record { what = case s .R; stands = case s .parts .first }, refl))
+    (λ c. search needs)
+    (λ c κs. let s = c .before .before .before .before .before .before in (s .pre .0, record { what = case s .S; stands = case s .parts .second _ (c .before .before .eval-arrow .ensures .0 (case s .R) (case s .parts .first) .after) }, refl))
+    (λ c. sym (c .before .before .before .before .before .eval-arrow .ensures .1))
+    (λ c. sym (c .before .before .before .eval-arrow2 .ensures .1))
+    (λ c κs. (c .before .before .before .before .before .before .before .before .before .before .pre .0 .few, c .before .before .before .before .before .before .eval-arrow .ensures .1, c .before .before .before .eval-arrow2 .ensures .1))
+    (λ c. λ e h. let s = c .before .before .before .before .before .before .before .before .before .before .before in sub-arrows-truth _ _ _ _ _ (s .pre .0) e _ (as-sub-arrows _ _ _ e h (s .pre .2) (s .pre .3)) _ _ _ _ (c .before .before .before .before .before .before .before .eval-arrow .ensures .0) (c .before .before .before .before .eval-arrow2 .ensures .0) (c .rows-in .ensures))
+    )

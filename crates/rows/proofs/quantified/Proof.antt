@@ -13,28 +13,30 @@ use Rattle.rows.proofs.quantified.Statement.{statement}
 use Rattle.rows.proofs.quantified.Tie as tie
 
 abbrev Inv-loop : tie.InvT-loop
-Inv-loop c m n all e rows r₀ i₀ r i = (i ≤ n) × ((v : Pairs) (w : Nodes) → Rows n v rows → e ≡ setOf n w → r ≡ setOf i (λ k. quantified c m n (v k) w))
+Inv-loop c m n all rows e r₀ i₀ r i = (i ≤ n) × ((v : Pairs) (w : Nodes) → Rows n v rows → e ≡ setOf n w → r ≡ setOf i (λ k. quantified c m n (v k) w))
 
 abbrev μ-loop : tie.MeasureT-loop
-μ-loop c m n all e rows r₀ i₀ r i = n - i
-
-loop-again : tie.Need-loop-again Inv-loop μ-loop
-loop-again c = (
-  search needs,
-  λ v w p q.
-      let h = c .before .holds .ensures _ (v _) w (omega arith) (p .row _ (c .before .before .loop-test .taken)) q in
-      ⊎-elim
-      (λ x. x .1 ∙ setOf-more _ _ _ _ (omega arith) (c .before .before .before .loop .inv .1 v w p q) (ap digit (sym (x .0 .taken) ∙ h)))
-      (λ x. x .1 ∙ setOf-same _ _ _ (c .before .before .before .loop .inv .1 v w p q) (sym h ∙ x .0 .left))
-      (c .if1 .came),
-)
-
-returns : tie.Need-returns Inv-loop μ-loop
-returns c nodes v w a p q = quantified-unmasked _ _ _ nodes v w _ (setOf-end _ _ _ _ (c .before .before .loop .inv .0) (c .before .loop-test .left) (c .before .before .loop .inv .1 v w p q)) (c .if2 .taken)
-
-returns-2 : tie.Need-returns-2 Inv-loop μ-loop
-returns-2 c nodes v w a p q = c .both .ensures ∙ quantified-masked _ _ _ nodes v w _ (setOf-end _ _ _ _ (c .before .before .before .loop .inv .0) (c .before .before .loop-test .left) (c .before .before .before .loop .inv .1 v w p q)) _ (c .before .if2 .left) (omega arith) a
+μ-loop c m n all rows e r₀ i₀ r i = n - i
 
 pub quantified-spec : {M : Type 1} → statement M
-quantified-spec =
-    tie.close (tie.spec Inv-loop μ-loop (λ c. (search needs, λ v w p q. setOf-zero _)) (λ c. search needs) (λ c. search needs) (λ c κs. search needs) (λ c. search needs) (λ c. search needs) (λ c. search needs) loop-again (λ c κs. search needs) returns returns-2)
+quantified-spec = tie.close (tie.spec Inv-loop μ-loop
+    (λ c. (search needs, λ v w p q. setOf-zero _))
+    (λ c. search needs)
+    (λ c. search needs)
+    (λ c κs. search needs)
+    (λ c. search needs)
+    (λ c. search needs)
+    (λ c. search needs)
+    (λ c. (
+      search needs,
+      λ v w p q.
+          let h = c .before .holds .ensures _ (v _) w (omega arith) (p .row _ (c .before .before .before .loop-test .taken)) q in
+          ⊎-elim
+          (λ x. x .1 ∙ setOf-more _ _ _ _ (omega arith) (c .before .before .before .before .loop .inv .1 v w p q) (ap digit (sym (x .0 .taken) ∙ h)))
+          (λ x. x .1 ∙ setOf-same _ _ _ (c .before .before .before .before .loop .inv .1 v w p q) (sym h ∙ x .0 .left))
+          (c .if1 .came),
+    ))
+    (λ c κs. search needs)
+    (λ c. λ nodes v w a p q. quantified-unmasked _ _ _ nodes v w _ (setOf-end _ _ _ _ (c .before .before .loop .inv .0) (c .before .loop-test .left) (c .before .before .loop .inv .1 v w p q)) (c .if2 .taken))
+    (λ c. λ nodes v w a p q. c .both .ensures ∙ quantified-masked _ _ _ nodes v w _ (setOf-end _ _ _ _ (c .before .before .before .loop .inv .0) (c .before .before .loop-test .left) (c .before .before .before .loop .inv .1 v w p q)) _ (c .before .if2 .left) (omega arith) a)
+    )

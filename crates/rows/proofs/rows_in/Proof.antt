@@ -15,15 +15,17 @@ Inv-loop n a b i₀ i = (i ≤ n) × ((v w : Pairs) → Rows n v a → Rows n w 
 abbrev μ-loop : tie.MeasureT-loop
 μ-loop n a b i₀ i = n - i
 
-returns : tie.Need-returns Inv-loop μ-loop
-returns c v w p q = sym (all-below-broken _ _ _ (c .before .before .loop-test .taken) (sym (c .before .set-in .ensures _ (v _) (w _) (omega arith) (p .row _ (c .before .before .loop-test .taken)) (q .row _ (c .before .before .loop-test .taken))) ∙ not-is _ _ (c .if1 .taken)))
-
-loop-again : tie.Need-loop-again Inv-loop μ-loop
-loop-again c = (search needs, λ v w p q. all-below-more _ _ (c .before .before .before .loop .inv .1 v w p q) (sym (c .before .set-in .ensures _ (v _) (w _) (omega arith) (p .row _ (c .before .before .loop-test .taken)) (q .row _ (c .before .before .loop-test .taken))) ∙ not-is _ _ (c .if1 .left)))
-
-returns-2 : tie.Need-returns-2 Inv-loop μ-loop
-returns-2 c v w p q = all-below-end _ _ _ (c .before .loop .inv .0) (c .loop-test .left) (c .before .loop .inv .1 v w p q)
-
 pub rows-in-spec : {M : Type 1} → statement M
-rows-in-spec =
-    tie.close (tie.spec Inv-loop μ-loop (λ c. (search needs, λ v w p q. all-below-none _)) (λ c. search needs) (λ c. search needs) (λ c. search needs) (λ c. search needs) (λ c κs. search needs) returns (λ c. search needs) (λ c. search needs) loop-again returns-2)
+rows-in-spec = tie.close (tie.spec Inv-loop μ-loop
+    (λ c. (search needs, λ v w p q. all-below-none _))
+    (λ c. search needs)
+    (λ c. search needs)
+    (λ c. search needs)
+    (λ c. search needs)
+    (λ c κs. search needs)
+    (λ c. λ v w p q. let l = c .before .before .before .before .loop-test .taken in sym (all-below-broken _ _ _ l (sym (c .before .set-in .ensures _ (v _) (w _) (omega arith) (p .row _ l) (q .row _ l)) ∙ not-is _ _ (c .if1 .taken))))
+    (λ c. search needs)
+    (λ c. search needs)
+    (λ c. (search needs, λ v w p q. let l = c .before .before .before .before .loop-test .taken in all-below-more _ _ (c .before .before .before .before .before .loop .inv .1 v w p q) (sym (c .before .set-in .ensures _ (v _) (w _) (omega arith) (p .row _ l) (q .row _ l)) ∙ not-is _ _ (c .if1 .left))))
+    (λ c. λ v w p q. all-below-end _ _ _ (c .before .loop .inv .0) (c .loop-test .left) (c .before .loop .inv .1 v w p q))
+    )

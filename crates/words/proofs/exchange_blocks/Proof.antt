@@ -1,52 +1,19 @@
--- The loop's invariant: the rows below i are as the exchange leaves them.
-use mathlib.Core.Path.{_≡_, sym, ap, _∙_, subst}
-use mathlib.Core.List.{List}
-use mathlib.Core.Logic.{⊎-elim}
+-- The loop's invariant: b starts a low half, and the rows below b are as the exchange leaves them.
+use mathlib.Core.Path.{_≡_}
 use Prim.Native.Nat.{ℕ, _≤_, _-_, _+_}
 use native.Mathlib.Omega.{arith}
 use borrow.Author.Needs.{needs}
-use lib.ListN.{length, length-set}
-use Rattle.words.proofs.BlockLaws.{Done, done-none, done-low, done-high, high-le, is-low}
+use lib.ListN.{length}
+use Rattle.words.specs.Transpose.{LowFrom}
+use Rattle.words.proofs.BlockLaws.{Done, done-none, done-more, low-none, low-more, low-room}
 use Rattle.words.proofs.exchange_blocks.Statement.{statement}
 use Rattle.words.proofs.exchange_blocks.Tie as tie
 
 abbrev Inv-loop : tie.InvT-loop
-Inv-loop s m a r₀ i₀ r i = (i ≤ 64) × (length r ≡ 64) × Done i a r s
+Inv-loop rows₀ s m b₀ rows b = LowFrom s b × (length rows ≡ 64) × Done b s rows₀ rows
 
 abbrev μ-loop : tie.MeasureT-loop
-μ-loop s m a r₀ i₀ r i = 64 - i
-
-loop-holds : tie.Need-loop-holds Inv-loop μ-loop
-loop-holds c = (search needs, search needs, done-none _ _ _)
-
--- i + s is a row
-array-read-low-row-2 : tie.Need-array-read-low-row-2 Inv-loop μ-loop
-array-read-low-row-2 c = omega (arith, c .before .before .before .pre .room (c .before .before .loop .i) (c .before .loop-test .taken) (is-low _ _ (c .if1 .taken)))
-
--- i - s is a row
-sub-high-row : tie.Need-sub-high-row Inv-loop μ-loop
-sub-high-row c = high-le _ _ _ (c .before .before .before .pre) (c .before .loop-test .taken) (c .if1 .left)
-
-loop-again : tie.Need-loop-again Inv-loop μ-loop
-loop-again c =
-    let l = c .before .before .loop in
-    let a = c .before .before .before .args .t1 in
-    let s = c .before .before .before .args .s in
-    ⊎-elim
-    (λ w. (
-      search needs,
-      ap length (w .2) ∙ length-set (l .r) (l .i) (w .1 .result) ∙ l .inv .1,
-      subst (λ (x : List ℕ). Done (l .i + 1) a x s) (sym (w .2)) (done-low (l .i) a (l .r) s (w .1 .result) (search needs) (l .inv .2) (w .0 .taken) (w .1 .ensures)),
-    ))
-    (λ w. (
-      search needs,
-      ap length (w .2) ∙ length-set (l .r) (l .i) (w .1 .result) ∙ l .inv .1,
-      subst (λ (x : List ℕ). Done (l .i + 1) a x s) (sym (w .2)) (done-high (l .i) a (l .r) s (w .1 .result) (search needs) (l .inv .2) (w .0 .left) (w .1 .ensures)),
-    ))
-    (c .if1 .came)
-
-returns : tie.Need-returns Inv-loop μ-loop
-returns c = record { rows = λ i h. c .before .loop .inv .2 .rows i (omega arith) }
+μ-loop rows₀ s m b₀ rows b = 64 - b
 
 pub exchange-blocks-spec : {M : Type 1} → statement M
 exchange-blocks-spec =
@@ -54,11 +21,12 @@ exchange-blocks-spec =
     (tie.spec
     Inv-loop
     μ-loop
-    loop-holds
-    (λ c. search needs)
-    (λ c. search needs) (λ c. search needs) (λ c. search needs) (λ c. search needs) array-read-low-row-2 (λ c κs. search needs) (λ c. search needs) (λ c. search needs)
-    sub-high-row (λ c. search needs) (λ c. search needs) (λ c. search needs) (λ c. search needs) (λ c κs. search needs) (λ c. search needs) (λ c. search needs)
-    (λ c. search needs)
-    (λ c. search needs)
-    loop-again
-    returns)
+    (λ c. (low-none (c .before .pre .0), c .before .pre .1, done-none))
+    (λ c κs. let s = c .before .before .before .before in let l = c .before .before .loop in (s .pre .0, l .inv .0, low-room (s .pre .0) _ (l .inv .0) (c .before .loop-test .taken), l .inv .1))
+    (λ c. omega (arith, c .before .before .before .before .before .before .before .pre .0 .few))
+    (λ c. omega (arith, c .before .before .before .before .before .before .before .pre .0 .few))
+    (λ c. omega (arith, c .before .before .before .before .before .before .before .pre .0 .some))
+    (λ c. let s = c .before .before .before .before .before .before .before in let l = c .before .before .before .before .before .loop in (low-more (s .pre .0) _ (l .inv .0), c .before .before .exchange-rows .ensures .1, done-more (s .pre .0) _ (l .inv .0) _ _ _ (l .inv .2) (c .before .before .exchange-rows .ensures .0)))
+    (λ c. omega (arith, c .before .before .before .pre .1))
+    (λ c. (record { rows = λ i h. c .before .loop .inv .2 .below i (omega arith) h }, c .before .loop .inv .1))
+    )

@@ -1,10 +1,10 @@
+-- The loop's invariant: whatever expression stands at the place, so many trees are still to come of it, and their texts are still to be written.
 use lib.ListN.{length, length-set}
 use denote.Ref.{now}
 use mathlib.Core.Path.{_∙_, ap}
 use Prim.Native.Nat.{ℕ, _<_, _-_, _+_, _*_}
 use native.Mathlib.Omega.{arith}
 use borrow.Author.Needs.{needs}
-use Rattle.measure.proofs.Places.{inside}
 use Rattle.write.proofs.Laying.{wrote-as}
 use Rattle.write.proofs.Emitting as parts
 use borrow.Fn.Kinds.{In}
@@ -43,36 +43,36 @@ name-at t = and 3 name-kinds.ps (is 3 name-kinds.ps μ-name t) name.Pre
 abbrev name-below : ℕ → In 3 name-kinds.ps
 name-below t = and 3 name-kinds.ps (falls 3 name-kinds.ps _<_ μ-name t) name.Pre
 
+abbrev emit-Inv-loop : emit-lts.InvT-loop
+emit-Inv-loop text at edit stack h out₀ pos p₀ q₀ wanted₀ out p q wanted = parts.Showing text at edit stack h p wanted out₀ pos q out
+
+abbrev emit-μ-loop : emit-lts.MeasureT-loop
+emit-μ-loop text at edit stack h out₀ pos p₀ q₀ wanted₀ out p q wanted = length text - p
+
 pub +emit+name-spec : {M : Type 1} → statement M
 +emit+name-spec = close μ-emit μ-name
-    (λ t. emit-lts.spec (shape-reads.Asked, shape-reads.Learnt, name-below t, name.Post, copy-reads.Asked, copy-reads.Learnt, emit-below t, emit.Post) (emit-at t) emit.Post
-    (λ c. let w = c .before .before .before .before .before .pre .1 .0 in omega (arith, inside _ _ (w .what) (w .what-at)))
-    (λ c κs. search needs)
-    (λ c. let s = c .before .before .before .before .before .before .before in omega (arith, parts.name-room _ _ _ (c .before .shape .ensures) (c .if1 .taken) (s .pre .1 .0), s .good .0 .0))
-    (λ c. omega (arith, parts.name-room _ _ _ (c .before .before .shape .ensures) (c .before .if1 .taken) (c .before .before .before .before .before .before .before .before .pre .1 .0)))
-    (λ c κs. let s = c .before .before .before .before .before .before .before .before .before in (omega (arith, s .pre .0), (parts.name-some _ _ _ (c .before .before .before .shape .ensures) (c .before .before .if1 .taken) (s .pre .1 .0), s .pre .1 .1)))
-    (λ c. let s = c .before .before .before .before .before .before .before .before .before .before .before .before in omega (arith, parts.name-room _ _ _ (c .before .before .before .before .before .before .shape .ensures) (c .before .before .before .before .before .if1 .taken) (s .pre .1 .0), s .good .0 .0))
-    (λ c. c .before .before .name .kept .1 .1 .1 .1 .1 .0)
-    (λ c. λ σ t e i a. parts.name-emitted _ _ _ (c .before .before .before .before .before .before .shape .ensures) (c .before .before .before .before .before .if1 .taken) σ t a (c .before .before .name .ensures σ e i))
-    (λ c κs. let s = c .before .before .before .before .before .before .before .before in (parts.head-in-text _ _ _ (c .before .before .shape .ensures) (c .before .if1 .left) (s .pre .1 .0), parts.head-in-out _ _ _ (c .before .before .shape .ensures) (c .before .if1 .left) (s .pre .1 .0)))
-    (λ c. let s = c .before .before .before .before .before .before .before .before .before .before .before .before in omega (arith, parts.head-in-text _ _ _ (c .before .before .before .before .before .before .shape .ensures) (c .before .before .before .before .before .if1 .left) (s .pre .1 .0), s .good .0 .0))
-    (λ c. c .before .before .before .copy .kept .1 .1 .1 .0)
-    (λ c. λ σ t e i a. parts.leaf-emitted _ _ _ (c .before .before .before .before .before .before .shape .ensures) (c .before .before .before .before .before .if1 .left) (c .if2 .taken) t a σ (c .before .before .before .copy .ensures))
-    (λ c. let s = c .before .before .before .before .before .before .before .before .before .before .before .before in omega (arith, parts.head-in-text _ _ _ (c .before .before .before .before .before .before .shape .ensures) (c .before .before .before .before .before .if1 .left) (s .pre .1 .0), s .good .0 .0))
-    (λ c κs. let s = c .before .before .before .before .before .before .before .before .before .before .before .before .before in let e = c .before .before .before .before .before .before .before .shape .ensures in let n = c .before .before .before .before .before .before .if1 .left in
-    let k = c .before .before .before .before .copy .kept .1 .1 .1 .0 in
-    let f = parts.first-some _ _ _ e n (s .pre .1 .0) (c .before .before .before .before .copy .ensures .counted) k (c .before .if2 .left) in
-    (omega (arith, s .pre .0, k, f .head, parts.head-in-out _ _ _ e n (s .pre .1 .0), parts.head-counted _ _ _ e n (s .pre .1 .0) (c .before .before .before .before .copy .ensures .counted) k), (f .some, s .pre .1 .1)))
-    (λ c. c .before .before .before .emit .kept .1 .1 .1 .1 .1 .0 ∙ c .before .before .before .before .before .before .before .before .copy .kept .1 .1 .1 .0)
-    (λ c. λ σ t e i a. parts.one-emitted _ _ _ (c .before .before .before .before .before .before .before .before .before .before .before .shape .ensures) (c .before .before .before .before .before .before .before .before .before .before .if1 .left) (c .before .before .before .before .before .if2 .left) (c .if3 .taken) t a σ (c .before .before .before .before .before .before .before .before .copy .ensures) (λ x b. c .before .before .before .emit .ensures σ x e i b))
-    (λ c κs. let s = c .before .before .before .before .before .before .before .before .before .before .before .before .before .before .before .before .before .before in let e = c .before .before .before .before .before .before .before .before .before .before .before .before .shape .ensures in let n = c .before .before .before .before .before .before .before .before .before .before .before .if1 .left in
-    let k = c .before .before .before .before .before .before .before .before .before .copy .kept .1 .1 .1 .0 in
-    let k2 = c .before .before .before .before .emit .kept .1 .1 .1 .1 .1 .0 ∙ k in
-    let f = parts.first-some _ _ _ e n (s .pre .1 .0) (c .before .before .before .before .before .before .before .before .before .copy .ensures .counted) k (c .before .before .before .before .before .before .if2 .left) in
-    let g = parts.second-some _ _ _ e n (s .pre .1 .0) (c .before .before .before .before .before .before .before .before .before .copy .ensures .counted) k2 (c .before .if3 .left) (c .before .before .before .before .emit .ensures) in
-    (omega (arith, s .pre .0, k2, f .head, g .on, parts.head-in-out _ _ _ e n (s .pre .1 .0), parts.head-counted _ _ _ e n (s .pre .1 .0) (c .before .before .before .before .before .before .before .before .before .copy .ensures .counted) k), (g .some, s .pre .1 .1)))
-    (λ c. c .before .before .emit2 .kept .1 .1 .1 .1 .1 .0 ∙ c .before .before .before .before .before .before .before .emit .kept .1 .1 .1 .1 .1 .0 ∙ c .before .before .before .before .before .before .before .before .before .before .before .before .copy .kept .1 .1 .1 .0)
-    (λ c. λ σ t e i a. parts.two-emitted _ _ _ (c .before .before .before .before .before .before .before .before .before .before .before .before .before .before .before .shape .ensures) (c .before .before .before .before .before .before .before .before .before .before .before .before .before .before .if1 .left) (c .before .before .before .before .if3 .left) t a σ (c .before .before .before .before .before .before .before .before .before .before .before .before .copy .ensures) (λ x b. c .before .before .before .before .before .before .before .emit .ensures σ x e i b) (λ x b. c .before .before .emit2 .ensures σ x e i b))
+    (λ t. emit-lts.spec (shape-reads.Asked, shape-reads.Learnt, name-below t, name.Post, copy-reads.Asked, copy-reads.Learnt) (emit-at t) emit.Post emit-Inv-loop emit-μ-loop
+    (λ c. parts.showing-first _ _ _ _ _ _ _)
+    (λ c. parts.head-first (c .before .before .loop .inv) (c .before .loop-test .taken) (c .before .before .before .before .before .before .before .pre .1 .0) .inside-text)
+    (λ c κs. parts.head-first (c .before .before .loop .inv) (c .before .loop-test .taken) (c .before .before .before .before .before .before .before .pre .1 .0) .low)
+    (λ c. let s = c .before .before .before .before .before .before .before .before .before in omega (arith, parts.name-room (c .before .before .before .before .loop .inv) (c .before .before .before .loop-test .taken) _ (c .before .shape .ensures) (c .if1 .taken) (s .pre .1 .0), s .good .0 .0))
+    (λ c. omega (arith, parts.name-room (c .before .before .before .before .before .loop .inv) (c .before .before .before .before .loop-test .taken) _ (c .before .before .shape .ensures) (c .before .if1 .taken) (c .before .before .before .before .before .before .before .before .before .before .pre .1 .0)))
+    (λ c κs. let s = c .before .before .before .before .before .before .before .before .before .before .before in let i = c .before .before .before .before .before .before .loop .inv in let r = c .before .before .before .before .before .loop-test .taken in
+    let n = parts.name-some i r _ (c .before .before .before .shape .ensures) (c .before .before .if1 .taken) (s .pre .1 .0) in
+    (omega (arith, s .pre .0, i .long, parts.still i r (s .pre .1 .0)), (record { steps = n .steps; is = n .is; stands = n .stands; fits = omega (arith, n .fits, i .long) }, s .pre .1 .1)))
+    (λ c. let s = c .before .before .before .before .before .before .before .before .before .before .before .before .before .before in omega (arith, parts.name-room (c .before .before .before .before .before .before .before .before .before .loop .inv) (c .before .before .before .before .before .before .before .before .loop-test .taken) _ (c .before .before .before .before .before .before .shape .ensures) (c .before .before .before .before .before .if1 .taken) (s .pre .1 .0), s .good .0 .0))
+    (λ c. search needs)
+    (λ c. omega (arith, parts.name-room (c .before .before .before .before .before .before .before .before .before .loop .inv) (c .before .before .before .before .before .before .before .before .loop-test .taken) _ (c .before .before .before .before .before .before .shape .ensures) (c .before .before .before .before .before .if1 .taken) (c .before .before .before .before .before .before .before .before .before .before .before .before .before .before .pre .1 .0)))
+    (λ c. parts.name-shown (c .before .before .before .before .before .before .before .before .before .loop .inv) (c .before .before .before .before .before .before .before .before .loop-test .taken) _ (c .before .before .before .before .before .before .shape .ensures) (c .before .before .before .before .before .if1 .taken) (c .before .before .name .ensures) (c .before .before .name .kept .1 .1 .1 .1 .1 .0))
+    (λ c κs. let s = c .before .before .before .before .before .before .before .before .before .before in let i = c .before .before .before .before .before .loop .inv in let r = c .before .before .before .before .loop-test .taken in
+    (parts.head-turn i r _ (c .before .before .shape .ensures) (c .before .if1 .left) (s .pre .1 .0) .in-text, omega (arith, i .long, parts.head-room i r _ (c .before .before .shape .ensures) (c .before .if1 .left) (s .pre .1 .0))))
+    (λ c. let s = c .before .before .before .before .before .before .before .before .before .before .before .before .before in omega (arith, parts.head-turn (c .before .before .before .before .before .before .before .before .loop .inv) (c .before .before .before .before .before .before .before .loop-test .taken) _ (c .before .before .before .before .before .shape .ensures) (c .before .before .before .before .if1 .left) (s .pre .1 .0) .in-text, s .good .0 .0))
+    (λ c. search needs)
+    (λ c. let s = c .before .before .before .before .before .before .before .before .before .before .before .before .before in omega (arith, parts.head-turn (c .before .before .before .before .before .before .before .before .loop .inv) (c .before .before .before .before .before .before .before .loop-test .taken) _ (c .before .before .before .before .before .shape .ensures) (c .before .before .before .before .if1 .left) (s .pre .1 .0) .in-count, s .good .0 .0))
+    (λ c. let g = parts.head-turn (c .before .before .before .before .before .before .before .before .loop .inv) (c .before .before .before .before .before .before .before .loop-test .taken) _ (c .before .before .before .before .before .shape .ensures) (c .before .before .before .before .if1 .left) (c .before .before .before .before .before .before .before .before .before .before .before .before .before .pre .1 .0) in omega (arith, g .in-text, g .on))
+    (λ c. parts.head-shown (c .before .before .before .before .before .before .before .before .loop .inv) (c .before .before .before .before .before .before .before .loop-test .taken) _ (c .before .before .before .before .before .shape .ensures) (c .before .before .before .before .if1 .left) (c .before .before .copy .ensures) (c .before .before .copy .kept .1 .1 .1 .0))
+    (λ c. c .before .loop .inv .long)
+    (λ c. parts.showing-end (c .before .loop .inv) (c .loop-test .left))
     )
     (λ t. name-lts.spec (find-reads.Asked, find-reads.Learnt, put-two-reads.Asked, put-two-reads.Learnt, lead-reads.Asked, lead-reads.Learnt, name-below t, name.Post, put-not-reads.Asked, put-not-reads.Learnt, emit-below t, emit.Post) (name-at t) name.Post
     (λ c κs. let w = c .before .before .before .pre .1 .0 in (record { steps = w .steps; is = w .is; stands = w .stands }, c .before .before .before .pre .1 .1))
@@ -86,16 +86,10 @@ pub +emit+name-spec : {M : Type 1} → statement M
     (λ c κs. search needs)
     (λ c. let w = c .before .before .before .before .before .before .before .before .pre .1 .0 in let H = parts.last-hit (c .before .before .before .before .find .ensures (w .steps) (w .is) (w .stands)) (c .before .before .before .if1 .left) in omega (arith, w .fits, parts.hit-length H _ (H .at .op-is)))
     (λ c. let s = c .before .before .before .before .before .before .before .before .before in let w = s .pre .1 .0 in let H = parts.last-hit (c .before .before .before .before .before .find .ensures (w .steps) (w .is) (w .stands)) (c .before .before .before .before .if1 .left) in omega (arith, w .fits, parts.hit-length H _ (H .at .op-is)))
-    (λ c κs. let s = c .before .before .before .before .before .before .before .before .before in let w = s .pre .1 .0 in let f = c .before .before .before .before .before .find .ensures (w .steps) (w .is) (w .stands) in let H = parts.last-hit f (c .before .before .before .before .if1 .left) in
-    let l = length-set (now (s .args .out)) (s .args .pos) (c .before .lead .result) in
-    (omega (arith, s .pre .0, l, w .fits, parts.hit-length H _ (H .at .op-is)), (record { steps = H .below; is = H .len; stands = H .stands; fits = omega (arith, l, w .fits, parts.hit-length H _ (H .at .op-is)) }, omega (arith, f .low, w .is, s .pre .1 .1))))
-    (λ c κs. let s = c .before .before .before .before .before .before .before .before .before .before .before .before .before in let w = s .pre .1 .0 in let H = parts.last-hit (c .before .before .before .before .before .before .before .before .before .find .ensures (w .steps) (w .is) (w .stands)) (c .before .before .before .before .before .before .before .before .if1 .left) in
-    omega (arith, c .before .before .before .name .kept .1 .1 .1 .1 .1 .0, length-set (now (s .args .out)) (s .args .pos) (c .before .before .before .before .before .lead .result), w .fits, parts.hit-length H _ (H .at .op-is), c .before .before .before .name .ensures (H .below) (H .len) (H .stands) .counted))
+    (λ c κs. let s = c .before .before .before .before .before .before .before .before .before in let w = s .pre .1 .0 in let f = c .before .before .before .before .before .find .ensures (w .steps) (w .is) (w .stands) in let H = parts.last-hit f (c .before .before .before .before .if1 .left) in let l = length-set (now (s .args .out)) (s .args .pos) (c .before .lead .result) in (omega (arith, s .pre .0, l, w .fits, parts.hit-length H _ (H .at .op-is)), (record { steps = H .below; is = H .len; stands = H .stands; fits = omega (arith, l, w .fits, parts.hit-length H _ (H .at .op-is)) }, omega (arith, f .low, w .is, s .pre .1 .1))))
+    (λ c κs. let s = c .before .before .before .before .before .before .before .before .before .before .before .before .before in let w = s .pre .1 .0 in let H = parts.last-hit (c .before .before .before .before .before .before .before .before .before .find .ensures (w .steps) (w .is) (w .stands)) (c .before .before .before .before .before .before .before .before .if1 .left) in omega (arith, c .before .before .before .name .kept .1 .1 .1 .1 .1 .0, length-set (now (s .args .out)) (s .args .pos) (c .before .before .before .before .before .lead .result), w .fits, parts.hit-length H _ (H .at .op-is), c .before .before .before .name .ensures (H .below) (H .len) (H .stands) .counted))
     (λ c. let s = c .before .before .before .before .before .before .before .before .before .before .before .before .before .before .before .before in let w = s .pre .1 .0 in let H = parts.last-hit (c .before .before .before .before .before .before .before .before .before .before .before .before .find .ensures (w .steps) (w .is) (w .stands)) (c .before .before .before .before .before .before .before .before .before .before .before .if1 .left) in omega (arith, H .at .room, s .good .0 .0))
-    (λ c κs. let s = c .before .before .before .before .before .before .before .before .before .before .before .before .before .before .before .before .before in let w = s .pre .1 .0 in let f = c .before .before .before .before .before .before .before .before .before .before .before .before .before .find .ensures (w .steps) (w .is) (w .stands) in let H = parts.last-hit f (c .before .before .before .before .before .before .before .before .before .before .before .before .if1 .left) in
-    let l = c .before .before .before .put-not .kept .1 .0 ∙ c .before .before .before .before .before .before .before .name .kept .1 .1 .1 .1 .1 .0 ∙ length-set (now (s .args .out)) (s .args .pos) (c .before .before .before .before .before .before .before .before .before .lead .result) in
-    let u = c .before .before .before .before .before .before .before .name .ensures (H .below) (H .len) (H .stands) .counted in
-    (omega (arith, s .pre .0, l, w .fits, parts.hit-length H _ (H .at .op-is), u, c .before .before .before .put-not .ensures .counted), (record { steps = H .below; is = H .len; stands = H .stands; what = H .s .what; what-at = H .at .what-at; fits = omega (arith, l, w .fits, parts.hit-length H _ (H .at .op-is), u, c .before .before .before .put-not .ensures .counted) }, omega (arith, f .low, w .is, s .pre .1 .1))))
+    (λ c κs. let s = c .before .before .before .before .before .before .before .before .before .before .before .before .before .before .before .before .before in let w = s .pre .1 .0 in let f = c .before .before .before .before .before .before .before .before .before .before .before .before .before .find .ensures (w .steps) (w .is) (w .stands) in let H = parts.last-hit f (c .before .before .before .before .before .before .before .before .before .before .before .before .if1 .left) in let l = c .before .before .before .put-not .kept .1 .0 ∙ c .before .before .before .before .before .before .before .name .kept .1 .1 .1 .1 .1 .0 ∙ length-set (now (s .args .out)) (s .args .pos) (c .before .before .before .before .before .before .before .before .before .lead .result) in let u = c .before .before .before .before .before .before .before .name .ensures (H .below) (H .len) (H .stands) .counted in (omega (arith, s .pre .0, l, w .fits, parts.hit-length H _ (H .at .op-is), u, c .before .before .before .put-not .ensures .counted), (record { steps = H .below; is = H .len; stands = H .stands; what = H .s .what; what-at = H .at .what-at; fits = omega (arith, l, w .fits, parts.hit-length H _ (H .at .op-is), u, c .before .before .before .put-not .ensures .counted) }, omega (arith, f .low, w .is, s .pre .1 .1))))
     (λ c. let s = c .before .before .before .before .before .before .before .before .before .before .before .before .before .before .before .before .before .before .before .before in c .before .before .emit .kept .1 .1 .1 .1 .1 .0 ∙ c .before .before .before .before .before .before .put-not .kept .1 .0 ∙ c .before .before .before .before .before .before .before .before .before .before .name .kept .1 .1 .1 .1 .1 .0 ∙ length-set (now (s .args .out)) (s .args .pos) (c .before .before .before .before .before .before .before .before .before .before .before .before .lead .result))
-    (λ c. λ σ e i. let H = parts.last-hit (c .before .before .before .before .before .before .before .before .before .before .before .before .before .before .before .before .find .ensures σ e i) (c .before .before .before .before .before .before .before .before .before .before .before .before .before .before .before .if1 .left) in parts.hit-wrote H _ (H .at .op-is) (c .before .before .before .before .before .before .before .before .before .before .before .before .lead .ensures) (c .before .before .before .before .before .before .before .before .before .before .name .ensures (H .below) (H .len) (H .stands)) (c .before .before .before .before .before .before .put-not .ensures) (c .before .before .emit .ensures (H .below) (H .s .what) (H .len) (H .stands) (H .at .what-at) .wrote))
+    (λ c. λ σ e i. let H = parts.last-hit (c .before .before .before .before .before .before .before .before .before .before .before .before .before .before .before .before .find .ensures σ e i) (c .before .before .before .before .before .before .before .before .before .before .before .before .before .before .before .if1 .left) in parts.hit-wrote H _ (H .at .op-is) (c .before .before .before .before .before .before .before .before .before .before .before .before .lead .ensures) (c .before .before .before .before .before .before .before .before .before .before .name .ensures (H .below) (H .len) (H .stands)) (c .before .before .before .before .before .before .put-not .ensures) (c .before .before .emit .ensures (H .below) (H .s .what) (H .len) (H .stands) (H .at .what-at)))
     )
