@@ -16,7 +16,7 @@ use Rattle.rows.specs.Operations.{arrowOperation}
 use Rattle.text.specs.Code.{code, editCode}
 use Rattle.text.specs.Stands.{Stands, EditStands}
 use Rattle.measure.specs.Edits.{behindStep}
-use Rattle.measure.proofs.Places.{byte-at, behind}
+use Rattle.text.proofs.Standing.{byte-at, behind}
 use Rattle.measure.proofs.Steps.{editTag, tag-edit, edit-inside, as-finish}
 use Rattle.apply.specs.Made.{labelOperation, arrowCode}
 

@@ -1,7 +1,6 @@
 -- 31 to 33 by the measured size, and writing with the edit without its idle steps.
 use mathlib.Core.Path.{_≡_, refl, sym, ap, _∙_}
-use mathlib.Core.Bool.{true, false}
-use mathlib.Core.List.{List, [], _∷_, _++_, append-nil}
+use mathlib.Core.List.{List, [], _∷_, _++_}
 use Prim.Native.Nat.{ℕ, _+_, _≤_, _<_}
 use native.Mathlib.Omega.{arith}
 use native.Mathlib.Nat.{zero-add}
@@ -15,7 +14,7 @@ use Rattle.answer.specs.declared.Refusal.the-variants.{CarriedLength, CarriedLe
 use Rattle.logic.specs.Syntax.{rule, Expr, Edit}
 use Rattle.logic.specs.Carry.{carriedBook}
 use Rattle.text.specs.Code.{bookCode, bookLevels}
-use Rattle.tree.specs.Sizes.{measures, cut}
+use Rattle.tree.specs.Sizes.{measures}
 use Rattle.measure.specs.Pruned.{pruned}
 use Rattle.measure.specs.Edits.{EditAt}
 use Rattle.measure.specs.Book.{BookIs, BookSized, BookKept}

@@ -1,8 +1,7 @@
 -- What the questions of a book and an edit say of their texts, and carry back by its questions.
 use mathlib.Core.Path.{_≡_, refl, sym, ap, _∙_}
-use mathlib.Core.List.{List, [], _∷_, append-nil}
+use mathlib.Core.List.{List, [], append-nil}
 use Prim.Native.Nat.{ℕ, _≤_}
-use native.Mathlib.Omega.{arith}
 use lib.ListN.{length}
 use Rattle.answer.specs.Asked.{Asked, passed, refused, _>>=_, _>>_, after, outcome}
 use Rattle.answer.specs.Answers.{refusalNumber, refusalPlace}
@@ -12,13 +11,13 @@ use Rattle.logic.specs.Syntax.{rule, Expr, Edit}
 use Rattle.logic.specs.Carry.{carriedBook}
 use Rattle.logic.specs.Limits.{maxNodes}
 use Rattle.text.specs.Code.{bookCode}
-use Rattle.text.specs.Reading.{Limits, textLimits}
+use Rattle.text.specs.Reading.{textLimits}
 use Rattle.text.specs.Questions.{askBook, askEdit}
 use Rattle.text.proofs.Books.{rules-in-range, book-is-spelled, edit-is-spelled}
 use Rattle.measure.specs.Edits.{EditAt, SomeEdit}
 use Rattle.measure.specs.Book.{BookIs, SomeBook}
 use Rattle.carry.specs.declared.Carried.{Carried}
-use Rattle.carry.specs.declared.Carried.the-variants.{Length, Refused}
+use Rattle.carry.specs.declared.Carried.the-variants.{Refused}
 use Rattle.carry.specs.Carrying.{askSize, askCarry, carryAnswer, carryOutput, writtenAtStart}
 use Rattle.carry.specs.Answers.{carriedAsked}
 use Rattle.carry.specs.Written.{Into}

@@ -35,7 +35,8 @@ pub fn carry_into(book: &[u8], edit: &[u8], out: &mut [u8]) -> Carried
         return Carried::Length(0);
     }
     let mut kept = [0u8; 4096];
-    let size = measure::size_of_book(book, edit, &mut kept);
+    let mut stack = [0u16; 4096];
+    let size = measure::size_of_book(book, edit, &mut stack, &mut kept);
     let len = size.len;
     if len > LONGEST {
         return Carried::Refused(Refusal::CarriedLength { place: 0 });
@@ -46,7 +47,8 @@ pub fn carry_into(book: &[u8], edit: &[u8], out: &mut [u8]) -> Carried
     if len > out.len() {
         return Carried::Refused(Refusal::OutputLength { place: len });
     }
-    let written = write::write_book(book, &kept, size.start, out);
+    let mut behind = [0u16; 2048];
+    let written = write::write_book(book, &kept, size.start, &mut stack, &mut behind, out);
     Carried::Length(written)
 }
 

@@ -1,7 +1,7 @@
 -- Where entering stops, and what sheet and scratch then hold.
 use mathlib.Core.Path.{_≡_, refl, sym, _∙_, ap, subst}
-use mathlib.Core.List.{List, [], _∷_, _++_, append-nil, map}
-use Prim.Native.Nat.{ℕ, _+_, _≤_}
+use mathlib.Core.List.{List, [], _∷_, append-nil}
+use Prim.Native.Nat.{ℕ, _+_}
 use native.Mathlib.Omega.{arith}
 use lib.ListN.{length, drop}
 use Rattle.answer.specs.Asked.{Asked, passed, refused, _>>=_, _>>_, after, outcome}
@@ -10,27 +10,24 @@ use Rattle.answer.specs.declared.Refusal.{Refusal}
 use Rattle.answer.specs.declared.Answer.{Answer}
 use Rattle.answer.specs.declared.Answer.the-variants.{Done, Refused}
 use Rattle.logic.specs.Syntax.{Expr, rule, Edit}
-use Rattle.logic.specs.Carry.{carry, carriedBook}
-use Rattle.logic.specs.Limits.{Ranges, ranges, InRange, EditInRange}
+use Rattle.logic.specs.Carry.{carriedBook}
+use Rattle.logic.specs.Limits.{ranges, EditInRange}
 use Rattle.sheet.specs.Sheet.{graphOf}
 use Rattle.sheet.specs.Questions.{askSheet, Sound}
-use Rattle.text.specs.Code.{bookCode, editCode}
+use Rattle.text.specs.Code.{bookCode}
 use Rattle.text.specs.Reading.{textLimits}
 use Rattle.text.specs.Questions.{askBook, askEdit}
-use Rattle.text.specs.Stands.{EditStands, SomeEditStands, RulesInRange}
-use Rattle.text.proofs.Books.{EachAllowed, SpellsBook, SpellsEdit, book-is-spelled, edit-is-spelled}
+use Rattle.text.specs.Stands.{EditStands, RulesInRange}
+use Rattle.text.proofs.Books.{EachAllowed, book-is-spelled, edit-is-spelled}
 use Rattle.text.proofs.Carried.{carry-in}
 use Rattle.eval.specs.Judge.{askRules, askSheetAndBook}
-use Rattle.measure.specs.Edits.{EditAt, SomeEdit}
-use Rattle.measure.specs.Book.{BookIs, SomeBook}
-use Rattle.judge.specs.Judging.{RulesStand, SomeRulesStand}
+use Rattle.judge.specs.Judging.{RulesStand}
 use Rattle.carry.specs.Carrying.{askSize, writtenAtStart}
 use Rattle.carry.specs.Written.{Into}
 use Rattle.carry.specs.Answers.{carriedAsked}
 use Rattle.carry.specs.declared.Carried as into
 use Rattle.carry.specs.declared.Carried.the-variants as into-case
-use Rattle.carry.proofs.Passing.{book-passed, edit-passed}
-use Rattle.answer.proofs.AnswerLaws.{Learned, learned, not-learned}
+use Rattle.answer.proofs.AnswerLaws.{not-learned}
 use Rattle.demands.specs.Enter.{Carried, afterSteps, askCarried, askEnter, enterAnswer, enterSheet, enterScratch}
 use Rattle.entry.specs.Settled.{Settled}
 

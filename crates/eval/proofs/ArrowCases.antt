@@ -1,24 +1,22 @@
 -- The cases of an arrow expression by its code byte, and the relation that each means.
-use mathlib.Core.Path.{_≡_, refl, sym, ap, ap₂, _∙_, subst}
-use mathlib.Core.Bool.{Bool, true, false, not, _&&_, _||_}
-use mathlib.Core.List.{List, [], _∷_, _++_}
+use mathlib.Core.Path.{_≡_, refl, sym, ap, subst}
+use mathlib.Core.Bool.{_&&_}
+use mathlib.Core.List.{List, [], _∷_}
 use Prim.Native.Nat.{ℕ, _+_, _-_, _≤_, _<_}
 use native.Mathlib.Omega.{arith}
-use lib.Dec.{eqb, lit<, ltb→lt}
-use lib.ListN.{length, getD, drop}
-use Rattle.logic.specs.Syntax.{Sort, node, arrow, rule, Expr, arrowKind, reversed, union, common, minus, endingIn, pair}
+use lib.Dec.{eqb, ltb→lt}
+use lib.ListN.{length, getD}
+use Rattle.logic.specs.Syntax.{node, arrow, Expr, arrowKind, reversed, union, common, minus, endingIn, pair}
 use Rattle.logic.specs.Graph.{Graph, Nodes, Pairs, isNode}
 use Rattle.logic.specs.Meaning.{value}
 use Rattle.logic.specs.Limits.{ranges, InRange}
-use Rattle.words.specs.Words.{setOf, combined}
-use Rattle.words.proofs.SetLaws.{setOf-none, combined-sets}
+use Rattle.words.specs.Words.{setOf}
 use Rattle.sheet.specs.Sheet.{graphOf, Rows}
 use Rattle.text.specs.Code.{code}
 use Rattle.text.specs.Stands.{Stands}
-use Rattle.rows.specs.Operations.{nodeOperation, arrowOperation, quantified, quantifiedNodes}
-use Rattle.rows.proofs.Laws.{node-operation-none}
-use Rattle.eval.specs.Evaluated.{Opened, IsSet, IsRelation}
-use Rattle.eval.proofs.Places.{behind, byte-at, first-number, second-number, codeByte, code-at, inside-at, Operand, Operands, operand-at, operands-at}
+use Rattle.rows.specs.Operations.{arrowOperation}
+use Rattle.eval.specs.Evaluated.{IsSet, IsRelation}
+use Rattle.eval.proofs.Places.{first-number, second-number, code-at, inside-at, Operand, Operands, operand-at, operands-at}
 
 module _ (n : ℕ) (text : List ℕ) (at : ℕ) where
   -- 11

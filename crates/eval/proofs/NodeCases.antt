@@ -1,12 +1,12 @@
 -- The cases of a node expression by its code byte, and the set that each means.
 use mathlib.Core.Path.{_≡_, refl, sym, ap, ap₂, _∙_, subst}
-use mathlib.Core.Bool.{Bool, true, false, not, _&&_, _||_}
-use mathlib.Core.List.{List, [], _∷_, _++_}
+use mathlib.Core.Bool.{not, _&&_}
+use mathlib.Core.List.{List, [], _∷_}
 use Prim.Native.Nat.{ℕ, _+_, _-_, _≤_, _<_}
 use native.Mathlib.Omega.{arith}
 use lib.Dec.{eqb, lit<, ltb→lt}
 use lib.ListN.{length, getD, drop}
-use Rattle.logic.specs.Syntax.{Sort, node, arrow, rule, Expr, all, none, label, nominal, complement, and, or, some, every, atLeast, atMost}
+use Rattle.logic.specs.Syntax.{node, arrow, Expr, all, none, label, nominal, complement, and, or, some, every, atLeast, atMost}
 use Rattle.logic.specs.Graph.{Graph, Nodes, Pairs, isNode}
 use Rattle.logic.specs.Meaning.{value}
 use Rattle.logic.specs.Limits.{ranges, InRange}
@@ -15,10 +15,10 @@ use Rattle.words.proofs.SetLaws.{setOf-none, combined-sets}
 use Rattle.sheet.specs.Sheet.{graphOf, Rows}
 use Rattle.text.specs.Code.{code}
 use Rattle.text.specs.Stands.{Stands}
-use Rattle.rows.specs.Operations.{nodeOperation, arrowOperation, quantified, quantifiedNodes}
+use Rattle.rows.specs.Operations.{nodeOperation, quantified, quantifiedNodes}
 use Rattle.rows.proofs.Laws.{node-operation-none}
 use Rattle.eval.specs.Evaluated.{Opened, IsSet, IsRelation}
-use Rattle.eval.proofs.Places.{behind, byte-at, first-number, second-number, codeByte, code-at, inside-at, Operand, Operands, operand-at, operands-at}
+use Rattle.eval.proofs.Places.{first-number, code-at, inside-at, Operand, Operands, operand-at, operands-at}
 
 module _ (n : ℕ) (text : List ℕ) (at : ℕ) where
   -- 01 to 04

@@ -1,26 +1,14 @@
 -- What stands in a text at the place of an expression: its code, its numbers, its operands.
-use mathlib.Core.Path.{_≡_, refl, sym, ap, _∙_}
+use mathlib.Core.Path.{_≡_, refl, ap, _∙_}
 use mathlib.Core.List.{List, [], _∷_, _++_, append-assoc}
 use Prim.Native.Nat.{ℕ, _+_, _-_, _≤_, _<_}
-use native.Mathlib.Nat.{add-zero}
 use native.Mathlib.Omega.{arith}
-use lib.ListN.{length, getD, drop, length-append, length-drop}
-use lib.Seq.{getD-drop, drop-drop, drop-append-seam}
-use Rattle.logic.specs.Syntax.{Sort, node, arrow, rule, Expr, all, none, label, nominal, complement, and, or, some, every, atLeast, atMost, arrowKind, reversed, union, common, minus, endingIn, pair, subNodes, subArrows, nodeIn, pairIn, both, either, notRule}
+use lib.ListN.{length, getD, drop, length-append}
+use Rattle.logic.specs.Syntax.{Sort, Expr, all, none, label, nominal, complement, and, or, some, every, atLeast, atMost, arrowKind, reversed, union, common, minus, endingIn, pair, subNodes, subArrows, nodeIn, pairIn, both, either, notRule}
 use Rattle.logic.specs.Limits.{Ranges, InRange}
 use Rattle.text.specs.Code.{code}
 use Rattle.text.specs.Stands.{Stands}
-
--- the byte at a place
-pub byte-at : (text : List ℕ) (at x : ℕ) (l : List ℕ) → drop at text ≡ x ∷ l → getD text at 0 ≡ x
-byte-at text at x l e = ap (λ (k : ℕ). getD text k 0) (sym (add-zero at)) ∙ sym (getD-drop at text 0 0) ∙ ap (λ (m : List ℕ). getD m 0 0) e
-
--- what stands behind a part
-pub behind : (text : List ℕ) (at : ℕ) (h l : List ℕ) → drop at text ≡ h ++ l → drop (at + length h) text ≡ l
-behind text at h l e = sym (drop-drop (length h) at text) ∙ ap (drop (length h)) e ∙ drop-append-seam h l
-
-pub within : (text : List ℕ) (at : ℕ) (h l : List ℕ) → drop at text ≡ h ++ l → length h + length l ≡ length text - at
-within text at h l e = sym (length-append h l) ∙ ap length (sym e) ∙ length-drop at text
+use Rattle.text.proofs.Standing.{byte-at, behind, within}
 
 -- the number bytes behind a code
 pub first-number : (text : List ℕ) (at x m : ℕ) (l : List ℕ) → drop at text ≡ x ∷ m ∷ l → getD text (at + 1) 0 ≡ m

@@ -1,12 +1,12 @@
 -- The cases of a rule by its code byte, and when each holds.
 use mathlib.Core.Path.{_≡_, refl, sym, ap, ap₂, _∙_}
 use mathlib.Core.Bool.{Bool, not}
-use mathlib.Core.List.{List, [], _∷_, _++_}
+use mathlib.Core.List.{List, [], _∷_}
 use Prim.Native.Nat.{ℕ, _+_, _≤_, _<_}
 use native.Mathlib.Omega.{arith}
 use lib.Dec.{ltb→lt}
-use lib.ListN.{length, getD}
-use Rattle.logic.specs.Syntax.{Sort, node, arrow, rule, Expr, subNodes, subArrows, nodeIn, pairIn, both, either, notRule}
+use lib.ListN.{getD}
+use Rattle.logic.specs.Syntax.{node, arrow, rule, Expr, subNodes, subArrows, nodeIn, pairIn, both, either, notRule}
 use Rattle.logic.specs.Graph.{Graph, Nodes, Pairs, allBelow, implies}
 use Rattle.logic.specs.Meaning.{value}
 use Rattle.logic.specs.Limits.{ranges, InRange}

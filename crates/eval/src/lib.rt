@@ -1,8 +1,10 @@
 // Evaluating expressions and rules where they stand in a text, on the graph that a sheet stores.
 // Inner, all of them: the sheet is sound, and an expression in range stands at `at`. Levels have no bound here.
 // A relation is put into `out`, which is 64 zeros before; what is returned is then where the text goes on.
+//
+// Stack: 704 bytes for a level of 05 to 0B, 688 for one of 12 to 16, 160 for one of 25 to 27.
 ghost use mathlib.Core.Path.{_≡_};
-ghost use Prim.Native.Nat.{ℕ, _<_, _≤_};
+ghost use Prim.Native.Nat.{_<_, _≤_};
 ghost use lib.ListN.{length, getD, replicate};
 ghost use Rattle.logic.specs.Syntax.{Expr, «node», arrow, rule};
 ghost use Rattle.logic.specs.Limits.{ranges};

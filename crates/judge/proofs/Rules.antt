@@ -1,8 +1,8 @@
 -- The loop over the rules of a text: what is judged so far and what is left.
-use mathlib.Core.Path.{_≡_, refl, sym, ap, ap₂, _∙_, subst}
+use mathlib.Core.Path.{_≡_, refl, sym, ap, _∙_, subst}
 use mathlib.Core.Bool.{Bool, true, false}
 use mathlib.Core.List.{List, [], _∷_, _++_, append-assoc}
-use Prim.Native.Nat.{ℕ, suc, _+_, _-_, _≤_, _<_}
+use Prim.Native.Nat.{ℕ, _+_, _-_, _≤_, _<_}
 use native.Mathlib.Numerals.{add-one}
 use native.Mathlib.Omega.{arith}
 use lib.ListN.{length, drop, length-append}
@@ -18,7 +18,8 @@ use Rattle.text.specs.Code.{code, bookCode}
 use Rattle.text.specs.Stands.{Stands, RulesInRange}
 use Rattle.eval.specs.Evaluated.{Opened, IsTruth}
 use Rattle.eval.specs.Judge.{noPart, askRules, brokenPart}
-use Rattle.eval.proofs.Places.{filled, behind, within}
+use Rattle.eval.proofs.Places.{filled}
+use Rattle.text.proofs.Standing.{behind, within}
 use Rattle.judge.specs.Judging.{RulesStand}
 
 -- What the evaluators ask of the sheet.

@@ -1,6 +1,6 @@
 -- The first broken rule as a part of the book itself; and rules that stand one behind the other in a text.
 use mathlib.Core.Path.{_≡_}
-use mathlib.Core.List.{List, [], _∷_, _++_}
+use mathlib.Core.List.{List, _++_}
 use Prim.Native.Nat.{ℕ, _+_}
 use lib.ListN.{length, take, drop}
 use Rattle.logic.specs.Syntax.{Expr, rule}

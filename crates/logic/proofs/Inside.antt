@@ -10,7 +10,7 @@ use Rattle.logic.specs.Syntax.{Sort, node, arrow, rule, Expr, all, none,
 use Rattle.logic.specs.Graph.{Graph, Nodes, Pairs, isNode, anyBelow}
 use Rattle.logic.specs.Meaning.{Value, value}
 use Rattle.logic.specs.Steps.{update, relabel, rejoin, run}
-use Rattle.logic.specs.Limits.{NodesIn, PairsIn, Within, Ranges, InRange, EditInRange, labelCount, arrowCount}
+use Rattle.logic.specs.Limits.{NodesIn, PairsIn, Within, Ranges, EditInRange, labelCount, arrowCount}
 
 -- what is no node of the graph is in no value of any sort
 abbrev pub Inside : (s : Sort) (g : Graph) → Value s → Type 0

@@ -1,7 +1,6 @@
 -- What an expression means on a graph (document 004, Table II): a set of nodes, a set of pairs, or whether a rule holds.
 -- A number that is no node of the graph is in no value.
 use mathlib.Core.Bool.{Bool, false, not, _&&_, _||_}
-use Prim.Native.Nat.{ℕ}
 use lib.Dec.{leb, eqb}
 use Rattle.logic.specs.Syntax.{Sort, node, arrow, rule, Expr, all, none, label, nominal, complement, and, or, some, every, atLeast, atMost, arrowKind, reversed, union, common, minus, endingIn, pair, subNodes, subArrows, nodeIn, pairIn, both, either, notRule}
 use Rattle.logic.specs.Graph.{Graph, Nodes, Pairs, isNode, anyBelow, allBelow, countBelow, implies}

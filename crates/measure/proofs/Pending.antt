@@ -9,7 +9,8 @@ use lib.ListN.{length, getD, drop, length-append, List·getD-eq-default}
 use Rattle.tree.specs.Tree.{Tree, name, leaf, one, two, bytes, size}
 use Rattle.tree.proofs.Trees.{size-is}
 use Rattle.measure.specs.Shapes.{shapes, shapeOf, Formed, At, Some}
-use Rattle.measure.proofs.Places.{tag, tag-at, inside, within, behind, size-pos}
+use Rattle.measure.proofs.Places.{tag, tag-at, inside, size-pos}
+use Rattle.text.proofs.Standing.{within, behind}
 
 -- a tree's code byte with its numbers, and its operands
 abbrev pub headOf : Tree → List ℕ

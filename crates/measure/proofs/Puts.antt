@@ -6,7 +6,7 @@ use native.Mathlib.Omega.{arith}
 use lib.ListN.{length, getD, set, take, drop, length-set}
 use lib.Seq.{drop-cons, drop-set-lt, getD-set-same, take-at}
 use Rattle.measure.specs.Edits.{PutBefore, EndBefore}
-use Rattle.measure.proofs.Places.{behind}
+use Rattle.text.proofs.Standing.{behind}
 
 pub head-of : (text : List ℕ) (at : ℕ) (h l : List ℕ) (n : ℕ) → drop at text ≡ h ++ l → length h ≡ n → take n (drop at text) ≡ h
 head-of text at h l n e f = ap (take n) e ∙ take-at h l n f

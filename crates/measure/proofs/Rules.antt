@@ -21,7 +21,8 @@ use Rattle.measure.specs.Edits.{SomeEdit, EditRoom, Backed}
 use Rattle.measure.specs.Pruned.{pruned}
 use Rattle.measure.proofs.Steps.{edit-long, edit-inside}
 use Rattle.measure.specs.Book.{RuleAt, BookIs, SomeBook, RuleAdded, BookAdded, RuleSized, BookSized, BookKept}
-use Rattle.measure.proofs.Places.{behind, fits, inside, size-pos}
+use Rattle.measure.proofs.Places.{fits, inside, size-pos}
+use Rattle.text.proofs.Standing.{behind}
 use Rattle.measure.proofs.Held.{holds-is, holds-longer, longer}
 use Rattle.measure.proofs.Formed.{formed-tree}
 

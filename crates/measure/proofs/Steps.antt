@@ -16,7 +16,7 @@ use Rattle.tree.specs.Sizes.{Measure, measure, passed, chosen, back}
 use Rattle.measure.specs.Shapes.{Named, At}
 use Rattle.measure.specs.Edits.{EditAt, behindStep}
 use Rattle.measure.specs.Pruned.{pruned}
-use Rattle.measure.proofs.Places.{byte-at, behind, within}
+use Rattle.text.proofs.Standing.{byte-at, behind, within}
 use Rattle.measure.proofs.Formed.{formed-tree}
 
 -- the code byte of an edit

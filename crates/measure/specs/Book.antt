@@ -1,6 +1,6 @@
 -- A book of rules in a text, and the size of the book carried through an edit.
 use mathlib.Core.Path.{_≡_}
-use mathlib.Core.List.{List, [], _∷_}
+use mathlib.Core.List.{List}
 use Prim.Native.Nat.{ℕ, _+_, _≤_}
 use lib.ListN.{length, drop}
 use Rattle.logic.specs.Syntax.{rule, Expr, Edit}

@@ -2,7 +2,7 @@
 use mathlib.Core.Path.{_≡_}
 use mathlib.Core.List.{List}
 use Prim.Native.Nat.{ℕ, _+_, _*_, max}
-use lib.ListN.{length, getD}
+use lib.ListN.{getD}
 use Rattle.tree.specs.Tree.{Tree, under, size}
 use Rattle.tree.specs.Sizes.{Measure, measure, cut}
 use Rattle.measure.specs.Shapes.{Named, cell}

@@ -2,7 +2,7 @@
 // how often each of the 64 names stands there (cells 0 to 63: labels, then arrows), its deepest level (64 to 127, 0 where it stands nowhere),
 // the length (128) and the levels (129). On the way the edit is written again without its idle steps.
 //
-// Stack: 33 kB of arrays (37 kB for one rule) and about 1.4 kB for each 35 inside a 35, of which there are at most 30: under 90 kB.
+// Stack: 1 kB of numbers (13 kB of arrays for one rule) and about 1.4 kB for each 35 inside a 35, of which there are at most 30: under 60 kB.
 ghost use mathlib.Core.Path.{_≡_};
 ghost use mathlib.Core.Bool.{cond};
 ghost use mathlib.Core.List.{List};
@@ -217,14 +217,14 @@ pub fn end_of(text: &[u8], at: usize) -> usize
 
 // The places of an edit's steps, put on a stack; answers its new top. A step takes a byte at least, so a stack as long as the text suffices.
 // Inner: the text was read before.
-fn push(text: &[u8], at: usize, stack: &mut [usize], top: usize) -> usize
-    requires { ⌜ SomeEdit (now text) at × (top ≤ at) × (length (now text) ≤ length (now stack)) ⌝ }
+fn push(text: &[u8], at: usize, stack: &mut [u16], top: usize) -> usize
+    requires { ⌜ SomeEdit (now text) at × (top ≤ at) × (length (now text) ≤ length (now stack)) × (length (now text) ≤ 4096) ⌝ }
     ensures { λ r. ⌜ ((Z : Edit) → EditAt (now (text .entry)) at Z → Pushed (now (text .entry)) at Z (now (stack .exit)) top r) × Kept top (now (stack .entry)) (now (stack .exit)) ⌝ }
 {
     let mut p = at;
     let mut n = top;
     while text[p] != 0x30 {
-        stack[n] = p;
+        stack[n] = p as u16;
         n += 1;
         p = next_step(text, p);
     }
@@ -329,7 +329,7 @@ fn one_back(
     text: &[u8],
     at: usize,
     rules: usize,
-    stack: &mut [usize],
+    stack: &mut [u16],
     top: usize,
     state: &mut [usize],
     out: &mut [u8],
@@ -360,7 +360,7 @@ fn back(
     text: &[u8],
     at: usize,
     rules: usize,
-    stack: &mut [usize],
+    stack: &mut [u16],
     top: usize,
     state: &mut [usize],
     out: &mut [u8],
@@ -373,7 +373,8 @@ fn back(
     let mut start = end_before(out, pos);
     while n > top {
         n -= 1;
-        start = one_back(text, stack[n], rules, stack, n, state, out, start);
+        let p = stack[n] as usize;
+        start = one_back(text, p, rules, stack, n, state, out, start);
     }
     start
 }
@@ -418,7 +419,7 @@ pub fn size_of_rule(book: &[u8], at: usize, edit: &[u8], from: usize) -> Size
 {
     let mut state = [0usize; 130];
     add_rule(book, at, &mut state);
-    let mut stack = [0usize; 4096];
+    let mut stack = [0u16; 4096];
     let mut kept = [0u8; 4096];
     back(edit, from, 1, &mut stack, 0, &mut state, &mut kept, 4096);
     Size {
@@ -436,9 +437,10 @@ pub struct BookSize {
 
 // The size of a book carried through an edit, in one walk over the edit. Where the book is not empty, `kept` holds from
 // `start` to its end the edit without its idle steps: it carries each rule of the book to the same text.
-// Inner: both texts were read before. What `kept` holds in front of that, or for an empty book, is of no use.
-pub fn size_of_book(book: &[u8], edit: &[u8], kept: &mut [u8]) -> BookSize
-    requires { ⌜ SomeBook (now book) × SomeEdit (now edit) 0 × (length (now edit) ≤ 4096) × (length (now kept) ≡ 4096) ⌝ }
+// Inner: both texts were read before. What `kept` holds in front of that, or for an empty book, is of no use. `stack` is scratch: what it
+// holds before and after is free.
+pub fn size_of_book(book: &[u8], edit: &[u8], stack: &mut [u16], kept: &mut [u8]) -> BookSize
+    requires { ⌜ SomeBook (now book) × SomeEdit (now edit) 0 × (length (now edit) ≤ 4096) × (length (now edit) ≤ length (now stack)) × (length (now kept) ≡ 4096) ⌝ }
     ensures { λ r. ⌜ ((rules : List (Expr rule)) (Z : Edit) → BookIs (now (book .entry)) rules → EditAt (now (edit .entry)) 0 Z → BookSized Z rules (r .len) (r .levels) × BookKept Z rules (r .start) (now (kept .exit))) ⌝ }
 {
     if book.len() == 0 {
@@ -450,8 +452,7 @@ pub fn size_of_book(book: &[u8], edit: &[u8], kept: &mut [u8]) -> BookSize
     }
     let mut state = [0usize; 130];
     let rules = add_book(book, &mut state);
-    let mut stack = [0usize; 4096];
-    let start = back(edit, 0, rules, &mut stack, 0, &mut state, kept, 4096);
+    let start = back(edit, 0, rules, stack, 0, &mut state, kept, 4096);
     BookSize {
         len: state[128],
         levels: state[129],

@@ -2,12 +2,14 @@
 use mathlib.Core.Path.{_≡_, refl, sym, ap, ap₂, _∙_}
 use mathlib.Core.Bool.{Bool, true, false, _&&_, and-true}
 use mathlib.Core.List.{List, [], _∷_, _++_}
-use Prim.Native.Nat.{ℕ, _+_, _<_}
+use Prim.Native.Nat.{ℕ, suc, _+_, _-_, _*_, _%_, _≤_, _<_}
 use native.Mathlib.Omega.{arith}
+use borrow.Author.Tests.{eqb-true}
 use lib.Dec.{T, eqb, eqb-refl, eqb→eq}
-use lib.ListN.{length, getD, take, drop, drop-of-length-le, set, take-append-drop, length-append, List·getD-append}
-use lib.Seq.{drop-cons, set-at, append-snoc, length-take-le, take-at, drop-at}
+use lib.ListN.{length, getD, take, drop, drop-of-length-le, set, take-append-drop, length-append, length-set, List·getD-append}
+use lib.Seq.{drop-cons, set-at, append-snoc, length-take-le, take-at, drop-at, take-set-lt, getD-take, sets}
 use Rattle.seal.specs.Seal.{blockBytes, bodyBytes, sums, seal, sealed, sameBytes, sealRight, reseal}
+use Rattle.seal.proofs.TotalLaws.{s-moves, t-moves}
 
 -- the last two bytes of a block
 last-two : (k : List ℕ) → length k ≡ blockBytes → drop bodyBytes k ≡ getD k 510 0 ∷ getD k 511 0 ∷ []
@@ -66,3 +68,46 @@ sealed-right body h = ap₂ (λ a b. sameBytes a (seal b)) (drop-at body (seal b
 pub right-sealed : (k : List ℕ) → sealRight k ≡ true → k ≡ sealed (take bodyBytes k)
 unfolding sealRight sealed
 right-sealed k e = sym (take-append-drop bodyBytes k) ∙ ap (take bodyBytes k ++_) (same-is (drop bodyBytes k) (seal (take bodyBytes k)) e)
+
+-- A block made right is right, and a block that is right stays as it is.
+pub reseal-right : (k : List ℕ) → length k ≡ blockBytes → sealRight (reseal k) ≡ true
+unfolding reseal
+reseal-right k h = sealed-right (take bodyBytes k) (length-take-le bodyBytes k (omega arith))
+
+pub right-reseal : (k : List ℕ) → sealRight k ≡ true → k ≡ reseal k
+unfolding reseal
+right-reseal k e = right-sealed k e
+
+pub length-reseal : (k : List ℕ) → length k ≡ blockBytes → length (reseal k) ≡ blockBytes
+unfolding reseal
+length-reseal k h = length-sealed (take bodyBytes k) (length-take-le bodyBytes k (omega arith))
+
+-- The check bytes of a block that is right, and of that block with byte p of its body changed to x, as the code makes them.
+module _ (k : List ℕ) (h : length k ≡ blockBytes) (right : sealRight k ≡ true) where
+  check-bytes : (getD k 510 0 ≡ sums (take bodyBytes k) .s) × (getD k 511 0 ≡ sums (take bodyBytes k) .t)
+  check-bytes =
+      let s : ℕ = sums (take bodyBytes k) .s in
+      let t : ℕ = sums (take bodyBytes k) .t in
+      let both : (eqb (getD k 510 0) s ≡ true) × (eqb (getD k 511 0) t ≡ true) = and-yes _ _ (sym (seal-test k s t h refl refl) ∙ right) in
+      (eqb-true _ _ (both .0), eqb-true _ _ (both .1))
+
+  pub byte-put : (p x d s t : ℕ) → p < bodyBytes → d + getD k p 0 ≡ x + 255 → s ≡ getD k 510 0 → t ≡ getD k 511 0
+      → set (set (set k p x) 510 ((s + d) % 255)) 511 ((t + (bodyBytes - p) * d) % 255) ≡ reseal (set k p x)
+  byte-put p x d s t l f s-is t-is =
+      let n : length (take bodyBytes k) ≡ bodyBytes = length-take-le bodyBytes k (omega arith) in
+      let e : d + getD (take bodyBytes k) p 0 ≡ x + 255 = ap (d +_) (getD-take bodyBytes k p 0 l) ∙ f in
+      let body : set (take bodyBytes k) p x ≡ take bodyBytes (set k p x) = sym (take-set-lt bodyBytes k p x l) in
+      seal-set (set k p x) _ _ (length-set k p x ∙ h)
+      (ap (λ y. (y + d) % 255) (s-is ∙ check-bytes .0) ∙ s-moves (take bodyBytes k) p x d (omega arith) e ∙ ap (λ y. sums y .s) body)
+      (ap₂ (λ y z. (y + (z - p) * d) % 255) (t-is ∙ check-bytes .1) (sym n) ∙ t-moves (take bodyBytes k) p x d (omega arith) e ∙ ap (λ y. sums y .t) body)
+
+-- Bytes put into the body one behind the other: the check bytes in between make no difference.
+pub reseal-sets : (vs k : List ℕ) (p : ℕ) → p + length vs ≤ bodyBytes → length k ≡ blockBytes → reseal (sets (reseal k) p vs) ≡ reseal (sets k p vs)
+unfolding reseal sealed
+reseal-sets vs k p l h = ap sealed (same vs (reseal k) k p l (take-at (take bodyBytes k) (seal (take bodyBytes k)) bodyBytes (length-take-le bodyBytes k (omega arith))))
+  where
+    same : (vs a b : List ℕ) (p : ℕ) → p + length vs ≤ bodyBytes → take bodyBytes a ≡ take bodyBytes b → take bodyBytes (sets a p vs) ≡ take bodyBytes (sets b p vs)
+    same [] a b p l e = e
+    same (v ∷ vs) a b p l e =
+        same vs (set a p v) (set b p v) (suc p) (omega arith)
+        (take-set-lt bodyBytes a p v (omega arith) ∙ ap (λ y. set y p v) e ∙ sym (take-set-lt bodyBytes b p v (omega arith)))

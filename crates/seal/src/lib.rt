@@ -1,7 +1,8 @@
 // The check bytes of a block.
 ghost use mathlib.Core.Path.{_≡_};
+ghost use mathlib.Core.Bool.{true};
 ghost use Prim.Native.Nat.{_<_, _≤_};
-ghost use lib.ListN.{length, take};
+ghost use lib.ListN.{length, take, set};
 ghost use Rattle.seal.specs.Seal.{blockBytes, bodyBytes, sums, sealRight, reseal};
 
 // The sums s and t of document 01, each below 255.
@@ -57,4 +58,18 @@ pub fn seal(block: &mut [u8])
     let c = sums_of(block);
     block[510] = c.s as u8;
     block[511] = c.t as u8;
+}
+
+// Puts x at place p of a block's body and keeps its check bytes right, from what they were: no other byte is read.
+// Inner: the check bytes are right.
+pub fn put_byte(block: &mut [u8], p: usize, x: u8)
+    requires { ⌜ (length (now block) ≡ blockBytes) × (p < bodyBytes) × (sealRight (now block) ≡ true) ⌝ }
+    ensures { λ _. ⌜ now (block .exit) ≡ reseal (set (now (block .entry)) p x) ⌝ }
+{
+    let d = wide(x) + 255 - wide(block[p]);
+    let s = (wide(block[510]) + d) % 255;
+    let t = (wide(block[511]) + (510 - p as u32) * d) % 255;
+    block[p] = x;
+    block[510] = s as u8;
+    block[511] = t as u8;
 }

@@ -7,22 +7,31 @@ use native.Mathlib.Nat.{lt-of-lt-of-le}
 use native.Mathlib.Omega.{arith}
 use borrow.Author.Tests.{eqb-true, lt-ltb}
 use lib.Dec.{eqb, ltb}
-use lib.ListN.{length, getD}
+use lib.ListN.{length, getD, take}
 use lib.Pow.{pow-mono}
-use Rattle.answer.specs.Asked.{is}
+use Rattle.answer.specs.Asked.{passed, is}
 use Rattle.logic.specs.Graph.{Graph, Nodes, isNode}
 use Rattle.logic.specs.Limits.{Within, maxNodes, labelCount, arrowCount}
 use Rattle.words.specs.Words.{setOf, wordAt}
 use Rattle.words.proofs.SetLaws.{setOf-lt, setOf-cong, setOf-lowest}
 use Rattle.words.proofs.WordLaws.{wordAt-of}
+use Rattle.seal.specs.Seal.{sealRight}
 use Rattle.sheet.specs.Sheet.{sheetBytes, store, graphOf}
-use Rattle.sheet.specs.Questions.{askBlocks, askSheet, Sound}
+use Rattle.sheet.specs.Questions.{blockOf, askBlock, askBlocks, askSheet, Sound}
 use Rattle.sheet.proofs.Blocks.{labelWord, rowWord, label-byte, arrow-byte, length-store}
-use Rattle.sheet.proofs.Opening.{is-yes, both-yes, opening}
+use Rattle.sheet.proofs.Opening.{is-yes, both-yes, block-ok, opening}
 
 pub sound-length : (t : List ℕ) → Sound t → length t ≡ sheetBytes
 unfolding askSheet
 sound-length t e = eqb-true (length t) sheetBytes (is-yes _ 1 0 (both-yes (is (eqb (length t) sheetBytes) 1 0) (askBlocks t 17 0) e .0))
+
+-- its first block is sealed
+pub sound-seal : (t : List ℕ) → Sound t → sealRight (take 512 t) ≡ true
+unfolding askSheet askBlocks
+sound-seal t e =
+    let blocks : askBlocks t 17 0 ≡ passed tt = both-yes _ _ e .1 in
+    let first : askBlock (getD t 2 0) 0 (blockOf t 0) ≡ passed tt = both-yes _ (askBlocks t 16 1) blocks .0 in
+    block-ok (getD t 2 0) 0 (blockOf t 0) first .check
 
 small : (n : ℕ) (v : Nodes) → n ≤ maxNodes → setOf n v < 2 ^ 64
 small n v h = let m : n ≤ 64 = omega arith in lt-of-lt-of-le (setOf-lt n v) (pow-mono m)

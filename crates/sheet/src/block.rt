@@ -7,7 +7,7 @@ ghost use Rattle.answer.specs.Answers.{asked};
 ghost use Rattle.logic.specs.Graph.{allBelow};
 ghost use Rattle.logic.specs.Limits.{maxNodes};
 ghost use Rattle.words.specs.Words.{member, putWord};
-ghost use Rattle.seal.specs.Seal.{blockBytes, reseal};
+ghost use Rattle.seal.specs.Seal.{blockBytes, sealRight, reseal};
 ghost use Rattle.sheet.specs.Questions.{headRight, zeroRight, askBlock};
 ghost use Rattle.sheet.specs.Masks.{zerosAt, masked, zeroBut};
 ghost use Rattle.sheet.specs.Writes.{putRows, bareBlock};
@@ -128,13 +128,18 @@ pub fn ask_block(block: &[u8], b: usize, n: usize) -> Answer
     Answer::Done
 }
 
-// Puts x into word k, and seals the block. Inner: the block has that word.
+// Puts x into word k, byte by byte, and keeps the check bytes right. Inner: the block has that word, and its check bytes are right.
 pub fn put_word(block: &mut [u8], k: usize, x: u64)
-    requires { ⌜ (length (now block) ≡ blockBytes) × (k < 60) ⌝ }
+    requires { ⌜ (length (now block) ≡ blockBytes) × (k < 60) × (sealRight (now block) ≡ true) ⌝ }
     ensures { λ _. ⌜ now (block .exit) ≡ reseal (putWord (now (block .entry)) (16 + 8 * k) x) ⌝ }
 {
-    words::store(block, 16 + 8 * k, x);
-    seal::seal(block);
+    let mut rest = x;
+    let mut i = 0;
+    while i < 8 {
+        seal::put_byte(block, 16 + 8 * k + i, (rest % 0x100) as u8);
+        rest /= 0x100;
+        i += 1;
+    }
 }
 
 // Puts the first n of the rows into the block's words, and seals it. Inner: the block has that many.

@@ -1,6 +1,7 @@
 -- The theorems of reading and writing, and what the proofs of several functions use.
 pub mod Ranges
 pub mod Places
+pub mod Standing
 pub mod Converse
 pub mod ReadBack
 pub mod Books

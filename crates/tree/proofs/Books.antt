@@ -1,18 +1,18 @@
 -- A book is measured as one text: back over the edit once, with the number of rules.
 use mathlib.Core.Path.{_≡_, refl, sym, _∙_, ap, ap₂}
 use mathlib.Core.Bool.{Bool, true, false, cond}
-use mathlib.Core.List.{List, [], _∷_, _++_, map}
-use Prim.Native.Nat.{ℕ, zero, suc, _+_, _*_, max, _≤_, _<_}
+use mathlib.Core.List.{List, [], _∷_, map}
+use Prim.Native.Nat.{ℕ, suc, _+_, _*_, max}
 use native.Mathlib.Omega.{arith}
 use native.Mathlib.Nat.{add-mul}
 use lib.ListN.{length, length-append}
-use Rattle.logic.specs.Syntax.{Sort, rule, Expr, Edit, finish, addLabel, takeLabel, addArrow, takeArrow, choose}
+use Rattle.logic.specs.Syntax.{rule, Expr, Edit, finish, addLabel, takeLabel, addArrow, takeArrow, choose}
 use Rattle.logic.specs.Carry.{carry}
 use Rattle.text.specs.Code.{code, bookCode, bookLevels}
-use Rattle.tree.specs.Tree.{Tree, same, size, height, under, tree}
+use Rattle.tree.specs.Tree.{same, under, tree}
 use Rattle.tree.proofs.Trees.{bytes-tree, height-tree, size-is}
 use Rattle.tree.specs.Sizes.{Measure, measure, passed, chosen, back, join, nothing, measures}
-use Rattle.tree.proofs.Measured.{under-max, max-under, under-under, measured}
+use Rattle.tree.proofs.Measured.{under-max, max-under, measured}
 
 -- Joining is a sum, and a maximum, in each number.
 pub join-nothing : (M : Measure) → join M nothing ≡ M

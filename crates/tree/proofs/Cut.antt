@@ -1,14 +1,14 @@
 -- Measures cut at 16,385: exact up to 16,384, and over it when the true number is.
 use mathlib.Core.Path.{_≡_, refl, sym, _∙_, ap, ap₂}
 use mathlib.Core.Bool.{Bool, true, false, cond}
-use Prim.Native.Nat.{ℕ, zero, suc, _+_, _*_, max, min, _≤_, _<_}
+use Prim.Native.Nat.{ℕ, zero, suc, _+_, _*_, max, _≤_, _<_}
 use native.Mathlib.Omega.{arith}
 use native.Mathlib.Nat.{mul-le-mul-left, mul-le-mul-right}
 use native.Mathlib.Decide.{decLt}
 use Rattle.logic.specs.Syntax.{Edit, finish, addLabel, takeLabel, addArrow, takeArrow, choose}
-use Rattle.tree.specs.Tree.{Tree, same, under, tree}
+use Rattle.tree.specs.Tree.{same, under, tree}
 use Rattle.tree.specs.Sizes.{Measure, measure, passed, chosen, back, cut, cutM}
-use Rattle.tree.proofs.Measured.{under-max, max-under, under-under}
+use Rattle.tree.proofs.Measured.{under-under}
 
 -- back, with its numbers cut after each step
 unfoldable pub cutBack : ℕ → Edit → Measure → Measure

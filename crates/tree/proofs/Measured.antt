@@ -1,18 +1,17 @@
 -- Measuring backward gives the measure of the carried rule.
-use mathlib.Core.Path.{_≡_, refl, sym, _∙_, ap, ap₂, subst, fun-ext}
+use mathlib.Core.Path.{_≡_, refl, sym, _∙_, ap, ap₂}
 use mathlib.Core.Bool.{Bool, true, false, cond, _&&_}
-use mathlib.Core.List.{List, [], _∷_, _++_, append-assoc}
+use mathlib.Core.List.{[], _∷_}
 use Prim.Native.Nat.{ℕ, zero, suc, _+_, _*_, max, _≤_, _<_}
 use native.Mathlib.Omega.{arith}
 use native.Mathlib.Nat.{zero-max, max-zero, suc-max-suc}
 use lib.Dec.{eqb}
 use borrow.Author.Tests.{eq-eqb, eqb-true}
-use lib.ListN.{length, length-append}
-use Rattle.logic.specs.Syntax.{Sort, node, arrow, rule, Expr, label, complement, and, or, arrowKind, union, minus, both, either, notRule, Edit, finish, addLabel, takeLabel, addArrow, takeArrow, choose}
-use Rattle.logic.specs.Carry.{replace, putLabel, putArrow, carry}
-use Rattle.tree.specs.Tree.{Tree, name, leaf, one, two, bytes, graft, same, only, size, height, count, under, deep, tree}
+use Rattle.logic.specs.Syntax.{rule, Expr, label, complement, and, or, arrowKind, union, minus, Edit, finish, addLabel, takeLabel, addArrow, takeArrow, choose}
+use Rattle.logic.specs.Carry.{carry}
+use Rattle.tree.specs.Tree.{Tree, name, leaf, one, two, graft, same, only, size, height, count, under, deep, tree}
 use Rattle.tree.proofs.Trees.{tree-putLabel, tree-putArrow}
-use Rattle.tree.specs.Sizes.{Measure, measure, passed, chosen, back}
+use Rattle.tree.specs.Sizes.{measure, passed, chosen, back}
 
 pub under-max : (d x y : ℕ) → under d (max x y) ≡ max (under d x) (under d y)
 unfolding under

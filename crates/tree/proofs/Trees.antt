@@ -1,16 +1,16 @@
 -- Trees and expressions; what replacing a name does to a tree's measures.
-use mathlib.Core.Path.{_≡_, refl, sym, _∙_, ap, ap₂, subst}
-use mathlib.Core.Bool.{Bool, true, false, cond, _&&_}
-use mathlib.Core.List.{List, [], _∷_, _++_, append-assoc}
-use Prim.Native.Nat.{ℕ, zero, suc, _+_, _*_, max}
+use mathlib.Core.Path.{_≡_, refl, ap, ap₂}
+use mathlib.Core.Bool.{Bool, true, false, cond}
+use mathlib.Core.List.{[], _∷_, _++_}
+use Prim.Native.Nat.{ℕ, suc, _+_, max}
 use native.Mathlib.Omega.{arith}
-use lib.Dec.{eqb, eqb→eq}
+use lib.Dec.{eqb}
 use lib.ListN.{length, length-append}
-use Rattle.logic.specs.Syntax.{Sort, node, arrow, rule, Expr, all, none, label, nominal, complement, and, or, some, every, atLeast, atMost, arrowKind, reversed, union, common, minus, endingIn, pair, subNodes, subArrows, nodeIn, pairIn, both, either, notRule, Edit, finish, addLabel, takeLabel, addArrow, takeArrow, choose}
+use Rattle.logic.specs.Syntax.{Sort, node, arrow, rule, Expr, all, none, label, nominal, complement, and, or, some, every, atLeast, atMost, arrowKind, reversed, union, common, minus, endingIn, pair, subNodes, subArrows, nodeIn, pairIn, both, either, notRule}
 use Rattle.logic.specs.Steps.{update}
-use Rattle.logic.specs.Carry.{replace, putLabel, putArrow, carry}
+use Rattle.logic.specs.Carry.{replace, putLabel, putArrow}
 use Rattle.text.specs.Code.{code, levels}
-use Rattle.tree.specs.Tree.{Tree, name, leaf, one, two, bytes, graft, same, only, size, height, count, under, deep, tree}
+use Rattle.tree.specs.Tree.{Tree, name, leaf, one, two, bytes, graft, only, size, height, tree}
 
 pub bytes-tree : {s : Sort} (e : Expr s) → bytes (tree e) ≡ code e
 unfolding bytes tree code

@@ -1,13 +1,13 @@
 -- Writing a carried rule in one go: the steps passed so far are one simultaneous replacement.
-use mathlib.Core.Path.{_≡_, refl, sym, _∙_, ap, ap₂, fun-ext}
+use mathlib.Core.Path.{_≡_, refl, sym, _∙_, ap, ap₂}
 use mathlib.Core.Bool.{Bool, true, false, cond}
-use mathlib.Core.List.{List, [], _∷_, _++_, append-assoc}
-use Prim.Native.Nat.{ℕ, zero, suc, _+_}
-use lib.Dec.{eqb, ltb}
+use mathlib.Core.List.{List, [], _∷_, _++_}
+use Prim.Native.Nat.{ℕ, _+_}
+use lib.Dec.{eqb}
 use borrow.Author.Tests.{eqb-true}
 use Rattle.tree.proofs.Measured.{same-eq}
-use Rattle.logic.specs.Syntax.{Sort, node, arrow, rule, Expr, label, complement, and, or, arrowKind, union, minus, both, either, notRule, Edit, finish, addLabel, takeLabel, addArrow, takeArrow, choose}
-use Rattle.logic.specs.Carry.{putLabel, putArrow, carry, followedBy}
+use Rattle.logic.specs.Syntax.{node, arrow, rule, Expr, label, complement, and, or, arrowKind, union, minus, Edit, finish, addLabel, takeLabel, addArrow, takeArrow, choose}
+use Rattle.logic.specs.Carry.{carry, followedBy}
 use Rattle.logic.proofs.Theorem.{carry-choose}
 use Rattle.text.specs.Code.{code}
 use Rattle.tree.specs.Tree.{Tree, name, leaf, one, two, bytes, graft, same, only, tree}

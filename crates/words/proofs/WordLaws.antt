@@ -1,13 +1,13 @@
 -- The laws of words in bytes.
 use mathlib.Core.Path.{_≡_, refl, sym, ap, ap₂, _∙_}
-use mathlib.Core.Bool.{Bool, true, false}
+use mathlib.Core.Bool.{false}
 use mathlib.Core.List.{List, [], _∷_, _++_}
 use mathlib.Core.Logic.{_⊎_, inl, inr, ⊎-elim}
 use Prim.Native.Nat.{ℕ, zero, suc, _+_, _-_, _*_, _/_, _%_, _^_, _≤_, _<_}
 use native.Mathlib.Nat.{pow-suc, mod-one, mod-eq-of-lt, zero-div}
 use native.Mathlib.Omega.{arith}
 use lib.Arith.{mod-mul}
-use lib.Dec.{eqb, ltb, lit<}
+use lib.Dec.{eqb, lit<}
 use lib.ListN.{length, getD, take, drop, set, length-append, length-take, length-drop, List·getD-append, List·getD-eq-default}
 use lib.Pow.{shr-shr}
 use lib.Seq.{sets, sets-eq, drop-cons, length-take-le, getD-take, getD-drop, getD-append-add, ext-getD}

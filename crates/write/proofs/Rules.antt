@@ -15,7 +15,7 @@ use Rattle.tree.proofs.Written.{written-code}
 use Rattle.measure.specs.Shapes.{At, Some}
 use Rattle.measure.specs.Edits.{EditAt}
 use Rattle.measure.specs.Book.{RuleAt, BookIs}
-use Rattle.measure.proofs.Places.{behind}
+use Rattle.text.proofs.Standing.{behind}
 use Rattle.measure.proofs.Rules.{rule-at, rule-size, rule-fits}
 use Rattle.write.specs.Laid.{Wrote}
 use Rattle.write.specs.Offsets.{StackIs}

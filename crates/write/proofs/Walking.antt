@@ -17,7 +17,8 @@ use Rattle.tree.specs.Stack.{Step, written}
 use Rattle.tree.proofs.Written.{written-addLabel, written-takeLabel, written-addArrow, written-takeArrow}
 use Rattle.measure.specs.Shapes.{At, Some}
 use Rattle.measure.specs.Edits.{EditAt, Kept}
-use Rattle.measure.proofs.Places.{byte-at, inside}
+use Rattle.measure.proofs.Places.{inside}
+use Rattle.text.proofs.Standing.{byte-at}
 use Rattle.measure.proofs.Steps.{tag-edit, as-finish, edit-inside, step-what, step-next, step-len, step-k, step-room}
 use Rattle.write.specs.Offsets.{StepAt, StackIs}
 use Rattle.write.specs.Ways.{followed, BehindIs, Way, SomeWay, Moved, resting, Passed, Walked}

@@ -42,13 +42,13 @@ fn touches(op: u8, number: u8, c: u8, k: u8) -> bool
 
 // One more than the index of the last of h steps that touches a name, or 0.
 // Inner: the stack holds offsets of steps.
-fn find(edit: &[u8], stack: &[usize], h: usize, c: u8, k: u8) -> usize
+fn find(edit: &[u8], stack: &[u16], h: usize, c: u8, k: u8) -> usize
     requires { ⌜ SomeStack (now edit) (now stack) h × (h ≤ length (now stack)) ⌝ }
     ensures { λ r. ⌜ ((σ : List Step) → h ≡ length σ → StackIs (now (edit .entry)) (now (stack .entry)) σ → Found (now (edit .entry)) (now (stack .entry)) σ c k r) ⌝ }
 {
     let mut j = h;
     while j > 0 {
-        let o = stack[j - 1];
+        let o = stack[j - 1] as usize;
         if touches(edit[o], edit[o + 1], c, k) {
             return j;
         }
@@ -110,7 +110,7 @@ fn put_not(op: u8, out: &mut [u8], pos: usize) -> usize
 
 // Writes a name under h steps.
 // Inner: the stack holds offsets of steps, and there is room; the room left falls with each call.
-fn name(edit: &[u8], stack: &[usize], h: usize, c: u8, k: u8, out: &mut [u8], pos: usize) -> usize
+fn name(edit: &[u8], stack: &[u16], h: usize, c: u8, k: u8, out: &mut [u8], pos: usize) -> usize
     requires { ⌜ SomeName (now edit) (now stack) h c k pos (length (now out)) × (h ≤ length (now stack)) ⌝ }
     ensures { λ r. ⌜ ((σ : List Step) → h ≡ length σ → StackIs (now (edit .entry)) (now (stack .entry)) σ → Wrote (now (out .entry)) pos (bytes (env σ c k)) r (now (out .exit))) ⌝ }
 {
@@ -119,7 +119,7 @@ fn name(edit: &[u8], stack: &[usize], h: usize, c: u8, k: u8, out: &mut [u8], po
         return put_two(c, k, out, pos);
     }
     let below = j - 1;
-    let o = stack[below];
+    let o = stack[below] as usize;
     let op = edit[o];
     out[pos] = lead(op);
     let p = name(edit, stack, below, c, k, out, pos + 1);
@@ -134,7 +134,7 @@ fn emit(
     text: &[u8],
     at: usize,
     edit: &[u8],
-    stack: &[usize],
+    stack: &[u16],
     h: usize,
     out: &mut [u8],
     pos: usize,
@@ -186,19 +186,20 @@ fn rests(edit: &[u8], at: usize, d: usize) -> bool
 
 // Goes past a step, which is put on the stack, or past an end, to the edit behind it.
 // Inner: there is a way, and it does not rest here.
-fn pass(edit: &[u8], at: usize, stack: &mut [usize], h: usize, behind: &[usize], d: usize) -> Rest
-    requires { ⌜ SomeWay (now edit) (now stack) (now behind) at h d × (resting (getD (now edit) at 0) d ≡ false) × (length (now edit) ≤ length (now stack)) × (length (now edit) ≤ 2 * length (now behind)) ⌝ }
+fn pass(edit: &[u8], at: usize, stack: &mut [u16], h: usize, behind: &[u16], d: usize) -> Rest
+    requires { ⌜ SomeWay (now edit) (now stack) (now behind) at h d × (resting (getD (now edit) at 0) d ≡ false) × (length (now edit) ≤ length (now stack)) × (length (now edit) ≤ 2 * length (now behind)) × (length (now edit) ≤ 4096) ⌝ }
     ensures { λ r. ⌜ Passed (now (edit .entry)) (now (stack .entry)) (now (behind .entry)) at h d (now (stack .exit)) (r .at) (r .h) (r .d) ⌝ }
 {
     if edit[at] == 0x30 {
         let top = d - 1;
+        let next = behind[top] as usize;
         return Rest {
-            at: behind[top],
+            at: next,
             h,
             d: top,
         };
     }
-    stack[h] = at;
+    stack[h] = at as u16;
     let next = measure::past(edit, at + 2);
     Rest {
         at: next,
@@ -209,8 +210,8 @@ fn pass(edit: &[u8], at: usize, stack: &mut [usize], h: usize, behind: &[usize],
 
 // Goes on until the walk rests.
 // Inner: there is a way.
-fn walk(edit: &[u8], at: usize, stack: &mut [usize], h: usize, behind: &[usize], d: usize) -> Rest
-    requires { ⌜ SomeWay (now edit) (now stack) (now behind) at h d × (length (now edit) ≤ length (now stack)) × (length (now edit) ≤ 2 * length (now behind)) ⌝ }
+fn walk(edit: &[u8], at: usize, stack: &mut [u16], h: usize, behind: &[u16], d: usize) -> Rest
+    requires { ⌜ SomeWay (now edit) (now stack) (now behind) at h d × (length (now edit) ≤ length (now stack)) × (length (now edit) ≤ 2 * length (now behind)) × (length (now edit) ≤ 4096) ⌝ }
     ensures { λ r. ⌜ Walked (now (edit .entry)) (now (stack .entry)) (now (behind .entry)) at h d (now (stack .exit)) (r .at) (r .h) (r .d) ⌝ }
 {
     let mut p = at;
@@ -249,14 +250,7 @@ fn ways_at(edit: &[u8], at: usize) -> Ways
 
 // Writes 25 26 27 and the rule at a place of the edit.
 // Inner: it stands there, the stack holds offsets of steps, and there is room.
-fn open_first(
-    edit: &[u8],
-    at: usize,
-    stack: &[usize],
-    h: usize,
-    out: &mut [u8],
-    pos: usize,
-) -> usize
+fn open_first(edit: &[u8], at: usize, stack: &[u16], h: usize, out: &mut [u8], pos: usize) -> usize
     requires { ⌜ SomeShown (now edit) at (now edit) (now stack) h (pos + 3) (length (now out)) × (h ≤ length (now stack)) ⌝ }
     ensures { λ r. ⌜ ((σ : List Step) (t : Tree) → h ≡ length σ → StackIs (now (edit .entry)) (now (stack .entry)) σ → At (now (edit .entry)) at t → Wrote (now (out .entry)) pos (0x25 ∷ 0x26 ∷ 0x27 ∷ bytes (graft (env σ) t)) r (now (out .exit))) ⌝ }
 {
@@ -267,14 +261,7 @@ fn open_first(
 
 // Writes 26 and the rule at a place of the edit.
 // Inner: as above.
-fn open_second(
-    edit: &[u8],
-    at: usize,
-    stack: &[usize],
-    h: usize,
-    out: &mut [u8],
-    pos: usize,
-) -> usize
+fn open_second(edit: &[u8], at: usize, stack: &[u16], h: usize, out: &mut [u8], pos: usize) -> usize
     requires { ⌜ SomeShown (now edit) at (now edit) (now stack) h (pos + 1) (length (now out)) × (h ≤ length (now stack)) ⌝ }
     ensures { λ r. ⌜ ((σ : List Step) (t : Tree) → h ≡ length σ → StackIs (now (edit .entry)) (now (stack .entry)) σ → At (now (edit .entry)) at t → Wrote (now (out .entry)) pos (0x26 ∷ bytes (graft (env σ) t)) r (now (out .exit))) ⌝ }
 {
@@ -289,14 +276,14 @@ fn write_way(
     from: usize,
     edit: &[u8],
     at: usize,
-    stack: &mut [usize],
+    stack: &mut [u16],
     h: usize,
-    behind: &mut [usize],
+    behind: &mut [u16],
     d: usize,
     out: &mut [u8],
     pos: usize,
 ) -> usize
-    requires { ⌜ SomeCarried (now text) from (now edit) (now stack) (now behind) at h d pos (length (now out)) × (length (now edit) ≤ length (now stack)) × (length (now edit) ≤ 2 * length (now behind)) ⌝ }
+    requires { ⌜ SomeCarried (now text) from (now edit) (now stack) (now behind) at h d pos (length (now out)) × (length (now edit) ≤ length (now stack)) × (length (now edit) ≤ 2 * length (now behind)) × (length (now edit) ≤ 4096) ⌝ }
     ensures { λ r. ⌜ Carried (now (text .entry)) from (now (edit .entry)) (now (stack .entry)) (now (behind .entry)) at h d (now (out .entry)) pos r (now (stack .exit)) (now (behind .exit)) (now (out .exit)) ⌝ }
 {
     let rest = walk(edit, at, stack, h, behind, d);
@@ -310,7 +297,7 @@ fn write_way(
     let first = ways.first;
     let second = ways.second;
     let saved = behind[m];
-    behind[m] = ways.next;
+    behind[m] = ways.next as u16;
     let a = open_first(edit, p + 1, stack, n, out, pos);
     let b = write_way(text, from, edit, first, stack, n, behind, m + 1, out, a);
     let c = open_second(edit, p + 1, stack, n, out, b);
@@ -320,18 +307,18 @@ fn write_way(
 }
 
 // Writes the rule at `at` of a text as carried back through the edit that stands at `from`.
-// Inner: both were read before, and there is room. `stack` and `behind` are scratch.
+// Inner: both were read before, and there is room. `stack` and `behind` are scratch: what they hold before and after is free.
 pub fn write_rule(
     text: &[u8],
     at: usize,
     edit: &[u8],
     from: usize,
-    stack: &mut [usize],
-    behind: &mut [usize],
+    stack: &mut [u16],
+    behind: &mut [u16],
     out: &mut [u8],
     pos: usize,
 ) -> Place
-    requires { ⌜ SomeRuleFits (now text) at (now edit) from pos (length (now out)) × (length (now edit) ≤ length (now stack)) × (length (now edit) ≤ 2 * length (now behind)) ⌝ }
+    requires { ⌜ SomeRuleFits (now text) at (now edit) from pos (length (now out)) × (length (now edit) ≤ length (now stack)) × (length (now edit) ≤ 2 * length (now behind)) × (length (now edit) ≤ 4096) ⌝ }
     ensures { λ r. ⌜ ((K : Expr rule) (Z : Edit) → RuleAt (now (text .entry)) at K → EditAt (now (edit .entry)) from Z → RuleWritten Z K at (now (out .entry)) pos (r .at) (r .pos) (now (out .exit))) ⌝ }
 {
     let next = measure::past(text, at);
@@ -339,17 +326,17 @@ pub fn write_rule(
     Place { at: next, pos: end }
 }
 
-// Writes a carried book rule by rule at the start of a buffer, and answers its length.
+// Writes a book carried back through the edit that stands at `from`, rule by rule, and answers its length.
 // Inner: as above.
-fn write_rules(
+pub fn write_book(
     book: &[u8],
     edit: &[u8],
     from: usize,
-    stack: &mut [usize],
-    behind: &mut [usize],
+    stack: &mut [u16],
+    behind: &mut [u16],
     out: &mut [u8],
 ) -> usize
-    requires { ⌜ SomeBookFits (now book) (now edit) from (length (now out)) × (length (now edit) ≤ length (now stack)) × (length (now edit) ≤ 2 * length (now behind)) ⌝ }
+    requires { ⌜ SomeBookFits (now book) (now edit) from (length (now out)) × (length (now edit) ≤ length (now stack)) × (length (now edit) ≤ 2 * length (now behind)) × (length (now edit) ≤ 4096) ⌝ }
     ensures { λ r. ⌜ ((rules : List (Expr rule)) (Z : Edit) → BookIs (now (book .entry)) rules → EditAt (now (edit .entry)) from Z → BookWritten Z rules (now (out .entry)) r (now (out .exit))) ⌝ }
 {
     let mut at = 0;
@@ -360,15 +347,4 @@ fn write_rules(
         pos = next.pos;
     }
     pos
-}
-
-// Writes a book carried back through the edit that stands at `from`, and answers its length.
-// Inner: both were read before, and there is room.
-pub fn write_book(book: &[u8], edit: &[u8], from: usize, out: &mut [u8]) -> usize
-    requires { ⌜ SomeBookFits (now book) (now edit) from (length (now out)) × (length (now edit) ≤ 4096) ⌝ }
-    ensures { λ r. ⌜ ((rules : List (Expr rule)) (Z : Edit) → BookIs (now (book .entry)) rules → EditAt (now (edit .entry)) from Z → BookWritten Z rules (now (out .entry)) r (now (out .exit))) ⌝ }
-{
-    let mut stack = [0usize; 4096];
-    let mut behind = [0usize; 2048];
-    write_rules(book, edit, from, &mut stack, &mut behind, out)
 }

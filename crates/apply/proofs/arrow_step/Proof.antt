@@ -1,4 +1,4 @@
-use mathlib.Core.Path.{refl, sym}
+use mathlib.Core.Path.{refl}
 use native.Mathlib.Omega.{arith}
 use borrow.Author.Needs.{needs}
 use denote.Ref.{now}
@@ -29,5 +29,4 @@ arrow-step-spec = tie.close (tie.spec
     (λ c κs. let s = c .before .before .before .before .before .before .before .before .before .before .before .before .before .before .before .before .before .before in (opened _ _ _ (s .pre .0) .sound, omega (arith, step s .range, step s .reads)))
     (λ c. search needs)
     (λ c. let s = c .before .before .before .before .before .before .before .before .before .before .before .before .before .before .before .before .before .before .before .before .before in
-    each-made _ _ _ _ _ _ _ (s .pre .1) (λ Z h. arrow-made _ _ _ (s .pre .0) _ _ Z (as-arrow _ _ _ Z h (s .pre .2) (s .pre .3)) _ _ _ _ _ _ (c .before .before .before .before .before .before .before .before .before .before .arrow-rows .ensures .0) (c .before .before .before .before .before .before .before .before .before .before .before .before .before .before .eval-arrow .ensures .0) (c .before .before .before .before .before .before .before .before .arrow-code .ensures) (c .before .before .before .before .before .combine-rows .ensures .0) (c .before .before .put-rows .ensures)))
-    )
+    each-made _ _ _ _ _ _ _ (s .pre .1) (λ Z h. arrow-made _ _ _ (s .pre .0) _ _ Z (as-arrow _ _ _ Z h (s .pre .2) (s .pre .3)) _ _ _ _ _ _ (c .before .before .before .before .before .before .before .before .before .before .arrow-rows .ensures .0) (c .before .before .before .before .before .before .before .before .before .before .before .before .before .before .eval-arrow .ensures .0) (c .before .before .before .before .before .before .before .before .arrow-code .ensures) (c .before .before .before .before .before .combine-rows .ensures .0) (c .before .before .put-rows .ensures))))

@@ -1,9 +1,7 @@
 -- `entry::enter` meets its contract: question by question, and then the carried rules on the sheet as it is.
-use mathlib.Core.Path.{_≡_, sym, ap, _∙_}
+use mathlib.Core.Path.{sym, ap, _∙_}
 use borrow.Author.Needs.{needs}
 use Rattle.answer.specs.Answers.{asked}
-use Rattle.text.specs.Reading.{textLimits}
-use Rattle.text.specs.Questions.{askBook, askEdit}
 use Rattle.answer.proofs.AnswerLaws.{learned}
 use Rattle.carry.proofs.Passing.{book-passed, edit-passed}
 use Rattle.entry.proofs.Stages.{sheet-stops, book-stops, edit-stops, size-stops, rules-stand, edit-stands, settles}

@@ -36,6 +36,5 @@ pub +eval-rule-spec : {M : Type 1} → statement M
     (λ c. omega (arith, starts-inside _ _ _ (c .before .before .before .before .before .pre .1 .1 .what) (c .before .before .before .before .before .pre .1 .1 .stands)))
     (λ c κs. let s = c .before .before .before .before .before in let q = as-not _ _ _ (s .pre .1 .1 .what) (s .pre .1 .1 .stands) (c .if2 .left) in (omega (arith, s .pre .0, q .parts .inside), (s .pre .1 .0, record { what = q .K; stands = q .parts .first })))
     (λ c. c .leaf-rule .ensures)
-    (λ c. λ k h. two-truth _ _ _ _ k (as-two _ _ _ k h (c .before .before .before .before .if1 .left) (c .before .before .before .if2 .taken)) _ _ _ _ _ (c .before .before .eval-rule .ensures) (c .before .eval-rule2 .ensures) (c .combined-truth .ensures))
-    (λ c. λ k h. not-truth _ _ _ _ k (as-not _ _ _ k h (c .before .before .if2 .left)) _ _ (c .before .eval-rule3 .ensures))
-    )
+    (λ c k h. two-truth _ _ _ _ k (as-two _ _ _ k h (c .before .before .before .before .if1 .left) (c .before .before .before .if2 .taken)) _ _ _ _ _ (c .before .before .eval-rule .ensures) (c .before .eval-rule2 .ensures) (c .combined-truth .ensures))
+    (λ c k h. not-truth _ _ _ _ k (as-not _ _ _ k h (c .before .before .if2 .left)) _ _ (c .before .eval-rule3 .ensures)))

@@ -13,5 +13,4 @@ leaf-rule-spec = tie.close (tie.spec
     (λ c. c .sub-nodes .ensures)
     (λ c. c .sub-arrows .ensures)
     (λ c. c .node-in .ensures)
-    (λ c. c .pair-in .ensures)
-    )
+    (λ c. c .pair-in .ensures))

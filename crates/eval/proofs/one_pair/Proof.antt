@@ -17,5 +17,4 @@ one-pair-spec = tie.close (tie.spec
     (λ c κs. let s = c .before .before .before .before .before .before in (omega (arith, s .pre .0 .few, pair s .range-i, pair s .reads-i), omega (arith, s .pre .0 .few, pair s .range-j, pair s .reads-j), s .pre .3))
     (λ c. omega (arith, pair (c .before .before .before .before .before .before .before .before .before) .inside))
     (λ c. c .before .before .pair-rows .ensures .1 ∙ sym (ap length (c .before .before .before .before .before .before .before .before .before .pre .3)))
-    (λ c. let s = c .before .before .before .before .before .before .before .before .before in (λ e h. pair-relation _ _ _ _ e _ (as-pair _ _ _ e h (s .pre .2)) (c .before .before .pair-rows .ensures .0 _ _ (omega (arith, s .pre .0 .few)) (s .pre .0 .nodes)), c .before .before .pair-rows .ensures .1))
-    )
+    (λ c. let s = c .before .before .before .before .before .before .before .before .before in (λ e h. pair-relation _ _ _ _ e _ (as-pair _ _ _ e h (s .pre .2)) (c .before .before .pair-rows .ensures .0 _ _ (omega (arith, s .pre .0 .few)) (s .pre .0 .nodes)), c .before .before .pair-rows .ensures .1)))

@@ -1,4 +1,4 @@
-use mathlib.Core.Path.{refl, sym}
+use mathlib.Core.Path.{refl}
 use native.Mathlib.Omega.{arith}
 use borrow.Author.Needs.{needs}
 use Rattle.eval.proofs.RuleCases.{IsPairIn, as-pair-in, pair-in-truth}
@@ -13,11 +13,10 @@ pair-in-spec = tie.close (tie.spec
     (λ c. omega (arith, case (c .before .before) .parts .inside))
     (λ c. search needs)
     (λ c κs. let s = c .before .before .before in (s .pre .0, record { what = case s .R; stands = case s .parts .first }, refl))
-    (λ c. sym (c .before .before .eval-arrow .ensures .1))
+    (λ c. search needs)
     (λ c. omega (arith, case (c .before .before .before .before .before .before) .parts .inside))
     (λ c. omega (arith, case (c .before .before .before .before .before .before .before) .parts .inside))
     (λ c. omega (arith, case (c .before .before .before .before .before .before .before) .parts .inside))
     (λ c. omega (arith, case (c .before .before .before .before .before .before .before .before) .parts .inside))
     (λ c κs. let s = c .before .before .before .before .before .before .before .before in (omega (arith, s .pre .0 .few, case s .range-i, case s .reads-i), omega (arith, s .pre .0 .few, case s .range-j, case s .reads-j), c .before .before .before .before .eval-arrow .ensures .1))
-    (λ c. λ e h. let s = c .before .before .before .before .before .before .before .before .before in pair-in-truth _ _ _ _ _ (s .pre .0) e _ (as-pair-in _ _ _ e h (s .pre .2) (s .pre .3)) _ _ (c .before .before .before .before .before .eval-arrow .ensures .0) (c .pair-in .ensures))
-    )
+    (λ c e h. let s = c .before .before .before .before .before .before .before .before .before in pair-in-truth _ _ _ _ _ (s .pre .0) e _ (as-pair-in _ _ _ e h (s .pre .2) (s .pre .3)) _ _ (c .before .before .before .before .before .eval-arrow .ensures .0) (c .pair-in .ensures)))

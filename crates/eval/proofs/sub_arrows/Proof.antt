@@ -1,4 +1,4 @@
-use mathlib.Core.Path.{refl, sym}
+use mathlib.Core.Path.{refl}
 use native.Mathlib.Omega.{arith}
 use borrow.Author.Needs.{needs}
 use Rattle.eval.proofs.RuleCases.{IsSubArrows, as-sub-arrows, sub-arrows-truth}
@@ -15,8 +15,6 @@ sub-arrows-spec = tie.close (tie.spec
     (λ c κs. let s = c .before .before .before in (s .pre .0, record { what = case s .R; stands = case s .parts .first }, refl))
     (λ c. search needs)
     (λ c κs. let s = c .before .before .before .before .before .before in (s .pre .0, record { what = case s .S; stands = case s .parts .second _ (c .before .before .eval-arrow .ensures .0 (case s .R) (case s .parts .first) .after) }, refl))
-    (λ c. sym (c .before .before .before .before .before .eval-arrow .ensures .1))
-    (λ c. sym (c .before .before .before .eval-arrow2 .ensures .1))
+    (λ c. search needs) (λ c. search needs)
     (λ c κs. (c .before .before .before .before .before .before .before .before .before .before .pre .0 .few, c .before .before .before .before .before .before .eval-arrow .ensures .1, c .before .before .before .eval-arrow2 .ensures .1))
-    (λ c. λ e h. let s = c .before .before .before .before .before .before .before .before .before .before .before in sub-arrows-truth _ _ _ _ _ (s .pre .0) e _ (as-sub-arrows _ _ _ e h (s .pre .2) (s .pre .3)) _ _ _ _ (c .before .before .before .before .before .before .before .eval-arrow .ensures .0) (c .before .before .before .before .eval-arrow2 .ensures .0) (c .rows-in .ensures))
-    )
+    (λ c e h. let s = c .before .before .before .before .before .before .before .before .before .before .before in sub-arrows-truth _ _ _ _ _ (s .pre .0) e _ (as-sub-arrows _ _ _ e h (s .pre .2) (s .pre .3)) _ _ _ _ (c .before .before .before .before .before .before .before .eval-arrow .ensures .0) (c .before .before .before .before .eval-arrow2 .ensures .0) (c .rows-in .ensures)))

@@ -1,6 +1,5 @@
 use native.Mathlib.Omega.{arith}
 use borrow.Author.Needs.{needs}
-use Rattle.eval.proofs.Places.{starts-inside}
 use Rattle.eval.proofs.RuleCases.{IsSubNodes, as-sub-nodes, sub-nodes-truth}
 use Rattle.eval.proofs.sub_nodes.Statement.{statement}
 use Rattle.eval.proofs.sub_nodes.Tie as tie

@@ -1,4 +1,4 @@
-use mathlib.Core.Path.{_≡_, sym, ap, _∙_}
+use mathlib.Core.Path.{sym, ap, _∙_}
 use borrow.Author.Needs.{needs}
 use Rattle.answer.specs.Answers.{asked}
 use Rattle.judge.proofs.Deciding.{sheet-refused, book-refused, rules-read, rules-stand, judged}

@@ -56,12 +56,13 @@ back-μ-loop text at rules stack₀ top state₀ out₀ pos n₀ start₀ stack 
 pub +back+one-back-spec : {M : Type 1} → statement M
 +back+one-back-spec = close μ-back μ-one-back
     (λ t. back-lts.spec (push-reads.Asked, push-reads.Learnt, end-before-reads.Asked, end-before-reads.Learnt, one-back-below t, one-back.Post) (back-at t) back.Post back-Inv-loop back-μ-loop
-    (λ c κs. let s = c .before .before .before .before .before in (record { what = s .pre .1 .0 .what; stands = s .pre .1 .0 .stands }, s .pre .1 .1, s .pre .1 .2))
+    (λ c κs. let s = c .before .before .before .before .before in (record { what = s .pre .1 .0 .what; stands = s .pre .1 .0 .stands }, s .pre .1 .1, s .pre .1 .2, s .pre .1 .3))
     (λ c κs. let s = c .before .before .before .before .before .before .before .before .before in (omega (arith, s .pre .1 .0 .room, code-pos (s .pre .1 .0 .what)), s .pre .1 .6))
     (λ c. let s = c .before .before .before .before .before .before .before .before .before .before .before .before in backing-first _ _ _ _ _ _ _ _ _ _ (record { what = s .pre .1 .0 .what; stands = s .pre .1 .0 .stands; room = omega (arith, s .pre .1 .0 .room, c .before .before .end-before .ensures .start) }) (s .pre .1 .5) refl (c .before .before .before .before .before .before .push .ensures .0) (record { same = λ i r. refl }) (end-here _ _ _ _ (c .before .before .end-before .ensures)))
     (λ c. omega (arith, c .loop-test .taken))
     (λ c. let q = backing-next _ _ _ _ _ _ _ _ _ _ _ _ _ (c .loop-test .taken) (c .before .loop .inv) in omega (arith, q .lower, edit-inside _ _ (q .what .what) (q .what .stands), c .before .before .before .before .before .before .before .before .before .before .before .before .before .before .pre .1 .3))
     (λ c. let q = backing-next _ _ _ _ _ _ _ _ _ _ _ _ _ (c .before .loop-test .taken) (c .before .before .loop .inv) in omega (arith, q .lower, edit-inside _ _ (q .what .what) (q .what .stands), c .before .before .before .before .before .before .before .before .before .before .before .before .before .before .before .pre .1 .2, c .before .before .loop .inv .room, c .before .before .before .before .before .before .before .before .before .push .kept .1 .1 .0))
+    (λ c. let q = backing-next _ _ _ _ _ _ _ _ _ _ _ _ _ (c .before .loop-test .taken) (c .before .before .loop .inv) in omega (arith, edit-inside _ _ (q .what .what) (q .what .stands), c .before .before .before .before .before .before .before .before .before .before .before .before .before .before .before .pre .1 .3))
     (λ c κs. let q = backing-next _ _ _ _ _ _ _ _ _ _ _ _ _ (c .before .before .before .before .loop-test .taken) (c .before .before .before .before .before .loop .inv) in let s = c .before .before .before .before .before .before .before .before .before .before .before .before .before .before .before .before .before .before in (omega (arith, s .pre .0, q .above, edit-inside _ _ (q .what .what) (q .what .stands)), (q .what, q .step, q .lower, omega (arith, s .pre .1 .2, c .before .before .before .before .before .loop .inv .room, c .before .before .before .before .before .before .before .before .before .before .before .before .push .kept .1 .1 .0), s .pre .1 .3, s .pre .1 .4, q .held, omega (arith, s .pre .1 .6, c .before .before .before .before .before .loop .inv .below, c .before .before .before .before .before .loop .inv .wide, c .before .before .before .before .before .before .before .before .end-before .ensures .start, c .before .before .before .before .before .before .before .before .end-before .kept .0))))
     (λ c. omega (arith, c .before .before .before .before .before .before .before .before .before .before .before .loop-test .taken))
     (λ c. let q = backing-next _ _ _ _ _ _ _ _ _ _ _ _ _ (c .before .before .before .before .before .before .before .before .before .before .before .loop-test .taken) (c .before .before .before .before .before .before .before .before .before .before .before .before .loop .inv) in q .more _ _ _ _ (c .before .before .before .before .before .before .one-back .kept .1 .1 .1 .0) (c .before .before .before .before .before .before .one-back .kept .1 .1 .1 .1 .1 .0) (c .before .before .before .before .before .before .one-back .kept .1 .1 .1 .1 .1 .1 .0) (c .before .before .before .before .before .before .one-back .ensures .0) (c .before .before .before .before .before .before .one-back .ensures .1))

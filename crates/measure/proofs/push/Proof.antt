@@ -16,6 +16,7 @@ pub push-spec : {M : Type 1} → statement M
 push-spec = tie.close (tie.spec Inv-loop μ-loop
     (λ c. going-first _ _ _ _ (c .before .before .pre .1) (c .before .before .pre .0))
     (λ c. let r = c .before .loop .inv .some in omega (arith, edit-inside _ _ (r .what) (r .stands)))
+    (λ c. let r = c .before .before .loop .inv .some in omega (arith, edit-inside _ _ (r .what) (r .stands), c .before .before .before .before .before .pre .3))
     (λ c. let g = c .before .before .loop .inv in omega (arith, edit-inside _ _ (g .some .what) (g .some .stands), g .np, c .before .before .before .before .before .good .0 .1))
     (λ c. let g = c .before .before .loop .inv in omega (arith, edit-inside _ _ (g .some .what) (g .some .stands), g .np, g .room, c .before .before .before .before .before .pre .2))
     (λ c. let g = c .before .before .loop .inv in omega (arith, edit-inside _ _ (g .some .what) (g .some .stands), g .np, c .before .before .before .before .before .good .0 .0))

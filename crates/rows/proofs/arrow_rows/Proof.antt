@@ -1,5 +1,5 @@
 use mathlib.Core.Path.{_≡_}
-use Prim.Native.Nat.{ℕ, _≤_, _-_}
+use Prim.Native.Nat.{_≤_, _-_}
 use native.Mathlib.Omega.{arith}
 use borrow.Author.Needs.{needs}
 use lib.ListN.{length, length-set}
@@ -20,11 +20,7 @@ arrow-rows-spec = tie.close (tie.spec Inv-loop μ-loop
     (λ c. (search needs, c .before .before .pre .4, changed-none))
     (λ c. search needs)
     (λ c κs. let s = c .before .before .before .before in (s .pre .0, s .pre .3, omega (arith, s .pre .1)))
-    (λ c. search needs)
-    (λ c. search needs)
-    (λ c. search needs)
-    (λ c. search needs)
+    (λ c. search needs) (λ c. search needs) (λ c. search needs) (λ c. search needs)
     (λ c. (search needs, simp length-set (c .before .before .loop .inv .1), changed-more (search needs) (c .before .before .loop .inv .2) (c .row-word .ensures)))
     (λ c. omega (arith, c .before .before .before .before .pre .4))
-    (λ c. (rows-of-arrow (c .before .before .before .before .pre .1) (c .loop-test .left) (c .before .loop .inv .2), c .before .loop .inv .1))
-    )
+    (λ c. (rows-of-arrow (c .before .before .before .before .pre .1) (c .loop-test .left) (c .before .loop .inv .2), c .before .loop .inv .1)))

@@ -18,15 +18,8 @@ abbrev μ-loop : tie.MeasureT-loop
 pub mask-rows-spec : {M : Type 1} → statement M
 mask-rows-spec = tie.close (tie.spec Inv-loop μ-loop
     (λ c. (search needs, c .before .pre .1, changed-none))
-    (λ c. search needs)
-    (λ c. search needs)
-    (λ c κs. search needs)
-    (λ c. search needs)
-    (λ c. search needs)
-    (λ c. search needs)
-    (λ c. search needs)
+    (λ c. search needs) (λ c. search needs) (λ c κs. search needs) (λ c. search needs) (λ c. search needs) (λ c. search needs) (λ c. search needs)
     (λ c. let l = c .before .before .before .loop in
     (search needs, simp length-set (l .inv .1), changed-more (search needs) (l .inv .2) (c .both .ensures ∙ ap (λ (x : ℕ). combined _&&_ x (c .before .before .before .before .before .args .e)) (l .inv .2 .rest (l .i) (omega arith)))))
     (λ c. omega (arith, c .before .before .before .pre .1))
-    (λ c. (record { row = λ i l. c .before .loop .inv .2 .row i (omega arith) }, c .before .loop .inv .1))
-    )
+    (λ c. (record { row = λ i l. c .before .loop .inv .2 .row i (omega arith) }, c .before .loop .inv .1)))

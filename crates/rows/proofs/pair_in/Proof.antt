@@ -1,4 +1,3 @@
-use mathlib.Core.Path.{_≡_}
 use native.Mathlib.Omega.{arith}
 use borrow.Author.Needs.{needs}
 use Rattle.rows.proofs.pair_in.Statement.{statement}
@@ -10,5 +9,4 @@ pair-in-spec = tie.close (tie.spec
     (λ c. omega (arith, c .index .ensures, c .before .before .pre))
     (λ c. omega (arith, c .before .index .ensures, c .before .before .before .pre))
     (λ c κs. search needs)
-    (λ c. λ n v l m p. c .node-in .ensures n (v _) m (rw (c .before .before .index .ensures) (p .row _ l)))
-    )
+    (λ c n v l m p. c .node-in .ensures n (v _) m (rw (c .before .before .index .ensures) (p .row _ l))))

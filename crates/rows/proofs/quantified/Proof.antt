@@ -1,6 +1,6 @@
 use mathlib.Core.Path.{_≡_, sym, ap, _∙_}
 use mathlib.Core.Logic.{⊎-elim}
-use Prim.Native.Nat.{ℕ, _≤_, _-_}
+use Prim.Native.Nat.{_≤_, _-_}
 use native.Mathlib.Omega.{arith}
 use borrow.Author.Needs.{needs}
 use Rattle.rows.specs.Operations.{quantified}
@@ -21,12 +21,7 @@ abbrev μ-loop : tie.MeasureT-loop
 pub quantified-spec : {M : Type 1} → statement M
 quantified-spec = tie.close (tie.spec Inv-loop μ-loop
     (λ c. (search needs, λ v w p q. setOf-zero _))
-    (λ c. search needs)
-    (λ c. search needs)
-    (λ c κs. search needs)
-    (λ c. search needs)
-    (λ c. search needs)
-    (λ c. search needs)
+    (λ c. search needs) (λ c. search needs) (λ c κs. search needs) (λ c. search needs) (λ c. search needs) (λ c. search needs)
     (λ c. (
       search needs,
       λ v w p q.
@@ -37,6 +32,5 @@ quantified-spec = tie.close (tie.spec Inv-loop μ-loop
           (c .if1 .came),
     ))
     (λ c κs. search needs)
-    (λ c. λ nodes v w a p q. quantified-unmasked _ _ _ nodes v w _ (setOf-end _ _ _ _ (c .before .before .loop .inv .0) (c .before .loop-test .left) (c .before .before .loop .inv .1 v w p q)) (c .if2 .taken))
-    (λ c. λ nodes v w a p q. c .both .ensures ∙ quantified-masked _ _ _ nodes v w _ (setOf-end _ _ _ _ (c .before .before .before .loop .inv .0) (c .before .before .loop-test .left) (c .before .before .before .loop .inv .1 v w p q)) _ (c .before .if2 .left) (omega arith) a)
-    )
+    (λ c nodes v w a p q. quantified-unmasked _ _ _ nodes v w _ (setOf-end _ _ _ _ (c .before .before .loop .inv .0) (c .before .loop-test .left) (c .before .before .loop .inv .1 v w p q)) (c .if2 .taken))
+    (λ c nodes v w a p q. c .both .ensures ∙ quantified-masked _ _ _ nodes v w _ (setOf-end _ _ _ _ (c .before .before .before .loop .inv .0) (c .before .before .loop-test .left) (c .before .before .before .loop .inv .1 v w p q)) _ (c .before .if2 .left) (omega arith) a))

@@ -1,6 +1,5 @@
 use borrow.Author.Needs.{needs}
-use mathlib.Core.Path.{refl, _∙_}
-use Rattle.answer.specs.Asked.{outcome}
+use mathlib.Core.Path.{_∙_}
 use Rattle.answer.proofs.AnswerLaws.{unit-number, unit-place}
 use Rattle.suite.proofs.zamiathen_judge.Statement.{statement}
 use Rattle.suite.proofs.zamiathen_judge.Tie as tie

@@ -1,8 +1,7 @@
 -- The loop's invariant: b starts a low half, and the rows below b are as the exchange leaves them.
 use mathlib.Core.Path.{_≡_}
-use Prim.Native.Nat.{ℕ, _≤_, _-_, _+_}
+use Prim.Native.Nat.{_-_}
 use native.Mathlib.Omega.{arith}
-use borrow.Author.Needs.{needs}
 use lib.ListN.{length}
 use Rattle.words.specs.Transpose.{LowFrom}
 use Rattle.words.proofs.BlockLaws.{Done, done-none, done-more, low-none, low-more, low-room}
@@ -28,5 +27,4 @@ exchange-blocks-spec =
     (λ c. omega (arith, c .before .before .before .before .before .before .before .pre .0 .some))
     (λ c. let s = c .before .before .before .before .before .before .before in let l = c .before .before .before .before .before .loop in (low-more (s .pre .0) _ (l .inv .0), c .before .before .exchange-rows .ensures .1, done-more (s .pre .0) _ (l .inv .0) _ _ _ (l .inv .2) (c .before .before .exchange-rows .ensures .0)))
     (λ c. omega (arith, c .before .before .before .pre .1))
-    (λ c. (record { rows = λ i h. c .before .loop .inv .2 .below i (omega arith) h }, c .before .loop .inv .1))
-    )
+    (λ c. (record { rows = λ i h. c .before .loop .inv .2 .below i (omega arith) h }, c .before .loop .inv .1)))

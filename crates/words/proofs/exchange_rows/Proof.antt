@@ -1,6 +1,6 @@
 -- The loop's invariant: the rows from b to i, and those s further on, are as the exchange leaves them.
 use mathlib.Core.Path.{_≡_}
-use Prim.Native.Nat.{ℕ, _≤_, _-_, _+_}
+use Prim.Native.Nat.{_≤_, _-_, _+_}
 use native.Mathlib.Omega.{arith}
 use borrow.Author.Needs.{needs}
 use lib.ListN.{length, length-set}
@@ -22,20 +22,10 @@ exchange-rows-spec =
     μ-loop
     (λ c. search needs)
     (λ c. (search needs, search needs, search needs, c .before .pre .3, moving-none))
-    (λ c. search needs)
-    (λ c. search needs)
-    (λ c. search needs)
-    (λ c. search needs)
-    (λ c. search needs)
-    (λ c κs. search needs)
-    (λ c. search needs)
-    (λ c. search needs)
-    (λ c κs. search needs)
-    (λ c. search needs)
-    (λ c. search needs)
+    (λ c. search needs) (λ c. search needs) (λ c. search needs) (λ c. search needs) (λ c. search needs) (λ c κs. search needs) (λ c. search needs) (λ c. search needs)
+    (λ c κs. search needs) (λ c. search needs) (λ c. search needs)
     (λ c. simp length-set (omega (arith, c .before .before .before .before .before .before .before .pre)))
-    (λ c. search needs)
-    (λ c. search needs)
+    (λ c. search needs) (λ c. search needs)
     (λ c. let s = c .before .before .before .before .before .before .before in let l = c .before .before .before .before .before .loop in (
       search needs,
       search needs,
@@ -44,5 +34,4 @@ exchange-rows-spec =
       moving-more (s .pre .0) _ (s .pre .1) _ _ _ (l .inv .0) (omega (arith, l .inv .2, c .before .before .before .before .loop-test .taken)) (s .pre .2) (l .inv .3) (l .inv .4) _ _ (c .before .low-row .ensures) (c .high-row .ensures),
     ))
     (λ c. omega (arith, c .before .before .before .pre))
-    (λ c. (moving-end (omega (arith, c .before .loop .inv .2)) (c .before .loop .inv .1) (c .before .loop .inv .4), c .before .loop .inv .3))
-    )
+    (λ c. (moving-end (omega (arith, c .before .loop .inv .2)) (c .before .loop .inv .1) (c .before .loop .inv .4), c .before .loop .inv .3)))

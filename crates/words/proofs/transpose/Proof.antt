@@ -16,5 +16,4 @@ transpose-spec = tie.close (tie.spec
       transposes (c .before .before .before .before .before .before .before .before .before .before .before .before .before .before .before .before .before .before .before .before .before .before .exchange-blocks .ensures .0) (c .before .before .before .before .before .before .before .before .before .before .before .before .before .before .before .before .before .before .exchange-blocks2 .ensures .0) (c .before .before .before .before .before .before .before .before .before .before .before .before .before .before .exchange-blocks3 .ensures .0)
           (c .before .before .before .before .before .before .before .before .before .before .exchange-blocks4 .ensures .0) (c .before .before .before .before .before .before .exchange-blocks5 .ensures .0) (c .before .before .exchange-blocks6 .ensures .0),
       c .before .before .exchange-blocks6 .ensures .1,
-    ))
-    )
+    )))

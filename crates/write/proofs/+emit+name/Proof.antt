@@ -57,15 +57,12 @@ pub +emit+name-spec : {M : Type 1} → statement M
     (λ c κs. parts.head-first (c .before .before .loop .inv) (c .before .loop-test .taken) (c .before .before .before .before .before .before .before .pre .1 .0) .low)
     (λ c. let s = c .before .before .before .before .before .before .before .before .before in omega (arith, parts.name-room (c .before .before .before .before .loop .inv) (c .before .before .before .loop-test .taken) _ (c .before .shape .ensures) (c .if1 .taken) (s .pre .1 .0), s .good .0 .0))
     (λ c. omega (arith, parts.name-room (c .before .before .before .before .before .loop .inv) (c .before .before .before .before .loop-test .taken) _ (c .before .before .shape .ensures) (c .before .if1 .taken) (c .before .before .before .before .before .before .before .before .before .before .pre .1 .0)))
-    (λ c κs. let s = c .before .before .before .before .before .before .before .before .before .before .before in let i = c .before .before .before .before .before .before .loop .inv in let r = c .before .before .before .before .before .loop-test .taken in
-    let n = parts.name-some i r _ (c .before .before .before .shape .ensures) (c .before .before .if1 .taken) (s .pre .1 .0) in
-    (omega (arith, s .pre .0, i .long, parts.still i r (s .pre .1 .0)), (record { steps = n .steps; is = n .is; stands = n .stands; fits = omega (arith, n .fits, i .long) }, s .pre .1 .1)))
+    (λ c κs. let s = c .before .before .before .before .before .before .before .before .before .before .before in let i = c .before .before .before .before .before .before .loop .inv in let r = c .before .before .before .before .before .loop-test .taken in let n = parts.name-some i r _ (c .before .before .before .shape .ensures) (c .before .before .if1 .taken) (s .pre .1 .0) in (omega (arith, s .pre .0, i .long, parts.still i r (s .pre .1 .0)), (record { steps = n .steps; is = n .is; stands = n .stands; fits = omega (arith, n .fits, i .long) }, s .pre .1 .1)))
     (λ c. let s = c .before .before .before .before .before .before .before .before .before .before .before .before .before .before in omega (arith, parts.name-room (c .before .before .before .before .before .before .before .before .before .loop .inv) (c .before .before .before .before .before .before .before .before .loop-test .taken) _ (c .before .before .before .before .before .before .shape .ensures) (c .before .before .before .before .before .if1 .taken) (s .pre .1 .0), s .good .0 .0))
     (λ c. search needs)
     (λ c. omega (arith, parts.name-room (c .before .before .before .before .before .before .before .before .before .loop .inv) (c .before .before .before .before .before .before .before .before .loop-test .taken) _ (c .before .before .before .before .before .before .shape .ensures) (c .before .before .before .before .before .if1 .taken) (c .before .before .before .before .before .before .before .before .before .before .before .before .before .before .pre .1 .0)))
     (λ c. parts.name-shown (c .before .before .before .before .before .before .before .before .before .loop .inv) (c .before .before .before .before .before .before .before .before .loop-test .taken) _ (c .before .before .before .before .before .before .shape .ensures) (c .before .before .before .before .before .if1 .taken) (c .before .before .name .ensures) (c .before .before .name .kept .1 .1 .1 .1 .1 .0))
-    (λ c κs. let s = c .before .before .before .before .before .before .before .before .before .before in let i = c .before .before .before .before .before .loop .inv in let r = c .before .before .before .before .loop-test .taken in
-    (parts.head-turn i r _ (c .before .before .shape .ensures) (c .before .if1 .left) (s .pre .1 .0) .in-text, omega (arith, i .long, parts.head-room i r _ (c .before .before .shape .ensures) (c .before .if1 .left) (s .pre .1 .0))))
+    (λ c κs. let s = c .before .before .before .before .before .before .before .before .before .before in let i = c .before .before .before .before .before .loop .inv in let r = c .before .before .before .before .loop-test .taken in (parts.head-turn i r _ (c .before .before .shape .ensures) (c .before .if1 .left) (s .pre .1 .0) .in-text, omega (arith, i .long, parts.head-room i r _ (c .before .before .shape .ensures) (c .before .if1 .left) (s .pre .1 .0))))
     (λ c. let s = c .before .before .before .before .before .before .before .before .before .before .before .before .before in omega (arith, parts.head-turn (c .before .before .before .before .before .before .before .before .loop .inv) (c .before .before .before .before .before .before .before .loop-test .taken) _ (c .before .before .before .before .before .shape .ensures) (c .before .before .before .before .if1 .left) (s .pre .1 .0) .in-text, s .good .0 .0))
     (λ c. search needs)
     (λ c. let s = c .before .before .before .before .before .before .before .before .before .before .before .before .before in omega (arith, parts.head-turn (c .before .before .before .before .before .before .before .before .loop .inv) (c .before .before .before .before .before .before .before .loop-test .taken) _ (c .before .before .before .before .before .shape .ensures) (c .before .before .before .before .if1 .left) (s .pre .1 .0) .in-count, s .good .0 .0))
@@ -82,6 +79,7 @@ pub +emit+name-spec : {M : Type 1} → statement M
     (λ c. omega (arith, c .if1 .left))
     (λ c. let w = c .before .before .before .before .before .pre .1 .0 in omega (arith, c .if1 .left, c .before .find .ensures (w .steps) (w .is) (w .stands) .low, w .is, c .before .before .before .before .before .pre .1 .1, c .before .before .before .before .before .good .0 .1))
     (λ c. let w = c .before .before .before .before .before .before .pre .1 .0 in omega (arith, c .before .if1 .left, c .before .before .find .ensures (w .steps) (w .is) (w .stands) .low, w .is, c .before .before .before .before .before .before .pre .1 .1))
+    (λ c. let s = c .before .before .before .before .before .before in let w = s .pre .1 .0 in let H = parts.last-hit (c .before .before .find .ensures (w .steps) (w .is) (w .stands)) (c .before .if1 .left) in omega (arith, H .at .room, s .good .0 .0))
     (λ c. let w = c .before .before .before .before .before .before .before .pre .1 .0 in let H = parts.last-hit (c .before .before .before .find .ensures (w .steps) (w .is) (w .stands)) (c .before .before .if1 .left) in omega (arith, H .at .room))
     (λ c κs. search needs)
     (λ c. let w = c .before .before .before .before .before .before .before .before .pre .1 .0 in let H = parts.last-hit (c .before .before .before .before .find .ensures (w .steps) (w .is) (w .stands)) (c .before .before .before .if1 .left) in omega (arith, w .fits, parts.hit-length H _ (H .at .op-is)))

@@ -17,6 +17,7 @@ find-spec = tie.close (tie.spec Inv-loop μ-loop
     (λ c. omega (arith, c .loop-test .taken))
     (λ c. omega (arith, c .before .loop .inv .le, c .before .before .before .before .pre .1, c .before .before .before .before .good .0 .1))
     (λ c. omega (arith, c .before .before .loop .inv .le, c .before .before .before .before .before .pre .1, c .before .loop-test .taken))
+    (λ c. omega (arith, top _ _ _ (c .before .loop-test .taken) (c .before .before .loop .inv .some) .at .room, c .before .before .before .before .before .good .0 .0))
     (λ c. omega (arith, top _ _ _ (c .before .before .loop-test .taken) (c .before .before .before .loop .inv .some) .at .room))
     (λ c. omega (arith, top _ _ _ (c .before .before .loop-test .taken) (c .before .before .before .loop .inv .some) .at .room, c .before .before .before .before .before .before .good .0 .0))
     (λ c. omega (arith, top _ _ _ (c .before .before .before .loop-test .taken) (c .before .before .before .before .loop .inv .some) .at .room))

@@ -1,4 +1,5 @@
 use native.Mathlib.Omega.{arith}
+use Prim.Native.Nat.{_-_}
 use lib.ListN.{length-set}
 use denote.Ref.{now}
 use Rattle.measure.proofs.Steps.{edit-inside}
@@ -12,7 +13,9 @@ pass-spec = tie.close (tie.spec
     (λ c. omega (arith, not-end _ _ (c .before .before .before .before .before .pre .1) (c .if1 .taken)))
     (λ c. omega (arith, not-end _ _ (c .before .before .before .before .before .pre .1) (c .if1 .taken), end-room (c .before .before .before .before .before .pre .0) (c .before .before .before .before .before .pre .3), c .before .before .before .before .before .good .0 .1))
     (λ c. omega (arith, not-end _ _ (c .before .before .before .before .before .before .pre .1) (c .before .if1 .taken), end-room (c .before .before .before .before .before .before .pre .0) (c .before .before .before .before .before .before .pre .3)))
+    (λ c. omega (arith, c .shared-slice-known4 .given (c .before .before .before .before .before .before .args .d - 1)))
     (λ c. end-passed (c .before .before .before .before .before .before .pre .0) (c .before .if1 .taken) (not-end _ _ (c .before .before .before .before .before .before .pre .1) (c .before .if1 .taken)))
+    (λ c. let w = c .before .before .before .before .before .pre .0 in omega (arith, edit-inside _ _ (w .what) (w .way .here), c .before .before .before .before .before .pre .4))
     (λ c. let w = c .before .before .before .before .before .pre .0 in omega (arith, w .low, edit-inside _ _ (w .what) (w .way .here), c .before .before .before .before .before .pre .2))
     (λ c. let w = c .before .before .before .before .before .pre .0 in omega (arith, w .low, edit-inside _ _ (w .what) (w .way .here), c .before .before .before .before .before .pre .2))
     (λ c. let s = c .before .before .before .before .before in omega (arith, step-some (s .pre .0) (c .if1 .left) (not-choice _ _ (s .pre .1)) .0, s .good .0 .0))

@@ -18,7 +18,7 @@ pub walk-spec : {M : Type 1} → statement M
 walk-spec = tie.close (tie.spec Inv-loop μ-loop
     (λ c. walking-first (c .before .before .before .pre .0))
     (λ c κs. let w = c .loop .inv .some in edit-inside _ _ (w .what) (w .way .here))
-    (λ c κs. let s = c .before .before .before .before .before .before .before in let i = c .before .before .before .loop .inv in (i .some, sym (c .before .before .rests .ensures) ∙ not-true _ (c .before .if1 .taken), omega (arith, s .pre .1, i .long), s .pre .2))
+    (λ c κs. let s = c .before .before .before .before .before .before .before in let i = c .before .before .before .loop .inv in (i .some, sym (c .before .before .rests .ensures) ∙ not-true _ (c .before .if1 .taken), omega (arith, s .pre .1, i .long), s .pre .2, s .pre .3))
     (λ c. let w = c .before .before .before .before .before .before .loop .inv .some in omega (arith, edit-inside _ _ (w .what) (w .way .here), c .before .before .pass .ensures .on))
     (λ c. walking-more (c .before .before .before .before .before .before .loop .inv) (c .before .before .pass .kept .1 .1 .0) (c .before .before .pass .ensures))
     (λ c. c .before .before .loop .inv .long)

@@ -8,13 +8,16 @@ use Rattle.words.specs.Words.{putWord}
 use Rattle.seal.specs.Seal.{reseal}
 use Rattle.sheet.specs.Sheet.{graphOf}
 use Rattle.sheet.proofs.Opening.{opening}
-use Rattle.sheet.proofs.Loads.{sound-length}
+use Rattle.sheet.proofs.Loads.{sound-length, sound-seal}
 use Rattle.sheet.proofs.Writes.{relabelled}
 use Rattle.sheet.proofs.Sheet.put_label.Statement.{statement}
 use Rattle.sheet.proofs.Sheet.put_label.Tie as tie
 
 part-put-word-end : tie.Need-part-put-word-end
 part-put-word-end c = let st = c .before in omega (arith, sound-length (st .args .sheet .now) (st .pre .0))
+
+put-word-requires : tie.Need-put-word-requires
+put-word-requires c κs = let st = c .before .before .before in (search needs, search needs, sound-seal (st .args .sheet .now) (st .pre .0))
 
 returns : tie.Need-returns
 returns c = λ v q.
@@ -33,6 +36,6 @@ put-label-spec =
     (λ c. search needs)
     part-put-word-end
     (λ c κs. search needs)
-    (λ c κs. search needs)
+    put-word-requires
     (λ c. search needs)
     returns)
