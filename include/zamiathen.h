@@ -1,6 +1,6 @@
 /* Station sheets: judge a rule book on a sheet, carry a book back through an edit, enter an edit.
  *
- * Link with libsuite.a:  cc program.c libsuite.a
+ * Link with libzamiathen.a:  cc program.c $(pkg-config --cflags --libs zamiathen)
  *
  * Buffers. Each buffer is a pointer and its length in bytes. A call reads no byte outside its buffers and writes only
  * where this header says so. The buffers of one call must not overlap where one of them is written: the sheet and the
@@ -26,7 +26,7 @@ extern "C" {
 #define ZAMIATHEN_SHEET_BYTES 8704    /* a sheet has just this length */
 #define ZAMIATHEN_TEXT_BYTES 4096     /* the longest book and the longest edit */
 #define ZAMIATHEN_CARRIED_BYTES 16384 /* the longest carried book: an output or scratch of this length suffices */
-#define ZAMIATHEN_STACK_BYTES 1048576 /* measured: 0.2 MB at 255 levels, the deepest carried rule */
+#define ZAMIATHEN_STACK_BYTES 262144  /* measured: 180,288 at 255 levels, the deepest carried rule */
 
 /* Answer numbers. A call answers the number of the first question, in this order, whose answer is no. */
 enum zamiathen_number {

@@ -1,0 +1,142 @@
+/* How much stack zamiathen_enter takes on the deepest carried rules there can be, 255 levels: each call runs in a thread
+ * of its own, whose stack was filled with a pattern before. Prints the bytes that no longer hold it, less those of a
+ * thread that does nothing. They must not pass ZAMIATHEN_STACK_BYTES. */
+#include "zamiathen.h"
+
+#include <pthread.h>
+#include <stdio.h>
+#include <stdlib.h>
+#include <string.h>
+
+enum { ROOM = 4 << 20, PATTERN = 0xA5 };
+
+struct text {
+    uint8_t bytes[ZAMIATHEN_TEXT_BYTES];
+    size_t length;
+};
+
+static uint8_t sheet[ZAMIATHEN_SHEET_BYTES], scratch[ZAMIATHEN_CARRIED_BYTES];
+static struct text book, edit;
+static zamiathen_answer answer;
+static int passed, failed;
+
+static void *enter(void *unused) {
+    answer = zamiathen_enter(sheet, sizeof sheet, book.bytes, book.length, edit.bytes, edit.length, scratch,
+                             sizeof scratch);
+    return unused;
+}
+
+static void *nothing(void *unused) {
+    return unused;
+}
+
+static size_t changed_stack(void *(*run)(void *)) {
+    pthread_t thread;
+    pthread_attr_t attributes;
+    uint8_t *stack = aligned_alloc(4096, ROOM);
+    size_t untouched = 0;
+    memset(stack, PATTERN, ROOM);
+    pthread_attr_init(&attributes);
+    if (pthread_attr_setstack(&attributes, stack, ROOM) != 0 || pthread_create(&thread, &attributes, run, NULL) != 0) {
+        fprintf(stderr, "no thread\n");
+        exit(1);
+    }
+    pthread_join(thread, NULL);
+    while (untouched < ROOM && stack[untouched] == PATTERN)
+        untouched++;
+    free(stack);
+    return ROOM - untouched;
+}
+
+static void put(struct text *text, const char *hex) {
+    for (unsigned byte; sscanf(hex, "%2x", &byte) == 1; hex += strlen(hex) > 2 ? 3 : 2)
+        text->bytes[text->length++] = (uint8_t)byte;
+}
+
+static void put_number(struct text *text, size_t number) {
+    text->bytes[text->length++] = (uint8_t)number;
+}
+
+static void put_many(struct text *text, const char *hex, size_t times) {
+    while (times-- > 0)
+        put(text, hex);
+}
+
+static void report(const char *what) {
+    size_t bytes = changed_stack(enter) - changed_stack(nothing);
+    printf("%-52s %02zu %05zu %8zu\n", what, answer.number, answer.place, bytes);
+    int judged = answer.number == ZAMIATHEN_DONE || answer.number == ZAMIATHEN_RULE_BROKEN;
+    if (judged && bytes <= ZAMIATHEN_STACK_BYTES)
+        passed++;
+    else
+        failed++;
+}
+
+/* The name 0 in a rule, carried through steps that put a chain of codes on it, ending in the next name: each step of 30
+ * codes makes the rule 31 levels deeper. The last step is carried first. `step` and `name` are the codes of a step and of a
+ * name; a chain has `open` before the name and `close` behind it as often as 30 codes take, `levels` of them each time. */
+static void chain(const char *what, const char *rule, const char *step, const char *name, const char *open,
+                  const char *close, size_t levels) {
+    size_t wanted = 255 - 2;
+    book.length = edit.length = 0;
+    put(&book, rule);
+    for (size_t number = wanted / 31 + 1; number-- > 0;) {
+        size_t depth = number == wanted / 31 ? wanted % 31 - 1 : 30;
+        put(&edit, step);
+        put_number(&edit, number);
+        put_many(&edit, open, depth / levels);
+        put(&edit, name);
+        put_number(&edit, number + 1);
+        put_many(&edit, close, depth / levels);
+    }
+    put(&edit, "30");
+    report(what);
+}
+
+/* Check bytes of a sheet of 60 nodes without labels and arrows. */
+static void blank(void) {
+    memset(sheet, 0, sizeof sheet);
+    for (size_t b = 0; b < 17; b++) {
+        uint8_t *block = sheet + 512 * b;
+        unsigned s = 0, t = 0;
+        block[0] = b == 0 ? 1 : 2;
+        block[1] = (uint8_t)b;
+        block[2] = b == 0 ? 60 : 0;
+        for (size_t i = 0; i < 510; i++) {
+            s = (s + block[i]) % 255;
+            t = (t + s) % 255;
+        }
+        block[510] = (uint8_t)s;
+        block[511] = (uint8_t)t;
+    }
+}
+
+/* Branches inside one another, in their first way or their second. */
+static void branches(const char *what, const char *open, const char *close) {
+    book.length = edit.length = 0;
+    put(&book, "21 03 00 01");
+    put_many(&edit, open, 30);
+    put(&edit, "30");
+    put_many(&edit, close, 30);
+    report(what);
+}
+
+int main(void) {
+    blank();
+    printf("%-52s %-8s %8s\n", "enter, a carried rule of 255 levels", "answer", "bytes");
+    chain("12 below 12", "22 11 00 11 00", "33", "11", "12", "", 1);
+    chain("13, second operand below", "22 11 00 11 00", "33", "11", "13 11 0F", "", 1);
+    chain("13, first operand below", "22 11 00 11 00", "33", "11", "13", "11 0F", 1);
+    chain("05 below 05", "21 03 00 01", "31", "03", "05", "", 1);
+    chain("06, first operand below", "21 03 00 01", "31", "03", "06", "01", 1);
+    chain("08 in the expression of a 16 in the arrow of an 08", "21 03 00 01", "31", "03", "08 16 11 0F", "01", 2);
+    book.length = edit.length = 0;
+    put(&book, "21 03 00 01");
+    put_many(&edit, "31 00 02", 253);
+    put(&edit, "30");
+    report("253 steps on one label");
+    branches("30 branches, each in the first way of another", "35 21 01 01", "30 30");
+    branches("30 branches, each in the second way of another", "35 21 01 01 30", "30");
+    printf("%d passed, %d failed\n", passed, failed);
+    return failed != 0;
+}
