@@ -13,11 +13,14 @@ archive := target/staticlib/libsuite.a
 all: $(archive)
 
 target/staticlib/lib%.a: $(sources)
-	rt staticlib $*
-	touch $@
+	@mkdir -p target
+	@echo "Proving and building $@, some minutes the first time; the prover's log is target/$*.log"
+	@rt staticlib $* > target/$*.log 2>&1 || { tail -n 40 target/$*.log; exit 1; }
+	@tail -n 1 target/$*.log
+	@touch $@
 
 target/demo: examples/demo.c include/zamiathen.h $(archive)
-	$(CC) $(CFLAGS) -Iinclude examples/demo.c $(archive) -o $@
+	@$(CC) $(CFLAGS) -Iinclude examples/demo.c $(archive) -o $@
 
 demo: target/demo
 	@target/demo examples/station
