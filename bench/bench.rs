@@ -170,7 +170,7 @@ fn main() {
     compare("enter, done", &mut done, our_enter, their_enter, rounds);
     compare("enter, 41", &mut broken, our_enter, their_enter, rounds);
     compare("apply", &mut done, our_apply, their_apply, rounds);
-    for number in 0..28 {
+    for number in 0..29 {
         let mut buffers = Buffers::from_input(&load(&format!("bench/data/{number:02}.in")));
         compare(&format!("enter, bench/data/{number:02}.in"), &mut buffers, our_enter, their_enter, rounds);
     }

@@ -47,8 +47,17 @@ pub fn carry_into(book: &[u8], edit: &[u8], out: &mut [u8]) -> Carried
     if len > out.len() {
         return Carried::Refused(Refusal::OutputLength { place: len });
     }
+    let mut links = [0u16; 4096];
     let mut behind = [0u16; 2048];
-    let written = write::write_book(book, &kept, size.start, &mut stack, &mut behind, out);
+    let written = write::write_book(
+        book,
+        &kept,
+        size.start,
+        &mut stack,
+        &mut links,
+        &mut behind,
+        out,
+    );
     Carried::Length(written)
 }
 

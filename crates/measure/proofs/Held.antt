@@ -74,10 +74,10 @@ same-refl c k = ap₂ _&&_ (eq-eqb c c refl) (eq-eqb k k refl)
 false-true : {b : Bool} → b ≡ false → b ≡ true → ⊥
 false-true e f = let z : _≡_ {A = ℕ} 0 1 = ap {B = ℕ} (λ (x : Bool). cond x 1 0) (sym e ∙ f) in omega (arith, z)
 
-apart : (c k c′ k′ : ℕ) → Named c k → Named c′ k′ → same c k c′ k′ ≡ false → cell c k ≡ cell c′ k′ → ⊥
+pub apart : (c k c′ k′ : ℕ) → Named c k → Named c′ k′ → same c k c′ k′ ≡ false → cell c k ≡ cell c′ k′ → ⊥
 apart c k c′ k′ n m e q = let p = cell-inj c k c′ k′ n m q in false-true e (ap₂ (λ (u v : ℕ). same c k u v) (sym (p .0)) (sym (p .1)) ∙ same-refl c k)
 
-alike : (c k c′ k′ : ℕ) → same c k c′ k′ ≡ true → cell c′ k′ ≡ cell c k
+pub alike : (c k c′ k′ : ℕ) → same c k c′ k′ ≡ true → cell c′ k′ ≡ cell c k
 alike c k c′ k′ e = let p = same-eq c k c′ k′ e in ap₂ cell (sym (p .0)) (sym (p .1))
 
 pub under-1 : (v : ℕ) → under v 1 ≡ v

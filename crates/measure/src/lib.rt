@@ -83,7 +83,7 @@ fn deeper(v: usize) -> usize
 }
 
 // The cell of a name: 03 k at k, 11 a at 48 + a.
-fn cell_of(code: u8, number: u8) -> usize
+pub fn cell_of(code: u8, number: u8) -> usize
     ensures { λ r. ⌜ r ≡ cell code number ⌝ }
 {
     code as usize / 16 * 48 + number as usize

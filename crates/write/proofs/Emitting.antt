@@ -10,11 +10,13 @@ use lib.Seq.{take-append-seam}
 use Rattle.tree.specs.Tree.{Tree, name, leaf, one, two, bytes, graft}
 use Rattle.tree.specs.Stack.{Step, env, lead, inner}
 use Rattle.tree.proofs.Written.{bytes-becomes}
-use Rattle.measure.specs.Shapes.{At, shapeOf}
+use Rattle.measure.specs.Shapes.{At, Named, shapeOf}
 use Rattle.measure.proofs.Places.{IsName, as-name, tag, tag-at}
 use Rattle.measure.proofs.Pending.{headOf, partsOf, texts, texts-append, bytes-opened, Pending, pending-one, First, first, Turn, turn}
 use Rattle.write.specs.Laid.{Wrote}
-use Rattle.write.specs.Offsets.{StackIs, Hit, Found}
+use Rattle.write.specs.Offsets.{StackIs}
+use Rattle.write.specs.Links.{lastIn}
+use Rattle.write.proofs.Finding.{Hit, Found}
 use Rattle.write.specs.Writing.{SomeName, SomeShown}
 use Rattle.write.proofs.Laying.{wrote-none, wrote-one, wrote-more, wrote-as}
 
@@ -143,8 +145,11 @@ module _ {text edit stack o o′ : List ℕ} {at h p wanted pos q : ℕ} (I : Sh
         pub name-room : p + 2 ≤ length text
         name-room = named (head-first w .at) .room
 
-        pub name-some : SomeName edit stack h (getD text p 0) (getD text (p + 1) 0) q room
-        name-some = record { steps = w .steps; is = w .is; stands = w .stands; fits = omega (arith, still w .0, ap length (name-text (w .steps) (some w .parts) (head-first w)), length-append (bytes (env (w .steps) (getD text p 0) (getD text (p + 1) 0))) (texts (shownBy (w .steps)) (head-first w .more))) }
+        pub name-named : Named (getD text p 0) (getD text (p + 1) 0)
+        name-named = let q = named (head-first w .at) in subst (λ (c : ℕ). Named c (getD text (p + 1) 0)) (sym (q .reads-c)) (subst (Named (q .c)) (sym (q .reads-k)) (q .named))
+
+        pub name-some : {j : ℕ} → j ≡ lastIn edit stack h (getD text p 0) (getD text (p + 1) 0) → SomeName edit stack j (getD text p 0) (getD text (p + 1) 0) q room
+        name-some f = record { steps = w .steps; is = f ∙ ap (λ (x : ℕ). lastIn edit stack x (getD text p 0) (getD text (p + 1) 0)) (w .is); stands = w .stands; fits = omega (arith, still w .0, ap length (name-text (w .steps) (some w .parts) (head-first w)), length-append (bytes (env (w .steps) (getD text p 0) (getD text (p + 1) 0))) (texts (shownBy (w .steps)) (head-first w .more))) }
 
       pub name-shown : {q′ : ℕ} {o″ : List ℕ} → ((σ : List Step) → h ≡ length σ → StackIs edit stack σ → Wrote o′ q (bytes (env σ (getD text p 0) (getD text (p + 1) 0))) q′ o″) → length o″ ≡ length o′ → Showing text at edit stack h (p + 2) (wanted - 1) o pos q′ o″
       name-shown u m = record { each = λ σ t g i a. let v = I .each σ t g i a in let f = first (v .pending) l in shown-more v (name-next (v .pending) f) (name-text σ (v .parts) f) (u σ g i); long = m ∙ I .long }

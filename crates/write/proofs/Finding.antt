@@ -1,73 +1,213 @@
-use mathlib.Core.Path.{_≡_, refl, sym, ap₂, _∙_, subst}
-use mathlib.Core.Bool.{true, false}
+-- The last step of a name, by the links of the steps on the stack.
+use mathlib.Core.Path.{_≡_, refl, sym, ap, ap₂, _∙_, subst}
+use mathlib.Core.Bool.{Bool, true, false, cond, _&&_}
 use mathlib.Core.List.{List, [], _∷_}
-use Prim.Native.Nat.{ℕ, suc, _+_, _-_, _<_, _≤_}
+use Prim.Native.Nat.{ℕ, zero, suc, _+_, _-_, _<_, _≤_}
 use native.Mathlib.Omega.{arith}
-use lib.ListN.{length, getD}
-use Rattle.tree.specs.Tree.{name, same}
-use Rattle.tree.specs.Stack.{Step, env, touched}
+use native.Mathlib.Decide.{decLt}
+use native.Mathlib.Numerals.{add-one}
+use lib.Dec.{eqb}
+use lib.ListN.{length, getD, set, replicate, getD-replicate}
+use lib.Seq.{getD-set-same, getD-set-other}
+use borrow.Author.Tests.{eqb-true}
+use Rattle.tree.specs.Tree.{name, graft, same}
+use Rattle.tree.specs.Stack.{Step, env, becomes, touched}
 use Rattle.tree.proofs.Written.{env-hit, env-miss}
-use Rattle.write.specs.Offsets.{StepAt, StackIs, SomeStack, Hit, Found}
+use Rattle.measure.specs.Shapes.{Named, cell}
+use Rattle.measure.specs.Edits.{Kept}
+use Rattle.measure.proofs.Held.{named-lt, apart, alike}
+use Rattle.write.proofs.Walking.{kept-set, kept-more}
+use Rattle.write.specs.Offsets.{StepAt, StackIs}
+use Rattle.write.specs.Links.{codeAt, numberAt, lastIn, Linked, SomeLinks, Link, Relinked}
 
--- where the search stands: the steps below have the name's value
-pub record Rest (edit stack : List ℕ) (σ : List Step) (c k j : ℕ) : Type 0 where
+both-true : (a b : Bool) → (a && b) ≡ true → (a ≡ true) × (b ≡ true)
+both-true true b e = (refl, e)
+both-true false b e = let z : _≡_ {A = ℕ} 0 1 = cc in absurd (omega arith)
+
+module _ (edit stack : List ℕ) where
+  abbrev hits : ℕ → ℕ → ℕ → Bool
+  hits j c k = same c k (codeAt edit (getD stack j 0)) (numberAt edit (getD stack j 0))
+
+  last-low : (m c k : ℕ) → lastIn edit stack m c k ≤ m
+  unfolding lastIn
+  last-low zero c k = omega arith
+  last-low (suc m) c k = go (hits m c k) (last-low m c k)
+    where
+      go : (b : Bool) → lastIn edit stack m c k ≤ m → cond b (suc m) (lastIn edit stack m c k) ≤ suc m
+      go true l = omega arith
+      go false l = omega arith
+
+  -- the step that it is
+  last-hits : (m c k i : ℕ) → lastIn edit stack m c k ≡ suc i → (i < m) × (hits i c k ≡ true)
+  unfolding lastIn
+  last-hits zero c k i e = absurd (omega (arith, e))
+  last-hits (suc m) c k i e = go (hits m c k) refl e (λ f. last-hits m c k i f)
+    where
+      go : (b : Bool) → hits m c k ≡ b → cond b (suc m) (lastIn edit stack m c k) ≡ suc i → (lastIn edit stack m c k ≡ suc i → (i < m) × (hits i c k ≡ true)) → (i < suc m) × (hits i c k ≡ true)
+      go true h e f = let q : i ≡ m = omega (arith, e) in (omega (arith, q), ap (λ (x : ℕ). hits x c k) q ∙ h)
+      go false h e f = let r = f e in (omega (arith, r .0), r .1)
+
+  -- none between
+  last-same : (m h c k : ℕ) → h ≤ m → lastIn edit stack m c k ≤ h → lastIn edit stack m c k ≡ lastIn edit stack h c k
+  unfolding lastIn
+  last-same zero h c k l e = ap (λ (x : ℕ). lastIn edit stack x c k) (let z : 0 ≡ h = omega arith in z)
+  last-same (suc m) h c k l e = go (decLt h (suc m)) (hits m c k) refl e (λ r f. last-same m h c k r f)
+    where
+      go : Dec (h < suc m) → (b : Bool) → hits m c k ≡ b → cond b (suc m) (lastIn edit stack m c k) ≤ h → (h ≤ m → lastIn edit stack m c k ≤ h → lastIn edit stack m c k ≡ lastIn edit stack h c k)
+          → cond b (suc m) (lastIn edit stack m c k) ≡ lastIn edit stack h c k
+      go (yes r) true q e f = absurd (omega (arith, e, r))
+      go (yes r) false q e f = f (omega (arith, r)) e
+      go (no r) b q e f = ap (λ (t : Bool). cond t (suc m) (lastIn edit stack m c k)) (sym q) ∙ ap (λ (x : ℕ). lastIn edit stack x c k) (let z : suc m ≡ h = omega (arith, r, l) in z)
+
+-- the step at index j is the last that touches a name
+pub record Hit (edit stack : List ℕ) (σ : List Step) (c k j : ℕ) : Type 0 where
+  pub s : Step
   pub below : List Step
   pub len : j ≡ length below
+  pub at : StepAt edit (getD stack j 0) s
   pub stands : StackIs edit stack below
-  pub is : env σ c k ≡ env below c k
+  pub is : env σ c k ≡ becomes (s .op) (env below c k) (graft (env below) (s .what))
 
-pub record Finding (edit stack : List ℕ) (h c k j : ℕ) : Type 0 where
-  pub le : j ≤ h
-  pub some : SomeStack edit stack j
-  pub each : (σ : List Step) → h ≡ length σ → StackIs edit stack σ → Rest edit stack σ c k j
+-- one more than the index of the last step that touches a name, or 0
+pub record Found (edit stack : List ℕ) (σ : List Step) (c k r : ℕ) : Type 0 where
+  pub low : r ≤ length σ
+  pub none : r ≡ 0 → env σ c k ≡ name c k
+  pub some : (j : ℕ) → r ≡ suc j → Hit edit stack σ c k j
 
-pub finding-first : (edit stack : List ℕ) (h c k : ℕ) → SomeStack edit stack h → Finding edit stack h c k h
-finding-first edit stack h c k s = record { le = omega arith; some = s; each = λ σ e i. record { below = σ; len = e; stands = i; is = refl } }
-
--- the step on top
-pub record Top (edit stack : List ℕ) (j : ℕ) : Type 0 where
-  pub s : Step
-  pub at : StepAt edit (getD stack (j - 1) 0) s
-  pub below : SomeStack edit stack (j - 1)
-
-pub top : (edit stack : List ℕ) (j : ℕ) → 0 < j → SomeStack edit stack j → Top edit stack j
-unfolding StackIs
-top edit stack j l q = go (q .steps) (q .is) (q .stands)
+-- by the steps that stand there
+found : (edit stack : List ℕ) (σ : List Step) (c k : ℕ) → StackIs edit stack σ → Found edit stack σ c k (lastIn edit stack (length σ) c k)
+unfolding lastIn StackIs env
+found edit stack [] c k i = record { low = omega arith; none = λ z. refl; some = λ n z. absurd (omega (arith, z)) }
+found edit stack (s ∷ τ) c k i = go (hits edit stack (length τ) c k) refl (found edit stack τ c k (i .1))
   where
-    go : (σ : List Step) → j ≡ length σ → StackIs edit stack σ → Top edit stack j
-    go [] e i = absurd (omega (arith, e))
-    go (s ∷ σ) e i = let m : j - 1 ≡ length σ = omega (arith, e) in record { s = s; at = subst (λ (x : ℕ). StepAt edit (getD stack x 0) s) (sym m) (i .0); below = record { steps = σ; is = m; stands = i .1 } }
+    so : (b : Bool) → hits edit stack (length τ) c k ≡ b → same c k (touched (s .op)) (s .number) ≡ b
+    so b h = sym (ap₂ (λ (u v : ℕ). same c k (touched u) v) (i .0 .op-is) (i .0 .number-is)) ∙ h
 
-module _ (edit stack : List ℕ) (h c k j : ℕ) (l : 0 < j) (f : Finding edit stack h c k j) where
-  -- the top step misses or hits
-  pub finding-more : same c k (touched (getD edit (getD stack (j - 1) 0) 0)) (getD edit (getD stack (j - 1) 0 + 1) 0) ≡ false → Finding edit stack h c k (j - 1)
-  unfolding StackIs
-  finding-more m = record { le = omega (arith, f .le); some = top edit stack j l (f .some) .below; each = λ σ e i. let r = f .each σ e i in go σ r (r .below) (r .len) (r .stands) (r .is) }
-    where
-      go : (σ : List Step) → Rest edit stack σ c k j → (τ : List Step) → j ≡ length τ → StackIs edit stack τ → env σ c k ≡ env τ c k → Rest edit stack σ c k (j - 1)
-      go σ r [] e i p = absurd (omega (arith, e))
-      go σ r (s ∷ τ) e i p =
-          let q : j - 1 ≡ length τ = omega (arith, e) in
-          let a = subst (λ (x : ℕ). StepAt edit (getD stack x 0) s) (sym q) (i .0) in
-          record { below = τ; len = q; stands = i .1; is = p ∙ env-miss s τ c k (sym (ap₂ (λ (u v : ℕ). same c k (touched u) v) (a .op-is) (a .number-is)) ∙ m) }
+    go : (b : Bool) → hits edit stack (length τ) c k ≡ b → Found edit stack τ c k (lastIn edit stack (length τ) c k) → Found edit stack (s ∷ τ) c k (cond b (suc (length τ)) (lastIn edit stack (length τ) c k))
+    go true h f = record {
+      low = omega arith;
+      none = λ z. absurd (omega (arith, z));
+      some = λ n z. let q : n ≡ length τ = omega (arith, z) in
+          record { s = s; below = τ; len = q; at = subst (λ (x : ℕ). StepAt edit (getD stack x 0) s) (sym q) (i .0); stands = i .1; is = env-hit s τ c k (so true h) };
+    }
+    go false h f =
+        let miss = env-miss s τ c k (so false h) in
+        record {
+          low = omega (arith, f .low);
+          none = λ z. miss ∙ f .none z;
+          some = λ n z. let H = f .some n z in record { s = H .s; below = H .below; len = H .len; at = H .at; stands = H .stands; is = miss ∙ H .is };
+        }
 
-  pub finding-hit : same c k (touched (getD edit (getD stack (j - 1) 0) 0)) (getD edit (getD stack (j - 1) 0 + 1) 0) ≡ true → (σ : List Step) → h ≡ length σ → StackIs edit stack σ → Found edit stack σ c k j
-  unfolding StackIs
-  finding-hit m σ e i = record { low = omega (arith, f .le, e); none = λ z. absurd (omega (arith, z)); some = λ n z. let r = f .each σ e i in go n z (r .below) (r .len) (r .stands) (r .is) }
-    where
-      go : (n : ℕ) → j ≡ suc n → (τ : List Step) → j ≡ length τ → StackIs edit stack τ → env σ c k ≡ env τ c k → Hit edit stack σ c k n
-      go n z [] e i p = absurd (omega (arith, e))
-      go n z (s ∷ τ) e i p =
-          let q : n ≡ length τ = omega (arith, e, z) in
-          let w : j - 1 ≡ n = omega (arith, z) in
-          let a = subst (λ (x : ℕ). StepAt edit (getD stack x 0) s) (sym q) (i .0) in
-          let m′ = subst (λ (x : ℕ). same c k (touched (getD edit (getD stack x 0) 0)) (getD edit (getD stack x 0 + 1) 0) ≡ true) w m in
-          record { s = s; below = τ; len = q; at = a; stands = i .1; is = p ∙ env-hit s τ c k (sym (ap₂ (λ (u v : ℕ). same c k (touched u) v) (a .op-is) (a .number-is)) ∙ m′) }
+pub found-as : {edit stack : List ℕ} {σ : List Step} {c k j : ℕ} → j ≡ lastIn edit stack (length σ) c k → StackIs edit stack σ → Found edit stack σ c k j
+found-as {edit} {stack} {σ} {c} {k} e i = subst (Found edit stack σ c k) (sym e) (found edit stack σ c k i)
 
-pub finding-none : (edit stack : List ℕ) (h c k j : ℕ) → j ≡ 0 → Finding edit stack h c k j → (σ : List Step) → h ≡ length σ → StackIs edit stack σ → Found edit stack σ c k 0
-unfolding env
-finding-none edit stack h c k j z f σ e i = record { low = omega arith; none = λ u. let r = f .each σ e i in r .is ∙ go (r .below) (r .len); some = λ n u. absurd (omega (arith, u)) }
+-- the step before it of its name
+older-is : {edit stack links last : List ℕ} {h j : ℕ} (c k m : ℕ) → Linked edit stack links last h → j ≡ lastIn edit stack m c k → 0 < j → j - 1 < h → getD links (j - 1) 0 ≡ lastIn edit stack (j - 1) c k
+older-is {edit} {stack} {links} {last} {h} {j} c k m w e l r =
+    let f : lastIn edit stack m c k ≡ suc (j - 1) = omega (arith, e) in
+    let q = last-hits edit stack m c k (j - 1) f in
+    let o : ℕ = getD stack (j - 1) 0 in
+    let b = both-true (eqb c (codeAt edit o)) (eqb k (numberAt edit o)) (q .1) in
+    w .olders (j - 1) r ∙ sym (ap₂ (λ (x y : ℕ). lastIn edit stack (j - 1) x y) (eqb-true c (codeAt edit o) (b .0)) (eqb-true k (numberAt edit o) (b .1)))
+
+pub hit-older : {edit stack links last : List ℕ} {σ : List Step} {c k j : ℕ} → SomeLinks edit stack links last j → j ≡ lastIn edit stack (length σ) c k → (j ≡ 0 → ⊥) → (H : Hit edit stack σ c k (j - 1)) → (getD links (j - 1) 0 ≡ lastIn edit stack (length (H .below)) c k) × (getD links (j - 1) 0 < j)
+hit-older {edit} {stack} {links} {last} {σ} {c} {k} {j} w e n H =
+    let q = older-is c k (length σ) (w .linked) e (omega (arith, n)) (omega (arith, n, w .high)) in
+    (q ∙ ap (λ (x : ℕ). lastIn edit stack x c k) (H .len), omega (arith, q, n, last-low edit stack (j - 1) c k))
+
+-- Down the links: j is the last of the first m steps that touches the name.
+pub record Following (edit stack links last : List ℕ) (h c k j : ℕ) : Type 0 where
+  pub some : SomeLinks edit stack links last h
+  pub m : ℕ
+  pub above : h ≤ m
+  pub below : m ≤ some .top
+  pub is : j ≡ lastIn edit stack m c k
+
+pub following-first : {edit stack links last : List ℕ} {h c k i : ℕ} → SomeLinks edit stack links last h → Named c k → i ≡ cell c k → Following edit stack links last h c k (getD last i 0)
+following-first {edit} {stack} {links} {last} {h} {c} {k} w n e = record { some = w; m = w .top; above = w .high; below = omega arith; is = ap (λ (x : ℕ). getD last x 0) e ∙ w .linked .lasts c k n }
+
+module _ {edit stack links last : List ℕ} {h c k j : ℕ} (f : Following edit stack links last h c k j) where
+  pub following-low : j ≤ length links
+  following-low = omega (arith, f .is, last-low edit stack (f .m) c k, f .below, f .some .room)
+
+  lower-is : h < j → (j - 1 < f .m) × (getD links (j - 1) 0 ≡ lastIn edit stack (j - 1) c k)
+  lower-is l =
+      let e : lastIn edit stack (f .m) c k ≡ suc (j - 1) = omega (arith, f .is) in
+      let q = last-hits edit stack (f .m) c k (j - 1) e in
+      (q .0, older-is c k (f .m) (f .some .linked) (f .is) (omega arith) (omega (arith, q .0, f .below)))
+
+  pub following-more : h < j → Following edit stack links last h c k (getD links (j - 1) 0)
+  following-more l = let q = lower-is l in record { some = f .some; m = j - 1; above = omega arith; below = omega (arith, q .0, f .below); is = q .1 }
+
+  pub following-less : h < j → getD links (j - 1) 0 < j
+  following-less l = omega (arith, lower-is l .1, last-low edit stack (j - 1) c k)
+
+  pub following-end : j ≤ h → j ≡ lastIn edit stack h c k
+  following-end l = f .is ∙ last-same edit stack (f .m) h c k (f .above) (omega (arith, f .is, l))
+
+-- Links are read below a height only.
+last-kept : (edit : List ℕ) {stack stack′ : List ℕ} (h c k : ℕ) → Kept h stack stack′ → lastIn edit stack′ h c k ≡ lastIn edit stack h c k
+unfolding lastIn
+last-kept edit zero c k s = refl
+last-kept edit {stack} {stack′} (suc h) c k s =
+    ap₂ (λ (o x : ℕ). cond (same c k (codeAt edit o) (numberAt edit o)) (suc h) x) (s .same h (omega arith)) (last-kept edit h c k (record { same = λ i l. s .same i (omega (arith, l)) }))
+
+lower : {h h′ : ℕ} {l l′ : List ℕ} → h′ ≤ h → Kept h l l′ → Kept h′ l l′
+lower {h} {h′} m s = record { same = λ i l. s .same i (omega (arith, l)) }
+
+pub linked-kept : {edit stack stack′ links links′ last last′ : List ℕ} {h : ℕ} → Kept h stack stack′ → Kept h links links′ → Kept 64 last last′ → Linked edit stack links last h → Linked edit stack′ links′ last′ h
+linked-kept {edit} {stack} {stack′} {links} {links′} {last} {last′} {h} s t u w = record {
+  lasts = λ c k n. u .same (cell c k) (named-lt c k n) ∙ w .lasts c k n ∙ sym (last-kept edit h c k s);
+  olders = λ j l. t .same j l ∙ w .olders j l ∙ sym (last-kept edit j (codeAt edit (getD stack j 0)) (numberAt edit (getD stack j 0)) (lower (omega (arith, l)) s)) ∙ ap (λ (o : ℕ). lastIn edit stack′ j (codeAt edit o) (numberAt edit o)) (sym (s .same j l));
+}
+
+-- one step more
+pub linked-more : {edit stack links last links′ last′ : List ℕ} {at h : ℕ} → h < length stack → h < length links → length last ≡ 64 → Named (codeAt edit at) (numberAt edit at) → Linked edit stack links last h
+    → Link edit at links last h links′ last′ → Relinked edit (set stack h at) links links′ last′ h (h + 1)
+unfolding lastIn
+linked-more {edit} {stack} {links} {last} {links′} {last′} {at} {h} room wide long n w u =
+    record { linked = record { lasts = lasts; olders = λ j l. older j l (decLt j h) }; kept = kept }
   where
-    go : (τ : List Step) → j ≡ length τ → env τ c k ≡ name c k
-    go [] e = refl
-    go (s ∷ τ) e = absurd (omega (arith, e, z))
+    kept : Kept h links links′
+    kept = subst (Kept h links) (sym (u .links-are)) (kept-set links h (getD last (cell (codeAt edit at) (numberAt edit at)) 0))
+
+    below : Linked edit (set stack h at) links′ last h
+    below = linked-kept (kept-set stack h at) kept (record { same = λ i r. refl }) w
+
+    here : getD (set stack h at) h 0 ≡ at
+    here = getD-set-same stack h at 0 room
+
+    lasts : (c k : ℕ) → Named c k → getD last′ (cell c k) 0 ≡ lastIn edit (set stack h at) (h + 1) c k
+    lasts c k m = ap (λ (l : List ℕ). getD l (cell c k) 0) (u .last-is) ∙ go (same c k (codeAt edit at) (numberAt edit at)) refl ∙ ap (λ (o : ℕ). cond (same c k (codeAt edit o) (numberAt edit o)) (suc h) (lastIn edit (set stack h at) h c k)) (sym here) ∙ ap (λ (x : ℕ). lastIn edit (set stack h at) x c k) (sym (add-one h))
+      where
+        go : (b : Bool) → same c k (codeAt edit at) (numberAt edit at) ≡ b → getD (set last (cell (codeAt edit at) (numberAt edit at)) (h + 1)) (cell c k) 0 ≡ cond (same c k (codeAt edit at) (numberAt edit at)) (suc h) (lastIn edit (set stack h at) h c k)
+        go true q =
+            ap (λ (x : ℕ). getD (set last (cell (codeAt edit at) (numberAt edit at)) (h + 1)) x 0) (sym (alike c k (codeAt edit at) (numberAt edit at) q)) ∙ getD-set-same last (cell (codeAt edit at) (numberAt edit at)) (h + 1) 0 (omega (arith, long, named-lt (codeAt edit at) (numberAt edit at) n))
+            ∙ add-one h ∙ sym (ap (λ (b : Bool). cond b (suc h) (lastIn edit (set stack h at) h c k)) q)
+        go false q =
+            getD-set-other last (cell (codeAt edit at) (numberAt edit at)) (cell c k) (h + 1) 0 (λ e. apart c k (codeAt edit at) (numberAt edit at) m n q (omega (arith, e)))
+            ∙ below .lasts c k m ∙ sym (ap (λ (b : Bool). cond b (suc h) (lastIn edit (set stack h at) h c k)) q)
+
+    older : (j : ℕ) → j < h + 1 → Dec (j < h) → getD links′ j 0 ≡ lastIn edit (set stack h at) j (codeAt edit (getD (set stack h at) j 0)) (numberAt edit (getD (set stack h at) j 0))
+    older j l (yes r) = below .olders j r
+    older j l (no r) =
+        let q : j ≡ h = omega (arith, l, r) in
+        subst (λ (x : ℕ). getD links′ x 0 ≡ lastIn edit (set stack h at) x (codeAt edit (getD (set stack h at) x 0)) (numberAt edit (getD (set stack h at) x 0))) (sym q)
+        (ap (λ (l : List ℕ). getD l h 0) (u .links-are) ∙ getD-set-same links h (getD last (cell (codeAt edit at) (numberAt edit at)) 0) 0 wide ∙ below .lasts (codeAt edit at) (numberAt edit at) n
+        ∙ ap (λ (o : ℕ). lastIn edit (set stack h at) h (codeAt edit o) (numberAt edit o)) (sym here))
+
+pub relinked-more : {edit links stack₁ links₁ last₁ stack₂ links₂ last₂ : List ℕ} {h h₁ h₂ : ℕ} → h ≤ h₁ → Relinked edit stack₁ links links₁ last₁ h h₁ → Relinked edit stack₂ links₁ links₂ last₂ h₁ h₂ → Relinked edit stack₂ links links₂ last₂ h h₂
+relinked-more l a b = record { linked = b .linked; kept = kept-more l (a .kept) (b .kept) }
+
+pub kept-all : {n : ℕ} {l : List ℕ} → Kept n l l
+kept-all = record { same = λ i r. refl }
+
+pub linked-none : (edit stack links : List ℕ) → Linked edit stack links (replicate 64 0) 0
+unfolding lastIn
+linked-none edit stack links = record { lasts = λ c k n. getD-replicate 64 (cell c k) 0 0 (named-lt c k n); olders = λ j l. absurd (omega (arith, l)) }
+
+pub some-links : {edit stack links last : List ℕ} {h : ℕ} → Linked edit stack links last h → h ≤ length links → length last ≡ 64 → SomeLinks edit stack links last h
+some-links {edit} {stack} {links} {last} {h} w r l = record { top = h; high = omega arith; room = r; wide = l; linked = w }
+
+pub links-lower : {edit stack links last : List ℕ} {h h′ : ℕ} → h′ ≤ h → SomeLinks edit stack links last h → SomeLinks edit stack links last h′
+links-lower l w = record { top = w .top; high = omega (arith, l, w .high); room = w .room; wide = w .wide; linked = w .linked }

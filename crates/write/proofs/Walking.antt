@@ -13,13 +13,13 @@ use Rattle.logic.specs.Limits.{InRange, EditInRange}
 use Rattle.logic.specs.Carry.{followedBy}
 use Rattle.text.specs.Code.{code, editCode}
 use Rattle.tree.specs.Tree.{Tree, tree, size}
-use Rattle.tree.specs.Stack.{Step, written}
+use Rattle.tree.specs.Stack.{Step, touched, written}
 use Rattle.tree.proofs.Written.{written-addLabel, written-takeLabel, written-addArrow, written-takeArrow}
-use Rattle.measure.specs.Shapes.{At, Some}
+use Rattle.measure.specs.Shapes.{At, Some, Named}
 use Rattle.measure.specs.Edits.{EditAt, Kept}
 use Rattle.measure.proofs.Places.{inside}
 use Rattle.text.proofs.Standing.{byte-at}
-use Rattle.measure.proofs.Steps.{tag-edit, as-finish, edit-inside, step-what, step-next, step-len, step-k, step-room}
+use Rattle.measure.proofs.Steps.{tag-edit, as-finish, as-step, edit-inside, step-what, step-next, step-len, step-k, step-room}
 use Rattle.write.specs.Offsets.{StepAt, StackIs}
 use Rattle.write.specs.Ways.{followed, BehindIs, Way, SomeWay, Moved, resting, Passed, Walked}
 
@@ -85,6 +85,9 @@ module _ {edit stack behind : List ℕ} {at h d : ℕ} where
   -- past a step
   pub step-some : SomeWay edit stack behind at h d → (getD edit at 0 ≡ 0x30 → ⊥) → (getD edit at 0 ≡ 0x35 → ⊥) → (at + 2 < length edit) × Some edit (at + 2)
   step-some w n m = let q = stepping edit at (w .what) (w .way .here) n m in (inside edit (at + 2) (q .s .what) (q .s-at .what-at), record { what = q .s .what; stands = q .s-at .what-at })
+
+  pub step-named : SomeWay edit stack behind at h d → (getD edit at 0 ≡ 0x30 → ⊥) → (getD edit at 0 ≡ 0x35 → ⊥) → Named (touched (getD edit at 0)) (getD edit (at + 1) 0)
+  step-named w n m = let q = as-step edit at (w .what) (w .way .here) n m in subst (λ (c : ℕ). Named c (getD edit (at + 1) 0)) (q .is-c) (subst (Named (q .c)) (sym (q .reads-k)) (q .named))
 
   pub step-passed : SomeWay edit stack behind at h d → (getD edit at 0 ≡ 0x30 → ⊥) → (getD edit at 0 ≡ 0x35 → ⊥) → h < length stack → (next : ℕ) → ((t : Tree) → At edit (at + 2) t → next ≡ at + 2 + size t)
       → Passed edit stack behind at h d (set stack h at) next (h + 1) d

@@ -7,15 +7,17 @@ use Rattle.tree.specs.Tree.{Tree, bytes, graft}
 use Rattle.tree.specs.Stack.{Step, env}
 use Rattle.measure.specs.Shapes.{At}
 use Rattle.write.specs.Offsets.{StackIs}
+use Rattle.write.specs.Links.{lastIn}
 
--- some steps are on the stack, and what a name becomes under them fits a buffer of `room` bytes from `pos` on
-pub record SomeName (edit stack : List ℕ) (h c k pos room : ℕ) : Type 0 where
+-- some steps are on the stack, of which the one below index j is the last that touches a name, and what the name becomes under them fits a
+-- buffer of `room` bytes from `pos` on
+pub record SomeName (edit stack : List ℕ) (j c k pos room : ℕ) : Type 0 where
   pub steps : List Step
-  pub is : h ≡ length steps
+  pub is : j ≡ lastIn edit stack (length steps) c k
   pub stands : StackIs edit stack steps
   pub fits : pos + length (bytes (env steps c k)) ≤ room
 
--- likewise an expression that stands in a text
+-- some steps are on the stack, and an expression that stands in a text fits likewise under them
 pub record SomeShown (text : List ℕ) (at : ℕ) (edit stack : List ℕ) (h pos room : ℕ) : Type 0 where
   pub steps : List Step
   pub is : h ≡ length steps

@@ -4,16 +4,17 @@ ghost use mathlib.Core.List.{List, [], _∷_};
 ghost use mathlib.Core.Bool.{false};
 ghost use Prim.Native.Nat.{_+_, _*_, _<_, _≤_};
 ghost use lib.ListN.{length, getD, take, drop};
-ghost use Rattle.tree.specs.Tree.{Tree, same, bytes, graft};
+ghost use Rattle.tree.specs.Tree.{Tree, bytes, graft};
 ghost use Rattle.tree.specs.Stack.{Step, touched, env};
 ghost use Rattle.tree.specs.Stack as words;
 ghost use Rattle.logic.specs.Syntax.{rule, Expr, Edit};
-ghost use Rattle.measure.specs.Shapes.{At};
-ghost use Rattle.measure.specs.Edits.{EditAt, SomeEdit};
+ghost use Rattle.measure.specs.Shapes.{At, Named};
+ghost use Rattle.measure.specs.Edits.{EditAt, SomeEdit, Kept};
 ghost use Rattle.measure.specs.Book.{RuleAt, BookIs};
 ghost use Rattle.write.specs.Laid.{Wrote};
 ghost use Rattle.write.specs.Carried.{SomeRuleFits, RuleWritten, SomeBookFits, BookWritten};
-ghost use Rattle.write.specs.Offsets.{StackIs, SomeStack, Found};
+ghost use Rattle.write.specs.Offsets.{StackIs};
+ghost use Rattle.write.specs.Links.{lastIn, Linked, SomeLinks, Link, Relinked, Fitting};
 ghost use Rattle.write.specs.Ways.{SomeWay, resting, Passed, Walked, Chosen, SomeCarried, Carried};
 ghost use Rattle.write.specs.Writing.{SomeName, SomeShown};
 
@@ -30,31 +31,18 @@ fn name_code(op: u8) -> u8
     if op < 0x33 { 0x03 } else { 0x11 }
 }
 
-fn touches(op: u8, number: u8, c: u8, k: u8) -> bool
-    ensures { λ r. ⌜ r ≡ same c k (touched op) number ⌝ }
+// One more than the index of the last of h steps that touches a name, or 0: from the name's last step down its links.
+// Inner: the stack holds offsets of steps, with their links.
+fn find(edit: &[u8], stack: &[u16], links: &[u16], last: &[u16], h: usize, c: u8, k: u8) -> usize
+    requires { ⌜ SomeLinks (now edit) (now stack) (now links) (now last) h × Named c k ⌝ }
+    ensures { λ r. ⌜ (r ≡ lastIn (now (edit .entry)) (now (stack .entry)) h c k) × (r ≤ h) ⌝ }
 {
-    let code = name_code(op);
-    if c != code {
-        return false;
+    let i = measure::cell_of(c, k);
+    let mut j = last[i] as usize;
+    while j > h {
+        j = links[j - 1] as usize;
     }
-    k == number
-}
-
-// One more than the index of the last of h steps that touches a name, or 0.
-// Inner: the stack holds offsets of steps.
-fn find(edit: &[u8], stack: &[u16], h: usize, c: u8, k: u8) -> usize
-    requires { ⌜ SomeStack (now edit) (now stack) h × (h ≤ length (now stack)) ⌝ }
-    ensures { λ r. ⌜ ((σ : List Step) → h ≡ length σ → StackIs (now (edit .entry)) (now (stack .entry)) σ → Found (now (edit .entry)) (now (stack .entry)) σ c k r) ⌝ }
-{
-    let mut j = h;
-    while j > 0 {
-        let o = stack[j - 1] as usize;
-        if touches(edit[o], edit[o + 1], c, k) {
-            return j;
-        }
-        j -= 1;
-    }
-    0
+    j
 }
 
 // The code that a step puts before a name.
@@ -108,13 +96,22 @@ fn put_not(op: u8, out: &mut [u8], pos: usize) -> usize
     pos
 }
 
-// Writes a name under h steps.
-// Inner: the stack holds offsets of steps, and there is room; the room left falls with each call.
-fn name(edit: &[u8], stack: &[u16], h: usize, c: u8, k: u8, out: &mut [u8], pos: usize) -> usize
-    requires { ⌜ SomeName (now edit) (now stack) h c k pos (length (now out)) × (h ≤ length (now stack)) ⌝ }
-    ensures { λ r. ⌜ ((σ : List Step) → h ≡ length σ → StackIs (now (edit .entry)) (now (stack .entry)) σ → Wrote (now (out .entry)) pos (bytes (env σ c k)) r (now (out .exit))) ⌝ }
+// Writes a name under steps of which the one below index j is the last that touches it; j is 0 where none does.
+// Inner: the stack holds offsets of steps, with their links, and there is room; the room left falls with each call.
+fn name(
+    edit: &[u8],
+    stack: &[u16],
+    links: &[u16],
+    last: &[u16],
+    j: usize,
+    c: u8,
+    k: u8,
+    out: &mut [u8],
+    pos: usize,
+) -> usize
+    requires { ⌜ SomeName (now edit) (now stack) j c k pos (length (now out)) × (j ≤ length (now stack)) × SomeLinks (now edit) (now stack) (now links) (now last) j ⌝ }
+    ensures { λ r. ⌜ ((σ : List Step) → j ≡ lastIn (now (edit .entry)) (now (stack .entry)) (length σ) c k → StackIs (now (edit .entry)) (now (stack .entry)) σ → Wrote (now (out .entry)) pos (bytes (env σ c k)) r (now (out .exit))) ⌝ }
 {
-    let j = find(edit, stack, h, c, k);
     if j == 0 {
         return put_two(c, k, out, pos);
     }
@@ -122,9 +119,10 @@ fn name(edit: &[u8], stack: &[u16], h: usize, c: u8, k: u8, out: &mut [u8], pos:
     let o = stack[below] as usize;
     let op = edit[o];
     out[pos] = lead(op);
-    let p = name(edit, stack, below, c, k, out, pos + 1);
+    let older = links[below] as usize;
+    let p = name(edit, stack, links, last, older, c, k, out, pos + 1);
     let q = put_not(op, out, p);
-    emit(edit, o + 2, edit, stack, below, out, q)
+    emit(edit, o + 2, edit, stack, links, last, below, out, q)
 }
 
 // Writes an expression of a text under h steps, code by code: a name as it is under them, any other code with its numbers as it stands.
@@ -135,11 +133,13 @@ fn emit(
     at: usize,
     edit: &[u8],
     stack: &[u16],
+    links: &[u16],
+    last: &[u16],
     h: usize,
     out: &mut [u8],
     pos: usize,
 ) -> usize
-    requires { ⌜ SomeShown (now text) at (now edit) (now stack) h pos (length (now out)) × (h ≤ length (now stack)) ⌝ }
+    requires { ⌜ SomeShown (now text) at (now edit) (now stack) h pos (length (now out)) × (h ≤ length (now stack)) × SomeLinks (now edit) (now stack) (now links) (now last) h ⌝ }
     ensures { λ r. ⌜ ((σ : List Step) (t : Tree) → h ≡ length σ → StackIs (now (edit .entry)) (now (stack .entry)) σ → At (now (text .entry)) at t → Wrote (now (out .entry)) pos (bytes (graft (env σ) t)) r (now (out .exit))) ⌝ }
 {
     let mut p = at;
@@ -149,7 +149,9 @@ fn emit(
         let c = text[p];
         let s = measure::shape(c);
         if s >= 16 {
-            q = name(edit, stack, h, c, text[p + 1], out, q);
+            let k = text[p + 1];
+            let j = find(edit, stack, links, last, h, c, k);
+            q = name(edit, stack, links, last, j, c, k, out, q);
             p += 2;
             wanted -= 1;
         } else {
@@ -184,11 +186,31 @@ fn rests(edit: &[u8], at: usize, d: usize) -> bool
     d == 0
 }
 
-// Goes past a step, which is put on the stack, or past an end, to the edit behind it.
+// Links the step at `at`, which is the one on top of h others, to the one before it of its name.
+// Inner: a step stands there.
+fn link(edit: &[u8], at: usize, links: &mut [u16], last: &mut [u16], h: usize)
+    requires { ⌜ (at + 1 < length (now edit)) × (h < length (now links)) × (h < 4096) × (length (now last) ≡ 64) × Named (touched (getD (now edit) at 0)) (getD (now edit) (at + 1) 0) ⌝ }
+    ensures { λ r. ⌜ Link (now (edit .entry)) at (now (links .entry)) (now (last .entry)) h (now (links .exit)) (now (last .exit)) ⌝ }
+{
+    let i = measure::cell_of(name_code(edit[at]), edit[at + 1]);
+    links[h] = last[i];
+    last[i] = (h + 1) as u16;
+}
+
+// Goes past a step, which is put on the stack and linked, or past an end, to the edit behind it.
 // Inner: there is a way, and it does not rest here.
-fn pass(edit: &[u8], at: usize, stack: &mut [u16], h: usize, behind: &[u16], d: usize) -> Rest
-    requires { ⌜ SomeWay (now edit) (now stack) (now behind) at h d × (resting (getD (now edit) at 0) d ≡ false) × (length (now edit) ≤ length (now stack)) × (length (now edit) ≤ 2 * length (now behind)) × (length (now edit) ≤ 4096) ⌝ }
-    ensures { λ r. ⌜ Passed (now (edit .entry)) (now (stack .entry)) (now (behind .entry)) at h d (now (stack .exit)) (r .at) (r .h) (r .d) ⌝ }
+fn pass(
+    edit: &[u8],
+    at: usize,
+    stack: &mut [u16],
+    links: &mut [u16],
+    last: &mut [u16],
+    h: usize,
+    behind: &[u16],
+    d: usize,
+) -> Rest
+    requires { ⌜ SomeWay (now edit) (now stack) (now behind) at h d × (resting (getD (now edit) at 0) d ≡ false) × Fitting (now edit) (now stack) (now links) (now last) (now behind) × Linked (now edit) (now stack) (now links) (now last) h ⌝ }
+    ensures { λ r. ⌜ Passed (now (edit .entry)) (now (stack .entry)) (now (behind .entry)) at h d (now (stack .exit)) (r .at) (r .h) (r .d) × Relinked (now (edit .entry)) (now (stack .exit)) (now (links .entry)) (now (links .exit)) (now (last .exit)) h (r .h) ⌝ }
 {
     if edit[at] == 0x30 {
         let top = d - 1;
@@ -200,6 +222,7 @@ fn pass(edit: &[u8], at: usize, stack: &mut [u16], h: usize, behind: &[u16], d: 
         };
     }
     stack[h] = at as u16;
+    link(edit, at, links, last, h);
     let next = measure::past(edit, at + 2);
     Rest {
         at: next,
@@ -210,15 +233,24 @@ fn pass(edit: &[u8], at: usize, stack: &mut [u16], h: usize, behind: &[u16], d: 
 
 // Goes on until the walk rests.
 // Inner: there is a way.
-fn walk(edit: &[u8], at: usize, stack: &mut [u16], h: usize, behind: &[u16], d: usize) -> Rest
-    requires { ⌜ SomeWay (now edit) (now stack) (now behind) at h d × (length (now edit) ≤ length (now stack)) × (length (now edit) ≤ 2 * length (now behind)) × (length (now edit) ≤ 4096) ⌝ }
-    ensures { λ r. ⌜ Walked (now (edit .entry)) (now (stack .entry)) (now (behind .entry)) at h d (now (stack .exit)) (r .at) (r .h) (r .d) ⌝ }
+fn walk(
+    edit: &[u8],
+    at: usize,
+    stack: &mut [u16],
+    links: &mut [u16],
+    last: &mut [u16],
+    h: usize,
+    behind: &[u16],
+    d: usize,
+) -> Rest
+    requires { ⌜ SomeWay (now edit) (now stack) (now behind) at h d × Fitting (now edit) (now stack) (now links) (now last) (now behind) × Linked (now edit) (now stack) (now links) (now last) h ⌝ }
+    ensures { λ r. ⌜ Walked (now (edit .entry)) (now (stack .entry)) (now (behind .entry)) at h d (now (stack .exit)) (r .at) (r .h) (r .d) × Relinked (now (edit .entry)) (now (stack .exit)) (now (links .entry)) (now (links .exit)) (now (last .exit)) h (r .h) ⌝ }
 {
     let mut p = at;
     let mut n = h;
     let mut m = d;
     while !rests(edit, p, m) {
-        let next = pass(edit, p, stack, n, behind, m);
+        let next = pass(edit, p, stack, links, last, n, behind, m);
         p = next.at;
         n = next.h;
         m = next.d;
@@ -250,79 +282,155 @@ fn ways_at(edit: &[u8], at: usize) -> Ways
 
 // Writes 25 26 27 and the rule at a place of the edit.
 // Inner: it stands there, the stack holds offsets of steps, and there is room.
-fn open_first(edit: &[u8], at: usize, stack: &[u16], h: usize, out: &mut [u8], pos: usize) -> usize
-    requires { ⌜ SomeShown (now edit) at (now edit) (now stack) h (pos + 3) (length (now out)) × (h ≤ length (now stack)) ⌝ }
+fn open_first(
+    edit: &[u8],
+    at: usize,
+    stack: &[u16],
+    links: &[u16],
+    last: &[u16],
+    h: usize,
+    out: &mut [u8],
+    pos: usize,
+) -> usize
+    requires { ⌜ SomeShown (now edit) at (now edit) (now stack) h (pos + 3) (length (now out)) × (h ≤ length (now stack)) × SomeLinks (now edit) (now stack) (now links) (now last) h ⌝ }
     ensures { λ r. ⌜ ((σ : List Step) (t : Tree) → h ≡ length σ → StackIs (now (edit .entry)) (now (stack .entry)) σ → At (now (edit .entry)) at t → Wrote (now (out .entry)) pos (0x25 ∷ 0x26 ∷ 0x27 ∷ bytes (graft (env σ) t)) r (now (out .exit))) ⌝ }
 {
     let p = put_two(0x25, 0x26, out, pos);
     out[p] = 0x27;
-    emit(edit, at, edit, stack, h, out, p + 1)
+    emit(edit, at, edit, stack, links, last, h, out, p + 1)
 }
 
 // Writes 26 and the rule at a place of the edit.
 // Inner: as above.
-fn open_second(edit: &[u8], at: usize, stack: &[u16], h: usize, out: &mut [u8], pos: usize) -> usize
-    requires { ⌜ SomeShown (now edit) at (now edit) (now stack) h (pos + 1) (length (now out)) × (h ≤ length (now stack)) ⌝ }
+fn open_second(
+    edit: &[u8],
+    at: usize,
+    stack: &[u16],
+    links: &[u16],
+    last: &[u16],
+    h: usize,
+    out: &mut [u8],
+    pos: usize,
+) -> usize
+    requires { ⌜ SomeShown (now edit) at (now edit) (now stack) h (pos + 1) (length (now out)) × (h ≤ length (now stack)) × SomeLinks (now edit) (now stack) (now links) (now last) h ⌝ }
     ensures { λ r. ⌜ ((σ : List Step) (t : Tree) → h ≡ length σ → StackIs (now (edit .entry)) (now (stack .entry)) σ → At (now (edit .entry)) at t → Wrote (now (out .entry)) pos (0x26 ∷ bytes (graft (env σ) t)) r (now (out .exit))) ⌝ }
 {
     out[pos] = 0x26;
-    emit(edit, at, edit, stack, h, out, pos + 1)
+    emit(edit, at, edit, stack, links, last, h, out, pos + 1)
+}
+
+// The last step of each name.
+// Inner: over the 64 names.
+fn copy_last(src: &[u16], out: &mut [u16])
+    requires { ⌜ (length (now src) ≡ 64) × (length (now out) ≡ 64) ⌝ }
+    ensures { λ r. ⌜ Kept 64 (now (src .entry)) (now (out .exit)) ⌝ }
+{
+    let mut i = 0;
+    while i < 64 {
+        out[i] = src[i];
+        i += 1;
+    }
 }
 
 // Writes the rule at `from` of a text as carried back along a way of the edit.
-// Inner: the rule stands there, there is a way, and there is room; the room left falls with each call.
+// Inner: the rule stands there, there is a way, and there is room; the room left falls with each call. What `last` holds after is free.
 fn write_way(
     text: &[u8],
     from: usize,
     edit: &[u8],
     at: usize,
     stack: &mut [u16],
+    links: &mut [u16],
+    last: &mut [u16],
     h: usize,
     behind: &mut [u16],
     d: usize,
     out: &mut [u8],
     pos: usize,
 ) -> usize
-    requires { ⌜ SomeCarried (now text) from (now edit) (now stack) (now behind) at h d pos (length (now out)) × (length (now edit) ≤ length (now stack)) × (length (now edit) ≤ 2 * length (now behind)) × (length (now edit) ≤ 4096) ⌝ }
-    ensures { λ r. ⌜ Carried (now (text .entry)) from (now (edit .entry)) (now (stack .entry)) (now (behind .entry)) at h d (now (out .entry)) pos r (now (stack .exit)) (now (behind .exit)) (now (out .exit)) ⌝ }
+    requires { ⌜ SomeCarried (now text) from (now edit) (now stack) (now behind) at h d pos (length (now out)) × Fitting (now edit) (now stack) (now links) (now last) (now behind) × Linked (now edit) (now stack) (now links) (now last) h ⌝ }
+    ensures { λ r. ⌜ Carried (now (text .entry)) from (now (edit .entry)) (now (stack .entry)) (now (behind .entry)) at h d (now (out .entry)) pos r (now (stack .exit)) (now (behind .exit)) (now (out .exit)) × Kept h (now (links .entry)) (now (links .exit)) ⌝ }
 {
-    let rest = walk(edit, at, stack, h, behind, d);
+    let rest = walk(edit, at, stack, links, last, h, behind, d);
     let p = rest.at;
     let n = rest.h;
     let m = rest.d;
     if edit[p] == 0x30 {
-        return emit(text, from, edit, stack, n, out, pos);
+        return emit(text, from, edit, stack, links, last, n, out, pos);
     }
     let ways = ways_at(edit, p);
     let first = ways.first;
     let second = ways.second;
     let saved = behind[m];
     behind[m] = ways.next as u16;
-    let a = open_first(edit, p + 1, stack, n, out, pos);
-    let b = write_way(text, from, edit, first, stack, n, behind, m + 1, out, a);
-    let c = open_second(edit, p + 1, stack, n, out, b);
-    let end = write_way(text, from, edit, second, stack, n, behind, m + 1, out, c);
+    let mut other = [0u16; 64];
+    copy_last(last, &mut other);
+    let a = open_first(edit, p + 1, stack, links, last, n, out, pos);
+    let b = write_way(
+        text,
+        from,
+        edit,
+        first,
+        stack,
+        links,
+        &mut other,
+        n,
+        behind,
+        m + 1,
+        out,
+        a,
+    );
+    let c = open_second(edit, p + 1, stack, links, last, n, out, b);
+    let end = write_way(
+        text,
+        from,
+        edit,
+        second,
+        stack,
+        links,
+        last,
+        n,
+        behind,
+        m + 1,
+        out,
+        c,
+    );
     behind[m] = saved;
     end
 }
 
 // Writes the rule at `at` of a text as carried back through the edit that stands at `from`.
-// Inner: both were read before, and there is room. `stack` and `behind` are scratch: what they hold before and after is free.
+// Inner: both were read before, and there is room. `stack`, `links` and `behind` are scratch: what they hold before and after is free.
 pub fn write_rule(
     text: &[u8],
     at: usize,
     edit: &[u8],
     from: usize,
     stack: &mut [u16],
+    links: &mut [u16],
     behind: &mut [u16],
     out: &mut [u8],
     pos: usize,
 ) -> Place
-    requires { ⌜ SomeRuleFits (now text) at (now edit) from pos (length (now out)) × (length (now edit) ≤ length (now stack)) × (length (now edit) ≤ 2 * length (now behind)) × (length (now edit) ≤ 4096) ⌝ }
+    requires { ⌜ SomeRuleFits (now text) at (now edit) from pos (length (now out)) × (length (now edit) ≤ length (now stack)) × (length (now edit) ≤ length (now links)) × (length (now edit) ≤ 2 * length (now behind)) × (length (now edit) ≤ 4096) ⌝ }
     ensures { λ r. ⌜ ((K : Expr rule) (Z : Edit) → RuleAt (now (text .entry)) at K → EditAt (now (edit .entry)) from Z → RuleWritten Z K at (now (out .entry)) pos (r .at) (r .pos) (now (out .exit))) ⌝ }
 {
     let next = measure::past(text, at);
-    let end = write_way(text, at, edit, from, stack, 0, behind, 0, out, pos);
+    let mut last = [0u16; 64];
+    let end = write_way(
+        text,
+        at,
+        edit,
+        from,
+        stack,
+        links,
+        &mut last,
+        0,
+        behind,
+        0,
+        out,
+        pos,
+    );
     Place { at: next, pos: end }
 }
 
@@ -333,16 +441,17 @@ pub fn write_book(
     edit: &[u8],
     from: usize,
     stack: &mut [u16],
+    links: &mut [u16],
     behind: &mut [u16],
     out: &mut [u8],
 ) -> usize
-    requires { ⌜ SomeBookFits (now book) (now edit) from (length (now out)) × (length (now edit) ≤ length (now stack)) × (length (now edit) ≤ 2 * length (now behind)) × (length (now edit) ≤ 4096) ⌝ }
+    requires { ⌜ SomeBookFits (now book) (now edit) from (length (now out)) × (length (now edit) ≤ length (now stack)) × (length (now edit) ≤ length (now links)) × (length (now edit) ≤ 2 * length (now behind)) × (length (now edit) ≤ 4096) ⌝ }
     ensures { λ r. ⌜ ((rules : List (Expr rule)) (Z : Edit) → BookIs (now (book .entry)) rules → EditAt (now (edit .entry)) from Z → BookWritten Z rules (now (out .entry)) r (now (out .exit))) ⌝ }
 {
     let mut at = 0;
     let mut pos = 0;
     while at < book.len() {
-        let next = write_rule(book, at, edit, from, stack, behind, out, pos);
+        let next = write_rule(book, at, edit, from, stack, links, behind, out, pos);
         at = next.at;
         pos = next.pos;
     }

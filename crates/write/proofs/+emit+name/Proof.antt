@@ -1,11 +1,13 @@
 -- The loop's invariant: whatever expression stands at the place, so many trees are still to come of it, and their texts are still to be written.
-use lib.ListN.{length, length-set}
+use lib.ListN.{length, getD, length-set}
 use denote.Ref.{now}
 use mathlib.Core.Path.{_∙_, ap}
 use Prim.Native.Nat.{ℕ, _<_, _-_, _+_, _*_}
 use native.Mathlib.Omega.{arith}
 use borrow.Author.Needs.{needs}
 use Rattle.write.proofs.Laying.{wrote-as}
+use Rattle.write.specs.Links.{lastIn}
+use Rattle.write.proofs.Finding.{found-as, hit-older, links-lower}
 use Rattle.write.proofs.Emitting as parts
 use borrow.Fn.Kinds.{In}
 use borrow.Fn.PlainCycle.{Measures, is, falls, and}
@@ -25,69 +27,72 @@ use Rattle.write.proofs.+emit+name.{statement}
 use Rattle.write.proofs.+emit+name.Tie.{close}
 
 -- the room left
-abbrev μ-emit : Measures 4 emit-kinds.ps ℕ
-μ-emit κs a = 2 * (length (a .1 .1 .1 .1 .1 .0 .now) - a .1 .1 .1 .1 .1 .1 .0) + 1
+abbrev μ-emit : Measures 6 emit-kinds.ps ℕ
+μ-emit κs a = 2 * (length (a .1 .1 .1 .1 .1 .1 .1 .0 .now) - a .1 .1 .1 .1 .1 .1 .1 .1 .0) + 1
 
-abbrev μ-name : Measures 3 name-kinds.ps ℕ
-μ-name κs a = 2 * (length (a .1 .1 .1 .1 .1 .0 .now) - a .1 .1 .1 .1 .1 .1 .0)
+abbrev μ-name : Measures 5 name-kinds.ps ℕ
+μ-name κs a = 2 * (length (a .1 .1 .1 .1 .1 .1 .1 .0 .now) - a .1 .1 .1 .1 .1 .1 .1 .1 .0)
 
-abbrev emit-at : ℕ → In 4 emit-kinds.ps
-emit-at t = and 4 emit-kinds.ps (is 4 emit-kinds.ps μ-emit t) emit.Pre
+abbrev emit-at : ℕ → In 6 emit-kinds.ps
+emit-at t = and 6 emit-kinds.ps (is 6 emit-kinds.ps μ-emit t) emit.Pre
 
-abbrev emit-below : ℕ → In 4 emit-kinds.ps
-emit-below t = and 4 emit-kinds.ps (falls 4 emit-kinds.ps _<_ μ-emit t) emit.Pre
+abbrev emit-below : ℕ → In 6 emit-kinds.ps
+emit-below t = and 6 emit-kinds.ps (falls 6 emit-kinds.ps _<_ μ-emit t) emit.Pre
 
-abbrev name-at : ℕ → In 3 name-kinds.ps
-name-at t = and 3 name-kinds.ps (is 3 name-kinds.ps μ-name t) name.Pre
+abbrev name-at : ℕ → In 5 name-kinds.ps
+name-at t = and 5 name-kinds.ps (is 5 name-kinds.ps μ-name t) name.Pre
 
-abbrev name-below : ℕ → In 3 name-kinds.ps
-name-below t = and 3 name-kinds.ps (falls 3 name-kinds.ps _<_ μ-name t) name.Pre
+abbrev name-below : ℕ → In 5 name-kinds.ps
+name-below t = and 5 name-kinds.ps (falls 5 name-kinds.ps _<_ μ-name t) name.Pre
 
 abbrev emit-Inv-loop : emit-lts.InvT-loop
-emit-Inv-loop text at edit stack h out₀ pos p₀ q₀ wanted₀ out p q wanted = parts.Showing text at edit stack h p wanted out₀ pos q out
+emit-Inv-loop text at edit stack links last h out₀ pos p₀ q₀ wanted₀ out p q wanted = parts.Showing text at edit stack h p wanted out₀ pos q out
 
 abbrev emit-μ-loop : emit-lts.MeasureT-loop
-emit-μ-loop text at edit stack h out₀ pos p₀ q₀ wanted₀ out p q wanted = length text - p
+emit-μ-loop text at edit stack links last h out₀ pos p₀ q₀ wanted₀ out p q wanted = length text - p
 
 pub +emit+name-spec : {M : Type 1} → statement M
 +emit+name-spec = close μ-emit μ-name
-    (λ t. emit-lts.spec (shape-reads.Asked, shape-reads.Learnt, name-below t, name.Post, copy-reads.Asked, copy-reads.Learnt) (emit-at t) emit.Post emit-Inv-loop emit-μ-loop
+    (λ t. emit-lts.spec (shape-reads.Asked, shape-reads.Learnt, find-reads.Asked, find-reads.Learnt, name-below t, name.Post, copy-reads.Asked, copy-reads.Learnt) (emit-at t) emit.Post emit-Inv-loop emit-μ-loop
     (λ c. parts.showing-first _ _ _ _ _ _ _)
-    (λ c. parts.head-first (c .before .before .loop .inv) (c .before .loop-test .taken) (c .before .before .before .before .before .before .before .pre .1 .0) .inside-text)
-    (λ c κs. parts.head-first (c .before .before .loop .inv) (c .before .loop-test .taken) (c .before .before .before .before .before .before .before .pre .1 .0) .low)
-    (λ c. let s = c .before .before .before .before .before .before .before .before .before in omega (arith, parts.name-room (c .before .before .before .before .loop .inv) (c .before .before .before .loop-test .taken) _ (c .before .shape .ensures) (c .if1 .taken) (s .pre .1 .0), s .good .0 .0))
-    (λ c. omega (arith, parts.name-room (c .before .before .before .before .before .loop .inv) (c .before .before .before .before .loop-test .taken) _ (c .before .before .shape .ensures) (c .before .if1 .taken) (c .before .before .before .before .before .before .before .before .before .before .pre .1 .0)))
-    (λ c κs. let s = c .before .before .before .before .before .before .before .before .before .before .before in let i = c .before .before .before .before .before .before .loop .inv in let r = c .before .before .before .before .before .loop-test .taken in let n = parts.name-some i r _ (c .before .before .before .shape .ensures) (c .before .before .if1 .taken) (s .pre .1 .0) in (omega (arith, s .pre .0, i .long, parts.still i r (s .pre .1 .0)), (record { steps = n .steps; is = n .is; stands = n .stands; fits = omega (arith, n .fits, i .long) }, s .pre .1 .1)))
-    (λ c. let s = c .before .before .before .before .before .before .before .before .before .before .before .before .before .before in omega (arith, parts.name-room (c .before .before .before .before .before .before .before .before .before .loop .inv) (c .before .before .before .before .before .before .before .before .loop-test .taken) _ (c .before .before .before .before .before .before .shape .ensures) (c .before .before .before .before .before .if1 .taken) (s .pre .1 .0), s .good .0 .0))
+    (λ c. parts.head-first (c .before .before .loop .inv) (c .before .loop-test .taken) (c .before .before .before .before .before .before .before .before .before .pre .1 .0) .inside-text)
+    (λ c κs. parts.head-first (c .before .before .loop .inv) (c .before .loop-test .taken) (c .before .before .before .before .before .before .before .before .before .pre .1 .0) .low)
+    (λ c. let s = c .before .before .before .before .before .before .before .before .before .before .before in omega (arith, parts.name-room (c .before .before .before .before .loop .inv) (c .before .before .before .loop-test .taken) _ (c .before .shape .ensures) (c .if1 .taken) (s .pre .1 .0), s .good .0 .0))
+    (λ c. omega (arith, parts.name-room (c .before .before .before .before .before .loop .inv) (c .before .before .before .before .loop-test .taken) _ (c .before .before .shape .ensures) (c .before .if1 .taken) (c .before .before .before .before .before .before .before .before .before .before .before .before .pre .1 .0)))
+    (λ c κs. (c .before .before .before .before .before .before .before .before .before .before .before .before .pre .1 .2, parts.name-named (c .before .before .before .before .before .loop .inv) (c .before .before .before .before .loop-test .taken) _ (c .before .before .shape .ensures) (c .before .if1 .taken) (c .before .before .before .before .before .before .before .before .before .before .before .before .pre .1 .0)))
+    (λ c κs. let s = c .before .before .before .before .before .before .before .before .before .before .before .before .before .before in let i = c .before .before .before .before .before .before .before .loop .inv in let r = c .before .before .before .before .before .before .loop-test .taken in let e = c .before .find .ensures in let n = parts.name-some i r _ (c .before .before .before .before .shape .ensures) (c .before .before .before .if1 .taken) (s .pre .1 .0) (e .0) in (omega (arith, s .pre .0, i .long, parts.still i r (s .pre .1 .0)), (record { steps = n .steps; is = n .is; stands = n .stands; fits = omega (arith, n .fits, i .long) }, omega (arith, e .1, s .pre .1 .1), links-lower (e .1) (s .pre .1 .2))))
+    (λ c. let s = c .before .before .before .before .before .before .before .before .before .before .before .before .before .before .before .before .before in omega (arith, parts.name-room (c .before .before .before .before .before .before .before .before .before .before .loop .inv) (c .before .before .before .before .before .before .before .before .before .loop-test .taken) _ (c .before .before .before .before .before .before .before .shape .ensures) (c .before .before .before .before .before .before .if1 .taken) (s .pre .1 .0), s .good .0 .0))
     (λ c. search needs)
-    (λ c. omega (arith, parts.name-room (c .before .before .before .before .before .before .before .before .before .loop .inv) (c .before .before .before .before .before .before .before .before .loop-test .taken) _ (c .before .before .before .before .before .before .shape .ensures) (c .before .before .before .before .before .if1 .taken) (c .before .before .before .before .before .before .before .before .before .before .before .before .before .before .pre .1 .0)))
-    (λ c. parts.name-shown (c .before .before .before .before .before .before .before .before .before .loop .inv) (c .before .before .before .before .before .before .before .before .loop-test .taken) _ (c .before .before .before .before .before .before .shape .ensures) (c .before .before .before .before .before .if1 .taken) (c .before .before .name .ensures) (c .before .before .name .kept .1 .1 .1 .1 .1 .0))
-    (λ c κs. let s = c .before .before .before .before .before .before .before .before .before .before in let i = c .before .before .before .before .before .loop .inv in let r = c .before .before .before .before .loop-test .taken in (parts.head-turn i r _ (c .before .before .shape .ensures) (c .before .if1 .left) (s .pre .1 .0) .in-text, omega (arith, i .long, parts.head-room i r _ (c .before .before .shape .ensures) (c .before .if1 .left) (s .pre .1 .0))))
-    (λ c. let s = c .before .before .before .before .before .before .before .before .before .before .before .before .before in omega (arith, parts.head-turn (c .before .before .before .before .before .before .before .before .loop .inv) (c .before .before .before .before .before .before .before .loop-test .taken) _ (c .before .before .before .before .before .shape .ensures) (c .before .before .before .before .if1 .left) (s .pre .1 .0) .in-text, s .good .0 .0))
+    (λ c. omega (arith, parts.name-room (c .before .before .before .before .before .before .before .before .before .before .loop .inv) (c .before .before .before .before .before .before .before .before .before .loop-test .taken) _ (c .before .before .before .before .before .before .before .shape .ensures) (c .before .before .before .before .before .before .if1 .taken) (c .before .before .before .before .before .before .before .before .before .before .before .before .before .before .before .before .before .pre .1 .0)))
+    (λ c. parts.name-shown (c .before .before .before .before .before .before .before .before .before .before .loop .inv) (c .before .before .before .before .before .before .before .before .before .loop-test .taken) _ (c .before .before .before .before .before .before .before .shape .ensures) (c .before .before .before .before .before .before .if1 .taken) (λ σ g i. c .before .before .name .ensures σ (c .before .before .before .before .find .ensures .0 ∙ ap (λ (x : ℕ). lastIn (now (c .before .before .before .before .before .before .before .before .before .before .before .before .before .before .before .before .before .args .edit)) (now (c .before .before .before .before .before .before .before .before .before .before .before .before .before .before .before .before .before .args .stack)) x (getD (now (c .before .before .before .before .before .before .before .before .before .before .before .before .before .before .before .before .before .args .text)) (c .before .before .before .before .before .before .before .before .before .before .loop .p) 0) (getD (now (c .before .before .before .before .before .before .before .before .before .before .before .before .before .before .before .before .before .args .text)) (c .before .before .before .before .before .before .before .before .before .before .loop .p + 1) 0)) g) i) (c .before .before .name .kept .1 .1 .1 .1 .1 .1 .1 .0))
+    (λ c κs. let s = c .before .before .before .before .before .before .before .before .before .before .before .before in let i = c .before .before .before .before .before .loop .inv in let r = c .before .before .before .before .loop-test .taken in (parts.head-turn i r _ (c .before .before .shape .ensures) (c .before .if1 .left) (s .pre .1 .0) .in-text, omega (arith, i .long, parts.head-room i r _ (c .before .before .shape .ensures) (c .before .if1 .left) (s .pre .1 .0))))
+    (λ c. let s = c .before .before .before .before .before .before .before .before .before .before .before .before .before .before .before in omega (arith, parts.head-turn (c .before .before .before .before .before .before .before .before .loop .inv) (c .before .before .before .before .before .before .before .loop-test .taken) _ (c .before .before .before .before .before .shape .ensures) (c .before .before .before .before .if1 .left) (s .pre .1 .0) .in-text, s .good .0 .0))
     (λ c. search needs)
-    (λ c. let s = c .before .before .before .before .before .before .before .before .before .before .before .before .before in omega (arith, parts.head-turn (c .before .before .before .before .before .before .before .before .loop .inv) (c .before .before .before .before .before .before .before .loop-test .taken) _ (c .before .before .before .before .before .shape .ensures) (c .before .before .before .before .if1 .left) (s .pre .1 .0) .in-count, s .good .0 .0))
-    (λ c. let g = parts.head-turn (c .before .before .before .before .before .before .before .before .loop .inv) (c .before .before .before .before .before .before .before .loop-test .taken) _ (c .before .before .before .before .before .shape .ensures) (c .before .before .before .before .if1 .left) (c .before .before .before .before .before .before .before .before .before .before .before .before .before .pre .1 .0) in omega (arith, g .in-text, g .on))
+    (λ c. let s = c .before .before .before .before .before .before .before .before .before .before .before .before .before .before .before in omega (arith, parts.head-turn (c .before .before .before .before .before .before .before .before .loop .inv) (c .before .before .before .before .before .before .before .loop-test .taken) _ (c .before .before .before .before .before .shape .ensures) (c .before .before .before .before .if1 .left) (s .pre .1 .0) .in-count, s .good .0 .0))
+    (λ c. let g = parts.head-turn (c .before .before .before .before .before .before .before .before .loop .inv) (c .before .before .before .before .before .before .before .loop-test .taken) _ (c .before .before .before .before .before .shape .ensures) (c .before .before .before .before .if1 .left) (c .before .before .before .before .before .before .before .before .before .before .before .before .before .before .before .pre .1 .0) in omega (arith, g .in-text, g .on))
     (λ c. parts.head-shown (c .before .before .before .before .before .before .before .before .loop .inv) (c .before .before .before .before .before .before .before .loop-test .taken) _ (c .before .before .before .before .before .shape .ensures) (c .before .before .before .before .if1 .left) (c .before .before .copy .ensures) (c .before .before .copy .kept .1 .1 .1 .0))
     (λ c. c .before .loop .inv .long)
     (λ c. parts.showing-end (c .before .loop .inv) (c .loop-test .left))
     )
-    (λ t. name-lts.spec (find-reads.Asked, find-reads.Learnt, put-two-reads.Asked, put-two-reads.Learnt, lead-reads.Asked, lead-reads.Learnt, name-below t, name.Post, put-not-reads.Asked, put-not-reads.Learnt, emit-below t, emit.Post) (name-at t) name.Post
-    (λ c κs. let w = c .before .before .before .pre .1 .0 in (record { steps = w .steps; is = w .is; stands = w .stands }, c .before .before .before .pre .1 .1))
-    (λ c κs. let w = c .before .before .before .before .before .before .pre .1 .0 in omega (arith, w .fits, ap length (parts.untouched (c .before .before .find .ensures (w .steps) (w .is) (w .stands)) (c .before .if1 .taken))))
+    (λ t. name-lts.spec (put-two-reads.Asked, put-two-reads.Learnt, lead-reads.Asked, lead-reads.Learnt, name-below t, name.Post, put-not-reads.Asked, put-not-reads.Learnt, emit-below t, emit.Post) (name-at t) name.Post
+    (λ c κs. let w = c .before .before .before .before .before .before .before .pre .1 .0 in omega (arith, w .fits, ap length (parts.untouched (found-as (w .is) (w .stands)) (c .before .if1 .taken))))
     (λ c. c .before .before .put-two .kept .1 .1 .0)
-    (λ c. λ σ e i. wrote-as (parts.untouched (c .before .before .before .before .before .find .ensures σ e i) (c .before .before .before .before .if1 .taken)) (c .before .before .put-two .ensures))
+    (λ c. λ σ e i. wrote-as (parts.untouched (found-as e i) (c .before .before .before .before .if1 .taken)) (c .before .before .put-two .ensures))
     (λ c. omega (arith, c .if1 .left))
-    (λ c. let w = c .before .before .before .before .before .pre .1 .0 in omega (arith, c .if1 .left, c .before .find .ensures (w .steps) (w .is) (w .stands) .low, w .is, c .before .before .before .before .before .pre .1 .1, c .before .before .before .before .before .good .0 .1))
-    (λ c. let w = c .before .before .before .before .before .before .pre .1 .0 in omega (arith, c .before .if1 .left, c .before .before .find .ensures (w .steps) (w .is) (w .stands) .low, w .is, c .before .before .before .before .before .before .pre .1 .1))
-    (λ c. let s = c .before .before .before .before .before .before in let w = s .pre .1 .0 in let H = parts.last-hit (c .before .before .find .ensures (w .steps) (w .is) (w .stands)) (c .before .if1 .left) in omega (arith, H .at .room, s .good .0 .0))
-    (λ c. let w = c .before .before .before .before .before .before .before .pre .1 .0 in let H = parts.last-hit (c .before .before .before .find .ensures (w .steps) (w .is) (w .stands)) (c .before .before .if1 .left) in omega (arith, H .at .room))
+    (λ c. omega (arith, c .if1 .left, c .before .before .before .before .before .before .pre .1 .1, c .before .before .before .before .before .before .good .0 .1))
+    (λ c. omega (arith, c .before .if1 .left, c .before .before .before .before .before .before .before .pre .1 .1))
+    (λ c. let s = c .before .before .before .before .before .before .before in let w = s .pre .1 .0 in let H = parts.last-hit (found-as (w .is) (w .stands)) (c .before .if1 .left) in omega (arith, H .at .room, s .good .0 .0))
+    (λ c. let w = c .before .before .before .before .before .before .before .before .pre .1 .0 in let H = parts.last-hit (found-as (w .is) (w .stands)) (c .before .before .if1 .left) in omega (arith, H .at .room))
     (λ c κs. search needs)
-    (λ c. let w = c .before .before .before .before .before .before .before .before .pre .1 .0 in let H = parts.last-hit (c .before .before .before .before .find .ensures (w .steps) (w .is) (w .stands)) (c .before .before .before .if1 .left) in omega (arith, w .fits, parts.hit-length H _ (H .at .op-is)))
-    (λ c. let s = c .before .before .before .before .before .before .before .before .before in let w = s .pre .1 .0 in let H = parts.last-hit (c .before .before .before .before .before .find .ensures (w .steps) (w .is) (w .stands)) (c .before .before .before .before .if1 .left) in omega (arith, w .fits, parts.hit-length H _ (H .at .op-is)))
-    (λ c κs. let s = c .before .before .before .before .before .before .before .before .before in let w = s .pre .1 .0 in let f = c .before .before .before .before .before .find .ensures (w .steps) (w .is) (w .stands) in let H = parts.last-hit f (c .before .before .before .before .if1 .left) in let l = length-set (now (s .args .out)) (s .args .pos) (c .before .lead .result) in (omega (arith, s .pre .0, l, w .fits, parts.hit-length H _ (H .at .op-is)), (record { steps = H .below; is = H .len; stands = H .stands; fits = omega (arith, l, w .fits, parts.hit-length H _ (H .at .op-is)) }, omega (arith, f .low, w .is, s .pre .1 .1))))
-    (λ c κs. let s = c .before .before .before .before .before .before .before .before .before .before .before .before .before in let w = s .pre .1 .0 in let H = parts.last-hit (c .before .before .before .before .before .before .before .before .before .find .ensures (w .steps) (w .is) (w .stands)) (c .before .before .before .before .before .before .before .before .if1 .left) in omega (arith, c .before .before .before .name .kept .1 .1 .1 .1 .1 .0, length-set (now (s .args .out)) (s .args .pos) (c .before .before .before .before .before .lead .result), w .fits, parts.hit-length H _ (H .at .op-is), c .before .before .before .name .ensures (H .below) (H .len) (H .stands) .counted))
-    (λ c. let s = c .before .before .before .before .before .before .before .before .before .before .before .before .before .before .before .before in let w = s .pre .1 .0 in let H = parts.last-hit (c .before .before .before .before .before .before .before .before .before .before .before .before .find .ensures (w .steps) (w .is) (w .stands)) (c .before .before .before .before .before .before .before .before .before .before .before .if1 .left) in omega (arith, H .at .room, s .good .0 .0))
-    (λ c κs. let s = c .before .before .before .before .before .before .before .before .before .before .before .before .before .before .before .before .before in let w = s .pre .1 .0 in let f = c .before .before .before .before .before .before .before .before .before .before .before .before .before .find .ensures (w .steps) (w .is) (w .stands) in let H = parts.last-hit f (c .before .before .before .before .before .before .before .before .before .before .before .before .if1 .left) in let l = c .before .before .before .put-not .kept .1 .0 ∙ c .before .before .before .before .before .before .before .name .kept .1 .1 .1 .1 .1 .0 ∙ length-set (now (s .args .out)) (s .args .pos) (c .before .before .before .before .before .before .before .before .before .lead .result) in let u = c .before .before .before .before .before .before .before .name .ensures (H .below) (H .len) (H .stands) .counted in (omega (arith, s .pre .0, l, w .fits, parts.hit-length H _ (H .at .op-is), u, c .before .before .before .put-not .ensures .counted), (record { steps = H .below; is = H .len; stands = H .stands; what = H .s .what; what-at = H .at .what-at; fits = omega (arith, l, w .fits, parts.hit-length H _ (H .at .op-is), u, c .before .before .before .put-not .ensures .counted) }, omega (arith, f .low, w .is, s .pre .1 .1))))
-    (λ c. let s = c .before .before .before .before .before .before .before .before .before .before .before .before .before .before .before .before .before .before .before .before in c .before .before .emit .kept .1 .1 .1 .1 .1 .0 ∙ c .before .before .before .before .before .before .put-not .kept .1 .0 ∙ c .before .before .before .before .before .before .before .before .before .before .name .kept .1 .1 .1 .1 .1 .0 ∙ length-set (now (s .args .out)) (s .args .pos) (c .before .before .before .before .before .before .before .before .before .before .before .before .lead .result))
-    (λ c. λ σ e i. let H = parts.last-hit (c .before .before .before .before .before .before .before .before .before .before .before .before .before .before .before .before .find .ensures σ e i) (c .before .before .before .before .before .before .before .before .before .before .before .before .before .before .before .if1 .left) in parts.hit-wrote H _ (H .at .op-is) (c .before .before .before .before .before .before .before .before .before .before .before .before .lead .ensures) (c .before .before .before .before .before .before .before .before .before .before .name .ensures (H .below) (H .len) (H .stands)) (c .before .before .before .before .before .before .put-not .ensures) (c .before .before .emit .ensures (H .below) (H .s .what) (H .len) (H .stands) (H .at .what-at)))
+    (λ c. let w = c .before .before .before .before .before .before .before .before .before .pre .1 .0 in let H = parts.last-hit (found-as (w .is) (w .stands)) (c .before .before .before .if1 .left) in omega (arith, w .fits, parts.hit-length H _ (H .at .op-is)))
+    (λ c. omega (arith, c .before .before .before .if1 .left, c .before .before .before .before .before .before .before .before .before .pre .1 .1, c .before .before .before .before .before .before .before .before .before .good .0 .1))
+    (λ c. let w = c .before .before .before .before .before .before .before .before .before .before .pre .1 .2 in omega (arith, c .before .before .before .before .if1 .left, w .high, w .room))
+    (λ c. omega (arith, c .shared-slice-known7 .given (c .before .before .before .before .before .before .before .before .before .before .args .j - 1)))
+    (λ c. let s = c .before .before .before .before .before .before .before .before .before .before .before in let w = s .pre .1 .0 in let H = parts.last-hit (found-as (w .is) (w .stands)) (c .before .before .before .before .before .if1 .left) in omega (arith, w .fits, parts.hit-length H _ (H .at .op-is)))
+    (λ c κs. let s = c .before .before .before .before .before .before .before .before .before .before .before in let w = s .pre .1 .0 in let H = parts.last-hit (found-as (w .is) (w .stands)) (c .before .before .before .before .before .if1 .left) in let r = hit-older (s .pre .1 .2) (w .is) (c .before .before .before .before .before .if1 .left) H in let l = length-set (now (s .args .out)) (s .args .pos) (c .before .before .lead .result) in (omega (arith, s .pre .0, l, w .fits, parts.hit-length H _ (H .at .op-is)), (record { steps = H .below; is = r .0; stands = H .stands; fits = omega (arith, l, w .fits, parts.hit-length H _ (H .at .op-is)) }, omega (arith, r .1, s .pre .1 .1), links-lower (omega (arith, r .1)) (s .pre .1 .2))))
+    (λ c κs. let s = c .before .before .before .before .before .before .before .before .before .before .before .before .before .before .before in let w = s .pre .1 .0 in let H = parts.last-hit (found-as (w .is) (w .stands)) (c .before .before .before .before .before .before .before .before .before .if1 .left) in let r = hit-older (s .pre .1 .2) (w .is) (c .before .before .before .before .before .before .before .before .before .if1 .left) H in omega (arith, c .before .before .before .name .kept .1 .1 .1 .1 .1 .1 .1 .0, length-set (now (s .args .out)) (s .args .pos) (c .before .before .before .before .before .before .lead .result), w .fits, parts.hit-length H _ (H .at .op-is), c .before .before .before .name .ensures (H .below) (r .0) (H .stands) .counted))
+    (λ c. let s = c .before .before .before .before .before .before .before .before .before .before .before .before .before .before .before .before .before .before in let w = s .pre .1 .0 in let H = parts.last-hit (found-as (w .is) (w .stands)) (c .before .before .before .before .before .before .before .before .before .before .before .before .if1 .left) in omega (arith, H .at .room, s .good .0 .0))
+    (λ c κs. let s = c .before .before .before .before .before .before .before .before .before .before .before .before .before .before .before .before .before .before .before in let w = s .pre .1 .0 in let H = parts.last-hit (found-as (w .is) (w .stands)) (c .before .before .before .before .before .before .before .before .before .before .before .before .before .if1 .left) in let r = hit-older (s .pre .1 .2) (w .is) (c .before .before .before .before .before .before .before .before .before .before .before .before .before .if1 .left) H in let l = c .before .before .before .put-not .kept .1 .0 ∙ c .before .before .before .before .before .before .before .name .kept .1 .1 .1 .1 .1 .1 .1 .0 ∙ length-set (now (s .args .out)) (s .args .pos) (c .before .before .before .before .before .before .before .before .before .before .lead .result) in let u = c .before .before .before .before .before .before .before .name .ensures (H .below) (r .0) (H .stands) .counted in (omega (arith, s .pre .0, l, w .fits, parts.hit-length H _ (H .at .op-is), u, c .before .before .before .put-not .ensures .counted), (record { steps = H .below; is = H .len; stands = H .stands; what = H .s .what; what-at = H .at .what-at; fits = omega (arith, l, w .fits, parts.hit-length H _ (H .at .op-is), u, c .before .before .before .put-not .ensures .counted) }, omega (arith, s .pre .1 .1), links-lower (omega arith) (s .pre .1 .2))))
+    (λ c. let s = c .before .before .before .before .before .before .before .before .before .before .before .before .before .before .before .before .before .before .before .before .before .before in c .before .before .emit .kept .1 .1 .1 .1 .1 .1 .1 .0 ∙ c .before .before .before .before .before .before .put-not .kept .1 .0 ∙ c .before .before .before .before .before .before .before .before .before .before .name .kept .1 .1 .1 .1 .1 .1 .1 .0 ∙ length-set (now (s .args .out)) (s .args .pos) (c .before .before .before .before .before .before .before .before .before .before .before .before .before .lead .result))
+    (λ c. λ σ e i. let H = parts.last-hit (found-as e i) (c .before .before .before .before .before .before .before .before .before .before .before .before .before .before .before .before .if1 .left) in parts.hit-wrote H _ (H .at .op-is) (c .before .before .before .before .before .before .before .before .before .before .before .before .before .lead .ensures) (c .before .before .before .before .before .before .before .before .before .before .name .ensures (H .below) (hit-older (c .before .before .before .before .before .before .before .before .before .before .before .before .before .before .before .before .before .before .before .before .before .before .pre .1 .2) e (c .before .before .before .before .before .before .before .before .before .before .before .before .before .before .before .before .if1 .left) H .0) (H .stands)) (c .before .before .before .before .before .before .put-not .ensures) (c .before .before .emit .ensures (H .below) (H .s .what) (H .len) (H .stands) (H .at .what-at)))
     )

@@ -11,7 +11,7 @@ pub open-second-spec : {M : Type 1} → statement M
 open-second-spec = tie.close (tie.spec
     (λ c. search needs)
     (λ c. search needs)
-    (λ c κs. (shown-moved (c .before .before .before .before .pre .0) refl (length-set (now (c .before .before .before .before .args .out)) (c .before .before .before .before .args .pos) 0x26), c .before .before .before .before .pre .1))
-    (λ c. c .before .before .emit .kept .1 .1 .1 .1 .1 .0 ∙ length-set (now (c .before .before .before .before .before .before .before .args .out)) (c .before .before .before .before .before .before .before .args .pos) 0x26)
+    (λ c κs. (shown-moved (c .before .before .before .before .before .before .pre .0) refl (length-set (now (c .before .before .before .before .before .before .args .out)) (c .before .before .before .before .before .before .args .pos) 0x26), c .before .before .before .before .before .before .pre .1, c .before .before .before .before .before .before .pre .2))
+    (λ c. c .before .before .emit .kept .1 .1 .1 .1 .1 .1 .1 .0 ∙ length-set (now (c .before .before .before .before .before .before .before .before .before .args .out)) (c .before .before .before .before .before .before .before .before .before .args .pos) 0x26)
     (λ c. λ σ t e i a. wrote-more (wrote-one _ _ 0x26) (c .before .before .emit .ensures σ t e i a))
     )
