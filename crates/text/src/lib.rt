@@ -161,8 +161,8 @@ fn part(text: &[u8], n: usize, item: u32, at: usize, level: usize) -> Step
 }
 
 // Reads a thing whose first code is on a level, and the steps that follow one another there, along the rows of their codes.
-// It calls itself, through `part`, one level deeper each time and no more than 32 deep, whatever the text: 336 bytes of stack a level,
-// 11 kB in all. Steps that follow one another take no more stack.
+// It calls itself, through `part`, one level deeper each time and no more than 32 deep, whatever the text: 144 bytes of stack a level,
+// 5 kB in all. Steps that follow one another take no more stack.
 // Inner: the sort wanted is a digit from C to F.
 fn read(text: &[u8], n: usize, wanted: u32, at: usize, level: usize) -> Step
     requires { ⌜ (12 ≤ wanted) × (wanted < 16) ⌝ }
