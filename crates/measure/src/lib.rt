@@ -7,12 +7,13 @@ ghost use mathlib.Core.Path.{_≡_};
 ghost use mathlib.Core.Bool.{cond};
 ghost use mathlib.Core.List.{List};
 ghost use Prim.Native.Nat.{ℕ, _+_, _*_, _/_, _%_, _^_, _<_, _≤_, max};
-ghost use lib.Dec.{eqb, ltb};
+ghost use lib.Dec.{eqb};
 ghost use lib.ListN.{length, getD, set, replicate};
 ghost use Rattle.logic.specs.Syntax.{Edit, Expr, rule};
 ghost use Rattle.text.specs.Code.{editCode};
 ghost use Rattle.tree.specs.Tree.{Tree, under, size};
 ghost use Rattle.tree.specs.Sizes.{cut};
+ghost use Rattle.tree.specs.Stack.{touched};
 ghost use Rattle.measure.specs.Shapes.{shapeOf, cell, At, Some};
 ghost use Rattle.measure.specs.State.{Scanned};
 ghost use Rattle.measure.specs.Edits.{EditAt, SomeEdit, EditRoom, StepRoom, Held, Stepped, Prefixed, Backed, PutBefore, EndBefore, NextAt, Pushed, Merged, Kept, Joined};
@@ -136,8 +137,8 @@ fn scan(text: &[u8], at: usize, w: usize, v: usize, state: &mut [usize]) -> usiz
 }
 
 // The code of the names that a step touches.
-fn name_code(op: u8) -> u8
-    ensures { λ r. ⌜ r ≡ cond (ltb op 0x33) 0x03 0x11 ⌝ }
+pub fn name_code(op: u8) -> u8
+    ensures { λ r. ⌜ r ≡ touched op ⌝ }
 {
     if op < 0x33 { 0x03 } else { 0x11 }
 }

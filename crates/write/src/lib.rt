@@ -24,13 +24,6 @@ pub struct Place {
     pub pos: usize,
 }
 
-// The code of the names that a step touches.
-fn name_code(op: u8) -> u8
-    ensures { λ r. ⌜ r ≡ touched op ⌝ }
-{
-    if op < 0x33 { 0x03 } else { 0x11 }
-}
-
 // One more than the index of the last of h steps that touches a name, or 0: from the name's last step down its links.
 // Inner: the stack holds offsets of steps, with their links.
 fn find(edit: &[u8], stack: &[u16], links: &[u16], last: &[u16], h: usize, c: u8, k: u8) -> usize
@@ -192,7 +185,7 @@ fn link(edit: &[u8], at: usize, links: &mut [u16], last: &mut [u16], h: usize)
     requires { ⌜ (at + 1 < length (now edit)) × (h < length (now links)) × (h < 4096) × (length (now last) ≡ 64) × Named (touched (getD (now edit) at 0)) (getD (now edit) (at + 1) 0) ⌝ }
     ensures { λ r. ⌜ Link (now (edit .entry)) at (now (links .entry)) (now (last .entry)) h (now (links .exit)) (now (last .exit)) ⌝ }
 {
-    let i = measure::cell_of(name_code(edit[at]), edit[at + 1]);
+    let i = measure::cell_of(measure::name_code(edit[at]), edit[at + 1]);
     links[h] = last[i];
     last[i] = (h + 1) as u16;
 }
