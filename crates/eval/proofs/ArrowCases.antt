@@ -15,7 +15,7 @@ use Rattle.sheet.specs.Sheet.{graphOf, Rows}
 use Rattle.text.specs.Code.{code}
 use Rattle.text.specs.Stands.{Stands}
 use Rattle.rows.specs.Operations.{arrowOperation}
-use Rattle.eval.specs.Evaluated.{IsSet, IsRelation}
+use Rattle.eval.specs.Evaluated.{IsSet, IsRelation, IsJoined}
 use Rattle.eval.proofs.Places.{first-number, second-number, code-at, inside-at, Operand, Operands, operand-at, operands-at}
 
 module _ (n : ℕ) (text : List ℕ) (at : ℕ) where
@@ -173,16 +173,15 @@ module _ (n : ℕ) (text : List ℕ) (at : ℕ) where
           after = omega (arith, a .after, h .parts .size);
         }
 
-    pub two-relation : IsTwo e → (first second : List ℕ) (nx ny : ℕ)
+    pub two-relation : IsTwo e → (first : List ℕ) (nx ny : ℕ)
         → ((f : Expr arrow) → Stands (ranges n) text (at + 1) f → IsRelation sheet n (at + 1) f first nx)
-        → ((f : Expr arrow) → Stands (ranges n) text nx f → IsRelation sheet n nx f second ny)
-        → ((v w : Pairs) → Rows n v first → Rows n w second → Rows n (λ i j. arrowOperation (getD text at 0) (v i j) (w i j)) out)
+        → ((f : Expr arrow) → Stands (ranges n) text nx f → IsJoined sheet n nx (getD text at 0) f first out ny)
         → IsRelation sheet n at e out ny
-    two-relation h first second nx ny p q r =
+    two-relation h first nx ny p q =
         let a = p (h .R) (h .parts .first) in
         let b = q (h .S) (h .parts .second nx (a .after)) in
         record {
-          rows-are = subst (λ (v : Pairs). Rows n v out) (sym (h .means (graphOf sheet))) (r (value (graphOf sheet) (h .R)) (value (graphOf sheet) (h .S)) (a .rows-are) (b .rows-are));
+          rows-are = subst (λ (v : Pairs). Rows n v out) (sym (h .means (graphOf sheet))) (b .rows-are (value (graphOf sheet) (h .R)) (a .rows-are));
           after = omega (arith, a .after, b .after, h .parts .size);
         }
 
@@ -199,3 +198,32 @@ module _ (n : ℕ) (text : List ℕ) (at : ℕ) where
           rows-are = subst (λ (f : Expr arrow). Rows n (value (graphOf sheet) f) out) (sym (h .is)) (r (value (graphOf sheet) (h .R)) (value (graphOf sheet) (h .E)) (a .rows-are) (b .set));
           after = omega (arith, a .after, b .after, h .parts .size);
         }
+
+  module _ (sheet : List ℕ) (c : ℕ) (e : Expr arrow) (old out : List ℕ) where
+    pub kind-joined : IsKind e → ((v : Pairs) → Rows n v old → Rows n (λ i j. arrowOperation c (v i j) (graphOf sheet .joined (getD text (at + 1) 0) i j)) out) → IsJoined sheet n at c e old out (at + 2)
+    unfolding value
+    kind-joined h r =
+        record {
+          rows-are = λ v p.
+              subst (λ (f : Expr arrow). Rows n (λ i j. arrowOperation c (v i j) (value (graphOf sheet) f i j)) out) (sym (h .is))
+              (subst (λ (a : ℕ). Rows n (λ i j. arrowOperation c (v i j) (graphOf sheet .joined a i j)) out) (h .reads) (r v p));
+          after = omega (arith, h .size);
+        }
+
+    pub pair-joined : IsPair e
+        → ((v : Pairs) → Rows n v old → Rows n (λ k l. arrowOperation c (v k l) ((isNode (graphOf sheet) k && eqb k (getD text (at + 1) 0)) && (isNode (graphOf sheet) l && eqb l (getD text (at + 2) 0)))) out)
+        → IsJoined sheet n at c e old out (at + 3)
+    unfolding value
+    pair-joined h r =
+        record {
+          rows-are = λ v p.
+              subst (λ (f : Expr arrow). Rows n (λ i j. arrowOperation c (v i j) (value (graphOf sheet) f i j)) out) (sym (h .is))
+              (subst (λ (i : ℕ). Rows n (λ k l. arrowOperation c (v k l) ((isNode (graphOf sheet) k && eqb k i) && (isNode (graphOf sheet) l && eqb l (h .j)))) out) (h .reads-i)
+              (subst (λ (j : ℕ). Rows n (λ k l. arrowOperation c (v k l) ((isNode (graphOf sheet) k && eqb k (getD text (at + 1) 0)) && (isNode (graphOf sheet) l && eqb l j))) out) (h .reads-j) (r v p)));
+          after = omega (arith, h .size);
+        }
+
+    pub apart-joined : (other : List ℕ) (nx : ℕ) → IsRelation sheet n at e other nx
+        → ((v w : Pairs) → Rows n v old → Rows n w other → Rows n (λ i j. arrowOperation c (v i j) (w i j)) out)
+        → IsJoined sheet n at c e old out nx
+    apart-joined other nx a r = record { rows-are = λ v p. r v (value (graphOf sheet) e) p (a .rows-are); after = a .after }

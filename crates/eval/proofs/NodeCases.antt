@@ -1,24 +1,72 @@
 -- The cases of a node expression by its code byte, and the set that each means.
 use mathlib.Core.Path.{_≡_, refl, sym, ap, ap₂, _∙_, subst}
-use mathlib.Core.Bool.{not, _&&_}
+use mathlib.Core.Bool.{Bool, true, false, not, _&&_, _||_, cond, and-true, and-false}
 use mathlib.Core.List.{List, [], _∷_}
-use Prim.Native.Nat.{ℕ, _+_, _-_, _≤_, _<_}
+use Prim.Native.Nat.{ℕ, _+_, _-_, _^_, _≤_, _<_}
 use native.Mathlib.Omega.{arith}
-use lib.Dec.{eqb, lit<, ltb→lt}
+use lib.Dec.{eqb, leb, lit<, ltb→lt}
+use borrow.Author.Tests.{lt-ltb}
 use lib.ListN.{length, getD, drop}
 use Rattle.logic.specs.Syntax.{node, arrow, Expr, all, none, label, nominal, complement, and, or, some, every, atLeast, atMost}
 use Rattle.logic.specs.Graph.{Graph, Nodes, Pairs, isNode}
 use Rattle.logic.specs.Meaning.{value}
 use Rattle.logic.specs.Limits.{ranges, InRange}
-use Rattle.words.specs.Words.{setOf, combined}
-use Rattle.words.proofs.SetLaws.{setOf-none, combined-sets}
+use Rattle.words.specs.Words.{setOf, member, combined}
+use Rattle.words.proofs.SetLaws.{setOf-cong, setOf-none, setOf-member-lt, member-setOf, combined-sets}
+use Rattle.words.proofs.MemberLaws.{count-cong}
 use Rattle.sheet.specs.Sheet.{graphOf, Rows}
 use Rattle.text.specs.Code.{code}
 use Rattle.text.specs.Stands.{Stands}
-use Rattle.rows.specs.Operations.{nodeOperation, quantified, quantifiedNodes}
-use Rattle.rows.proofs.Laws.{node-operation-none}
-use Rattle.eval.specs.Evaluated.{Opened, IsSet, IsRelation}
+use Rattle.rows.specs.Operations.{quantified, quantifiedNodes, answered, least, looked, turn}
+use Rattle.rows.proofs.Walks.{member-zero}
+use Rattle.rows.proofs.Quantifiers.{quantified-is, set-small}
+use Rattle.eval.specs.Evaluated.{Opened, IsSet, IsPart, IsRelation, IsTurned}
+use Rattle.eval.proofs.ArrowCases.{IsKind, as-kind}
 use Rattle.eval.proofs.Places.{first-number, code-at, inside-at, Operand, Operands, operand-at, operands-at}
+
+-- below n there is a node
+pub node-there : (sheet : List ℕ) (n : ℕ) → n ≡ graphOf sheet .n → (i : ℕ) → i < n → isNode (graphOf sheet) i ≡ true
+unfolding isNode
+node-there sheet n e i l = lt-ltb i (graphOf sheet .n) (omega (arith, e))
+
+-- asked of all nodes, the part is the whole
+pub part-whole : (sheet : List ℕ) (n all : ℕ) → Opened sheet n all → (e : Expr node) (x : ℕ) → x ≡ setOf n (λ i. member all i && value (graphOf sheet) e i) → x ≡ setOf n (value (graphOf sheet) e)
+part-whole sheet n w o e x h =
+    h ∙ setOf-cong n _ _ (λ i l. ap (_&& value (graphOf sheet) e i) (ap (λ (y : ℕ). member y i) (o .nodes) ∙ member-setOf n (isNode (graphOf sheet)) i l ∙ node-there sheet n (o .count) i l))
+
+pub is-whole : {sheet : List ℕ} {n all at : ℕ} {e : Expr node} {x next : ℕ} → Opened sheet n all → IsPart sheet n at e all x next → IsSet sheet n at e x next
+is-whole {sheet = sheet} {n = n} {all = w} {e = e} {x = x} o h = record { set = part-whole sheet n w o e x (h .set); after = h .after }
+
+pub part-small : {sheet : List ℕ} {n at : ℕ} {e : Expr node} {within x next : ℕ} → IsPart sheet n at e within x next → x < 2 ^ n
+part-small {n = n} h = set-small n _ (h .set)
+
+pub all-small : {sheet : List ℕ} {n all : ℕ} → Opened sheet n all → all < 2 ^ n
+all-small {sheet} {n} o = set-small n (isNode (graphOf sheet)) (o .nodes)
+
+pub all-true : {sheet : List ℕ} {n all : ℕ} → Opened sheet n all → all ≡ setOf n (λ i. true)
+all-true {sheet} {n} o = o .nodes ∙ setOf-cong n _ _ (λ i l. node-there sheet n (o .count) i l)
+
+pub minus-small : (n within x w : ℕ) → n ≤ 64 → within < 2 ^ n → x < 2 ^ n → w ≡ combined (λ a b. a && not b) within x → w < 2 ^ n
+minus-small n within x w h p q e =
+    set-small n _ (e ∙ ap₂ (combined (λ a b. a && not b)) (sym (setOf-member-lt n within p)) (sym (setOf-member-lt n x q)) ∙ combined-sets (λ a b. a && not b) refl n (member within) (member x) h)
+
+-- asked of none, there is none
+pub nothing-asked : (n within : ℕ) (p : Nodes) → within ≡ 0 → 0 ≡ setOf n (λ i. member within i && p i)
+nothing-asked n within p e = sym (setOf-cong n _ (λ i. false) (λ i l. ap (_&& p i) (ap (λ (x : ℕ). member x i) e ∙ member-zero i)) ∙ setOf-none n)
+
+quantified-cong : (c m n : ℕ) (v w u : Nodes) → ((j : ℕ) → j < n → w j ≡ u j) → quantified c m n v w ≡ quantified c m n v u
+quantified-cong c m n v w u h =
+    quantified-is c m n v w
+    ∙ ap (answered c) (ap (leb (least c m)) (count-cong n _ _ (λ j l. ap (λ (b : Bool). v j && looked c b) (h j l))))
+    ∙ sym (quantified-is c m n v u)
+
+nodes-there : (c m n : ℕ) (nodes : Nodes) (v : Pairs) (w : Nodes) (i : ℕ) → nodes i ≡ true → quantified c m n (v i) w ≡ quantifiedNodes c m n nodes v w i
+unfolding quantifiedNodes
+nodes-there c m n nodes v w i e = go (eqb c 0x08) (quantified c m n (v i) w)
+  where
+    go : (b q : Bool) → q ≡ cond b q (nodes i && q)
+    go true q = refl
+    go false q = sym (ap (_&& q) e)
 
 module _ (n : ℕ) (text : List ℕ) (at : ℕ) where
   -- 01 to 04
@@ -66,34 +114,41 @@ module _ (n : ℕ) (text : List ℕ) (at : ℕ) where
   leaf-node (is-label c l e r) p = absurd (omega arith)
   leaf-node (is-nominal c l e r) p = omega arith
 
-  module _ (sheet : List ℕ) (z : ℕ) where
-    pub all-set : {e : Expr node} → Leaf e → getD text at 0 ≤ 0x01 → z ≡ setOf n (isNode (graphOf sheet)) → IsSet sheet n at e z (at + 1)
+  module _ (sheet : List ℕ) (count : n ≡ graphOf sheet .n) (within z : ℕ) (small : within < 2 ^ n) where
+    pub all-set : {e : Expr node} → Leaf e → getD text at 0 ≤ 0x01 → z ≡ within → IsPart sheet n at e within z (at + 1)
     unfolding code value
-    all-set (is-all c l) p h = record { set = h; after = refl }
+    all-set (is-all c l) p h = record { set = h ∙ sym (setOf-member-lt n within small) ∙ setOf-cong n _ _ (λ i l. sym (ap (member within i &&_) (node-there sheet n count i l) ∙ and-true (member within i))); after = refl }
     all-set (is-none c l) p h = absurd (omega arith)
     all-set (is-label c l e r) p h = absurd (omega arith)
     all-set (is-nominal c l e r) p h = absurd (omega arith)
 
-    pub none-set : {e : Expr node} → Leaf e → 0x01 < getD text at 0 → getD text at 0 ≤ 0x02 → z ≡ 0 → IsSet sheet n at e z (at + 1)
+    pub none-set : {e : Expr node} → Leaf e → 0x01 < getD text at 0 → getD text at 0 ≤ 0x02 → z ≡ 0 → IsPart sheet n at e within z (at + 1)
     unfolding code value
     none-set (is-all c l) p q h = absurd (omega arith)
-    none-set (is-none c l) p q h = record { set = h ∙ sym (setOf-none n); after = refl }
+    none-set (is-none c l) p q h = record { set = h ∙ sym (setOf-none n) ∙ setOf-cong n _ _ (λ i l. sym (and-false (member within i))); after = refl }
     none-set (is-label c l e r) p q h = absurd (omega arith)
     none-set (is-nominal c l e r) p q h = absurd (omega arith)
 
-    pub label-set : {e : Expr node} → Leaf e → 0x02 < getD text at 0 → getD text at 0 ≤ 0x03 → n ≡ graphOf sheet .n → z ≡ setOf (graphOf sheet .n) (graphOf sheet .labelled (getD text (at + 1) 0)) → IsSet sheet n at e z (at + 2)
+    pub label-set : {e : Expr node} → Leaf e → 0x02 < getD text at 0 → getD text at 0 ≤ 0x03 → n ≤ 64 → (x : ℕ) → x ≡ setOf (graphOf sheet .n) (graphOf sheet .labelled (getD text (at + 1) 0)) → z ≡ combined _&&_ within x → IsPart sheet n at e within z (at + 2)
     unfolding code value
-    label-set (is-all c l) p q m h = absurd (omega arith)
-    label-set (is-none c l) p q m h = absurd (omega arith)
-    label-set (is-label c l e r) p q m h = record { set = h ∙ ap₂ (λ (j k : ℕ). setOf j (graphOf sheet .labelled k)) (sym m) e; after = refl }
-    label-set (is-nominal c l e r) p q m h = absurd (omega arith)
+    label-set (is-all c l) p q m x h d = absurd (omega arith)
+    label-set (is-none c l) p q m x h d = absurd (omega arith)
+    label-set {e} (is-label {k} c l e₁ r) p q m x h d =
+        record {
+          set =
+              d ∙ ap₂ (combined _&&_) (sym (setOf-member-lt n within small)) (h ∙ ap₂ (λ (j k : ℕ). setOf j (graphOf sheet .labelled k)) (sym count) e₁)
+              ∙ combined-sets _&&_ refl n (member within) (graphOf sheet .labelled k) m;
+          after = refl;
+        }
+    label-set (is-nominal c l e r) p q m x h d = absurd (omega arith)
 
-    pub nominal-set : {e : Expr node} → Leaf e → 0x03 < getD text at 0 → z ≡ setOf n (λ k. isNode (graphOf sheet) k && eqb k (getD text (at + 1) 0)) → IsSet sheet n at e z (at + 2)
+    pub nominal-set : {e : Expr node} → Leaf e → 0x03 < getD text at 0 → z ≡ setOf n (λ k. member within k && eqb k (getD text (at + 1) 0)) → IsPart sheet n at e within z (at + 2)
     unfolding code value
     nominal-set (is-all c l) p h = absurd (omega arith)
     nominal-set (is-none c l) p h = absurd (omega arith)
     nominal-set (is-label c l e r) p h = absurd (omega arith)
-    nominal-set (is-nominal c l e r) p h = record { set = h ∙ ap (λ (i : ℕ). setOf n (λ k. isNode (graphOf sheet) k && eqb k i)) e; after = refl }
+    nominal-set (is-nominal {i} c l e r) p h =
+        record { set = h ∙ setOf-cong n _ _ (λ k o. ap (member within k &&_) (ap (eqb k) e ∙ ap (_&& eqb k i) (sym (node-there sheet n count k o)))); after = refl }
 
   -- 05
   pub record IsComplement (e : Expr node) : Type 0 where
@@ -115,38 +170,47 @@ module _ (n : ℕ) (text : List ℕ) (at : ℕ) where
   as-complement (atLeast m R E) h l u = absurd (omega (arith, code-at _ text at _ h))
   as-complement (atMost m R E) h l u = absurd (omega (arith, code-at _ text at _ h))
 
-  -- 06, 07
-  pub record IsTwo (e : Expr node) : Type 0 where
+  -- 06
+  pub record IsAnd (e : Expr node) : Type 0 where
     pub E : Expr node
     pub F : Expr node
-    pub means : (g : Graph) → value g e ≡ (λ i. nodeOperation (getD text at 0) (value g E i) (value g F i))
+    pub is : e ≡ and E F
     pub parts : Operands (ranges n) text at 1 e E F
 
-  pub as-two : (e : Expr node) → Stands (ranges n) text at e → 0x05 < getD text at 0 → getD text at 0 ≤ 0x07 → IsTwo e
-  unfolding code InRange value
-  as-two (and E F) h l u =
-      record {
-        E = E;
-        F = F;
-        means = λ g. sym (ap {B = Nodes} (λ c i. nodeOperation c (value g E i) (value g F i)) (code-at _ text at _ h));
-        parts = operands-at _ text at (0x06 ∷ []) _ h E F refl (h .range .0) (h .range .1);
-      }
-  as-two (or E F) h l u =
-      record {
-        E = E;
-        F = F;
-        means = λ g. sym (ap {B = Nodes} (λ c i. nodeOperation c (value g E i) (value g F i)) (code-at _ text at _ h));
-        parts = operands-at _ text at (0x07 ∷ []) _ h E F refl (h .range .0) (h .range .1);
-      }
-  as-two all h l u = absurd (omega (arith, code-at _ text at _ h))
-  as-two none h l u = absurd (omega (arith, code-at _ text at _ h))
-  as-two (label k) h l u = absurd (omega (arith, code-at _ text at _ h))
-  as-two (nominal i) h l u = absurd (omega (arith, code-at _ text at _ h))
-  as-two (complement E) h l u = absurd (omega (arith, code-at _ text at _ h))
-  as-two (some R E) h l u = absurd (omega (arith, code-at _ text at _ h))
-  as-two (every R E) h l u = absurd (omega (arith, code-at _ text at _ h))
-  as-two (atLeast m R E) h l u = absurd (omega (arith, code-at _ text at _ h))
-  as-two (atMost m R E) h l u = absurd (omega (arith, code-at _ text at _ h))
+  pub as-and : (e : Expr node) → Stands (ranges n) text at e → 0x05 < getD text at 0 → getD text at 0 ≤ 0x06 → IsAnd e
+  unfolding code InRange
+  as-and (and E F) h l u = record { E = E; F = F; is = refl; parts = operands-at _ text at (0x06 ∷ []) _ h E F refl (h .range .0) (h .range .1) }
+  as-and all h l u = absurd (omega (arith, code-at _ text at _ h))
+  as-and none h l u = absurd (omega (arith, code-at _ text at _ h))
+  as-and (label k) h l u = absurd (omega (arith, code-at _ text at _ h))
+  as-and (nominal i) h l u = absurd (omega (arith, code-at _ text at _ h))
+  as-and (complement E) h l u = absurd (omega (arith, code-at _ text at _ h))
+  as-and (or E F) h l u = absurd (omega (arith, code-at _ text at _ h))
+  as-and (some R E) h l u = absurd (omega (arith, code-at _ text at _ h))
+  as-and (every R E) h l u = absurd (omega (arith, code-at _ text at _ h))
+  as-and (atLeast m R E) h l u = absurd (omega (arith, code-at _ text at _ h))
+  as-and (atMost m R E) h l u = absurd (omega (arith, code-at _ text at _ h))
+
+  -- 07
+  pub record IsOr (e : Expr node) : Type 0 where
+    pub E : Expr node
+    pub F : Expr node
+    pub is : e ≡ or E F
+    pub parts : Operands (ranges n) text at 1 e E F
+
+  pub as-or : (e : Expr node) → Stands (ranges n) text at e → 0x06 < getD text at 0 → getD text at 0 ≤ 0x07 → IsOr e
+  unfolding code InRange
+  as-or (or E F) h l u = record { E = E; F = F; is = refl; parts = operands-at _ text at (0x07 ∷ []) _ h E F refl (h .range .0) (h .range .1) }
+  as-or all h l u = absurd (omega (arith, code-at _ text at _ h))
+  as-or none h l u = absurd (omega (arith, code-at _ text at _ h))
+  as-or (label k) h l u = absurd (omega (arith, code-at _ text at _ h))
+  as-or (nominal i) h l u = absurd (omega (arith, code-at _ text at _ h))
+  as-or (complement E) h l u = absurd (omega (arith, code-at _ text at _ h))
+  as-or (and E F) h l u = absurd (omega (arith, code-at _ text at _ h))
+  as-or (some R E) h l u = absurd (omega (arith, code-at _ text at _ h))
+  as-or (every R E) h l u = absurd (omega (arith, code-at _ text at _ h))
+  as-or (atLeast m R E) h l u = absurd (omega (arith, code-at _ text at _ h))
+  as-or (atMost m R E) h l u = absurd (omega (arith, code-at _ text at _ h))
 
   -- 08 to 0B, the operands k bytes on
   pub record IsQuantifier (k : ℕ) (e : Expr node) : Type 0 where
@@ -182,52 +246,122 @@ module _ (n : ℕ) (text : List ℕ) (at : ℕ) where
   as-quantifier (and E F) h l k f g = absurd (omega (arith, code-at _ text at _ h))
   as-quantifier (or E F) h l k f g = absurd (omega (arith, code-at _ text at _ h))
 
-  module _ (sheet : List ℕ) (all : ℕ) (o : Opened sheet n all) (e : Expr node) where
+  module _ (sheet : List ℕ) (all : ℕ) (o : Opened sheet n all) (within : ℕ) (small : within < 2 ^ n) (e : Expr node) where
     pub complement-set : IsComplement e → (x nx z : ℕ)
-        → ((f : Expr node) → Stands (ranges n) text (at + 1) f → IsSet sheet n (at + 1) f x nx)
-        → z ≡ combined (λ a b. a && not b) all x
-        → IsSet sheet n at e z nx
+        → ((f : Expr node) → Stands (ranges n) text (at + 1) f → IsPart sheet n (at + 1) f within x nx)
+        → z ≡ combined (λ a b. a && not b) within x
+        → IsPart sheet n at e within z nx
     unfolding value
     complement-set h x nx z p r =
+        let g = graphOf sheet in
         let a = p (h .E) (h .parts .first) in
         record {
           set =
-              r ∙ ap₂ (combined (λ a b. a && not b)) (o .nodes) (a .set)
-              ∙ combined-sets (λ a b. a && not b) refl n (isNode (graphOf sheet)) (value (graphOf sheet) (h .E)) (omega (arith, o .few))
-              ∙ ap (λ (f : Expr node). setOf n (value (graphOf sheet) f)) (sym (h .is));
+              r ∙ ap₂ (combined (λ a b. a && not b)) (sym (setOf-member-lt n within small)) (a .set)
+              ∙ combined-sets (λ a b. a && not b) refl n (member within) (λ i. member within i && value g (h .E) i) (omega (arith, o .few))
+              ∙ setOf-cong n _ (λ i. member within i && value g (complement (h .E)) i) (λ i l. go (member within i) (value g (h .E) i) ∙ ap (λ (b : Bool). member within i && (b && not (value g (h .E) i))) (sym (node-there sheet n (o .count) i l)))
+              ∙ ap (λ (f : Expr node). setOf n (λ i. member within i && value g f i)) (sym (h .is));
           after = omega (arith, a .after, h .parts .size);
         }
+      where
+        go : (a b : Bool) → (a && not (a && b)) ≡ (a && (true && not b))
+        go true b = refl
+        go false b = refl
 
-    pub two-set : IsTwo e → (x nx y ny z : ℕ)
-        → ((f : Expr node) → Stands (ranges n) text (at + 1) f → IsSet sheet n (at + 1) f x nx)
-        → ((f : Expr node) → Stands (ranges n) text nx f → IsSet sheet n nx f y ny)
-        → z ≡ combined (nodeOperation (getD text at 0)) x y
-        → IsSet sheet n at e z ny
-    two-set h x nx y ny z p q r =
-        let c = getD text at 0 in
+    pub and-set : IsAnd e → (x nx y ny : ℕ)
+        → ((f : Expr node) → Stands (ranges n) text (at + 1) f → IsPart sheet n (at + 1) f within x nx)
+        → ((f : Expr node) → Stands (ranges n) text nx f → IsPart sheet n nx f x y ny)
+        → IsPart sheet n at e within y ny
+    unfolding value
+    and-set h x nx y ny p q =
+        let g = graphOf sheet in
         let a = p (h .E) (h .parts .first) in
         let b = q (h .F) (h .parts .second nx (a .after)) in
         record {
           set =
-              r ∙ ap₂ (combined (nodeOperation c)) (a .set) (b .set)
-              ∙ combined-sets (nodeOperation c) (node-operation-none c) n (value (graphOf sheet) (h .E)) (value (graphOf sheet) (h .F)) (omega (arith, o .few))
-              ∙ ap (setOf n) (sym (h .means (graphOf sheet)));
+              b .set
+              ∙ setOf-cong n _ (λ i. member within i && value g (and (h .E) (h .F)) i) (λ i l. ap (_&& value g (h .F) i) (ap (λ (z : ℕ). member z i) (a .set) ∙ member-setOf n (λ i. member within i && value g (h .E) i) i l) ∙ go (member within i) (value g (h .E) i) (value g (h .F) i))
+              ∙ ap (λ (f : Expr node). setOf n (λ i. member within i && value g f i)) (sym (h .is));
           after = omega (arith, a .after, b .after, h .parts .size);
         }
+      where
+        go : (a b c : Bool) → ((a && b) && c) ≡ (a && (b && c))
+        go true b c = refl
+        go false b c = refl
 
-    pub quantifier-set : (k : ℕ) → IsQuantifier k e → (rows : List ℕ) (x nx ny z : ℕ)
-        → ((f : Expr arrow) → Stands (ranges n) text (at + k) f → IsRelation sheet n (at + k) f rows nx)
-        → ((f : Expr node) → Stands (ranges n) text nx f → IsSet sheet n nx f x ny)
-        → ((nodes : Nodes) (v : Pairs) (w : Nodes) → all ≡ setOf n nodes → Rows n v rows → x ≡ setOf n w → z ≡ setOf n (quantifiedNodes (getD text at 0) (getD text (at + k - 1) 0) n nodes v w))
-        → IsSet sheet n at e z ny
-    quantifier-set k h rows x nx ny z p q r =
+    pub or-set : IsOr e → (x nx w y ny z : ℕ)
+        → ((f : Expr node) → Stands (ranges n) text (at + 1) f → IsPart sheet n (at + 1) f within x nx)
+        → w ≡ combined (λ a b. a && not b) within x
+        → ((f : Expr node) → Stands (ranges n) text nx f → IsPart sheet n nx f w y ny)
+        → z ≡ combined _||_ x y
+        → IsPart sheet n at e within z ny
+    unfolding value
+    or-set h x nx w y ny z p s q r =
         let g = graphOf sheet in
-        let a = p (h .R) (h .parts .first) in
-        let b = q (h .E) (h .parts .second nx (a .after)) in
+        let a = p (h .E) (h .parts .first) in
+        let b = q (h .F) (h .parts .second nx (a .after)) in
+        let rest : w ≡ setOf n (λ i. member within i && not (member within i && value g (h .E) i)) =
+        s ∙ ap₂ (combined (λ a b. a && not b)) (sym (setOf-member-lt n within small)) (a .set)
+        ∙ combined-sets (λ a b. a && not b) refl n (member within) (λ i. member within i && value g (h .E) i) (omega (arith, o .few)) in
         record {
           set =
-              r (isNode g) (value g (h .R)) (value g (h .E)) (o .nodes) (a .rows-are) (b .set)
-              ∙ ap (λ (m : ℕ). setOf n (quantifiedNodes (getD text at 0) (getD text (at + k - 1) 0) m (isNode g) (value g (h .R)) (value g (h .E)))) (o .count)
-              ∙ ap (setOf n) (sym (h .means g));
+              r ∙ ap₂ (combined _||_) (a .set) (b .set)
+              ∙ combined-sets _||_ refl n (λ i. member within i && value g (h .E) i) (λ i. member w i && value g (h .F) i) (omega (arith, o .few))
+              ∙ setOf-cong n _ (λ i. member within i && value g (or (h .E) (h .F)) i) (λ i l. ap (λ (c : Bool). (member within i && value g (h .E) i) || (c && value g (h .F) i)) (ap (λ (z : ℕ). member z i) rest ∙ member-setOf n _ i l) ∙ go (member within i) (value g (h .E) i) (value g (h .F) i))
+              ∙ ap (λ (f : Expr node). setOf n (λ i. member within i && value g f i)) (sym (h .is));
           after = omega (arith, a .after, b .after, h .parts .size);
         }
+      where
+        go : (a b c : Bool) → ((a && b) || ((a && not (a && b)) && c)) ≡ (a && (b || c))
+        go true true c = refl
+        go true false c = refl
+        go false b c = refl
+
+    quantifier-part : (k : ℕ) (h : IsQuantifier k e) (turned : Bool) (next x nx ny z : ℕ) (d : IsTurned n text (at + k) (h .R) turned next)
+        → nx ≡ next + length (code (d .R))
+        → ((f : Expr node) → Stands (ranges n) text nx f → IsPart sheet n nx f all x ny)
+        → z ≡ setOf n (λ i. member within i && quantified (getD text at 0) (getD text (at + k - 1) 0) n (turn turned (value (graphOf sheet) (d .R)) i) (member x))
+        → IsPart sheet n at e within z ny
+    quantifier-part k h turned next x nx ny z d s q r =
+        let g = graphOf sheet in
+        let c = getD text at 0 in
+        let m = getD text (at + k - 1) 0 in
+        let b = q (h .E) (h .parts .second nx (omega (arith, d .after, s))) in
+        let ends : (i : ℕ) → quantified c m n (value g (h .R) i) (member x) ≡ quantified c m n (value g (h .R) i) (value g (h .E)) =
+        λ i. quantified-cong c m n (value g (h .R) i) _ _ (λ j l. ap (λ (y : ℕ). member y j) (part-whole sheet n all o (h .E) x (b .set)) ∙ member-setOf n (value g (h .E)) j l) in
+        record {
+          set =
+              r
+              ∙ setOf-cong n _ _ (λ i l. ap (member within i &&_) (
+              ap (λ (v : Pairs). quantified c m n (v i) (member x)) (sym (d .means g)) ∙ ends i
+              ∙ ap (λ (y : ℕ). quantified c m y (value g (h .R) i) (value g (h .E))) (o .count)
+              ∙ nodes-there c m (g .n) (isNode g) (value g (h .R)) (value g (h .E)) i (node-there sheet n (o .count) i l)
+              ∙ ap (λ (v : Nodes). v i) (sym (h .means g))));
+          after = omega (arith, d .after, s, b .after, h .parts .size);
+        }
+
+    pub quantifier-set : (k : ℕ) → IsQuantifier k e → (turned : Bool) (next : ℕ) (rows : List ℕ) (x nx ny z : ℕ)
+        → ((f : Expr arrow) → Stands (ranges n) text (at + k) f → IsTurned n text (at + k) f turned next)
+        → ((f : Expr arrow) → Stands (ranges n) text next f → IsRelation sheet n next f rows nx)
+        → ((f : Expr node) → Stands (ranges n) text nx f → IsPart sheet n nx f all x ny)
+        → ((v : Pairs) → Rows n v rows → z ≡ setOf n (λ i. member within i && quantified (getD text at 0) (getD text (at + k - 1) 0) n (turn turned v i) (member x)))
+        → IsPart sheet n at e within z ny
+    quantifier-set k h turned next rows x nx ny z t p q r =
+        let d = t (h .R) (h .parts .first) in
+        let a = p (d .R) (d .stands) in
+        quantifier-part k h turned next x nx ny z d (a .after) q (r (value (graphOf sheet) (d .R)) (a .rows-are))
+
+    -- over 11, or 12 11
+    pub quantifier-kind : (k : ℕ) → IsQuantifier k e → (turned : Bool) (next x ny z : ℕ)
+        → ((f : Expr arrow) → Stands (ranges n) text (at + k) f → IsTurned n text (at + k) f turned next)
+        → getD text next 0 ≤ 0x11
+        → ((f : Expr node) → Stands (ranges n) text (next + 2) f → IsPart sheet n (next + 2) f all x ny)
+        → z ≡ setOf n (λ i. member within i && quantified (getD text at 0) (getD text (at + k - 1) 0) n (turn turned (graphOf sheet .joined (getD text (next + 1) 0)) i) (member x))
+        → IsPart sheet n at e within z ny
+    unfolding value
+    quantifier-kind k h turned next x ny z t l q r =
+        let g = graphOf sheet in
+        let d = t (h .R) (h .parts .first) in
+        let w = as-kind n text next (d .R) (d .stands) l in
+        quantifier-part k h turned next x (next + 2) ny z d (omega (arith, w .size)) q
+        (r ∙ ap (λ (v : Pairs). setOf n (λ i. member within i && quantified (getD text at 0) (getD text (at + k - 1) 0) n (turn turned v i) (member x))) (ap (g .joined) (w .reads) ∙ ap (λ (f : Expr arrow). value g f) (sym (w .is))))

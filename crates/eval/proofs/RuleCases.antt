@@ -1,21 +1,29 @@
 -- The cases of a rule by its code byte, and when each holds.
 use mathlib.Core.Path.{_≡_, refl, sym, ap, ap₂, _∙_}
-use mathlib.Core.Bool.{Bool, not}
+use mathlib.Core.Bool.{Bool, true, false, not, _&&_, _||_, cond}
 use mathlib.Core.List.{List, [], _∷_}
-use Prim.Native.Nat.{ℕ, _+_, _≤_, _<_}
+use Prim.Native.Nat.{ℕ, zero, suc, _+_, _≤_, _<_}
 use native.Mathlib.Omega.{arith}
-use lib.Dec.{ltb→lt}
-use lib.ListN.{getD}
+use lib.Dec.{eqb, ltb→lt}
+use borrow.Author.Tests.{eq-eqb}
+use lib.ListN.{length, getD}
 use Rattle.logic.specs.Syntax.{node, arrow, rule, Expr, subNodes, subArrows, nodeIn, pairIn, both, either, notRule}
-use Rattle.logic.specs.Graph.{Graph, Nodes, Pairs, allBelow, implies}
+use Rattle.logic.specs.Graph.{Graph, Nodes, Pairs, isNode, allBelow, implies}
 use Rattle.logic.specs.Meaning.{value}
 use Rattle.logic.specs.Limits.{ranges, InRange}
-use Rattle.words.specs.Words.{setOf}
+use Rattle.words.specs.Words.{setOf, member}
+use Rattle.words.proofs.SetLaws.{member-setOf}
 use Rattle.sheet.specs.Sheet.{graphOf, Rows}
 use Rattle.text.specs.Code.{code}
 use Rattle.text.specs.Stands.{Stands}
-use Rattle.eval.specs.Evaluated.{Opened, IsSet, IsRelation, IsTruth, ruleOperation}
+use Rattle.eval.specs.Evaluated.{Opened, IsPart, IsRelation, IsTruth, ruleOperation, decided}
+use Rattle.eval.proofs.NodeCases.{node-there, part-whole}
 use Rattle.eval.proofs.Places.{first-number, second-number, code-at, Operand, Operands, operand-at, operands-at}
+
+all-cong : (n : ℕ) (p q : Nodes) → ((i : ℕ) → i < n → p i ≡ q i) → allBelow n p ≡ allBelow n q
+unfolding allBelow
+all-cong zero p q h = refl
+all-cong (suc n) p q h = ap₂ _&&_ (all-cong n p q (λ i l. h i (omega arith))) (h n (omega arith))
 
 module _ (n : ℕ) (text : List ℕ) (at : ℕ) where
   -- 21
@@ -159,8 +167,8 @@ module _ (n : ℕ) (text : List ℕ) (at : ℕ) where
 
   module _ (sheet : List ℕ) (all : ℕ) (o : Opened sheet n all) (e : Expr rule) (b : Bool) where
     pub sub-nodes-truth : IsSubNodes e → (x nx y ny : ℕ)
-        → ((f : Expr node) → Stands (ranges n) text (at + 1) f → IsSet sheet n (at + 1) f x nx)
-        → ((f : Expr node) → Stands (ranges n) text nx f → IsSet sheet n nx f y ny)
+        → ((f : Expr node) → Stands (ranges n) text (at + 1) f → IsPart sheet n (at + 1) f all x nx)
+        → ((f : Expr node) → Stands (ranges n) text nx f → IsPart sheet n nx f x y ny)
         → ((m : ℕ) (v w : Nodes) → m ≤ 64 → x ≡ setOf m v → y ≡ setOf m w → b ≡ allBelow m (λ i. implies (v i) (w i)))
         → IsTruth sheet at e b ny
     unfolding value
@@ -168,13 +176,19 @@ module _ (n : ℕ) (text : List ℕ) (at : ℕ) where
         let g = graphOf sheet in
         let s = p (h .E) (h .parts .first) in
         let t = q (h .F) (h .parts .second nx (s .after)) in
+        let whole = part-whole sheet n all o (h .E) x (s .set) in
         record {
           truth =
-              r n (value g (h .E)) (value g (h .F)) (omega (arith, o .few)) (s .set) (t .set)
+              r n (value g (h .E)) (λ i. member x i && value g (h .F) i) (omega (arith, o .few)) whole (t .set)
+              ∙ all-cong n _ (λ i. implies (value g (h .E) i) (value g (h .F) i)) (λ i l. ap (λ (c : Bool). implies (value g (h .E) i) (c && value g (h .F) i)) (ap (λ (z : ℕ). member z i) whole ∙ member-setOf n (value g (h .E)) i l) ∙ go (value g (h .E) i) (value g (h .F) i))
               ∙ ap (λ (m : ℕ). allBelow m (λ i. implies (value g (h .E) i) (value g (h .F) i))) (o .count)
               ∙ ap (value g) (sym (h .is));
           after = omega (arith, s .after, t .after, h .parts .size);
         }
+      where
+        go : (c d : Bool) → implies c (c && d) ≡ implies c d
+        go true d = refl
+        go false d = refl
 
     pub sub-arrows-truth : IsSubArrows e → (first second : List ℕ) (nx ny : ℕ)
         → ((f : Expr arrow) → Stands (ranges n) text (at + 1) f → IsRelation sheet n (at + 1) f first nx)
@@ -194,16 +208,22 @@ module _ (n : ℕ) (text : List ℕ) (at : ℕ) where
           after = omega (arith, s .after, t .after, h .parts .size);
         }
 
-    pub node-in-truth : IsNodeIn e → (x nx : ℕ)
-        → ((f : Expr node) → Stands (ranges n) text (at + 2) f → IsSet sheet n (at + 2) f x nx)
+    pub node-in-truth : IsNodeIn e → (w x nx : ℕ)
+        → w ≡ setOf n (λ k. isNode (graphOf sheet) k && eqb k (getD text (at + 1) 0))
+        → ((f : Expr node) → Stands (ranges n) text (at + 2) f → IsPart sheet n (at + 2) f w x nx)
         → ((m : ℕ) (v : Nodes) → getD text (at + 1) 0 < m → x ≡ setOf m v → b ≡ v (getD text (at + 1) 0))
         → IsTruth sheet at e b nx
     unfolding value
-    node-in-truth h x nx p r =
+    node-in-truth h w x nx d p r =
         let g = graphOf sheet in
         let s = p (h .E) (h .parts .first) in
+        let i = getD text (at + 1) 0 in
+        let l : i < n = omega (arith, h .reads, h .range) in
         record {
-          truth = r n (value g (h .E)) (omega (arith, h .reads, h .range)) (s .set) ∙ ap (value g (h .E)) (h .reads) ∙ ap (value g) (sym (h .is));
+          truth =
+              r n (λ k. member w k && value g (h .E) k) l (s .set)
+              ∙ ap (_&& value g (h .E) i) (ap (λ (z : ℕ). member z i) d ∙ member-setOf n _ i l ∙ ap₂ _&&_ (node-there sheet n (o .count) i l) (eq-eqb i i refl))
+              ∙ ap (value g (h .E)) (h .reads) ∙ ap (value g) (sym (h .is));
           after = omega (arith, s .after, h .parts .size);
         }
 
@@ -224,18 +244,48 @@ module _ (n : ℕ) (text : List ℕ) (at : ℕ) where
         }
 
   module _ (sheet : List ℕ) (e : Expr rule) where
-    pub two-truth : IsTwo e → (x y b : Bool) (nx ny : ℕ)
+    pub first-truth : IsTwo e → (x b : Bool) (nx ny : ℕ)
+        → ((f : Expr rule) → Stands (ranges n) text (at + 1) f → IsTruth sheet (at + 1) f x nx)
+        → ((f : Expr rule) → Stands (ranges n) text nx f → ny ≡ nx + length (code f))
+        → b ≡ decided (getD text at 0) x → b ≡ true
+        → IsTruth sheet at e x ny
+    first-truth h x b nx ny p q r d =
+        let s = p (h .K) (h .parts .first) in
+        record {
+          truth = go (eqb (getD text at 0) 0x25) x (value (graphOf sheet) (h .L)) (sym r ∙ d) ∙ ap (λ (c : Bool). ruleOperation (getD text at 0) c (value (graphOf sheet) (h .L))) (s .truth) ∙ sym (h .means (graphOf sheet));
+          after = omega (arith, s .after, q (h .L) (h .parts .second nx (s .after)), h .parts .size);
+        }
+      where
+        no : false ≡ true → ⊥
+        no e = omega (arith, ap {B = ℕ} (λ (z : Bool). cond z 1 0) e)
+
+        go : (c k l : Bool) → cond c (not k) k ≡ true → k ≡ cond c (k && l) (k || l)
+        go true true l e = absurd (no e)
+        go true false l e = refl
+        go false true l e = refl
+        go false false l e = absurd (no e)
+
+    pub second-truth : IsTwo e → (x y b : Bool) (nx ny : ℕ)
         → ((f : Expr rule) → Stands (ranges n) text (at + 1) f → IsTruth sheet (at + 1) f x nx)
         → ((f : Expr rule) → Stands (ranges n) text nx f → IsTruth sheet nx f y ny)
-        → b ≡ ruleOperation (getD text at 0) x y
-        → IsTruth sheet at e b ny
-    two-truth h x y b nx ny p q r =
+        → b ≡ decided (getD text at 0) x → b ≡ false
+        → IsTruth sheet at e y ny
+    second-truth h x y b nx ny p q r d =
         let s = p (h .K) (h .parts .first) in
         let t = q (h .L) (h .parts .second nx (s .after)) in
         record {
-          truth = r ∙ ap₂ (ruleOperation (getD text at 0)) (s .truth) (t .truth) ∙ sym (h .means (graphOf sheet));
+          truth = go (eqb (getD text at 0) 0x25) x y (sym r ∙ d) ∙ ap₂ (ruleOperation (getD text at 0)) (s .truth) (t .truth) ∙ sym (h .means (graphOf sheet));
           after = omega (arith, s .after, t .after, h .parts .size);
         }
+      where
+        no : true ≡ false → ⊥
+        no e = omega (arith, ap {B = ℕ} (λ (z : Bool). cond z 1 0) e)
+
+        go : (c k l : Bool) → cond c (not k) k ≡ false → l ≡ cond c (k && l) (k || l)
+        go true true l e = refl
+        go true false l e = absurd (no e)
+        go false true l e = absurd (no e)
+        go false false l e = refl
 
     pub not-truth : IsNot e → (x : Bool) (nx : ℕ)
         → ((f : Expr rule) → Stands (ranges n) text (at + 1) f → IsTruth sheet (at + 1) f x nx)

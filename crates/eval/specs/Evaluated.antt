@@ -1,18 +1,20 @@
 -- What the evaluators find at a place of a text, for an expression that stands there: its value on the sheet's graph, and where it ends.
 use mathlib.Core.Path.{_≡_}
-use mathlib.Core.Bool.{Bool, _&&_, _||_, cond}
+use mathlib.Core.Bool.{Bool, not, _&&_, _||_, cond}
 use mathlib.Core.List.{List}
 use Prim.Native.Nat.{ℕ, _+_, _≤_}
 use lib.Dec.{eqb}
 use lib.ListN.{length}
 use Rattle.logic.specs.Syntax.{Expr, node, arrow, rule}
-use Rattle.logic.specs.Graph.{isNode}
+use Rattle.logic.specs.Graph.{Graph, Pairs, isNode}
 use Rattle.logic.specs.Meaning.{value}
-use Rattle.logic.specs.Limits.{maxNodes}
-use Rattle.words.specs.Words.{setOf}
+use Rattle.logic.specs.Limits.{maxNodes, ranges}
+use Rattle.words.specs.Words.{setOf, member}
 use Rattle.sheet.specs.Sheet.{graphOf, Rows}
 use Rattle.sheet.specs.Questions.{Sound}
 use Rattle.text.specs.Code.{code}
+use Rattle.text.specs.Stands.{Stands}
+use Rattle.rows.specs.Operations.{turn, arrowOperation}
 
 -- A sound sheet with its n and the word of its nodes, as they are handed down.
 pub record Opened (sheet : List ℕ) (n all : ℕ) : Type 0 where
@@ -25,8 +27,18 @@ pub record IsSet (sheet : List ℕ) (n at : ℕ) (e : Expr node) (x next : ℕ) 
   pub set : x ≡ setOf n (value (graphOf sheet) e)
   pub after : next ≡ at + length (code e)
 
+-- The same of the nodes that are asked about alone.
+pub record IsPart (sheet : List ℕ) (n at : ℕ) (e : Expr node) (within x next : ℕ) : Type 0 where
+  pub set : x ≡ setOf n (λ i. member within i && value (graphOf sheet) e i)
+  pub after : next ≡ at + length (code e)
+
 pub record IsRelation (sheet : List ℕ) (n at : ℕ) (e : Expr arrow) (rows : List ℕ) (next : ℕ) : Type 0 where
   pub rows-are : Rows n (value (graphOf sheet) e) rows
+  pub after : next ≡ at + length (code e)
+
+-- The relation joined, by the code c, to the one that the rows held before.
+pub record IsJoined (sheet : List ℕ) (n at c : ℕ) (e : Expr arrow) (old rows : List ℕ) (next : ℕ) : Type 0 where
+  pub rows-are : (v : Pairs) → Rows n v old → Rows n (λ i j. arrowOperation c (v i j) (value (graphOf sheet) e i j)) rows
   pub after : next ≡ at + length (code e)
 
 pub record IsTruth (sheet : List ℕ) (at : ℕ) (e : Expr rule) (holds : Bool) (next : ℕ) : Type 0 where
@@ -36,3 +48,15 @@ pub record IsTruth (sheet : List ℕ) (at : ℕ) (e : Expr rule) (holds : Bool) 
 -- 25 and; 26 or
 abbrev pub ruleOperation : ℕ → Bool → Bool → Bool
 ruleOperation c x y = cond (eqb c 0x25) (x && y) (x || y)
+
+-- An arrow expression without the 12s in front of it: what stands behind them, and whether it is meant turned.
+pub record IsTurned (n : ℕ) (text : List ℕ) (at : ℕ) (e : Expr arrow) (turned : Bool) (next : ℕ) : Type 0 where
+  pub R : Expr arrow
+  pub stands : Stands (ranges n) text next R
+  pub means : (g : Graph) → value g e ≡ turn turned (value g R)
+  pub on : at ≤ next
+  pub after : at + length (code e) ≡ next + length (code R)
+
+-- 25 and 26: whether the first rule alone decides.
+abbrev pub decided : ℕ → Bool → Bool
+decided c x = cond (eqb c 0x25) (not x) x

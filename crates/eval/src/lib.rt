@@ -4,12 +4,15 @@
 //
 // Stack: 704 bytes for a level of 05 to 0B, 688 for one of 12 to 16, 160 for one of 25 to 27.
 ghost use mathlib.Core.Path.{_≡_};
-ghost use Prim.Native.Nat.{_<_, _≤_};
+ghost use mathlib.Core.Bool.{true};
+ghost use Prim.Native.Nat.{_^_, _<_, _≤_};
 ghost use lib.ListN.{length, getD, replicate};
 ghost use Rattle.logic.specs.Syntax.{Expr, «node», arrow, rule};
-ghost use Rattle.logic.specs.Limits.{ranges};
+ghost use Rattle.logic.specs.Limits.{ranges, maxNodes};
+ghost use Rattle.sheet.specs.Sheet.{graphOf};
+ghost use Rattle.sheet.specs.Questions.{Sound};
 ghost use Rattle.text.specs.Stands.{Stands, SomeStands};
-ghost use Rattle.eval.specs.Evaluated.{Opened, IsSet, IsRelation, IsTruth, ruleOperation};
+ghost use Rattle.eval.specs.Evaluated.{Opened, IsSet, IsPart, IsRelation, IsJoined, IsTruth, IsTurned, decided};
 use logic::Arrow;
 use logic::Label;
 use logic::Node;
@@ -26,15 +29,21 @@ pub struct Truth {
     pub next: usize,
 }
 
-// 01 to 04.
-fn leaf_node(sheet: &[u8], n: usize, all: u64, text: &[u8], at: usize) -> NodeSet
-    requires { ⌜ Opened (now sheet) n all × SomeStands (ranges n) (now text) at node × (getD (now text) at 0 ≤ 0x04) ⌝ }
-    ensures { λ r. ⌜ ((e : Expr node) → Stands (ranges n) (now (text .entry)) at e → IsSet (now (sheet .entry)) n at e (r .set) (r .next)) ⌝ }
+// 12s in front of an arrow expression passed over.
+pub struct Turned {
+    pub turned: bool,
+    pub next: usize,
+}
+
+// 01 to 04, of the nodes within.
+fn leaf_node(sheet: &[u8], n: usize, within: u64, text: &[u8], at: usize) -> NodeSet
+    requires { ⌜ Sound (now sheet) × (n ≡ graphOf (now sheet) .n) × (n ≤ maxNodes) × (within < 2 ^ n) × SomeStands (ranges n) (now text) at node × (getD (now text) at 0 ≤ 0x04) ⌝ }
+    ensures { λ r. ⌜ ((e : Expr node) → Stands (ranges n) (now (text .entry)) at e → IsPart (now (sheet .entry)) n at e within (r .set) (r .next)) ⌝ }
 {
     let c = text[at];
     if c <= 0x01 {
         NodeSet {
-            set: all,
+            set: within,
             next: at + 1,
         }
     } else if c <= 0x02 {
@@ -44,12 +53,12 @@ fn leaf_node(sheet: &[u8], n: usize, all: u64, text: &[u8], at: usize) -> NodeSe
         }
     } else if c <= 0x03 {
         NodeSet {
-            set: Sheet::label_word(sheet, Label(text[at + 1])),
+            set: words::both(within, Sheet::label_word(sheet, Label(text[at + 1]))),
             next: at + 2,
         }
     } else {
         NodeSet {
-            set: rows::nominal(all, Node(text[at + 1])),
+            set: rows::nominal(within, Node(text[at + 1])),
             next: at + 2,
         }
     }
@@ -73,6 +82,42 @@ fn one_pair(sheet: &[u8], n: usize, all: u64, text: &[u8], at: usize, out: &mut 
     at + 3
 }
 
+// 13, 14, 15 with 11 as the second.
+fn join_kind(c: u8, sheet: &[u8], n: usize, text: &[u8], at: usize, out: &mut [u64]) -> usize
+    requires { ⌜ Sound (now sheet) × (n ≡ graphOf (now sheet) .n) × (n ≤ maxNodes) × SomeStands (ranges n) (now text) at arrow × (getD (now text) at 0 ≤ 0x11) × (length (now out) ≡ 64) ⌝ }
+    ensures { λ r. ⌜ ((e : Expr arrow) → Stands (ranges n) (now (text .entry)) at e → IsJoined (now (sheet .entry)) n at c e (now (out .entry)) (now (out .exit)) r) × (length (now (out .exit)) ≡ 64) ⌝ }
+{
+    rows::combine_kind(c, sheet, n, Arrow(text[at + 1]), out);
+    at + 2
+}
+
+// 13, 15 with 17 as the second.
+fn join_pair(
+    c: u8,
+    sheet: &[u8],
+    n: usize,
+    all: u64,
+    text: &[u8],
+    at: usize,
+    out: &mut [u64],
+) -> usize
+    requires { ⌜ Opened (now sheet) n all × SomeStands (ranges n) (now text) at arrow × (0x16 < getD (now text) at 0) × (c ≡ 0x14 → ⊥) × (length (now out) ≡ 64) ⌝ }
+    ensures { λ r. ⌜ ((e : Expr arrow) → Stands (ranges n) (now (text .entry)) at e → IsJoined (now (sheet .entry)) n at c e (now (out .entry)) (now (out .exit)) r) × (length (now (out .exit)) ≡ 64) ⌝ }
+{
+    rows::combine_pair(c, all, Node(text[at + 1]), Node(text[at + 2]), out);
+    at + 3
+}
+
+// Whether one row alone changes: 13 or 15 with 17 as the second.
+fn one_row(c: u8, code: u8) -> bool
+    ensures { λ r. ⌜ (r ≡ true → (0x16 < code) × (c ≡ 0x14 → ⊥)) ⌝ }
+{
+    if code <= 0x16 {
+        return false;
+    }
+    c != 0x14
+}
+
 // How far behind the code of a quantifier its operands stand: 0A and 0B have a count between.
 fn ahead(c: u8) -> usize
     ensures { λ r. ⌜ (c ≤ 0x09 → r ≡ 1) × (0x09 < c → r ≡ 2) ⌝ }
@@ -80,36 +125,80 @@ fn ahead(c: u8) -> usize
     if c <= 0x09 { 1 } else { 2 }
 }
 
-// The set that a node expression means.
-pub fn eval_node(sheet: &[u8], n: usize, all: u64, text: &[u8], at: usize) -> NodeSet
-    requires { ⌜ Opened (now sheet) n all × SomeStands (ranges n) (now text) at node ⌝ }
-    ensures { λ r. ⌜ ((e : Expr node) → Stands (ranges n) (now (text .entry)) at e → IsSet (now (sheet .entry)) n at e (r .set) (r .next)) ⌝ }
+// Behind the 12s in front of an arrow expression: two of them cancel out.
+fn behind_turns(n: usize, text: &[u8], at: usize) -> Turned
+    requires { ⌜ SomeStands (ranges n) (now text) at arrow ⌝ }
+    ensures { λ r. ⌜ ((e : Expr arrow) → Stands (ranges n) (now (text .entry)) at e → IsTurned n (now (text .entry)) at e (r .turned) (r .next)) ⌝ }
 {
+    let mut next = at;
+    let mut turned = false;
+    while text[next] == 0x12 {
+        next += 1;
+        turned = !turned;
+    }
+    Turned { turned, next }
+}
+
+// The set that a node expression means, of the nodes within: an expression that is asked of no node is passed over, and of two operands
+// the second is asked of those nodes only that the first leaves open.
+fn node_within(sheet: &[u8], n: usize, all: u64, within: u64, text: &[u8], at: usize) -> NodeSet
+    requires { ⌜ Opened (now sheet) n all × (within < 2 ^ n) × SomeStands (ranges n) (now text) at node ⌝ }
+    ensures { λ r. ⌜ ((e : Expr node) → Stands (ranges n) (now (text .entry)) at e → IsPart (now (sheet .entry)) n at e within (r .set) (r .next)) ⌝ }
+{
+    if within == 0 {
+        return NodeSet {
+            set: 0,
+            next: ends::past(text, at),
+        };
+    }
     let c = text[at];
     if c <= 0x04 {
-        leaf_node(sheet, n, all, text, at)
+        leaf_node(sheet, n, within, text, at)
     } else if c <= 0x05 {
-        let e = eval_node(sheet, n, all, text, at + 1);
+        let e = node_within(sheet, n, all, within, text, at + 1);
         NodeSet {
-            set: words::minus(all, e.set),
+            set: words::minus(within, e.set),
             next: e.next,
         }
+    } else if c <= 0x06 {
+        let e = node_within(sheet, n, all, within, text, at + 1);
+        node_within(sheet, n, all, e.set, text, e.next)
     } else if c <= 0x07 {
-        let e = eval_node(sheet, n, all, text, at + 1);
-        let f = eval_node(sheet, n, all, text, e.next);
+        let e = node_within(sheet, n, all, within, text, at + 1);
+        let f = node_within(sheet, n, all, words::minus(within, e.set), text, e.next);
         NodeSet {
-            set: rows::combined_sets(c, e.set, f.set),
+            set: words::either(e.set, f.set),
             next: f.next,
         }
     } else {
         let k = ahead(c);
         let m = text[at + k - 1];
-        let mut rows = [0u64; 64];
-        let second = eval_arrow(sheet, n, all, text, at + k, &mut rows);
-        let e = eval_node(sheet, n, all, text, second);
-        NodeSet {
-            set: rows::quantified(c, m, n, all, &rows, e.set),
-            next: e.next,
+        let t = behind_turns(n, text, at + k);
+        let p = t.next;
+        if rows::straight(text[p], c, m, t.turned) {
+            let e = node_within(sheet, n, all, all, text, p + 2);
+            NodeSet {
+                set: rows::quantified_kind(
+                    c,
+                    m,
+                    sheet,
+                    n,
+                    all,
+                    within,
+                    t.turned,
+                    Arrow(text[p + 1]),
+                    e.set,
+                ),
+                next: e.next,
+            }
+        } else {
+            let mut rows = [0u64; 64];
+            let second = eval_arrow(sheet, n, all, text, p, &mut rows);
+            let e = node_within(sheet, n, all, all, text, second);
+            NodeSet {
+                set: rows::quantified(c, m, n, all, within, t.turned, &mut rows, e.set),
+                next: e.next,
+            }
         }
     }
 }
@@ -135,13 +224,10 @@ pub fn eval_arrow(
         next
     } else if c <= 0x15 {
         let second = eval_arrow(sheet, n, all, text, at + 1, out);
-        let mut other = [0u64; 64];
-        let next = eval_arrow(sheet, n, all, text, second, &mut other);
-        rows::combine_rows(c, n, out, &other);
-        next
+        join_arrow(c, sheet, n, all, text, second, out)
     } else if c <= 0x16 {
         let second = eval_arrow(sheet, n, all, text, at + 1, out);
-        let e = eval_node(sheet, n, all, text, second);
+        let e = node_within(sheet, n, all, all, text, second);
         rows::end_rows(n, out, e.set);
         e.next
     } else {
@@ -149,13 +235,47 @@ pub fn eval_arrow(
     }
 }
 
-// 21.
+// 13, 14, 15: the relation that the second operand means joined to what is in `out`; only one that is no leaf needs rows of its own.
+fn join_arrow(
+    c: u8,
+    sheet: &[u8],
+    n: usize,
+    all: u64,
+    text: &[u8],
+    at: usize,
+    out: &mut [u64],
+) -> usize
+    requires { ⌜ Opened (now sheet) n all × SomeStands (ranges n) (now text) at arrow × (length (now out) ≡ 64) ⌝ }
+    ensures { λ r. ⌜ ((e : Expr arrow) → Stands (ranges n) (now (text .entry)) at e → IsJoined (now (sheet .entry)) n at c e (now (out .entry)) (now (out .exit)) r) × (length (now (out .exit)) ≡ 64) ⌝ }
+{
+    let d = text[at];
+    if d <= 0x11 {
+        join_kind(c, sheet, n, text, at, out)
+    } else if one_row(c, d) {
+        join_pair(c, sheet, n, all, text, at, out)
+    } else {
+        let mut other = [0u64; 64];
+        let next = eval_arrow(sheet, n, all, text, at, &mut other);
+        rows::combine_rows(c, n, out, &other);
+        next
+    }
+}
+
+// The set that a node expression means.
+pub fn eval_node(sheet: &[u8], n: usize, all: u64, text: &[u8], at: usize) -> NodeSet
+    requires { ⌜ Opened (now sheet) n all × SomeStands (ranges n) (now text) at node ⌝ }
+    ensures { λ r. ⌜ ((e : Expr node) → Stands (ranges n) (now (text .entry)) at e → IsSet (now (sheet .entry)) n at e (r .set) (r .next)) ⌝ }
+{
+    node_within(sheet, n, all, all, text, at)
+}
+
+// 21: the second expression is asked of the nodes of the first.
 fn sub_nodes(sheet: &[u8], n: usize, all: u64, text: &[u8], at: usize) -> Truth
     requires { ⌜ Opened (now sheet) n all × SomeStands (ranges n) (now text) at rule × (getD (now text) at 0 ≤ 0x21) ⌝ }
     ensures { λ r. ⌜ ((e : Expr rule) → Stands (ranges n) (now (text .entry)) at e → IsTruth (now (sheet .entry)) at e (r .holds) (r .next)) ⌝ }
 {
-    let e = eval_node(sheet, n, all, text, at + 1);
-    let f = eval_node(sheet, n, all, text, e.next);
+    let e = node_within(sheet, n, all, all, text, at + 1);
+    let f = node_within(sheet, n, all, e.set, text, e.next);
     Truth {
         holds: rows::set_in(e.set, f.set),
         next: f.next,
@@ -177,14 +297,15 @@ fn sub_arrows(sheet: &[u8], n: usize, all: u64, text: &[u8], at: usize) -> Truth
     }
 }
 
-// 23.
+// 23: the expression is asked of that node.
 fn node_in(sheet: &[u8], n: usize, all: u64, text: &[u8], at: usize) -> Truth
     requires { ⌜ Opened (now sheet) n all × SomeStands (ranges n) (now text) at rule × (0x22 < getD (now text) at 0) × (getD (now text) at 0 ≤ 0x23) ⌝ }
     ensures { λ r. ⌜ ((e : Expr rule) → Stands (ranges n) (now (text .entry)) at e → IsTruth (now (sheet .entry)) at e (r .holds) (r .next)) ⌝ }
 {
-    let e = eval_node(sheet, n, all, text, at + 2);
+    let i = text[at + 1];
+    let e = node_within(sheet, n, all, rows::nominal(all, Node(i)), text, at + 2);
     Truth {
-        holds: rows::node_in(e.set, Node(text[at + 1])),
+        holds: rows::node_in(e.set, Node(i)),
         next: e.next,
     }
 }
@@ -219,14 +340,14 @@ fn leaf_rule(sheet: &[u8], n: usize, all: u64, text: &[u8], at: usize) -> Truth
     }
 }
 
-// 25, 26.
-fn combined_truth(c: u8, k: bool, l: bool) -> bool
-    ensures { λ r. ⌜ r ≡ ruleOperation c k l ⌝ }
+// 25, 26: whether the first rule alone decides.
+fn decided(c: u8, k: bool) -> bool
+    ensures { λ r. ⌜ r ≡ decided c k ⌝ }
 {
-    if c == 0x25 { k & l } else { k | l }
+    if c == 0x25 { !k } else { k }
 }
 
-// Whether a rule holds. Both operands of 25 and 26 are evaluated, since the second one's end is wanted.
+// Whether a rule holds. Where the first rule of a 25 or 26 decides, the second is passed over.
 pub fn eval_rule(sheet: &[u8], n: usize, all: u64, text: &[u8], at: usize) -> Truth
     requires { ⌜ Opened (now sheet) n all × SomeStands (ranges n) (now text) at rule ⌝ }
     ensures { λ r. ⌜ ((e : Expr rule) → Stands (ranges n) (now (text .entry)) at e → IsTruth (now (sheet .entry)) at e (r .holds) (r .next)) ⌝ }
@@ -236,10 +357,13 @@ pub fn eval_rule(sheet: &[u8], n: usize, all: u64, text: &[u8], at: usize) -> Tr
         leaf_rule(sheet, n, all, text, at)
     } else if c <= 0x26 {
         let k = eval_rule(sheet, n, all, text, at + 1);
-        let l = eval_rule(sheet, n, all, text, k.next);
-        Truth {
-            holds: combined_truth(c, k.holds, l.holds),
-            next: l.next,
+        if decided(c, k.holds) {
+            Truth {
+                holds: k.holds,
+                next: ends::past(text, k.next),
+            }
+        } else {
+            eval_rule(sheet, n, all, text, k.next)
         }
     } else {
         let k = eval_rule(sheet, n, all, text, at + 1);

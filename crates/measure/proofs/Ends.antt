@@ -7,7 +7,7 @@ use lib.ListN.{length, getD}
 use Rattle.logic.specs.Syntax.{Edit}
 use Rattle.text.specs.Code.{editCode}
 use Rattle.tree.specs.Tree.{Tree, size}
-use Rattle.measure.specs.Shapes.{At}
+use Rattle.ends.specs.Shapes.{At}
 use Rattle.measure.specs.Edits.{EditAt, SomeEdit, behindStep, NextAt}
 use Rattle.measure.proofs.Steps.{as-step, as-choose, as-finish, finish-long}
 

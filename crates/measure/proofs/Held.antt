@@ -12,7 +12,7 @@ use Rattle.tree.specs.Tree.{Tree, name, leaf, one, two, height, count, deep, sa
 use Rattle.tree.specs.Sizes.{Measure, measure, passed, cut, cutM}
 use Rattle.tree.proofs.Measured.{under-max, under-under, under-nothing, same-eq}
 use Rattle.tree.proofs.Cut.{cut-max, cut-under, cut-mul}
-use Rattle.measure.specs.Shapes.{Named, cell}
+use Rattle.ends.specs.Shapes.{Named, cell}
 use Rattle.measure.specs.State.{Holds, added}
 
 pub deeper-none : (v : ℕ) → v ≡ 0 → 0 ≡ cut (under v 2)

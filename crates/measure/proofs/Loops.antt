@@ -10,7 +10,7 @@ use Rattle.tree.specs.Tree.{Tree, size, height, under}
 use Rattle.tree.specs.Sizes.{Measure, measure, chosen, cut}
 use Rattle.tree.proofs.Measured.{under-max, under-under, under-more, height-pos}
 use Rattle.tree.proofs.Cut.{cut-max, cut-under, cut-under-under}
-use Rattle.measure.specs.Shapes.{cell, At}
+use Rattle.ends.specs.Shapes.{cell, At}
 use Rattle.measure.specs.State.{Holds, added, Scanned}
 use Rattle.measure.specs.Edits.{after, Merged, Kept, Joined}
 use Rattle.measure.proofs.Held.{holds-is, holds-longer, longer, named-lt}

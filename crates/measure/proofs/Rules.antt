@@ -15,16 +15,16 @@ use Rattle.tree.proofs.Trees.{bytes-tree, height-tree, size-is}
 use Rattle.tree.specs.Sizes.{Measure, measure, back, join, nothing, measures, cut}
 use Rattle.tree.proofs.Books.{join-nothing, join-comm, join-assoc, measured-book, len-codes, tall-levels}
 use Rattle.tree.proofs.Measured.{under-one, measured}
-use Rattle.measure.specs.Shapes.{At, cell}
+use Rattle.ends.specs.Shapes.{At, cell}
 use Rattle.measure.specs.State.{Holds, added, Scanned}
 use Rattle.measure.specs.Edits.{SomeEdit, EditRoom, Backed}
 use Rattle.measure.specs.Pruned.{pruned}
 use Rattle.measure.proofs.Steps.{edit-long, edit-inside}
 use Rattle.measure.specs.Book.{RuleAt, BookIs, SomeBook, RuleAdded, BookAdded, RuleSized, BookSized, BookKept}
-use Rattle.measure.proofs.Places.{fits, inside, size-pos}
+use Rattle.ends.proofs.Places.{fits, inside, size-pos}
 use Rattle.text.proofs.Standing.{behind}
 use Rattle.measure.proofs.Held.{holds-is, holds-longer, longer}
-use Rattle.measure.proofs.Formed.{formed-tree}
+use Rattle.ends.proofs.Formed.{formed-tree}
 
 pub rule-at : (text : List ℕ) (at : ℕ) (K : Expr rule) → RuleAt text at K → At text at (tree K)
 rule-at text at K h = record { rest = h .place .rest; here = h .place .here ∙ ap (λ (l : List ℕ). l ++ h .place .rest) (sym (bytes-tree K)); formed = formed-tree (h .limits) K (h .place .range) }

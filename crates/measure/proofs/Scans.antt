@@ -6,9 +6,9 @@ use native.Mathlib.Omega.{arith}
 use lib.ListN.{length, getD, set, length-set}
 use Rattle.tree.specs.Tree.{Tree, size, under}
 use Rattle.tree.specs.Sizes.{Measure, measure, cut, cutM}
-use Rattle.measure.specs.Shapes.{shapeOf, cell, At}
+use Rattle.ends.specs.Shapes.{shapeOf, cell, At}
 use Rattle.measure.specs.State.{Holds, added, Scanned}
-use Rattle.measure.proofs.Places.{IsName, IsLeaf, IsOne, IsTwo}
+use Rattle.ends.proofs.Places.{IsName, IsLeaf, IsOne, IsTwo}
 use Rattle.measure.proofs.Held.{holds-same, holds-is, holds-rise, holds-touch, risen, marked, named-lt, added-name, added-leaf, added-one, added-two, added-cut}
 
 module _ (text : List ℕ) (at w v : ℕ) where

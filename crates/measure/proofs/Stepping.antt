@@ -13,7 +13,7 @@ use Rattle.text.specs.Code.{editCode}
 use Rattle.tree.specs.Tree.{Tree, size, under}
 use Rattle.tree.specs.Sizes.{Measure, measure, passed, back, cut}
 use Rattle.tree.proofs.Cut.{cut-under}
-use Rattle.measure.specs.Shapes.{cell, At}
+use Rattle.ends.specs.Shapes.{cell, At}
 use Rattle.measure.specs.State.{Holds, added, Scanned}
 use Rattle.measure.specs.Edits.{Held, behindStep, Stepped, Prefixed, PutBefore}
 use Rattle.measure.specs.Pruned.{pruned}

@@ -13,11 +13,11 @@ use Rattle.text.specs.Code.{code, editCode}
 use Rattle.tree.specs.Tree.{Tree, tree, size}
 use Rattle.tree.proofs.Trees.{bytes-tree, size-is}
 use Rattle.tree.specs.Sizes.{Measure, measure, passed, chosen, back}
-use Rattle.measure.specs.Shapes.{Named, At}
+use Rattle.ends.specs.Shapes.{Named, At}
 use Rattle.measure.specs.Edits.{EditAt, behindStep}
 use Rattle.measure.specs.Pruned.{pruned}
 use Rattle.text.proofs.Standing.{byte-at, behind, within}
-use Rattle.measure.proofs.Formed.{formed-tree}
+use Rattle.ends.proofs.Formed.{formed-tree}
 
 -- the code byte of an edit
 abbrev pub editTag : Edit → ℕ

@@ -11,7 +11,7 @@ use Rattle.logic.specs.Syntax.{Edit, finish}
 use Rattle.text.specs.Code.{editCode}
 use Rattle.tree.specs.Tree.{Tree, size}
 use Rattle.tree.specs.Sizes.{Measure, back}
-use Rattle.measure.specs.Shapes.{At}
+use Rattle.ends.specs.Shapes.{At}
 use Rattle.measure.specs.State.{Holds}
 use Rattle.measure.specs.Pruned.{pruned}
 use Rattle.measure.specs.Edits.{EditAt, SomeEdit, EditRoom, StepRoom, Held, behindStep, after, Pushed, NextAt, Kept, Joined, Stepped, Prefixed, Backed, PutBefore, EndBefore}

@@ -5,7 +5,7 @@ use Prim.Native.Nat.{ℕ, _+_, _*_, max}
 use lib.ListN.{getD}
 use Rattle.tree.specs.Tree.{Tree, under, size}
 use Rattle.tree.specs.Sizes.{Measure, measure, cut}
-use Rattle.measure.specs.Shapes.{Named, cell}
+use Rattle.ends.specs.Shapes.{Named, cell}
 
 pub record Holds (l : List ℕ) (M : Measure) : Type 0 where
   pub len-at : getD l 128 0 ≡ cut (M .len)

@@ -14,44 +14,10 @@ ghost use Rattle.text.specs.Code.{editCode};
 ghost use Rattle.tree.specs.Tree.{Tree, under, size};
 ghost use Rattle.tree.specs.Sizes.{cut};
 ghost use Rattle.tree.specs.Stack.{touched};
-ghost use Rattle.measure.specs.Shapes.{shapeOf, cell, At, Some};
+ghost use Rattle.ends.specs.Shapes.{cell, At, Some};
 ghost use Rattle.measure.specs.State.{Scanned};
 ghost use Rattle.measure.specs.Edits.{EditAt, SomeEdit, EditRoom, StepRoom, Held, Stepped, Prefixed, Backed, PutBefore, EndBefore, NextAt, Pushed, Merged, Kept, Joined};
 ghost use Rattle.measure.specs.Book.{RuleAt, SomeRule, BookIs, SomeBook, RuleAdded, BookAdded, RuleSized, BookSized, BookKept};
-
-// How each code goes on: the length of the code byte with its numbers, plus 4 for each operand, plus 16 for a name (03, 11); 0 for no code.
-// The table is in specs/Shapes.antt. Here it is a word for each binary digit of its entries, with a bit for each code: a table of 40 entries
-// would be stored anew at each use.
-const ONES: u64 = 0xF600FC03E6;
-
-const TWOS: u64 = 0x1800820C18;
-
-const FOURS: u64 = 0x9800040020;
-
-const EIGHTS: u64 = 0x6600780FC0;
-
-const SIXTEENS: u64 = 0x20008;
-
-// The bit of a code in a word.
-// Inner: asks for a code of the table.
-fn digit(word: u64, code: u8) -> usize
-    requires { ⌜ code < 40 ⌝ }
-    ensures { λ r. ⌜ r ≡ word / 2 ^ code % 2 ⌝ }
-{
-    (word >> code) as usize % 2
-}
-
-// Inner: asks for a code of the table.
-pub fn shape(code: u8) -> usize
-    requires { ⌜ code < 40 ⌝ }
-    ensures { λ r. ⌜ r ≡ shapeOf code ⌝ }
-{
-    digit(ONES, code)
-        + 2 * digit(TWOS, code)
-        + 4 * digit(FOURS, code)
-        + 8 * digit(EIGHTS, code)
-        + 16 * digit(SIXTEENS, code)
-}
 
 // The larger number.
 fn larger(a: usize, b: usize) -> usize
@@ -118,7 +84,7 @@ fn scan(text: &[u8], at: usize, w: usize, v: usize, state: &mut [usize]) -> usiz
     ensures { λ r. ⌜ ((t : Tree) → At (now (text .entry)) at t → Scanned at w v t r (now (state .entry)) (now (state .exit))) ⌝ }
 {
     let c = text[at];
-    let s = shape(c);
+    let s = ends::shape(c);
     rise(state, v);
     if s >= 16 {
         touch(state, cell_of(c, text[at + 1]), w, v);
@@ -172,22 +138,6 @@ fn step_back(text: &[u8], at: usize, state: &mut [usize])
     state[128] = sum(state[128], w * (extra(op) + (next - (at + 2))));
 }
 
-// The place behind the expression at `at`: each code takes one from the expressions that are wanted, and adds its operands.
-// Inner: the text was read before.
-pub fn past(text: &[u8], at: usize) -> usize
-    requires { ⌜ Some (now text) at ⌝ }
-    ensures { λ r. ⌜ ((t : Tree) → At (now (text .entry)) at t → r ≡ at + size t) ⌝ }
-{
-    let mut p = at;
-    let mut wanted: usize = 1;
-    while 0 < wanted {
-        let s = shape(text[p]);
-        p += s % 4;
-        wanted = wanted - 1 + s / 4 % 4;
-    }
-    p
-}
-
 // The place behind the first step of the edit at `at`.
 // Inner: the text was read before.
 fn next_step(text: &[u8], at: usize) -> usize
@@ -196,9 +146,9 @@ fn next_step(text: &[u8], at: usize) -> usize
 {
     let c = text[at];
     if c != 0x35 {
-        return past(text, at + 2);
+        return ends::past(text, at + 2);
     }
-    let p = past(text, at + 1);
+    let p = ends::past(text, at + 1);
     let q = end_of(text, p);
     end_of(text, q)
 }
@@ -321,7 +271,7 @@ fn keep_step(text: &[u8], at: usize, state: &[usize], out: &mut [u8], pos: usize
     if state[i] == 0 {
         return pos;
     }
-    put_before(text, at, past(text, at + 2), out, pos)
+    put_before(text, at, ends::past(text, at + 2), out, pos)
 }
 
 // Back over one step: the numbers in `state`, and the step in front of what stands at `pos` unless it is idle.
@@ -345,7 +295,7 @@ fn one_back(
         step_back(text, at, state);
         return start;
     }
-    let first = past(text, at + 1);
+    let first = ends::past(text, at + 1);
     let second = end_of(text, first);
     let mut other = [0usize; 130];
     copy(state, &mut other);

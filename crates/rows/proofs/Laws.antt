@@ -1,6 +1,6 @@
 -- The operations on words and on rows of words are those on the sets and relations that they stand for.
 use mathlib.Core.Path.{_≡_, refl, sym, ap, ap₂, _∙_}
-use mathlib.Core.Bool.{Bool, true, false, not, _&&_, _||_, cond, and-true, and-false}
+use mathlib.Core.Bool.{Bool, true, false, not, _&&_, _||_, cond, and-true, and-false, or-false}
 use mathlib.Core.List.{List}
 use mathlib.Core.Logic.{⊎-elim}
 use Prim.Native.Nat.{ℕ, zero, suc, _+_, _<_, _≤_}
@@ -16,7 +16,7 @@ use Rattle.words.specs.Words.{setOf, member, combined}
 use Rattle.words.proofs.SetLaws.{setOf-cong, setOf-empty, setOf-none, setOf-wide, member-of, member-setOf, combined-sets, common-sets}
 use Rattle.sheet.specs.Sheet.{Rows}
 use Rattle.words.specs.Transpose.{Transposed}
-use Rattle.rows.specs.Operations.{nodeOperation, arrowOperation, quantified, quantifiedNodes, Masked}
+use Rattle.rows.specs.Operations.{arrowOperation, Masked}
 
 -- What a loop that changes the rows a in place has done up to row i: below i they are f, from i on still those of a.
 pub record Changed (i : ℕ) (a l : List ℕ) (f : ℕ → ℕ) : Type 0 where
@@ -58,13 +58,6 @@ pub minus-empty : (n : ℕ) (v w : Nodes) → n ≤ 64 → eqb (combined (λ a b
 minus-empty n v w h = ap (λ (x : ℕ). eqb x 0) (combined-sets (λ a b. a && not b) refl n v w h) ∙ setOf-empty n (λ i. v i && not (w i)) ∙ none-outside n v w
 
 -- The operations put nothing where nothing is.
-pub node-operation-none : (c : ℕ) → nodeOperation c false false ≡ false
-node-operation-none c = go (eqb c 0x06)
-  where
-    go : (b : Bool) → cond b (false && false) (false || false) ≡ false
-    go true = refl
-    go false = refl
-
 pub arrow-operation-none : (c : ℕ) → arrowOperation c false false ≡ false
 arrow-operation-none c = go (eqb c 0x13) (eqb c 0x14)
   where
@@ -72,24 +65,6 @@ arrow-operation-none c = go (eqb c 0x13) (eqb c 0x14)
     go true d = refl
     go false true = refl
     go false false = refl
-
--- The four quantifiers by their codes.
-module _ (c m n : ℕ) (v w : Nodes) where
-  pub quantified-some : c ≡ 0x08 → quantified c m n v w ≡ anyBelow n (λ j. v j && w j)
-  unfolding quantified
-  quantified-some e = rw (eq-eqb c 0x08 e)
-
-  pub quantified-every : (c ≡ 0x08 → ⊥) → c ≡ 0x09 → quantified c m n v w ≡ allBelow n (λ j. implies (v j) (w j))
-  unfolding quantified
-  quantified-every a e = rw (ne-eqb c 0x08 a, eq-eqb c 0x09 e)
-
-  pub quantified-least : (c ≡ 0x08 → ⊥) → (c ≡ 0x09 → ⊥) → c ≡ 0x0A → quantified c m n v w ≡ leb m (countBelow n (λ j. v j && w j))
-  unfolding quantified
-  quantified-least a b e = rw (ne-eqb c 0x08 a, ne-eqb c 0x09 b, eq-eqb c 0x0A e)
-
-  pub quantified-most : (c ≡ 0x08 → ⊥) → (c ≡ 0x09 → ⊥) → (c ≡ 0x0A → ⊥) → quantified c m n v w ≡ leb (countBelow n (λ j. v j && w j)) m
-  unfolding quantified
-  quantified-most a b d = rw (ne-eqb c 0x08 a, ne-eqb c 0x09 b, ne-eqb c 0x0A d)
 
 pub not-is : (a b : Bool) → not a ≡ b → a ≡ not b
 not-is true b e = ap not e
@@ -109,18 +84,6 @@ module _ (n : ℕ) (v w : Nodes) (row e : ℕ) (h : n ≤ 64) (p : row ≡ setOf
   -- how many
   pub count-common : (x : ℕ) → x ≡ countBelow 64 (λ i. member row i && member e i) → x ≡ countBelow n (λ j. v j && w j)
   count-common x s = s ∙ ap₂ (λ (y z : ℕ). countBelow 64 (λ i. member y i && member z i)) p q ∙ common-sets n v w h
-
--- The loop over the nodes and the mask after it.
-module _ (c m n : ℕ) (nodes : Nodes) (v : Pairs) (w : Nodes) (r : ℕ) (s : r ≡ setOf n (λ k. quantified c m n (v k) w)) where
-  pub quantified-unmasked : c ≡ 0x08 → r ≡ setOf n (quantifiedNodes c m n nodes v w)
-  unfolding quantifiedNodes
-  quantified-unmasked e = s ∙ setOf-cong n _ _ (λ i l. sym (rw (eq-eqb c 0x08 e)))
-
-  pub quantified-masked : (all : ℕ) → (c ≡ 0x08 → ⊥) → n ≤ 64 → all ≡ setOf n nodes → combined _&&_ all r ≡ setOf n (quantifiedNodes c m n nodes v w)
-  unfolding quantifiedNodes
-  quantified-masked all e h a =
-      ap₂ (combined _&&_) a s ∙ combined-sets _&&_ refl n nodes (λ k. quantified c m n (v k) w) h
-      ∙ setOf-cong n _ _ (λ i l. sym (rw (ne-eqb c 0x08 e)))
 
 -- A set among n and a set of the whole word.
 pub combined-wide : (n : ℕ) (p q : Nodes) → n ≤ 64 → combined _&&_ (setOf n p) (setOf 64 q) ≡ setOf n (λ i. p i && q i)
@@ -202,3 +165,33 @@ all-below-broken (suc n) p i h e = ⊎-elim
     (λ (q : i ≡ n). ap (allBelow n p &&_) (ap p (sym q) ∙ e) ∙ and-false (allBelow n p))
     (λ (l : i < n). ap (_&& p n) (all-below-broken n p i l e))
     (eq-or-lt-of-le (le-of-suc-le-suc h))
+
+-- 13, 14, 15 with an arrow of the sheet
+pub rows-combined-kind : {n m k : ℕ} {v : Pairs} {a r : List ℕ} (w : Pairs) (c : ℕ) → n ≡ m → n ≤ 64 → n ≤ k → Rows n v a → Changed k a r (λ i. combined (arrowOperation c) (getD a i 0) (setOf m (w i))) → Rows n (λ i j. arrowOperation c (v i j) (w i j)) r
+rows-combined-kind {n} {m} {k} {v} w c q h e p f =
+    record {
+      row = λ i l.
+          f .row i (omega arith) ∙ ap₂ (combined (arrowOperation c)) (p .row i l) (ap (λ (z : ℕ). setOf z (w i)) (sym q))
+          ∙ combined-sets (arrowOperation c) (arrow-operation-none c) n (v i) (w i) h;
+    }
+
+-- 13, 15 with one pair
+pub rows-paired : (c n : ℕ) (nodes : Nodes) (v : Pairs) (a : List ℕ) (i j k x y : ℕ) → (c ≡ 0x14 → ⊥) → n ≤ 64 → length a ≡ 64 → k ≡ i → i < 64 → Rows n v a
+    → (i < n → x ≡ setOf n (λ l. nodes i && (nodes l && eqb l j))) → y ≡ combined (arrowOperation c) (getD a k 0) x
+    → Rows n (λ s l. arrowOperation c (v s l) ((nodes s && eqb s i) && (nodes l && eqb l j))) (set a k y)
+rows-paired c n nodes v a i j k x y d h len e small p f g = record { row = λ s l. go s l (eqb s i) refl }
+  where
+    stays : (b t z : Bool) → t ≡ false → z ≡ cond b (z || false) (cond t (z && false) (z && not false))
+    stays true t z q = sym (or-false z)
+    stays false t z q = sym (ap (λ (u : Bool). cond u (z && false) (z && true)) q ∙ and-true z)
+
+    go : (s : ℕ) → s < n → (b : Bool) → eqb s i ≡ b → getD (set a k y) s 0 ≡ setOf n (λ l. arrowOperation c (v s l) ((nodes s && eqb s i) && (nodes l && eqb l j)))
+    go s l true q =
+        let o : s ≡ i = eqb-true s i q in
+        ap (λ (z : ℕ). getD (set a k y) z 0) (o ∙ sym e) ∙ getD-set-same a k y 0 (omega arith) ∙ g
+        ∙ ap₂ (combined (arrowOperation c)) (ap (λ (z : ℕ). getD a z 0) (e ∙ sym o) ∙ p .row s l) (f (omega arith))
+        ∙ combined-sets (arrowOperation c) (arrow-operation-none c) n (v s) (λ t. nodes i && (nodes t && eqb t j)) h
+        ∙ setOf-cong n _ _ (λ t z. ap (λ (u : Bool). arrowOperation c (v s t) (u && (nodes t && eqb t j))) (ap nodes (sym o) ∙ sym (and-true (nodes s)) ∙ ap (nodes s &&_) (sym q)))
+    go s l false q =
+        getD-set-other a k s y 0 (λ z. eqb-false s i q (z ∙ e)) ∙ p .row s l
+        ∙ setOf-cong n _ _ (λ t z. stays (eqb c 0x13) (eqb c 0x14) (v s t) (ne-eqb c 0x14 d) ∙ ap (λ (u : Bool). arrowOperation c (v s t) (u && (nodes t && eqb t j))) (sym (ap (nodes s &&_) q ∙ and-false (nodes s))))

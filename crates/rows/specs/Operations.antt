@@ -2,15 +2,14 @@
 use mathlib.Core.Path.{_≡_}
 use mathlib.Core.Bool.{Bool, not, _&&_, _||_, cond}
 use mathlib.Core.List.{List}
-use Prim.Native.Nat.{ℕ, _<_}
+use Prim.Native.Nat.{ℕ, _+_, _≤_, _<_}
 use lib.Dec.{eqb, leb}
 use lib.ListN.{getD}
 use Rattle.logic.specs.Graph.{Nodes, Pairs, anyBelow, allBelow, countBelow, implies}
+use Rattle.logic.specs.Limits.{maxNodes, arrowCount}
 use Rattle.words.specs.Words.{combined}
-
--- 06 and; 07 or
-abbrev pub nodeOperation : ℕ → Bool → Bool → Bool
-nodeOperation c x y = cond (eqb c 0x06) (x && y) (x || y)
+use Rattle.sheet.specs.Sheet.{graphOf}
+use Rattle.sheet.specs.Questions.{Sound}
 
 -- 13 union; 14 common; 15 first without second
 abbrev pub arrowOperation : ℕ → Bool → Bool → Bool
@@ -31,3 +30,28 @@ quantifiedNodes c m n nodes v w i = cond (eqb c 0x08) (quantified c m n (v i) w)
 -- Of an inner function: the first n rows of r are those of rows with the mask e.
 pub record Masked (n : ℕ) (rows : List ℕ) (e : ℕ) (r : List ℕ) : Type 0 where
   pub row : (i : ℕ) → i < n → getD r i 0 ≡ combined _&&_ (getD rows i 0) e
+
+-- All four say whether a start node has so many ends or more: k of its ends v, among n, in w.
+abbrev pub enough : (k n : ℕ) → Nodes → Nodes → Bool
+enough k n v w = leb k (countBelow n (λ j. v j && w j))
+
+-- by code: how many, of those in the set or (09) of those not in it, and whether (09, 0B) not to have them is wanted
+abbrev pub least : ℕ → ℕ → ℕ
+least c m = cond (eqb c 0x08) 1 (cond (eqb c 0x09) 1 (cond (eqb c 0x0A) m (m + 1)))
+
+abbrev pub looked : ℕ → Bool → Bool
+looked c x = cond (eqb c 0x08) x (cond (eqb c 0x09) (not x) x)
+
+abbrev pub answered : ℕ → Bool → Bool
+answered c x = cond (eqb c 0x08) x (cond (eqb c 0x09) (not x) (cond (eqb c 0x0A) x (not x)))
+
+-- rows for columns, or as they are
+abbrev pub turn : Bool → Pairs → Pairs
+turn b v i j = cond b (v j i) (v i j)
+
+-- Of inner functions: the sheet is sound with these n nodes, and a is one of its arrows.
+pub record OfSheet (sheet : List ℕ) (n a : ℕ) : Type 0 where
+  pub sound : Sound sheet
+  pub count : n ≡ graphOf sheet .n
+  pub few : n ≤ maxNodes
+  pub kind : a < arrowCount

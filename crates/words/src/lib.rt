@@ -1,8 +1,9 @@
 // Sets of nodes as u64, a u64 in 8 bytes, and rows and columns of 64 of them exchanged.
 ghost use mathlib.Core.Path.{_≡_};
-ghost use mathlib.Core.Bool.{not, _&&_, _||_, cond};
-ghost use Prim.Native.Nat.{_+_, _-_, _<_, _≤_};
+ghost use mathlib.Core.Bool.{true, not, _&&_, _||_, cond};
+ghost use Prim.Native.Nat.{ℕ, _+_, _-_, _<_, _≤_};
 ghost use lib.Dec.{eqb, ltb};
+ghost use lib.Count.{trailingZeros};
 ghost use lib.ListN.{length};
 ghost use Rattle.logic.specs.Graph.{countBelow};
 ghost use Rattle.words.specs.Words.{setOf, member, combined, wordAt, putWord};
@@ -65,6 +66,22 @@ pub fn count_common(x: u64, y: u64) -> u32
     ensures { λ r. ⌜ r ≡ countBelow 64 (λ i. member x i && member y i) ⌝ }
 {
     u64::count_ones(x & y)
+}
+
+// The lowest node of the set x. Inner: there is one, here and in `but_first`.
+pub fn first(x: u64) -> usize
+    requires { ⌜ 0 < x ⌝ }
+    ensures { λ r. ⌜ (member x r ≡ true) × (r < 64) × (r ≡ trailingZeros 64 x) ⌝ }
+{
+    u64::trailing_zeros(x) as usize
+}
+
+// The set x without its lowest node: the smaller number, so that a loop over the members ends.
+pub fn but_first(x: u64) -> u64
+    requires { ⌜ 0 < x ⌝ }
+    ensures { λ r. ⌜ ((i : ℕ) → i ≡ trailingZeros 64 x → r ≡ setOf 64 (λ j. member x j && not (eqb j i))) × (r < x) ⌝ }
+{
+    x & (x - 1)
 }
 
 // A byte as a word. Inner: says beside its value that it is below 256.

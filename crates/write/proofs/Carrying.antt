@@ -8,7 +8,7 @@ use lib.Seq.{set-set, set-getD}
 use Rattle.logic.specs.Syntax.{Edit}
 use Rattle.tree.specs.Tree.{Tree, tree, bytes, graft}
 use Rattle.tree.specs.Stack.{Step, env, written}
-use Rattle.measure.specs.Shapes.{At}
+use Rattle.ends.specs.Shapes.{At}
 use Rattle.measure.specs.Edits.{EditAt}
 use Rattle.measure.proofs.Steps.{edit-inside}
 use Rattle.measure.proofs.Rules.{rule-at}

@@ -13,10 +13,10 @@ use Rattle.tree.specs.Tree.{Tree, tree, size, bytes, graft}
 use Rattle.tree.specs.Stack.{Step, env, written, shown}
 use Rattle.tree.proofs.Trees.{bytes-tree}
 use Rattle.tree.proofs.Written.{written-finish, written-choose}
-use Rattle.measure.specs.Shapes.{At, Some}
+use Rattle.ends.specs.Shapes.{At, Some}
 use Rattle.measure.specs.Edits.{EditAt, SomeEdit, Kept}
-use Rattle.measure.proofs.Places.{inside, size-pos}
-use Rattle.measure.proofs.Formed.{formed-tree}
+use Rattle.ends.proofs.Places.{inside, size-pos}
+use Rattle.ends.proofs.Formed.{formed-tree}
 use Rattle.measure.proofs.Steps.{tag-edit, as-finish, cK, cP, cQ, cZ, size-K}
 use Rattle.write.specs.Ways.{followed, BehindIs, Way, Chosen}
 use Rattle.write.proofs.Walking.{steps-kept, behind-kept, kept-set, followed-through}

@@ -10,9 +10,9 @@ use lib.Seq.{take-append-seam}
 use Rattle.tree.specs.Tree.{Tree, name, leaf, one, two, bytes, graft}
 use Rattle.tree.specs.Stack.{Step, env, lead, inner}
 use Rattle.tree.proofs.Written.{bytes-becomes}
-use Rattle.measure.specs.Shapes.{At, Named, shapeOf}
-use Rattle.measure.proofs.Places.{IsName, as-name, tag, tag-at}
-use Rattle.measure.proofs.Pending.{headOf, partsOf, texts, texts-append, bytes-opened, Pending, pending-one, First, first, Turn, turn}
+use Rattle.ends.specs.Shapes.{At, Named, shapeOf}
+use Rattle.ends.proofs.Places.{IsName, as-name, tag, tag-at}
+use Rattle.ends.proofs.Pending.{headOf, partsOf, texts, texts-append, bytes-opened, Pending, pending-one, First, first, Turn, turn}
 use Rattle.write.specs.Laid.{Wrote}
 use Rattle.write.specs.Offsets.{StackIs}
 use Rattle.write.specs.Links.{lastIn}

@@ -13,7 +13,7 @@ use borrow.Author.Tests.{eqb-true}
 use Rattle.tree.specs.Tree.{name, graft, same}
 use Rattle.tree.specs.Stack.{Step, env, becomes, touched}
 use Rattle.tree.proofs.Written.{env-hit, env-miss}
-use Rattle.measure.specs.Shapes.{Named, cell}
+use Rattle.ends.specs.Shapes.{Named, cell}
 use Rattle.measure.specs.Edits.{Kept}
 use Rattle.measure.proofs.Held.{named-lt, apart, alike}
 use Rattle.write.proofs.Walking.{kept-set, kept-more}

@@ -12,7 +12,7 @@ use Rattle.text.specs.Stands.{RulesInRange}
 use Rattle.tree.specs.Tree.{Tree, tree, size}
 use Rattle.tree.specs.Stack.{written}
 use Rattle.tree.proofs.Written.{written-code}
-use Rattle.measure.specs.Shapes.{At, Some}
+use Rattle.ends.specs.Shapes.{At, Some}
 use Rattle.measure.specs.Edits.{EditAt}
 use Rattle.measure.specs.Book.{RuleAt, BookIs}
 use Rattle.text.proofs.Standing.{behind}

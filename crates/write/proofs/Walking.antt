@@ -15,9 +15,9 @@ use Rattle.text.specs.Code.{code, editCode}
 use Rattle.tree.specs.Tree.{Tree, tree, size}
 use Rattle.tree.specs.Stack.{Step, touched, written}
 use Rattle.tree.proofs.Written.{written-addLabel, written-takeLabel, written-addArrow, written-takeArrow}
-use Rattle.measure.specs.Shapes.{At, Some, Named}
+use Rattle.ends.specs.Shapes.{At, Some, Named}
 use Rattle.measure.specs.Edits.{EditAt, Kept}
-use Rattle.measure.proofs.Places.{inside}
+use Rattle.ends.proofs.Places.{inside}
 use Rattle.text.proofs.Standing.{byte-at}
 use Rattle.measure.proofs.Steps.{tag-edit, as-finish, as-step, edit-inside, step-what, step-next, step-len, step-k, step-room}
 use Rattle.write.specs.Offsets.{StepAt, StackIs}

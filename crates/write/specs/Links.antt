@@ -6,7 +6,7 @@ use Prim.Native.Nat.{ℕ, zero, suc, _+_, _*_, _<_, _≤_}
 use lib.ListN.{length, getD, set}
 use Rattle.tree.specs.Tree.{same}
 use Rattle.tree.specs.Stack.{touched}
-use Rattle.measure.specs.Shapes.{Named, cell}
+use Rattle.ends.specs.Shapes.{Named, cell}
 use Rattle.measure.specs.Edits.{Kept}
 
 -- the code and the number of the name that the step at a place touches

@@ -4,7 +4,7 @@ use mathlib.Core.List.{List, [], _∷_}
 use Prim.Native.Nat.{ℕ, _+_, _<_}
 use lib.ListN.{length, getD}
 use Rattle.tree.specs.Stack.{Step}
-use Rattle.measure.specs.Shapes.{At}
+use Rattle.ends.specs.Shapes.{At}
 
 -- a step 31 to 34 stands in an edit at a place
 pub record StepAt (edit : List ℕ) (o : ℕ) (s : Step) : Type 0 where

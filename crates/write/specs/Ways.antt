@@ -10,7 +10,7 @@ use Rattle.logic.specs.Carry.{followedBy}
 use Rattle.text.specs.Code.{editCode}
 use Rattle.tree.specs.Tree.{tree}
 use Rattle.tree.specs.Stack.{Step, written}
-use Rattle.measure.specs.Shapes.{At}
+use Rattle.ends.specs.Shapes.{At}
 use Rattle.measure.specs.Edits.{EditAt, Kept}
 use Rattle.measure.specs.Book.{RuleAt}
 use Rattle.write.specs.Laid.{Wrote}

@@ -5,7 +5,7 @@ use Prim.Native.Nat.{ℕ, _+_, _≤_}
 use lib.ListN.{length}
 use Rattle.tree.specs.Tree.{Tree, bytes, graft}
 use Rattle.tree.specs.Stack.{Step, env}
-use Rattle.measure.specs.Shapes.{At}
+use Rattle.ends.specs.Shapes.{At}
 use Rattle.write.specs.Offsets.{StackIs}
 use Rattle.write.specs.Links.{lastIn}
 

@@ -8,7 +8,7 @@ ghost use Rattle.tree.specs.Tree.{Tree, bytes, graft};
 ghost use Rattle.tree.specs.Stack.{Step, touched, env};
 ghost use Rattle.tree.specs.Stack as words;
 ghost use Rattle.logic.specs.Syntax.{rule, Expr, Edit};
-ghost use Rattle.measure.specs.Shapes.{At, Named};
+ghost use Rattle.ends.specs.Shapes.{At, Named};
 ghost use Rattle.measure.specs.Edits.{EditAt, SomeEdit, Kept};
 ghost use Rattle.measure.specs.Book.{RuleAt, BookIs};
 ghost use Rattle.write.specs.Laid.{Wrote};
@@ -140,7 +140,7 @@ fn emit(
     let mut wanted: usize = 1;
     while 0 < wanted {
         let c = text[p];
-        let s = measure::shape(c);
+        let s = ends::shape(c);
         if s >= 16 {
             let k = text[p + 1];
             let j = find(edit, stack, links, last, h, c, k);
@@ -216,7 +216,7 @@ fn pass(
     }
     stack[h] = at as u16;
     link(edit, at, links, last, h);
-    let next = measure::past(edit, at + 2);
+    let next = ends::past(edit, at + 2);
     Rest {
         at: next,
         h: h + 1,
@@ -263,7 +263,7 @@ fn ways_at(edit: &[u8], at: usize) -> Ways
     requires { ⌜ SomeEdit (now edit) at × (getD (now edit) at 0 ≡ 0x35) ⌝ }
     ensures { λ r. ⌜ ((Z : Edit) → EditAt (now (edit .entry)) at Z → Chosen (now (edit .entry)) at (r .first) (r .second) (r .next) Z) ⌝ }
 {
-    let first = measure::past(edit, at + 1);
+    let first = ends::past(edit, at + 1);
     let second = measure::end_of(edit, first);
     let next = measure::end_of(edit, second);
     Ways {
@@ -408,7 +408,7 @@ pub fn write_rule(
     requires { ⌜ SomeRuleFits (now text) at (now edit) from pos (length (now out)) × (length (now edit) ≤ length (now stack)) × (length (now edit) ≤ length (now links)) × (length (now edit) ≤ 2 * length (now behind)) × (length (now edit) ≤ 4096) ⌝ }
     ensures { λ r. ⌜ ((K : Expr rule) (Z : Edit) → RuleAt (now (text .entry)) at K → EditAt (now (edit .entry)) from Z → RuleWritten Z K at (now (out .entry)) pos (r .at) (r .pos) (now (out .exit))) ⌝ }
 {
-    let next = measure::past(text, at);
+    let next = ends::past(text, at);
     let mut last = [0u16; 64];
     let end = write_way(
         text,

@@ -23,7 +23,7 @@ use Rattle.measure.proofs.end_before.Reads as end-before-reads
 use Rattle.measure.proofs.join_ways.Reads as join-ways-reads
 use Rattle.measure.proofs.keep_step.Reads as keep-step-reads
 use Rattle.measure.proofs.put_before.Reads as put-before-reads
-use Rattle.measure.proofs.past.Reads as past-reads
+use Rattle.ends.proofs.past.Reads as past-reads
 use Rattle.measure.proofs.push.Reads as push-reads
 use Rattle.measure.proofs.step_back.Reads as step-back-reads
 use Rattle.measure.proofs.+back+one_back.{statement}

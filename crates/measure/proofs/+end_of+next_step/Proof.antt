@@ -14,7 +14,7 @@ use Rattle.measure.proofs.+end_of+next_step.Lts-end_of as end-of-lts
 use Rattle.measure.proofs.next_step.Reads as next-step
 use Rattle.measure.proofs.next_step.Kinds as next-step-kinds
 use Rattle.measure.proofs.+end_of+next_step.Lts-next_step as next-step-lts
-use Rattle.measure.proofs.past.Reads as past-reads
+use Rattle.ends.proofs.past.Reads as past-reads
 use Rattle.measure.proofs.+end_of+next_step.{statement}
 use Rattle.measure.proofs.+end_of+next_step.Tie.{close}
 

@@ -4,9 +4,9 @@ use mathlib.Core.Path.{refl, sym, _∙_, ap, subst}
 use Prim.Native.Nat.{ℕ, _<_, _-_, _+_, _%_}
 use native.Mathlib.Omega.{arith}
 use borrow.Author.Needs.{needs}
-use Rattle.measure.proofs.Places.{inside, as-name, as-leaf, as-one, as-two, as-any}
-use Rattle.measure.proofs.Pending.{code-at}
-use Rattle.measure.specs.Shapes.{At}
+use Rattle.ends.proofs.Places.{inside, as-name, as-leaf, as-one, as-two, as-any}
+use Rattle.ends.proofs.Pending.{code-at}
+use Rattle.ends.specs.Shapes.{At}
 use Rattle.tree.specs.Tree.{size}
 use Rattle.measure.proofs.Scans.{place-lt, name-scanned, leaf-scanned, one-scanned, two-scanned}
 use borrow.Fn.Kinds.{In}
@@ -17,7 +17,7 @@ use Rattle.measure.proofs.+scan.Lts-scan as scan-lts
 use Rattle.measure.proofs.deeper.Reads as deeper-reads
 use Rattle.measure.proofs.cell_of.Reads as cell-of-reads
 use Rattle.measure.proofs.rise.Reads as rise-reads
-use Rattle.measure.proofs.shape.Reads as shape-reads
+use Rattle.ends.proofs.shape.Reads as shape-reads
 use Rattle.measure.proofs.touch.Reads as touch-reads
 use Rattle.measure.proofs.+scan.{statement}
 use Rattle.measure.proofs.+scan.Tie.{close}

@@ -4,7 +4,7 @@ use mathlib.Core.Path.{refl, _∙_}
 use Prim.Native.Nat.{ℕ, _≤_, _-_, _+_, _*_}
 use native.Mathlib.Nat.{mul-le-mul}
 use lib.ListN.{length-set}
-use Rattle.measure.proofs.Places.{fits}
+use Rattle.ends.proofs.Places.{fits}
 use Rattle.measure.proofs.Loops.{joined}
 use Rattle.measure.proofs.join_ways.Statement.{statement}
 use Rattle.measure.proofs.join_ways.Tie as tie

@@ -1,7 +1,7 @@
 use native.Mathlib.Omega.{arith}
 use borrow.Author.Needs.{needs}
 use denote.Ref.{now}
-use Rattle.measure.proofs.Places.{fits}
+use Rattle.ends.proofs.Places.{fits}
 use Rattle.measure.proofs.Steps.{as-step, IsStep}
 use Rattle.measure.proofs.Stepping.{step-cell, step-low, step-idle, step-kept}
 use Rattle.measure.proofs.keep_step.Statement.{statement}

@@ -5,7 +5,7 @@ use mathlib.Core.Path.{refl, _∙_}
 use Prim.Native.Nat.{_≤_, _-_, _+_}
 use native.Mathlib.Omega.{arith}
 use borrow.Author.Needs.{needs}
-use Rattle.measure.proofs.Places.{fits}
+use Rattle.ends.proofs.Places.{fits}
 use Rattle.measure.proofs.Steps.{as-step, IsStep}
 use Rattle.measure.proofs.Stepping.{step-cell, step-low, stepped, step-fits, step-product, low-level, few}
 use Rattle.measure.proofs.step_back.Statement.{statement}

@@ -1,36 +1,48 @@
-use mathlib.Core.Path.{_≡_, sym, ap, _∙_}
-use mathlib.Core.Logic.{⊎-elim}
-use Prim.Native.Nat.{_≤_, _-_}
+use mathlib.Core.Bool.{Bool, true, _&&_}
+use mathlib.Core.Path.{_≡_, refl, sym, ap, subst, _∙_}
+use Prim.Native.Nat.{ℕ, _^_, _<_}
 use native.Mathlib.Omega.{arith}
 use borrow.Author.Needs.{needs}
-use Rattle.rows.specs.Operations.{quantified}
-use Rattle.rows.proofs.Laws.{quantified-unmasked, quantified-masked}
-use Rattle.logic.specs.Graph.{Nodes, Pairs}
-use Rattle.sheet.specs.Sheet.{Rows}
-use Rattle.words.proofs.SetLaws.{setOf-zero, setOf-more, setOf-same, setOf-end}
-use Rattle.words.specs.Words.{digit, setOf}
+use Rattle.words.specs.Words.{setOf, member}
+use Rattle.words.proofs.SetLaws.{setOf-lt, setOf-member-lt}
+use Rattle.rows.specs.Operations.{quantified, turn}
+use Rattle.rows.proofs.Quantifiers.{by-columns, by-rows, set-small}
 use Rattle.rows.proofs.quantified.Statement.{statement}
 use Rattle.rows.proofs.quantified.Tie as tie
 
-abbrev Inv-loop : tie.InvT-loop
-Inv-loop c m n all rows e r₀ i₀ r i = (i ≤ n) × ((v : Pairs) (w : Nodes) → Rows n v rows → e ≡ setOf n w → r ≡ setOf i (λ k. quantified c m n (v k) w))
-
-abbrev μ-loop : tie.MeasureT-loop
-μ-loop c m n all rows e r₀ i₀ r i = n - i
-
 pub quantified-spec : {M : Type 1} → statement M
-quantified-spec = tie.close (tie.spec Inv-loop μ-loop
-    (λ c. (search needs, λ v w p q. setOf-zero _))
-    (λ c. search needs) (λ c. search needs) (λ c κs. search needs) (λ c. search needs) (λ c. search needs) (λ c. search needs)
-    (λ c. (
-      search needs,
-      λ v w p q.
-          let h = c .before .holds .ensures _ (v _) w (omega arith) (p .row _ (c .before .before .before .loop-test .taken)) q in
-          ⊎-elim
-          (λ x. x .1 ∙ setOf-more _ _ _ _ (omega arith) (c .before .before .before .before .loop .inv .1 v w p q) (ap digit (sym (x .0 .taken) ∙ h)))
-          (λ x. x .1 ∙ setOf-same _ _ _ (c .before .before .before .before .loop .inv .1 v w p q) (sym h ∙ x .0 .left))
-          (c .if1 .came),
-    ))
+quantified-spec = tie.close (tie.spec
+    (λ c κs. search needs) (λ c κs. search needs)
+    (λ c κs. let s = c .before .before .before .before .before in (s .pre .0, s .pre .1, set-small _ _ (c .before .before .looked .ensures _ _ (omega (arith, s .pre .0)) (s .pre .3) (sym (setOf-member-lt _ _ (s .pre .4)))), set-small _ _ (s .pre .3)))
     (λ c κs. search needs)
-    (λ c nodes v w a p q. quantified-unmasked _ _ _ nodes v w _ (setOf-end _ _ _ _ (c .before .before .loop .inv .0) (c .before .loop-test .left) (c .before .before .loop .inv .1 v w p q)) (c .if2 .taken))
-    (λ c nodes v w a p q. c .both .ensures ∙ quantified-masked _ _ _ nodes v w _ (setOf-end _ _ _ _ (c .before .before .before .loop .inv .0) (c .before .before .loop-test .left) (c .before .before .before .loop .inv .1 v w p q)) _ (c .before .if2 .left) (omega arith) a))
+    (λ c κs. let s = c .before .before .before .before .before .before in (s .pre .0, s .pre .1))
+    (λ c κs. search needs)
+    (λ c κs. let s = c .before .before .before .before .before .before in (s .pre .0, s .pre .1, s .pre .2))
+    (λ c κs. search needs)
+    (λ c. c .before .before .before .ends .ensures .1 ∙ sym (c .before .before .before .before .before .before .before .before .before .pre .1))
+    (λ c. let s = c .before .before .before .before .before .before .before .before .before in (
+      λ v p.
+          by-columns _ _ _ _ _ _ _ _ _ (λ i j. v j i) (omega (arith, s .pre .0)) (c .before .before .before .before .before .before .before .least .ensures)
+          (c .before .before .before .before .before .before .looked .ensures _ _ (omega (arith, s .pre .0)) (s .pre .3) (sym (setOf-member-lt _ _ (s .pre .4))))
+          (λ u d. c .answered .ensures _ u (omega (arith, s .pre .0)) (s .pre .2) d) (c .before .before .before .ends .ensures .0 v (s .pre .3) p)
+          ∙ ap (λ (b : Bool). setOf (s .args .n) (λ i. member (s .args .within) i && quantified (s .args .c) (s .args .m) (s .args .n) (turn b v i) (member (s .args .e)))) (sym (c .before .before .before .before .before .if1 .taken)),
+      c .before .before .before .ends .ensures .1,
+    ))
+    (λ c. refl)
+    (λ c. let s = c .before .before .before .before .before .before .before .before in (
+      λ v p.
+          let f = c .before .before .before .before .before .looked .ensures _ _ (omega (arith, s .pre .0)) (s .pre .3) (sym (setOf-member-lt _ _ (s .pre .4))) in
+          by-columns _ _ _ _ _ _ _ _ _ v (omega (arith, s .pre .0)) (c .before .before .before .before .before .before .least .ensures) f
+          (λ u d. c .answered2 .ensures _ u (omega (arith, s .pre .0)) (s .pre .2) d) (c .before .all-starts .ensures v _ p (sym (setOf-member-lt _ _ (set-small _ _ f))))
+          ∙ ap (λ (b : Bool). setOf (s .args .n) (λ i. member (s .args .within) i && quantified (s .args .c) (s .args .m) (s .args .n) (turn b v i) (member (s .args .e)))) (sym (c .before .before .before .before .if1 .left)),
+      s .pre .1,
+    ))
+    (λ c. refl)
+    (λ c. let s = c .before .before .before .before .before .before .before .before in (
+      λ v p.
+          let f = c .before .before .before .before .before .looked .ensures _ _ (omega (arith, s .pre .0)) (s .pre .3) (sym (setOf-member-lt _ _ (s .pre .4))) in
+          by-rows _ _ _ _ _ _ _ _ _ v (omega (arith, s .pre .0)) (c .before .before .before .before .before .before .least .ensures) f
+          (λ u d. c .answered3 .ensures _ u (omega (arith, s .pre .0)) (s .pre .2) d) (c .before .starts .ensures v _ p f)
+          ∙ ap (λ (b : Bool). setOf (s .args .n) (λ i. member (s .args .within) i && quantified (s .args .c) (s .args .m) (s .args .n) (turn b v i) (member (s .args .e)))) (sym (c .before .before .before .before .if1 .left)),
+      s .pre .1,
+    )))

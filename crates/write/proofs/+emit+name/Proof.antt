@@ -17,7 +17,7 @@ use Rattle.write.proofs.+emit+name.Lts-emit as emit-lts
 use Rattle.write.proofs.name.Reads as name
 use Rattle.write.proofs.name.Kinds as name-kinds
 use Rattle.write.proofs.+emit+name.Lts-name as name-lts
-use Rattle.measure.proofs.shape.Reads as shape-reads
+use Rattle.ends.proofs.shape.Reads as shape-reads
 use Rattle.write.proofs.copy.Reads as copy-reads
 use Rattle.write.proofs.find.Reads as find-reads
 use Rattle.write.proofs.lead.Reads as lead-reads

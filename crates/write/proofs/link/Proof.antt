@@ -4,7 +4,7 @@ use mathlib.Core.Path.{ap, _∙_}
 use Prim.Native.Nat.{ℕ, _+_}
 use denote.Ref.{now}
 use lib.ListN.{getD, set, length-set}
-use Rattle.measure.specs.Shapes.{cell}
+use Rattle.ends.specs.Shapes.{cell}
 use Rattle.measure.proofs.Held.{named-lt}
 use Rattle.write.specs.Links.{numberAt}
 use Rattle.write.proofs.link.Statement.{statement}

@@ -1,0 +1,4 @@
+pub mod Places
+pub mod Pending
+pub mod Formed
+pub mod Behind

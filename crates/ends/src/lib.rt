@@ -1,0 +1,55 @@
+// Where expressions end, found from the code bytes alone: a table says of each code how long it is and how many operands follow.
+ghost use mathlib.Core.Path.{_≡_};
+ghost use Prim.Native.Nat.{_+_, _/_, _%_, _^_, _<_};
+ghost use Rattle.tree.specs.Tree.{Tree, size};
+ghost use Rattle.ends.specs.Shapes.{shapeOf, At, Some};
+
+// How each code goes on: the length of the code byte with its numbers, plus 4 for each operand, plus 16 for a name (03, 11); 0 for no code.
+// The table is in specs/Shapes.antt. Here it is a word for each binary digit of its entries, with a bit for each code: a table of 40 entries
+// would be stored anew at each use.
+const ONES: u64 = 0xF600FC03E6;
+
+const TWOS: u64 = 0x1800820C18;
+
+const FOURS: u64 = 0x9800040020;
+
+const EIGHTS: u64 = 0x6600780FC0;
+
+const SIXTEENS: u64 = 0x20008;
+
+// The bit of a code in a word.
+// Inner: asks for a code of the table.
+fn digit(word: u64, code: u8) -> usize
+    requires { ⌜ code < 40 ⌝ }
+    ensures { λ r. ⌜ r ≡ word / 2 ^ code % 2 ⌝ }
+{
+    (word >> code) as usize % 2
+}
+
+// Inner: asks for a code of the table.
+pub fn shape(code: u8) -> usize
+    requires { ⌜ code < 40 ⌝ }
+    ensures { λ r. ⌜ r ≡ shapeOf code ⌝ }
+{
+    digit(ONES, code)
+        + 2 * digit(TWOS, code)
+        + 4 * digit(FOURS, code)
+        + 8 * digit(EIGHTS, code)
+        + 16 * digit(SIXTEENS, code)
+}
+
+// The place behind the expression at `at`: each code takes one from the expressions that are wanted, and adds its operands.
+// Inner: the text was read before.
+pub fn past(text: &[u8], at: usize) -> usize
+    requires { ⌜ Some (now text) at ⌝ }
+    ensures { λ r. ⌜ ((t : Tree) → At (now (text .entry)) at t → r ≡ at + size t) ⌝ }
+{
+    let mut p = at;
+    let mut wanted: usize = 1;
+    while 0 < wanted {
+        let s = shape(text[p]);
+        p += s % 4;
+        wanted = wanted - 1 + s / 4 % 4;
+    }
+    p
+}

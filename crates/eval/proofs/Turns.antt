@@ -1,0 +1,34 @@
+-- 12s in front of an arrow expression, passed one by one.
+use mathlib.Core.Path.{_≡_, refl, sym, ap, _∙_, subst}
+use mathlib.Core.Bool.{Bool, true, false, not}
+use mathlib.Core.List.{List}
+use Prim.Native.Nat.{ℕ, _+_, _<_, _≤_}
+use native.Mathlib.Omega.{arith}
+use lib.ListN.{length, getD}
+use Rattle.logic.specs.Syntax.{arrow, Expr, reversed}
+use Rattle.logic.specs.Graph.{Graph, Pairs}
+use Rattle.logic.specs.Meaning.{value}
+use Rattle.logic.specs.Limits.{ranges}
+use Rattle.text.specs.Stands.{Stands}
+use Rattle.rows.specs.Operations.{turn}
+use Rattle.eval.specs.Evaluated.{IsTurned}
+use Rattle.eval.proofs.ArrowCases.{as-reversed}
+
+pub turned-none : (n : ℕ) (text : List ℕ) (at : ℕ) (e : Expr arrow) → Stands (ranges n) text at e → IsTurned n text at e false at
+turned-none n text at e h = record { R = e; stands = h; means = λ g. refl; on = omega arith; after = refl }
+
+pub turned-more : (n : ℕ) (text : List ℕ) (at : ℕ) (e : Expr arrow) (b : Bool) (p : ℕ) → IsTurned n text at e b p → getD text p 0 ≡ 0x12 → IsTurned n text at e (not b) (p + 1)
+unfolding value
+turned-more n text at e b p t c =
+    let q = as-reversed n text p (t .R) (t .stands) (omega (arith, c)) (omega (arith, c)) in
+    record {
+      R = q .R;
+      stands = q .parts .first;
+      means = λ g. t .means g ∙ ap (λ (f : Expr arrow). turn b (value g f)) (q .is) ∙ go b (value g (q .R));
+      on = omega (arith, t .on);
+      after = omega (arith, t .after, q .parts .size);
+    }
+  where
+    go : (b : Bool) (v : Pairs) → turn b (λ i j. v j i) ≡ turn (not b) v
+    go true v = refl
+    go false v = refl

@@ -1,0 +1,141 @@
+-- The four quantifiers are one question, whether there are so many ends or more.
+use mathlib.Core.Path.{_≡_, refl, sym, ap, ap₂, subst, _∙_}
+use mathlib.Core.Bool.{Bool, true, false, not, _&&_, _||_, cond, and-true, or-true, or-false}
+use Prim.Native.Nat.{ℕ, zero, suc, _+_, _^_, _<_, _≤_}
+use native.Mathlib.Nat.{lt-of-lt-of-le}
+use native.Mathlib.Numerals.{add-one}
+use native.Mathlib.Omega.{arith}
+use lib.Count.{ones}
+use lib.Dec.{eqb, leb}
+use lib.Pow.{pow-mono}
+use borrow.Author.Tests.{leb-true, leb-false, le-leb, lt-leb, eq-eqb, ne-eqb}
+use Rattle.logic.specs.Graph.{Nodes, Pairs, anyBelow, allBelow, countBelow, implies}
+use Rattle.words.specs.Words.{setOf, member, combined}
+use Rattle.words.proofs.SetLaws.{setOf-lt, setOf-cong, setOf-member-lt, setOf-empty, setOf-none, ones-setOf, member-setOf, combined-sets}
+use Rattle.words.proofs.MemberLaws.{leave, count-cong, count-leave}
+use Rattle.rows.specs.Operations.{quantified, enough, least, looked, answered, turn}
+use Rattle.rows.proofs.Laws.{none-outside}
+
+pub one-or-more : (n : ℕ) (v : Nodes) → leb 1 (countBelow n v) ≡ anyBelow n v
+unfolding countBelow anyBelow
+one-or-more zero v = refl
+one-or-more (suc n) v = go (v n) (one-or-more n v)
+  where
+    go : (b : Bool) → leb 1 (countBelow n v) ≡ anyBelow n v → leb 1 (cond b (suc (countBelow n v)) (countBelow n v)) ≡ (anyBelow n v || b)
+    go true h = le-leb 1 (suc (countBelow n v)) (omega arith) ∙ sym (or-true (anyBelow n v))
+    go false h = h ∙ sym (or-false (anyBelow n v))
+
+pub quantified-is : (c m n : ℕ) (v w : Nodes) → quantified c m n v w ≡ answered c (enough (least c m) n v (λ j. looked c (w j)))
+unfolding quantified
+quantified-is c m n v w = go (eqb c 0x08) (eqb c 0x09) (eqb c 0x0A)
+  where
+    most : (k : ℕ) → leb k m ≡ not (leb (m + 1) k)
+    most k = by (leb k m) refl
+      where
+        by : (b : Bool) → leb k m ≡ b → b ≡ not (leb (m + 1) k)
+        by true e = ap not (sym (lt-leb (m + 1) k (omega (arith, leb-true k m e))))
+        by false e = ap not (sym (le-leb (m + 1) k (omega (arith, leb-false k m e))))
+
+    go : (a b d : Bool)
+        → cond a (anyBelow n (λ j. v j && w j)) (cond b (allBelow n (λ j. implies (v j) (w j))) (cond d (leb m (countBelow n (λ j. v j && w j))) (leb (countBelow n (λ j. v j && w j)) m)))
+        ≡ (let x = leb (cond a 1 (cond b 1 (cond d m (m + 1)))) (countBelow n (λ j. v j && cond a (w j) (cond b (not (w j)) (w j)))) in cond a x (cond b (not x) (cond d x (not x))))
+    go true b d = sym (one-or-more n (λ j. v j && w j))
+    go false true d = sym (none-outside n v w) ∙ ap not (sym (one-or-more n (λ j. v j && not (w j))))
+    go false false true = refl
+    go false false false = most (countBelow n (λ j. v j && w j))
+
+-- The members of a word are counted in the set.
+pub count-members : (n : ℕ) (p : Nodes) → n ≤ 64 → countBelow 64 (member (setOf n p)) ≡ countBelow n p
+count-members n p h = sym (ones-setOf 64 (member (setOf n p))) ∙ ap ones (setOf-member-lt 64 (setOf n p) (wide n p h)) ∙ ones-setOf n p
+  where
+    wide : (n : ℕ) (p : Nodes) → n ≤ 64 → setOf n p < 2 ^ 64
+    wide n p h = lt-of-lt-of-le (setOf-lt n p) (pow-mono h)
+
+-- more than one: one is left without the lowest
+module _ (x i y : ℕ) (l : i < 64) (m : member x i ≡ true) (e : y ≡ setOf 64 (leave (member x) i)) where
+  pub several-is : not (eqb y 0) ≡ leb 2 (countBelow 64 (member x))
+  several-is =
+      ap (λ (z : ℕ). not (eqb z 0)) e ∙ ap not (setOf-empty 64 (leave (member x) i)) ∙ not-not (anyBelow 64 (leave (member x) i))
+      ∙ sym (one-or-more 64 (leave (member x) i)) ∙ up (countBelow 64 (leave (member x) i)) ∙ ap (leb 2) (sym (count-leave 64 i (member x) l m))
+    where
+      not-not : (b : Bool) → not (not b) ≡ b
+      not-not true = refl
+      not-not false = refl
+
+      up : (k : ℕ) → leb 1 k ≡ leb 2 (suc k)
+      up zero = refl
+      up (suc k) = le-leb 1 (suc k) (omega arith) ∙ sym (le-leb 2 (suc (suc k)) (omega arith))
+
+pub several-none : (x : ℕ) → x ≡ 0 → false ≡ leb 2 (countBelow 64 (member x))
+unfolding countBelow
+several-none x e = sym (ap (leb 2) (ap (λ (y : ℕ). countBelow 64 (member y)) (e ∙ sym (setOf-none 0)) ∙ count-members 0 (λ i. false) (omega arith) ∙ nothing))
+  where
+    nothing : countBelow 0 (λ i. false) ≡ 0
+    nothing = refl
+
+-- of the nodes within
+pub answered-sets : (c n within r : ℕ) (f : Bool → Bool → Bool) (p : Nodes) → n ≤ 64 → within < 2 ^ n → r ≡ setOf n p → f false false ≡ false → ((a b : Bool) → f a b ≡ (a && answered c b)) → combined f within r ≡ setOf n (λ i. member within i && answered c (p i))
+answered-sets c n within r f p h l e z g =
+    ap₂ (combined f) (sym (setOf-member-lt n within l)) e ∙ combined-sets f z n (member within) p h ∙ setOf-cong n _ _ (λ i m. g (member within i) (p i))
+
+pub set-small : (n : ℕ) {x : ℕ} (p : Nodes) → x ≡ setOf n p → x < 2 ^ n
+set-small n {x} p e = subst (λ (y : ℕ). y < 2 ^ n) (sym e) (setOf-lt n p)
+
+-- none wanted: all have them
+pub none-wanted : (k n : ℕ) (v : Pairs) (w : Nodes) → k ≡ 0 → setOf n (λ i. true) ≡ setOf n (λ j. enough k n (λ i. v i j) w)
+none-wanted k n v w e = setOf-cong n _ _ (λ j l. sym (ap (λ (x : ℕ). leb x (countBelow n (λ i. v i j && w i))) e ∙ le-leb 0 (countBelow n (λ i. v i j && w i)) (omega arith)))
+
+pub wanted-is : (k n : ℕ) {m : ℕ} (v : Pairs) (w : Nodes) → k ≡ m → setOf n (λ j. enough m n (λ i. v i j) w) ≡ setOf n (λ j. enough k n (λ i. v i j) w)
+wanted-is k n v w e = ap (λ (x : ℕ). setOf n (λ j. enough x n (λ i. v i j) w)) (sym e)
+
+-- the ends of all rows, row by row
+pub any-none : (n : ℕ) (v : Pairs) → 0 ≡ setOf n (λ j. anyBelow 0 (λ k. v k j))
+unfolding anyBelow
+any-none n v = sym (setOf-none n)
+
+pub any-more : (n i : ℕ) (v : Pairs) (r row z : ℕ) → n ≤ 64 → r ≡ setOf n (λ j. anyBelow i (λ k. v k j)) → row ≡ setOf n (v i) → z ≡ combined _||_ r row → z ≡ setOf n (λ j. anyBelow (i + 1) (λ k. v k j))
+unfolding anyBelow
+any-more n i v r row z h p q e =
+    e ∙ ap₂ (combined _||_) p q ∙ combined-sets _||_ refl n (λ j. anyBelow i (λ k. v k j)) (v i) h
+    ∙ ap (λ (m : ℕ). setOf n (λ j. anyBelow m (λ k. v k j))) (sym (add-one i))
+
+pub any-end : (n i : ℕ) (v : Pairs) (r : ℕ) → i ≤ n → n ≤ i → r ≡ setOf n (λ j. anyBelow i (λ k. v k j)) → r ≡ setOf n (λ j. anyBelow n (λ k. v k j))
+any-end n i v r h l e = let q : i ≡ n = omega arith in e ∙ ap (λ (m : ℕ). setOf n (λ j. anyBelow m (λ k. v k j))) q
+
+pub any-wanted : (k n e all : ℕ) (v : Pairs) → k ≡ 1 → e ≡ all → all ≡ setOf n (λ i. true) → setOf n (λ j. anyBelow n (λ i. v i j)) ≡ setOf n (λ j. enough k n (λ i. v i j) (member e))
+any-wanted k n e all v q f a =
+    setOf-cong n _ _ (λ j l. sym (
+    ap (λ (x : ℕ). enough x n (λ i. v i j) (member e)) q
+    ∙ ap (leb 1) (count-cong n _ (λ i. v i j) (λ i m. ap (v i j &&_) (ap (λ (x : ℕ). member x i) (f ∙ a) ∙ member-setOf n (λ i. true) i m) ∙ and-true (v i j)))
+    ∙ one-or-more n (λ i. v i j)))
+
+pub all-asked : (n all : ℕ) (p : Nodes) → all ≡ setOf n (λ i. true) → setOf n (λ i. member all i && p i) ≡ setOf n p
+all-asked n all p e = setOf-cong n _ _ (λ i l. ap (_&& p i) (ap (λ (x : ℕ). member x i) e ∙ member-setOf n (λ i. true) i l))
+
+-- What the code looks at and answers is what it means, of the nodes within.
+module _ (c m n within e : ℕ) where
+  abbrev answer-of : (p : Pairs) → ℕ
+  answer-of p = setOf n (λ i. member within i && answered c (enough (least c m) n (p i) (λ j. looked c (member e j))))
+
+  pub answer-is : (p : Pairs) → answer-of p ≡ setOf n (λ i. member within i && quantified c m n (p i) (member e))
+  answer-is p = setOf-cong n _ _ (λ i l. ap (member within i &&_) (sym (quantified-is c m n (p i) (member e))))
+
+  module _ (k f x r : ℕ) (p : Pairs) (h : n ≤ 64) (q : k ≡ least c m) (s : f ≡ setOf n (λ i. looked c (member e i)))
+      (a : (u : Nodes) → r ≡ setOf n u → x ≡ setOf n (λ i. member within i && answered c (u i))) where
+    pub by-columns : r ≡ setOf n (λ i. enough k n (p i) (member f)) → x ≡ setOf n (λ i. member within i && quantified c m n (p i) (member e))
+    by-columns d =
+        a (λ i. enough (least c m) n (p i) (λ j. looked c (member e j)))
+        (d ∙ ap (λ (y : ℕ). setOf n (λ i. enough y n (p i) (member f))) q
+        ∙ setOf-cong n _ _ (λ i l. ap (leb (least c m)) (count-cong n _ _ (λ j o. ap (p i j &&_) (ap (λ (y : ℕ). member y j) s ∙ member-setOf n (λ j. looked c (member e j)) j o)))))
+        ∙ answer-is p
+
+    pub by-rows : r ≡ setOf n (λ i. member within i && enough k n (p i) (λ j. looked c (member e j))) → x ≡ setOf n (λ i. member within i && quantified c m n (p i) (member e))
+    by-rows d =
+        a (λ i. member within i && enough (least c m) n (p i) (λ j. looked c (member e j)))
+        (d ∙ ap (λ (y : ℕ). setOf n (λ i. member within i && enough y n (p i) (λ j. looked c (member e j)))) q)
+        ∙ setOf-cong n _ _ (λ i l. go (member within i) (enough (least c m) n (p i) (λ j. looked c (member e j))))
+        ∙ answer-is p
+      where
+        go : (b y : Bool) → (b && answered c (b && y)) ≡ (b && answered c y)
+        go true y = refl
+        go false y = refl
