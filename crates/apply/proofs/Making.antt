@@ -25,7 +25,7 @@ use Rattle.text.specs.Code.{code, editCode}
 use Rattle.text.specs.Stands.{Stands, EditStands, SomeEditStands}
 use Rattle.eval.specs.Evaluated.{Opened, IsSet, IsRelation, IsTruth}
 use Rattle.measure.specs.Edits.{behindStep}
-use Rattle.apply.specs.Made.{labelOperation, arrowCode, Ready, Stepped, Made}
+use Rattle.apply.specs.Made.{labelOperation, arrowCode, Ready, StepMade, Made}
 use Rattle.apply.proofs.Cases.{labelMade, arrowMade, IsStep, IsChoose, is-finish}
 
 -- the graph of the sheet that stores a graph
@@ -42,8 +42,8 @@ pub ready-length : (t : List ℕ) (n all : ℕ) → Ready t n all → length t �
 ready-length t n all r = ap length (r .stored) ∙ length-store (graphOf t)
 
 -- from one law for each edit that stands there
-pub each-made : (n all : ℕ) (edit : List ℕ) (at next : ℕ) (t t′ : List ℕ) → SomeEditStands (ranges n) edit at → ((Z : Edit) → EditStands (ranges n) edit at Z → Ready t′ n all × Stepped n edit at Z next t t′)
-    → Ready t′ n all × ((Z : Edit) → EditStands (ranges n) edit at Z → Stepped n edit at Z next t t′)
+pub each-made : (n all : ℕ) (edit : List ℕ) (at next : ℕ) (t t′ : List ℕ) → SomeEditStands (ranges n) edit at → ((Z : Edit) → EditStands (ranges n) edit at Z → Ready t′ n all × StepMade n edit at Z next t t′)
+    → Ready t′ n all × ((Z : Edit) → EditStands (ranges n) edit at Z → StepMade n edit at Z next t t′)
 each-made n all edit at next t t′ s f = (f (s .what) (s .stands) .0, λ Z h. f Z h .1)
 
 module _ (t : List ℕ) (n all : ℕ) (r : Ready t n all) where
@@ -65,7 +65,7 @@ module _ (t : List ℕ) (n all : ℕ) (r : Ready t n all) where
   module _ (edit : List ℕ) (at : ℕ) (Z : Edit) where
     -- A step 31 to 34 made: the sheet is ready for the next one.
     step-made : {s : Sort} (limit : ℕ) (made : ℕ → Graph → ℕ → Value s → Graph) → ((c : ℕ) (g : Graph) (k : ℕ) (v : Value s) → made c g k v .n ≡ g .n) → (q : IsStep (ranges n) edit at Z s limit made) (next : ℕ) (t′ : List ℕ)
-        → next ≡ at + 2 + length (code (q .what)) → t′ ≡ store (made (getD edit at 0) (graphOf t) (q .number) (value (graphOf t) (q .what))) → Ready t′ n all × Stepped n edit at Z next t t′
+        → next ≡ at + 2 + length (code (q .what)) → t′ ≡ store (made (getD edit at 0) (graphOf t) (q .number) (value (graphOf t) (q .what))) → Ready t′ n all × StepMade n edit at Z next t t′
     step-made limit made same q next t′ a e = (
       ready-again _ t′ (q .keeps (graphOf t) (r .within)) (same _ (graphOf t) _ _) e,
       record {
@@ -79,7 +79,7 @@ module _ (t : List ℕ) (n all : ℕ) (r : Ready t n all) where
     -- 31 and 32: the words x of the label, e of the expression, y of what both make.
     pub label-made : (q : IsStep (ranges n) edit at Z node labelCount labelMade) (x e y next : ℕ) (t′ : List ℕ) → x ≡ setOf (graphOf t .n) (graphOf t .labelled (getD edit (at + 1) 0))
         → ((E : Expr node) → Stands (ranges n) edit (at + 2) E → IsSet t n (at + 2) E e next) → y ≡ combined (labelOperation (getD edit at 0)) x e
-        → ((v : Nodes) → y ≡ setOf (graphOf t .n) v → t′ ≡ store (relabel (graphOf t) (getD edit (at + 1) 0) v)) → Ready t′ n all × Stepped n edit at Z next t t′
+        → ((v : Nodes) → y ≡ setOf (graphOf t .n) v → t′ ≡ store (relabel (graphOf t) (getD edit (at + 1) 0) v)) → Ready t′ n all × StepMade n edit at Z next t t′
     label-made q x e y next t′ old new both put =
         let g = graphOf t in
         let c = getD edit at 0 in
@@ -90,7 +90,7 @@ module _ (t : List ℕ) (n all : ℕ) (r : Ready t n all) where
         let u : y ≡ setOf (g .n) (λ i. labelOperation c (g .labelled k i) (value g E i)) =
         both ∙ ap (λ (z : ℕ). combined (labelOperation c) z e) old ∙ ap (combined (labelOperation c) (setOf (g .n) (g .labelled k))) w
         ∙ combined-sets (labelOperation c) (none (eqb c 0x31)) (g .n) (g .labelled k) (value g E) (omega (arith, r .within .few-nodes)) in
-        step-made labelCount labelMade (λ c g k v. refl) q next t′ (f .after) (put (λ i. labelOperation c (g .labelled k i) (value g E i)) u ∙ ap (λ (a : ℕ). store (labelMade c g a (value g E))) (q .reads))
+        step-made labelCount labelMade (λ c g k v. refl) q next t′ (f .ends) (put (λ i. labelOperation c (g .labelled k i) (value g E i)) u ∙ ap (λ (a : ℕ). store (labelMade c g a (value g E))) (q .reads))
       where
         none : (b : Bool) → cond b false false ≡ false
         none true = refl
@@ -100,7 +100,7 @@ module _ (t : List ℕ) (n all : ℕ) (r : Ready t n all) where
     pub arrow-made : (q : IsStep (ranges n) edit at Z arrow arrowCount arrowMade) (c : ℕ) (old new rows : List ℕ) (next : ℕ) (t′ : List ℕ) → Rows n (graphOf t .joined (getD edit (at + 1) 0)) old
         → ((R : Expr arrow) → Stands (ranges n) edit (at + 2) R → IsRelation t n (at + 2) R new next) → c ≡ arrowCode (getD edit at 0)
         → ((v w : Pairs) → Rows n v old → Rows n w new → Rows n (λ i j. arrowOperation c (v i j) (w i j)) rows)
-        → ((v : Pairs) → PairsIn (graphOf t) v → Rows (graphOf t .n) v rows → t′ ≡ store (rejoin (graphOf t) (getD edit (at + 1) 0) v)) → Ready t′ n all × Stepped n edit at Z next t t′
+        → ((v : Pairs) → PairsIn (graphOf t) v → Rows (graphOf t .n) v rows → t′ ≡ store (rejoin (graphOf t) (getD edit (at + 1) 0) v)) → Ready t′ n all × StepMade n edit at Z next t t′
     arrow-made q c old new rows next t′ was is says both put =
         let g = graphOf t in
         let a = getD edit (at + 1) 0 in
@@ -114,7 +114,7 @@ module _ (t : List ℕ) (n all : ℕ) (r : Ready t n all) where
           starts = λ i j h. ap₂ (arrowOperation c) (x .starts i j h) (y .starts i j h) ∙ none (eqb c 0x13) (eqb c 0x14);
           ends = λ i j h. ap₂ (arrowOperation c) (x .ends i j h) (y .ends i j h) ∙ none (eqb c 0x13) (eqb c 0x14);
         } in
-        step-made arrowCount arrowMade (λ c g k v. refl) q next t′ (f .after)
+        step-made arrowCount arrowMade (λ c g k v. refl) q next t′ (f .ends)
         (put (λ i j. arrowOperation c (g .joined a i j) (value g R i j)) z u
         ∙ ap (λ (b : ℕ). store (rejoin g a (λ i j. arrowOperation b (g .joined a i j) (value g R i j)))) says ∙ ap (λ (b : ℕ). store (arrowMade (getD edit at 0) g b (value g R))) (q .reads))
       where
@@ -125,7 +125,7 @@ module _ (t : List ℕ) (n all : ℕ) (r : Ready t n all) where
 
     -- A step 35 made: Y is the way taken.
     way-made : (q : IsChoose (ranges n) edit at Z) (Y : Edit) (next : ℕ) (t′ : List ℕ) → EditInRange (ranges n) Y → cond (value (graphOf t) (q .K)) (run (q .P) (graphOf t)) (run (q .Q) (graphOf t)) ≡ run Y (graphOf t)
-        → t′ ≡ store (run Y (graphOf t)) → next ≡ at + 1 + length (code (q .K)) + length (editCode (q .P)) + length (editCode (q .Q)) → Stepped n edit at Z next t t′
+        → t′ ≡ store (run Y (graphOf t)) → next ≡ at + 1 + length (code (q .K)) + length (editCode (q .P)) + length (editCode (q .Q)) → StepMade n edit at Z next t t′
     way-made q Y next t′ range c e a =
         record {
           stands = q .next next a;
@@ -134,13 +134,13 @@ module _ (t : List ℕ) (n all : ℕ) (r : Ready t n all) where
           runs = q .runs (graphOf t) ∙ ap (run (behindStep Z)) (c ∙ sym (graph-again (run Y (graphOf t)) t′ (run-within (ranges n) Y range (graphOf t) (r .within)) e));
         }
 
-    pub first-made : (q : IsChoose (ranges n) edit at Z) (holds : Bool) (p p′ next : ℕ) (t′ : List ℕ) → IsTruth t (at + 1) (q .K) holds p → holds ≡ true → Made p (q .P) p′ t t′ → next ≡ p′ + length (editCode (q .Q)) → Stepped n edit at Z next t t′
+    pub first-made : (q : IsChoose (ranges n) edit at Z) (holds : Bool) (p p′ next : ℕ) (t′ : List ℕ) → IsTruth t (at + 1) (q .K) holds p → holds ≡ true → Made p (q .P) p′ t t′ → next ≡ p′ + length (editCode (q .Q)) → StepMade n edit at Z next t t′
     first-made q holds p p′ next t′ truth h m a =
-        way-made q (q .P) next t′ (q .first _ refl .range) (ap (λ b. cond b (run (q .P) (graphOf t)) (run (q .Q) (graphOf t))) (sym (truth .truth) ∙ h)) (m .sheet-is) (omega (arith, a, m .ends, truth .after))
+        way-made q (q .P) next t′ (q .first _ refl .range) (ap (λ b. cond b (run (q .P) (graphOf t)) (run (q .Q) (graphOf t))) (sym (truth .truth) ∙ h)) (m .sheet-is) (omega (arith, a, m .ends, truth .ends))
 
-    pub second-made : (q : IsChoose (ranges n) edit at Z) (holds : Bool) (p p′ next : ℕ) (t′ : List ℕ) → IsTruth t (at + 1) (q .K) holds p → holds ≡ false → p′ ≡ p + length (editCode (q .P)) → Made p′ (q .Q) next t t′ → Stepped n edit at Z next t t′
+    pub second-made : (q : IsChoose (ranges n) edit at Z) (holds : Bool) (p p′ next : ℕ) (t′ : List ℕ) → IsTruth t (at + 1) (q .K) holds p → holds ≡ false → p′ ≡ p + length (editCode (q .P)) → Made p′ (q .Q) next t t′ → StepMade n edit at Z next t t′
     second-made q holds p p′ next t′ truth h a m =
-        way-made q (q .Q) next t′ (q .second _ refl .range) (ap (λ b. cond b (run (q .P) (graphOf t)) (run (q .Q) (graphOf t))) (sym (truth .truth) ∙ h)) (m .sheet-is) (omega (arith, a, m .ends, truth .after))
+        way-made q (q .Q) next t′ (q .second _ refl .range) (ap (λ b. cond b (run (q .P) (graphOf t)) (run (q .Q) (graphOf t))) (sym (truth .truth) ∙ h)) (m .sheet-is) (omega (arith, a, m .ends, truth .ends))
 
 -- What is left of an edit at a place: it makes the graph g, and ends at `end`.
 pub record Left (n : ℕ) (edit : List ℕ) (p end : ℕ) (t : List ℕ) (g : Graph) : Type 0 where
@@ -161,7 +161,7 @@ module _ (n all : ℕ) (edit : List ℕ) (at : ℕ) (t₀ : List ℕ) where
   making-first r s = record { le = omega arith; ready = r; some = s; left = λ Z h. record { tail = Z; stands = h; ends = refl; runs = refl } }
 
   module _ (p : ℕ) (t : List ℕ) (m : Making n all edit at p t₀ t) where
-    pub making-more : (next : ℕ) (t′ : List ℕ) → Ready t′ n all → ((Z : Edit) → EditStands (ranges n) edit p Z → Stepped n edit p Z next t t′) → Making n all edit at next t₀ t′
+    pub making-more : (next : ℕ) (t′ : List ℕ) → Ready t′ n all → ((Z : Edit) → EditStands (ranges n) edit p Z → StepMade n edit p Z next t t′) → Making n all edit at next t₀ t′
     making-more next t′ r f =
         let a = f (m .some .what) (m .some .stands) in
         record {

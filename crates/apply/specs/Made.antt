@@ -31,7 +31,7 @@ pub record Ready (sheet : List ℕ) (n all : ℕ) : Type 0 where
   pub nodes : all ≡ setOf n (isNode (graphOf sheet))
 
 -- The first step of Z was made: what is left at `next` does to the sheet now what Z did to the sheet before.
-pub record Stepped (n : ℕ) (edit : List ℕ) (at : ℕ) (Z : Edit) (next : ℕ) (before now : List ℕ) : Type 0 where
+pub record StepMade (n : ℕ) (edit : List ℕ) (at : ℕ) (Z : Edit) (next : ℕ) (before now : List ℕ) : Type 0 where
   pub stands : EditStands (ranges n) edit next (behindStep Z)
   pub ends : next + length (editCode (behindStep Z)) ≡ at + length (editCode Z)
   pub on : at < next

@@ -12,7 +12,7 @@ ghost use Rattle.sheet.specs.Sheet.{graphOf};
 ghost use Rattle.sheet.specs.Questions.{Sound};
 ghost use Rattle.text.specs.Stands.{EditStands, SomeEditStands};
 ghost use Rattle.apply.specs.Apply.{askApply, appliedSheet};
-ghost use Rattle.apply.specs.Made.{labelOperation, arrowCode, Ready, Stepped, Made};
+ghost use Rattle.apply.specs.Made.{labelOperation, arrowCode, Ready, StepMade, Made};
 use answer::Answer;
 use logic::Arrow;
 use logic::Label;
@@ -41,7 +41,7 @@ fn arrow_code(c: u8) -> u8
 // Each of them answers where the next step stands.
 fn label_step(sheet: &mut [u8], n: usize, all: u64, edit: &[u8], at: usize) -> usize
     requires { ⌜ Ready (now sheet) n all × SomeEditStands (ranges n) (now edit) at × (0x30 < getD (now edit) at 0) × (getD (now edit) at 0 ≤ 0x32) ⌝ }
-    ensures { λ r. ⌜ Ready (now (sheet .exit)) n all × ((Z : Edit) → EditStands (ranges n) (now (edit .entry)) at Z → Stepped n (now (edit .entry)) at Z r (now (sheet .entry)) (now (sheet .exit))) ⌝ }
+    ensures { λ r. ⌜ Ready (now (sheet .exit)) n all × ((Z : Edit) → EditStands (ranges n) (now (edit .entry)) at Z → StepMade n (now (edit .entry)) at Z r (now (sheet .entry)) (now (sheet .exit))) ⌝ }
 {
     let c = edit[at];
     let k = Label(edit[at + 1]);
@@ -54,7 +54,7 @@ fn label_step(sheet: &mut [u8], n: usize, all: u64, edit: &[u8], at: usize) -> u
 // 33 and 34.
 fn arrow_step(sheet: &mut [u8], n: usize, all: u64, edit: &[u8], at: usize) -> usize
     requires { ⌜ Ready (now sheet) n all × SomeEditStands (ranges n) (now edit) at × (0x32 < getD (now edit) at 0) × (getD (now edit) at 0 ≤ 0x34) ⌝ }
-    ensures { λ r. ⌜ Ready (now (sheet .exit)) n all × ((Z : Edit) → EditStands (ranges n) (now (edit .entry)) at Z → Stepped n (now (edit .entry)) at Z r (now (sheet .entry)) (now (sheet .exit))) ⌝ }
+    ensures { λ r. ⌜ Ready (now (sheet .exit)) n all × ((Z : Edit) → EditStands (ranges n) (now (edit .entry)) at Z → StepMade n (now (edit .entry)) at Z r (now (sheet .entry)) (now (sheet .exit))) ⌝ }
 {
     let c = edit[at];
     let a = Arrow(edit[at + 1]);
@@ -70,7 +70,7 @@ fn arrow_step(sheet: &mut [u8], n: usize, all: u64, edit: &[u8], at: usize) -> u
 // 35: P where its rule holds, else Q; the other is passed over.
 fn choose_step(sheet: &mut [u8], n: usize, all: u64, edit: &[u8], at: usize) -> usize
     requires { ⌜ Ready (now sheet) n all × SomeEditStands (ranges n) (now edit) at × (0x34 < getD (now edit) at 0) ⌝ }
-    ensures { λ r. ⌜ Ready (now (sheet .exit)) n all × ((Z : Edit) → EditStands (ranges n) (now (edit .entry)) at Z → Stepped n (now (edit .entry)) at Z r (now (sheet .entry)) (now (sheet .exit))) ⌝ }
+    ensures { λ r. ⌜ Ready (now (sheet .exit)) n all × ((Z : Edit) → EditStands (ranges n) (now (edit .entry)) at Z → StepMade n (now (edit .entry)) at Z r (now (sheet .entry)) (now (sheet .exit))) ⌝ }
 {
     let rule = eval::eval_rule(sheet, n, all, edit, at + 1);
     if rule.holds {
@@ -85,7 +85,7 @@ fn choose_step(sheet: &mut [u8], n: usize, all: u64, edit: &[u8], at: usize) -> 
 // The step that stands at `at`.
 fn one_step(sheet: &mut [u8], n: usize, all: u64, edit: &[u8], at: usize) -> usize
     requires { ⌜ Ready (now sheet) n all × SomeEditStands (ranges n) (now edit) at × (0x30 < getD (now edit) at 0) ⌝ }
-    ensures { λ r. ⌜ Ready (now (sheet .exit)) n all × ((Z : Edit) → EditStands (ranges n) (now (edit .entry)) at Z → Stepped n (now (edit .entry)) at Z r (now (sheet .entry)) (now (sheet .exit))) ⌝ }
+    ensures { λ r. ⌜ Ready (now (sheet .exit)) n all × ((Z : Edit) → EditStands (ranges n) (now (edit .entry)) at Z → StepMade n (now (edit .entry)) at Z r (now (sheet .entry)) (now (sheet .exit))) ⌝ }
 {
     let c = edit[at];
     if c <= 0x32 {

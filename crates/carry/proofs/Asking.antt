@@ -21,7 +21,7 @@ use Rattle.measure.specs.Book.{BookIs, BookSized, BookKept}
 use Rattle.measure.proofs.Idle.{pruned-code, kept-stands}
 use Rattle.measure.proofs.Rules.{no-book}
 use Rattle.write.specs.Laid.{Wrote}
-use Rattle.write.specs.Carried.{SomeBookFits}
+use Rattle.write.specs.Rules.{SomeBookFits}
 use Rattle.write.proofs.Laying.{laid-fits}
 use Rattle.carry.specs.declared.Carried.the-variants.{Length, Refused}
 use Rattle.carry.specs.Carrying.{askSize, writtenAtStart}

@@ -14,9 +14,9 @@ ghost use Rattle.carry.specs.Answers.{carriedAsked};
 ghost use Rattle.carry.specs.Written.{Into};
 
 // Bytes and levels of a carried book.
-const LONGEST: usize = 16384;
+const LONGEST_CARRIED: usize = 16384;
 
-const DEEPEST: usize = 255;
+const DEEPEST_CARRIED: usize = 255;
 
 // The length of the carried book, or the refusal.
 pub enum Carried {
@@ -38,10 +38,10 @@ pub fn carry_into(book: &[u8], edit: &[u8], out: &mut [u8]) -> Carried
     let mut stack = [0u16; 4096];
     let size = measure::size_of_book(book, edit, &mut stack, &mut kept);
     let len = size.len;
-    if len > LONGEST {
+    if len > LONGEST_CARRIED {
         return Carried::Refused(Refusal::CarriedLength { place: 0 });
     }
-    if size.levels > DEEPEST {
+    if size.levels > DEEPEST_CARRIED {
         return Carried::Refused(Refusal::CarriedLevels { place: 0 });
     }
     if len > out.len() {

@@ -30,7 +30,7 @@ use Rattle.demands.proofs.Runs.{steps-within, Kept, keeps, kept-each, l
 module _ {book edit sheet : List ℕ} (i : Given book edit sheet) where
   -- The sheet that the steps leave stores the graph that they leave.
   within : Within (run (i .steps) (graphOf sheet))
-  within = steps-within (graphOf sheet) edit (i .steps) (opening sheet (i .bytes) (i .sound) .within) (i .edit-read)
+  within = steps-within (graphOf sheet) edit (i .steps) (opening sheet (i .are-bytes) (i .sound) .within) (i .edit-read)
 
   left : graphOf (afterSteps (i .steps) sheet) ≡ run (i .steps) (graphOf sheet)
   left = read-back (run (i .steps) (graphOf sheet)) within

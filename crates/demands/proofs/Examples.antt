@@ -21,12 +21,12 @@ use Rattle.sheet.proofs.ReadBack.{read-back}
 use Rattle.text.specs.Code.{code, levels, bookCode, bookLevels}
 use Rattle.text.specs.Reading.{textLimits, codes, choice, follow}
 use Rattle.text.specs.Reading as reading
-use Rattle.text.specs.Questions.{whole, rulesOf, askBook, askEdit}
+use Rattle.text.specs.Questions.{whole, readRules, askBook, askEdit}
 use Rattle.text.specs.Marked.{sheetT, B}
 use Rattle.eval.specs.Judge.{askRules}
 use Rattle.carry.specs.Carrying.{askSize, writtenAtStart}
-use Rattle.demands.specs.Enter.{Carried, askCarried, askEnter, enterSheet, enterScratch}
-use Rattle.demands.specs.Examples.{Shown, scratchOf, onT, calls, shown}
+use Rattle.demands.specs.Enter.{EditAndRules, askCarried, askEnter, enterSheet, enterScratch}
+use Rattle.demands.specs.Examples.{Result, scratchOf, enteredOnT, calls, results}
 use Rattle.demands.proofs.OneCall.{asked-of-stored}
 
 not-node : (i : ℕ) → isNode sheetT i ≡ false → 3 ≤ i
@@ -49,7 +49,7 @@ T-within =
     }
 
 -- What enter asks before 41, of a graph.
-askOf : Graph → List ℕ → List ℕ → ℕ → Asked Carried
+askOf : Graph → List ℕ → List ℕ → ℕ → Asked EditAndRules
 askOf g book edit room = do
   rules ← askBook (textLimits (g .n)) book
   Z ← askEdit (textLimits (g .n)) edit
@@ -60,12 +60,12 @@ carried-of : (g : Graph) (book edit : List ℕ) (room : ℕ) → Within g → as
 unfolding askCarried askOf
 carried-of g book edit room w = ap (_>>= size (graphOf (store g))) (asked-of-stored g book w) ∙ ap (λ h. askBook (textLimits (g .n)) book >>= size h) (read-back g w)
   where
-    size : Graph → List (Expr rule) → Asked Carried
+    size : Graph → List (Expr rule) → Asked EditAndRules
     size h rules = askEdit (textLimits (h .n)) edit >>= (λ Z. askSize (carriedBook Z rules) room >> passed (record { edit = Z; rules = carriedBook Z rules }))
 
 -- What is shown, from what is asked of T.
-shownBy : Graph → Asked Carried → Asked Carried → ℕ → Shown
-shownBy g a b room =
+resultOf : Graph → Asked EditAndRules → Asked EditAndRules → ℕ → Result
+resultOf g a b room =
     let q : Asked Edit = a >>= (λ c. askRules g (c .rules) 0 >> passed (c .edit)) in
     record {
       answer = outcome q;
@@ -73,10 +73,10 @@ shownBy g a b room =
       scratch = after b (λ c. writtenAtStart (bookCode (c .rules)) (scratchOf room)) (scratchOf room);
     }
 
-on-graph : (edit : List ℕ) (room : ℕ) → onT edit room ≡ shownBy sheetT (askOf sheetT B edit room) (askOf sheetT B edit (length (scratchOf room))) room
-unfolding onT enterSheet enterScratch askEnter shownBy
-on-graph edit room = λ t. shownBy (read-back sheetT T-within t) (carried-of sheetT B edit room T-within t) (carried-of sheetT B edit (length (scratchOf room)) T-within t) room
+on-graph : (edit : List ℕ) (room : ℕ) → enteredOnT edit room ≡ resultOf sheetT (askOf sheetT B edit room) (askOf sheetT B edit (length (scratchOf room))) room
+unfolding enteredOnT enterSheet enterScratch askEnter resultOf
+on-graph edit room = λ t. resultOf (read-back sheetT T-within t) (carried-of sheetT B edit room T-within t) (carried-of sheetT B edit (length (scratchOf room)) T-within t) room
 
-pub examples : calls onT ≡ shown
-unfolding calls shown shownBy askOf sheetT store block labelBlock arrowBlock chunks setOf bytes sealed seal sumsFrom value isNode anyBelow allBelow countBelow update run replace putLabel putArrow carry code bookCode levels bookLevels askSize whole rulesOf askBook askEdit askRules after outcome _>>=_ _>>_ is codes choice follow reading._>>=_
+pub examples : calls enteredOnT ≡ results
+unfolding calls results resultOf askOf sheetT store block labelBlock arrowBlock chunks setOf bytes sealed seal sumsFrom value isNode anyBelow allBelow countBelow update run replace putLabel putArrow carry code bookCode levels bookLevels askSize whole readRules askBook askEdit askRules after outcome _>>=_ _>>_ is codes choice follow reading._>>=_
 examples = (λ t. calls (λ edit room. on-graph edit room t)) ∙ refl

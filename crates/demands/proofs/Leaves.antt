@@ -14,7 +14,7 @@ use Rattle.sheet.specs.Sheet.{graphOf}
 use Rattle.text.specs.Code.{bookCode}
 use Rattle.eval.specs.Judge.{askSheetAndBook, askRules}
 use Rattle.carry.specs.Carrying.{writtenAtStart}
-use Rattle.demands.specs.Enter.{afterSteps, Carried, askCarried, askEnter, enterAnswer, enterSheet, enterScratch}
+use Rattle.demands.specs.Enter.{afterSteps, EditAndRules, askCarried, askEnter, enterAnswer, enterSheet, enterScratch}
 use Rattle.demands.specs.Run.{Call, log}
 use Rattle.demands.specs.Demand3.{Each}
 use Rattle.demands.specs.Leaves.{Written, Leaves}
@@ -43,22 +43,22 @@ rules-41 g (K ∷ rules) i = go (value g K) (rules-41 g rules (suc i))
     go false h = refl
 
 module _ (sheet book edit scratch : List ℕ) where
-  abbrev carriedHere : Asked Carried
+  abbrev carriedHere : Asked EditAndRules
   carriedHere = askCarried sheet book edit (length scratch)
 
   -- after the questions before 41 have been asked
-  abbrev judged : Asked Carried → Asked (Unit {0})
+  abbrev judged : Asked EditAndRules → Asked (Unit {0})
   judged a = outcome (a >>= (λ c. askRules (graphOf sheet) (c .rules) 0 >> passed (c .edit)))
 
   scratch-same : (q p : ℕ) → enterAnswer sheet book edit (length scratch) ≡ refused q p → q ≢ 41 → enterScratch sheet book edit scratch ≡ scratch
   unfolding askEnter enterScratch after outcome _>>=_ _>>_
   scratch-same q p e other = go carriedHere e
     where
-      by-rules : (c : Carried) (r : Asked (Unit {0})) → Only41 r → outcome (r >> passed (c .edit)) ≡ refused q p → q ≡ 41
+      by-rules : (c : EditAndRules) (r : Asked (Unit {0})) → Only41 r → outcome (r >> passed (c .edit)) ≡ refused q p → q ≡ 41
       by-rules c (passed u) h e = let z : _≡_ {A = ℕ} 0 1 = cc in absurd (omega arith)
       by-rules c (refused n m) h e = cc
 
-      go : (a : Asked Carried) → judged a ≡ refused q p → after a (λ c. writtenAtStart (bookCode (c .rules)) scratch) scratch ≡ scratch
+      go : (a : Asked EditAndRules) → judged a ≡ refused q p → after a (λ c. writtenAtStart (bookCode (c .rules)) scratch) scratch ≡ scratch
       go (passed c) e = absurd (other (by-rules c (askRules (graphOf sheet) (c .rules) 0) (rules-41 (graphOf sheet) (c .rules) 0) e))
       go (refused n m) e = refl
 
@@ -66,7 +66,7 @@ module _ (sheet book edit scratch : List ℕ) where
   unfolding askEnter enterScratch after outcome _>>=_ _>>_
   done-or-41 p e = go carriedHere refl (carried-below sheet book edit (length scratch)) e
     where
-      go : (a : Asked Carried) → carriedHere ≡ a → Below41 a → (judged a ≡ passed tt) ⊎ (judged a ≡ refused 41 p) → Written sheet book edit scratch
+      go : (a : Asked EditAndRules) → carriedHere ≡ a → Below41 a → (judged a ≡ passed tt) ⊎ (judged a ≡ refused 41 p) → Written sheet book edit scratch
       go (passed c) f b e = record { what = c; carried = f; written = ap (λ a. after a (λ c. writtenAtStart (bookCode (c .rules)) scratch) scratch) f }
       go (refused n m) f b (inl e) = let z : _≡_ {A = ℕ} 0 1 = cc in absurd (omega arith)
       go (refused n m) f b (inr e) = let z : n ≡ 41 = cc in absurd (omega arith)

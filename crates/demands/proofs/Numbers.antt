@@ -9,7 +9,7 @@ use Rattle.logic.specs.Carry.{carriedBook}
 use Rattle.sheet.specs.Sheet.{graphOf}
 use Rattle.sheet.specs.Questions.{askBlock, askBlocks, askSheet}
 use Rattle.text.specs.Reading.{Limits, textLimits, expr, Fault, missing, wrongSort, tooDeep, outOfRange, Read, got, fault, readAs}
-use Rattle.text.specs.Questions.{faultNumber, mostRules, whole, rulesOf, askBook, askEdit}
+use Rattle.text.specs.Questions.{faultNumber, mostRules, whole, readRules, askBook, askEdit}
 use Rattle.eval.specs.Judge.{askSheetAndBook}
 use Rattle.carry.specs.Carrying.{askSize}
 use Rattle.demands.specs.Enter.{askCarried}
@@ -46,15 +46,15 @@ fault-below base wrongSort h = omega arith
 fault-below base tooDeep h = omega arith
 fault-below base outOfRange h = omega arith
 
-rules-below : (l : Limits) (m : ℕ) (t : List ℕ) (at : ℕ) → Below41 (rulesOf l m t at)
-unfolding rulesOf
+rules-below : (l : Limits) (m : ℕ) (t : List ℕ) (at : ℕ) → Below41 (readRules l m t at)
+unfolding readRules
 rules-below l zero [] at = tt
 rules-below l zero (c ∷ t) at = omega arith
 rules-below l (suc m) [] at = tt
 rules-below l (suc m) (c ∷ t) at = go (readAs l (expr rule) (c ∷ t) at) (λ rest p. rules-below l m rest p)
   where
-    go : (r : Read (Expr rule)) → ((rest : List ℕ) (p : ℕ) → Below41 (rulesOf l m rest p)) → Below41 {A = List (Expr rule)} (elim r [ got K rest p ↦ rulesOf l m rest p >>= (λ book. passed (K ∷ book)) | fault why p ↦ refused (faultNumber 10 why) p ])
-    go (got K rest p) h = bind-below (rulesOf l m rest p) (λ book. passed (K ∷ book)) (h rest p) (λ book. tt)
+    go : (r : Read (Expr rule)) → ((rest : List ℕ) (p : ℕ) → Below41 (readRules l m rest p)) → Below41 {A = List (Expr rule)} (elim r [ got K rest p ↦ readRules l m rest p >>= (λ book. passed (K ∷ book)) | fault why p ↦ refused (faultNumber 10 why) p ])
+    go (got K rest p) h = bind-below (readRules l m rest p) (λ book. passed (K ∷ book)) (h rest p) (λ book. tt)
     go (fault why p) h = fault-below 10 why (omega arith)
 
 whole-below : {A : Type 0} (r : Read A) → Below41 (whole r)

@@ -15,7 +15,7 @@ use Rattle.text.specs.Reading.{textLimits}
 use Rattle.text.specs.Questions.{askBook, askEdit}
 use Rattle.eval.specs.Judge.{askSheetAndBook, askRules}
 use Rattle.carry.specs.Carrying.{askSize}
-use Rattle.demands.specs.Enter.{Carried, askCarried, askEnter, enterSheet}
+use Rattle.demands.specs.Enter.{EditAndRules, askCarried, askEnter, enterSheet}
 use Rattle.demands.specs.Clerk.{Fed, Line, clerkCopy, clerkAsks, clerkGraph, clerkLine}
 use Rattle.demands.specs.Run.{Hold, Call, fed, enterLine}
 use Rattle.demands.proofs.Passing.{bind-passed, then-passed, hold-asked, asked-hold, ask-carried}
@@ -32,10 +32,10 @@ pub enter-asks : (sheet book : List ℕ) (rules : List (Expr rule)) (c : Fed) �
 unfolding askEnter askCarried askSteps _>>=_ _>>_
 enter-asks sheet book rules c e = ap (λ q. (q >>= size) >>= judged) e ∙ go (askEdit (textLimits (graphOf sheet .n)) (c .edit))
   where
-    size : List (Expr rule) → Asked Carried
+    size : List (Expr rule) → Asked EditAndRules
     size rules = askEdit (textLimits (graphOf sheet .n)) (c .edit) >>= (λ Z. askSize (carriedBook Z rules) (c .room) >> passed (record { edit = Z; rules = carriedBook Z rules }))
 
-    judged : Carried → Asked Edit
+    judged : EditAndRules → Asked Edit
     judged k = askRules (graphOf sheet) (k .rules) 0 >> passed (k .edit)
 
     sized : (Z : Edit) (q : Asked (Unit {0})) → ((q >> passed (record { edit = Z; rules = carriedBook Z rules })) >>= judged) ≡ (q >> (askRules (run Z (graphOf sheet)) rules 0 >> passed Z))

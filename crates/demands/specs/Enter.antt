@@ -18,12 +18,12 @@ abbrev pub afterSteps : Edit → List ℕ → List ℕ
 afterSteps Z sheet = store (run Z (graphOf sheet))
 
 -- The edit, and the rules of the book carried back through it.
-pub record Carried : Type 0 where
+pub record EditAndRules : Type 0 where
   pub edit : Edit
   pub rules : List (Expr rule)
 
 -- Sheet, then book, then edit, then scratch, of which there is so much room: 1 to 33.
-unfoldable pub askCarried : (sheet book edit : List ℕ) (room : ℕ) → Asked Carried
+unfoldable pub askCarried : (sheet book edit : List ℕ) (room : ℕ) → Asked EditAndRules
 askCarried sheet book edit room = do
   rules ← askSheetAndBook sheet book
   Z ← askEdit (textLimits (graphOf sheet .n)) edit

@@ -11,7 +11,7 @@ use Rattle.text.specs.Marked.{sheetT, B}
 use Rattle.demands.specs.Enter.{enterAnswer, enterSheet, enterScratch}
 
 -- What a call shows: the answer, and what sheet and scratch then hold.
-pub record Shown : Type 0 where
+pub record Result : Type 0 where
   pub answer : Asked (Unit {0})
   pub sheet : List ℕ
   pub scratch : List ℕ
@@ -21,15 +21,15 @@ abbrev pub scratchOf : ℕ → List ℕ
 scratchOf room = replicate room 0xEE
 
 -- An edit entered into T with a scratch of so many bytes.
-unfoldable pub onT : List ℕ → ℕ → Shown
-onT edit room =
+unfoldable pub enteredOnT : List ℕ → ℕ → Result
+enteredOnT edit room =
     record {
       answer = enterAnswer (store sheetT) B edit room;
       sheet = enterSheet (store sheetT) B edit room;
       scratch = enterScratch (store sheetT) B edit (scratchOf room);
     }
 
-unfoldable pub calls : (List ℕ → ℕ → Shown) → List Shown
+unfoldable pub calls : (List ℕ → ℕ → Result) → List Result
 calls enter =
     -- 8, and 9
     enter (0x32 ∷ 0x01 ∷ 0x04 ∷ 0x02 ∷ 0x30 ∷ []) 14
@@ -42,8 +42,8 @@ calls enter =
     ∷ enter (0x31 ∷ 0x01 ∷ 0x04 ∷ 0x03 ∷ 0x30 ∷ []) 2
     ∷ []
 
-unfoldable pub shown : List Shown
-shown =
+unfoldable pub results : List Result
+results =
     record { answer = refused 41 0; sheet = store sheetT; scratch = 0x21 ∷ 0x03 ∷ 0x00 ∷ 0x08 ∷ 0x11 ∷ 0x00 ∷ 0x06 ∷ 0x03 ∷ 0x01 ∷ 0x05 ∷ 0x04 ∷ 0x02 ∷ 0xEE ∷ 0xEE ∷ [] }
     ∷ record { answer = passed tt; sheet = store sheetT; scratch = 0x21 ∷ 0x03 ∷ 0x00 ∷ 0x08 ∷ 0x11 ∷ 0x00 ∷ 0x07 ∷ 0x06 ∷ 0x03 ∷ 0x01 ∷ 0x05 ∷ 0x04 ∷ 0x02 ∷ 0x04 ∷ 0x02 ∷ 0xEE ∷ 0xEE ∷ [] }
     ∷ record { answer = refused 33 12; sheet = store sheetT; scratch = scratchOf 11 }

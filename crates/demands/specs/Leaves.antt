@@ -9,13 +9,13 @@ use Rattle.answer.specs.Asked.{passed, refused}
 use Rattle.text.specs.Code.{bookCode}
 use Rattle.eval.specs.Judge.{askSheetAndBook}
 use Rattle.carry.specs.Carrying.{writtenAtStart}
-use Rattle.demands.specs.Enter.{Carried, askCarried, enterAnswer, enterSheet, enterScratch}
+use Rattle.demands.specs.Enter.{EditAndRules, askCarried, enterAnswer, enterSheet, enterScratch}
 use Rattle.demands.specs.Run.{Call, log}
 use Rattle.demands.specs.Demand3.{Each}
 
 -- The scratch after done or 41: the carried book at its start, the rest of it unchanged.
 pub record Written (sheet book edit scratch : List ℕ) : Type 0 where
-  pub what : Carried
+  pub what : EditAndRules
   pub carried : askCarried sheet book edit (length scratch) ≡ passed what
   pub written : enterScratch sheet book edit scratch ≡ writtenAtStart (bookCode (what .rules)) scratch
 

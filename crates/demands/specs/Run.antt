@@ -73,7 +73,7 @@ Bytes t = (p : ℕ) → getD t p 0 < 256
 
 -- A sheet, a book and an edit within the limits, with every node number on the sheet; and what book and edit say.
 pub record Given (book edit sheet : List ℕ) : Type 0 where
-  pub bytes : Bytes sheet
+  pub are-bytes : Bytes sheet
   pub sound : Sound sheet
   pub rules : List (Expr rule)
   pub book-read : askBook (textLimits (graphOf sheet .n)) book ≡ passed rules

@@ -6,7 +6,7 @@ use Prim.Native.Nat.{ℕ, _+_, _-_, _/_, _%_, _≤_, _<_}
 use native.Mathlib.Decide.{decLt}
 use native.Mathlib.Omega.{arith}
 use lib.ListN.{length, getD, drop, length-append, List·getD-eq-default}
-use Rattle.tree.specs.Tree.{Tree, name, leaf, one, two, bytes, size}
+use Rattle.tree.specs.Tree.{Tree, name, leaf, one, two, treeCode, size}
 use Rattle.tree.proofs.Trees.{size-is}
 use Rattle.ends.specs.Shapes.{shapes, shapeOf, Formed, At, Some}
 use Rattle.ends.proofs.Places.{tag, tag-at, inside, size-pos}
@@ -35,12 +35,12 @@ unfolding texts
 texts-append g [] ys = refl
 texts-append g (t ∷ xs) ys = ap (λ (l : List ℕ). g t ++ l) (texts-append g xs ys) ∙ sym (append-assoc (g t) (texts g xs) (texts g ys))
 
-pub bytes-opened : (t : Tree) → bytes t ≡ headOf t ++ texts bytes (partsOf t)
-unfolding bytes texts
-bytes-opened (name c k) = refl
-bytes-opened (leaf h) = sym (append-nil h)
-bytes-opened (one h x) = ap (λ (l : List ℕ). h ++ l) (sym (append-nil (bytes x)))
-bytes-opened (two h x y) = append-assoc h (bytes x) (bytes y) ∙ ap (λ (l : List ℕ). h ++ (bytes x ++ l)) (sym (append-nil (bytes y)))
+pub code-opened : (t : Tree) → treeCode t ≡ headOf t ++ texts treeCode (partsOf t)
+unfolding treeCode texts
+code-opened (name c k) = refl
+code-opened (leaf h) = sym (append-nil h)
+code-opened (one h x) = ap (λ (l : List ℕ). h ++ l) (sym (append-nil (treeCode x)))
+code-opened (two h x y) = append-assoc h (treeCode x) (treeCode y) ∙ ap (λ (l : List ℕ). h ++ (treeCode x ++ l)) (sym (append-nil (treeCode y)))
 
 unfoldable pub AllFormed : List Tree → Type 0
 AllFormed [] = Unit {0}
@@ -54,10 +54,10 @@ parts-formed (one h x) more f m = (f .1, m)
 parts-formed (two h x y) more f m = (f .1, (f .2, m))
 
 -- each has a byte
-few : (ts : List Tree) → AllFormed ts → length ts ≤ length (texts bytes ts)
+few : (ts : List Tree) → AllFormed ts → length ts ≤ length (texts treeCode ts)
 unfolding texts AllFormed
 few [] f = omega arith
-few (t ∷ ts) f = omega (arith, few ts (f .1), size-pos t (f .0), size-is t, length-append (bytes t) (texts bytes ts))
+few (t ∷ ts) f = omega (arith, few ts (f .1), size-pos t (f .0), size-is t, length-append (treeCode t) (texts treeCode ts))
 
 -- what the table says of a tree
 record Shaped (t : Tree) (s : ℕ) : Type 0 where
@@ -86,13 +86,13 @@ code-at text at t h = code-low (getD text at 0) (shaped t (h .formed) (shapeOf (
 -- so many trees are wanted at p
 pub record Pending (text : List ℕ) (p wanted : ℕ) (parts : List Tree) : Type 0 where
   pub rest : List ℕ
-  pub here : drop p text ≡ texts bytes parts ++ rest
+  pub here : drop p text ≡ texts treeCode parts ++ rest
   pub formed : AllFormed parts
   pub count : length parts ≡ wanted
 
 pub pending-one : (text : List ℕ) (at : ℕ) (t : Tree) → At text at t → Pending text at 1 (t ∷ [])
 unfolding texts AllFormed
-pending-one text at t h = record { rest = h .rest; here = h .here ∙ ap (λ (l : List ℕ). l ++ h .rest) (sym (append-nil (bytes t))); formed = (h .formed, tt); count = refl }
+pending-one text at t h = record { rest = h .rest; here = h .here ∙ ap (λ (l : List ℕ). l ++ h .rest) (sym (append-nil (treeCode t))); formed = (h .formed, tt); count = refl }
 
 -- the first of them, and one turn: its code and numbers are passed, and its operands wanted
 pub record First (text : List ℕ) (p : ℕ) (parts : List Tree) : Type 0 where
@@ -107,10 +107,10 @@ pub first : {text : List ℕ} {p wanted : ℕ} {parts : List Tree} → Pending t
 unfolding texts AllFormed
 first {text} {p} {wanted} {parts} w l = go parts (w .count) (w .here) (w .formed)
   where
-    go : (parts : List Tree) → length parts ≡ wanted → drop p text ≡ texts bytes parts ++ w .rest → AllFormed parts → First text p parts
+    go : (parts : List Tree) → length parts ≡ wanted → drop p text ≡ texts treeCode parts ++ w .rest → AllFormed parts → First text p parts
     go [] n e f = absurd (omega (arith, n))
     go (t ∷ more) n e f =
-        let h : At text p t = record { rest = texts bytes more ++ w .rest; here = e ∙ append-assoc (bytes t) (texts bytes more) (w .rest); formed = f .0 } in
+        let h : At text p t = record { rest = texts treeCode more ++ w .rest; here = e ∙ append-assoc (treeCode t) (texts treeCode more) (w .rest); formed = f .0 } in
         record { t = t; more = more; is = refl; at = h; inside-text = inside text p t h; low = code-at text p t h }
 
 pub record Turn (text : List ℕ) (p wanted : ℕ) (t : Tree) (more : List Tree) (s : ℕ) : Type 0 where
@@ -119,7 +119,7 @@ pub record Turn (text : List ℕ) (p wanted : ℕ) (t : Tree) (more : List Tree)
   pub in-text : p + s % 4 ≤ length text
   pub in-count : wanted - 1 + s / 4 % 4 ≤ length text
   pub next : Pending text (p + s % 4) (wanted - 1 + s / 4 % 4) (partsOf t ++ more)
-  pub bytes-are : texts bytes (t ∷ more) ≡ headOf t ++ texts bytes (partsOf t ++ more)
+  pub bytes-are : texts treeCode (t ∷ more) ≡ headOf t ++ texts treeCode (partsOf t ++ more)
 
 pub turn : {text : List ℕ} {p wanted : ℕ} {parts : List Tree} → Pending text p wanted parts → (f : First text p parts) (s : ℕ) → s ≡ shapeOf (getD text p 0) → Turn text p wanted (f .t) (f .more) s
 unfolding texts AllFormed
@@ -129,8 +129,8 @@ turn {text} {p} {wanted} {parts} v f s e =
     let h : At text p t = f .at in
     let w : Pending text p wanted (t ∷ more) = subst (Pending text p wanted) (f .is) v in
     let q = shaped t (h .formed) s (e ∙ tag-at text p t h) in
-    let later : List ℕ = texts bytes (partsOf t ++ more) in
-    let split : bytes t ++ texts bytes more ≡ headOf t ++ later = ap (λ (l : List ℕ). l ++ texts bytes more) (bytes-opened t) ∙ append-assoc (headOf t) (texts bytes (partsOf t)) (texts bytes more) ∙ ap (λ (l : List ℕ). headOf t ++ l) (sym (texts-append bytes (partsOf t) more)) in
+    let later : List ℕ = texts treeCode (partsOf t ++ more) in
+    let split : treeCode t ++ texts treeCode more ≡ headOf t ++ later = ap (λ (l : List ℕ). l ++ texts treeCode more) (code-opened t) ∙ append-assoc (headOf t) (texts treeCode (partsOf t)) (texts treeCode more) ∙ ap (λ (l : List ℕ). headOf t ++ l) (sym (texts-append treeCode (partsOf t) more)) in
     let here : drop p text ≡ headOf t ++ (later ++ w .rest) = w .here ∙ ap (λ (l : List ℕ). l ++ w .rest) split ∙ append-assoc (headOf t) later (w .rest) in
     let formed = parts-formed t more (h .formed) (w .formed .1) in
     let long = within text p (headOf t) (later ++ w .rest) here in
@@ -153,20 +153,20 @@ turn {text} {p} {wanted} {parts} v f s e =
 pub record To (text : List ℕ) (at p wanted : ℕ) (t : Tree) : Type 0 where
   pub parts : List Tree
   pub pending : Pending text p wanted parts
-  pub ends : p + length (texts bytes parts) ≡ at + size t
+  pub ends : p + length (texts treeCode parts) ≡ at + size t
 
 abbrev pub Passing : (text : List ℕ) (at p wanted : ℕ) → Type 0
 Passing text at p wanted = (t : Tree) → At text at t → To text at p wanted t
 
 pub passing-first : (text : List ℕ) (at : ℕ) → Passing text at at 1
 unfolding texts
-passing-first text at t h = record { parts = t ∷ []; pending = pending-one text at t h; ends = ap (λ (n : ℕ). at + n) (ap length (append-nil (bytes t)) ∙ size-is t) }
+passing-first text at t h = record { parts = t ∷ []; pending = pending-one text at t h; ends = ap (λ (n : ℕ). at + n) (ap length (append-nil (treeCode t)) ∙ size-is t) }
 
 pub passing-end : {text : List ℕ} {at p wanted : ℕ} → Passing text at p wanted → wanted ≤ 0 → (t : Tree) → At text at t → p ≡ at + size t
 unfolding texts
 passing-end {text} {at} {p} {wanted} w l t h = let q = w t h in go (q .parts) (q .pending .count) (q .ends)
   where
-    go : (parts : List Tree) → length parts ≡ wanted → p + length (texts bytes parts) ≡ at + size t → p ≡ at + size t
+    go : (parts : List Tree) → length parts ≡ wanted → p + length (texts treeCode parts) ≡ at + size t → p ≡ at + size t
     go [] n e = omega (arith, e)
     go (x ∷ more) n e = absurd (omega (arith, n, l))
 
@@ -186,5 +186,5 @@ module _ {text : List ℕ} {at p wanted : ℕ} (w : Passing text at p wanted) (l
         record {
           parts = partsOf (f .t) ++ f .more;
           pending = g .next;
-          ends = omega (arith, q .ends, g .head, ap length (ap (texts bytes) (f .is) ∙ g .bytes-are), length-append (headOf (f .t)) (texts bytes (partsOf (f .t) ++ f .more)));
+          ends = omega (arith, q .ends, g .head, ap length (ap (texts treeCode) (f .is) ∙ g .bytes-are), length-append (headOf (f .t)) (texts treeCode (partsOf (f .t) ++ f .more)));
         }

@@ -6,7 +6,7 @@ use Prim.Native.Nat.{ℕ, _+_, _-_, _%_, _≤_, _<_}
 use native.Mathlib.Decide.{decLt}
 use native.Mathlib.Omega.{arith}
 use lib.ListN.{length, getD, drop}
-use Rattle.tree.specs.Tree.{Tree, name, leaf, one, two, bytes, size}
+use Rattle.tree.specs.Tree.{Tree, name, leaf, one, two, treeCode, size}
 use Rattle.tree.proofs.Trees.{size-is}
 use Rattle.ends.specs.Shapes.{shapes, shapeOf, Named, Formed, At}
 use Rattle.text.proofs.Standing.{byte-at, behind, within}
@@ -27,14 +27,14 @@ unfolding shapes
 shape-named c k n = ⊎-elim (λ (p : (c ≡ 0x03) × (k < 48)). ap shapeOf (p .0)) (λ (p : (c ≡ 0x11) × (k < 16)). ap shapeOf (p .0)) n
 
 pub tag-at : (text : List ℕ) (at : ℕ) (t : Tree) → At text at t → shapeOf (getD text at 0) ≡ tag t
-unfolding bytes Formed
+unfolding treeCode Formed
 tag-at text at (name c k) h = ap shapeOf (byte-at text at c (k ∷ h .rest) (h .here)) ∙ shape-named c k (h .formed)
 tag-at text at (leaf l) h = ap shapeOf (byte-head text at l (h .rest) (h .formed .pos) (h .here)) ∙ h .formed .is ∙ omega arith
-tag-at text at (one l x) h = ap shapeOf (byte-head text at l (bytes x ++ h .rest) (h .formed .0 .pos) (h .here ∙ append-assoc l (bytes x) (h .rest))) ∙ h .formed .0 .is ∙ omega arith
-tag-at text at (two l x y) h = ap shapeOf (byte-head text at l (bytes x ++ (bytes y ++ h .rest)) (h .formed .0 .pos) (h .here ∙ append-assoc (l ++ bytes x) (bytes y) (h .rest) ∙ append-assoc l (bytes x) (bytes y ++ h .rest))) ∙ h .formed .0 .is ∙ omega arith
+tag-at text at (one l x) h = ap shapeOf (byte-head text at l (treeCode x ++ h .rest) (h .formed .0 .pos) (h .here ∙ append-assoc l (treeCode x) (h .rest))) ∙ h .formed .0 .is ∙ omega arith
+tag-at text at (two l x y) h = ap shapeOf (byte-head text at l (treeCode x ++ (treeCode y ++ h .rest)) (h .formed .0 .pos) (h .here ∙ append-assoc (l ++ treeCode x) (treeCode y) (h .rest) ∙ append-assoc l (treeCode x) (treeCode y ++ h .rest))) ∙ h .formed .0 .is ∙ omega arith
 
 pub fits : (text : List ℕ) (at : ℕ) (t : Tree) → At text at t → size t ≤ length text - at
-fits text at t h = omega (arith, within text at (bytes t) (h .rest) (h .here), size-is t)
+fits text at t h = omega (arith, within text at (treeCode t) (h .rest) (h .here), size-is t)
 
 pub size-pos : (t : Tree) → Formed t → 0 < size t
 unfolding size Formed
@@ -83,7 +83,7 @@ module _ (text : List ℕ) (at : ℕ) where
     pub room : at + length h + size x + size y ≤ length text
 
   pub as-name : (t : Tree) → At text at t → 16 ≤ shapeOf (getD text at 0) → IsName t
-  unfolding bytes Formed size
+  unfolding treeCode Formed size
   as-name (name c k) h s = record {
     c = c;
     k = k;
@@ -98,14 +98,14 @@ module _ (text : List ℕ) (at : ℕ) where
   as-name (two l x y) h s = absurd (omega (arith, tag-at text at (two l x y) h, h .formed .0 .short))
 
   pub as-leaf : (t : Tree) → At text at t → shapeOf (getD text at 0) < 4 → IsLeaf t
-  unfolding bytes Formed size
+  unfolding treeCode Formed size
   as-leaf (name c k) h s = absurd (omega (arith, tag-at text at (name c k) h))
   as-leaf (leaf l) h s = record { h = l; is = refl; head = omega (arith, tag-at text at (leaf l) h, h .formed .short); room = omega (arith, fits text at (leaf l) h, inside text at (leaf l) h) }
   as-leaf (one l x) h s = absurd (omega (arith, tag-at text at (one l x) h, h .formed .0 .short))
   as-leaf (two l x y) h s = absurd (omega (arith, tag-at text at (two l x y) h, h .formed .0 .short))
 
   pub as-one : (t : Tree) → At text at t → 4 ≤ shapeOf (getD text at 0) → shapeOf (getD text at 0) < 8 → IsOne t
-  unfolding bytes Formed size
+  unfolding treeCode Formed size
   as-one (name c k) h s u = absurd (omega (arith, tag-at text at (name c k) h))
   as-one (leaf l) h s u = absurd (omega (arith, tag-at text at (leaf l) h, h .formed .short))
   as-one (one l x) h s u =
@@ -116,20 +116,20 @@ module _ (text : List ℕ) (at : ℕ) where
         is = refl;
         head = e;
         pos = h .formed .0 .pos;
-        first = record { rest = h .rest; here = ap (λ (n : ℕ). drop (at + n) text) (sym e) ∙ behind text at l (bytes x ++ h .rest) (h .here ∙ append-assoc l (bytes x) (h .rest)); formed = h .formed .1 };
+        first = record { rest = h .rest; here = ap (λ (n : ℕ). drop (at + n) text) (sym e) ∙ behind text at l (treeCode x ++ h .rest) (h .here ∙ append-assoc l (treeCode x) (h .rest)); formed = h .formed .1 };
         room = omega (arith, fits text at (one l x) h, inside text at (one l x) h);
       }
   as-one (two l x y) h s u = absurd (omega (arith, tag-at text at (two l x y) h, h .formed .0 .short, h .formed .0 .pos))
 
   pub as-two : (t : Tree) → At text at t → shapeOf (getD text at 0) < 16 → 8 ≤ shapeOf (getD text at 0) → IsTwo t
-  unfolding bytes Formed size
+  unfolding treeCode Formed size
   as-two (name c k) h n s = absurd (omega (arith, tag-at text at (name c k) h))
   as-two (leaf l) h n s = absurd (omega (arith, tag-at text at (leaf l) h, h .formed .short))
   as-two (one l x) h n s = absurd (omega (arith, tag-at text at (one l x) h, h .formed .0 .short))
   as-two (two l x y) h n s =
       let e : length l ≡ shapeOf (getD text at 0) % 4 = omega (arith, tag-at text at (two l x y) h, h .formed .0 .short, h .formed .0 .pos) in
-      let f : drop at text ≡ l ++ (bytes x ++ (bytes y ++ h .rest)) = h .here ∙ append-assoc (l ++ bytes x) (bytes y) (h .rest) ∙ append-assoc l (bytes x) (bytes y ++ h .rest) in
-      let g : drop (at + shapeOf (getD text at 0) % 4) text ≡ bytes x ++ (bytes y ++ h .rest) = ap (λ (n : ℕ). drop (at + n) text) (sym e) ∙ behind text at l (bytes x ++ (bytes y ++ h .rest)) f in
+      let f : drop at text ≡ l ++ (treeCode x ++ (treeCode y ++ h .rest)) = h .here ∙ append-assoc (l ++ treeCode x) (treeCode y) (h .rest) ∙ append-assoc l (treeCode x) (treeCode y ++ h .rest) in
+      let g : drop (at + shapeOf (getD text at 0) % 4) text ≡ treeCode x ++ (treeCode y ++ h .rest) = ap (λ (n : ℕ). drop (at + n) text) (sym e) ∙ behind text at l (treeCode x ++ (treeCode y ++ h .rest)) f in
       record {
         h = l;
         x = x;
@@ -137,8 +137,8 @@ module _ (text : List ℕ) (at : ℕ) where
         is = refl;
         head = e;
         pos = h .formed .0 .pos;
-        first = record { rest = bytes y ++ h .rest; here = g; formed = h .formed .1 };
-        second = λ next q. record { rest = h .rest; here = ap (λ (n : ℕ). drop n text) (q ∙ ap (λ (n : ℕ). at + shapeOf (getD text at 0) % 4 + n) (sym (size-is x))) ∙ behind text (at + shapeOf (getD text at 0) % 4) (bytes x) (bytes y ++ h .rest) g; formed = h .formed .2 };
+        first = record { rest = treeCode y ++ h .rest; here = g; formed = h .formed .1 };
+        second = λ next q. record { rest = h .rest; here = ap (λ (n : ℕ). drop n text) (q ∙ ap (λ (n : ℕ). at + shapeOf (getD text at 0) % 4 + n) (sym (size-is x))) ∙ behind text (at + shapeOf (getD text at 0) % 4) (treeCode x) (treeCode y ++ h .rest) g; formed = h .formed .2 };
         room = omega (arith, fits text at (two l x y) h, inside text at (two l x y) h);
       }
 

@@ -4,7 +4,7 @@ use mathlib.Core.List.{List, [], _∷_, _++_}
 use mathlib.Core.Logic.{_⊎_}
 use Prim.Native.Nat.{ℕ, _+_, _*_, _/_, _<_}
 use lib.ListN.{length, getD, drop}
-use Rattle.tree.specs.Tree.{Tree, name, leaf, one, two, bytes}
+use Rattle.tree.specs.Tree.{Tree, name, leaf, one, two, treeCode}
 
 unfoldable pub shapes : List ℕ
 shapes =
@@ -37,7 +37,7 @@ Formed (two h x y) = Head h 2 × Formed x × Formed y
 -- a tree stands in a text at a place
 pub record At (text : List ℕ) (at : ℕ) (t : Tree) : Type 0 where
   pub rest : List ℕ
-  pub here : drop at text ≡ bytes t ++ rest
+  pub here : drop at text ≡ treeCode t ++ rest
   pub formed : Formed t
 
 pub record Some (text : List ℕ) (at : ℕ) : Type 0 where

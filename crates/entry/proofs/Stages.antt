@@ -28,7 +28,7 @@ use Rattle.carry.specs.Answers.{carriedAsked}
 use Rattle.carry.specs.declared.Carried as into
 use Rattle.carry.specs.declared.Carried.the-variants as into-case
 use Rattle.answer.proofs.AnswerLaws.{not-learned}
-use Rattle.demands.specs.Enter.{Carried, afterSteps, askCarried, askEnter, enterAnswer, enterSheet, enterScratch}
+use Rattle.demands.specs.Enter.{EditAndRules, afterSteps, askCarried, askEnter, enterAnswer, enterSheet, enterScratch}
 use Rattle.entry.specs.Settled.{Settled}
 
 module _ {rules : List (Expr rule)} (Z : Edit) {sheet : List ℕ} (a : Answer) (e : asked a ≡ askRules (graphOf sheet) rules 0) where
@@ -63,13 +63,13 @@ module _ (s b e scratch : List ℕ) where
   Left a s′ scratch′ = (asked a ≡ enterAnswer s b e (length scratch)) × ((s′ ≡ enterSheet s b e (length scratch)) × (scratch′ ≡ enterScratch s b e scratch))
 
   -- the questions after the book, and after the edit
-  abbrev then-size : List (Expr rule) → Edit → Asked Carried
+  abbrev then-size : List (Expr rule) → Edit → Asked EditAndRules
   then-size rules Z = askSize (carriedBook Z rules) (length scratch) >> passed (record { edit = Z; rules = carriedBook Z rules })
 
-  abbrev then-edit : List (Expr rule) → Asked Carried
+  abbrev then-edit : List (Expr rule) → Asked EditAndRules
   then-edit rules = askEdit (textLimits (graphOf s .n)) e >>= then-size rules
 
-  abbrev then-rules : Carried → Asked Edit
+  abbrev then-rules : EditAndRules → Asked Edit
   then-rules c = askRules (graphOf s) (c .rules) 0 >> passed (c .edit)
 
   -- A no before 41 leaves all as it was.

@@ -147,7 +147,7 @@ module _ (n : ℕ) (text : List ℕ) (at : ℕ) where
           rows-are =
               subst (λ (f : Expr arrow). Rows n (value (graphOf sheet) f) out) (sym (h .is))
               (subst (λ (a : ℕ). Rows n (graphOf sheet .joined a) out) (h .reads) r);
-          after = omega (arith, h .size);
+          ends = omega (arith, h .size);
         }
 
     pub pair-relation : IsPair e → Rows n (λ k l. (isNode (graphOf sheet) k && eqb k (getD text (at + 1) 0)) && (isNode (graphOf sheet) l && eqb l (getD text (at + 2) 0))) out → IsRelation sheet n at e out (at + 3)
@@ -158,7 +158,7 @@ module _ (n : ℕ) (text : List ℕ) (at : ℕ) where
               subst (λ (f : Expr arrow). Rows n (value (graphOf sheet) f) out) (sym (h .is))
               (subst (λ (i : ℕ). Rows n (λ k l. (isNode (graphOf sheet) k && eqb k i) && (isNode (graphOf sheet) l && eqb l (h .j))) out) (h .reads-i)
               (subst (λ (j : ℕ). Rows n (λ k l. (isNode (graphOf sheet) k && eqb k (getD text (at + 1) 0)) && (isNode (graphOf sheet) l && eqb l j)) out) (h .reads-j) r));
-          after = omega (arith, h .size);
+          ends = omega (arith, h .size);
         }
 
     pub reversed-relation : IsReversed e → (rows : List ℕ) (nx : ℕ)
@@ -170,7 +170,7 @@ module _ (n : ℕ) (text : List ℕ) (at : ℕ) where
         let a = p (h .R) (h .parts .first) in
         record {
           rows-are = subst (λ (f : Expr arrow). Rows n (value (graphOf sheet) f) out) (sym (h .is)) (r (value (graphOf sheet) (h .R)) (a .rows-are));
-          after = omega (arith, a .after, h .parts .size);
+          ends = omega (arith, a .ends, h .parts .size);
         }
 
     pub two-relation : IsTwo e → (first : List ℕ) (nx ny : ℕ)
@@ -179,10 +179,10 @@ module _ (n : ℕ) (text : List ℕ) (at : ℕ) where
         → IsRelation sheet n at e out ny
     two-relation h first nx ny p q =
         let a = p (h .R) (h .parts .first) in
-        let b = q (h .S) (h .parts .second nx (a .after)) in
+        let b = q (h .S) (h .parts .second nx (a .ends)) in
         record {
           rows-are = subst (λ (v : Pairs). Rows n v out) (sym (h .means (graphOf sheet))) (b .rows-are (value (graphOf sheet) (h .R)) (a .rows-are));
-          after = omega (arith, a .after, b .after, h .parts .size);
+          ends = omega (arith, a .ends, b .ends, h .parts .size);
         }
 
     pub ending-relation : IsEnding e → (rows : List ℕ) (x nx ny : ℕ)
@@ -193,10 +193,10 @@ module _ (n : ℕ) (text : List ℕ) (at : ℕ) where
     unfolding value
     ending-relation h rows x nx ny p q r =
         let a = p (h .R) (h .parts .first) in
-        let b = q (h .E) (h .parts .second nx (a .after)) in
+        let b = q (h .E) (h .parts .second nx (a .ends)) in
         record {
           rows-are = subst (λ (f : Expr arrow). Rows n (value (graphOf sheet) f) out) (sym (h .is)) (r (value (graphOf sheet) (h .R)) (value (graphOf sheet) (h .E)) (a .rows-are) (b .set));
-          after = omega (arith, a .after, b .after, h .parts .size);
+          ends = omega (arith, a .ends, b .ends, h .parts .size);
         }
 
   module _ (sheet : List ℕ) (c : ℕ) (e : Expr arrow) (old out : List ℕ) where
@@ -207,7 +207,7 @@ module _ (n : ℕ) (text : List ℕ) (at : ℕ) where
           rows-are = λ v p.
               subst (λ (f : Expr arrow). Rows n (λ i j. arrowOperation c (v i j) (value (graphOf sheet) f i j)) out) (sym (h .is))
               (subst (λ (a : ℕ). Rows n (λ i j. arrowOperation c (v i j) (graphOf sheet .joined a i j)) out) (h .reads) (r v p));
-          after = omega (arith, h .size);
+          ends = omega (arith, h .size);
         }
 
     pub pair-joined : IsPair e
@@ -220,10 +220,10 @@ module _ (n : ℕ) (text : List ℕ) (at : ℕ) where
               subst (λ (f : Expr arrow). Rows n (λ i j. arrowOperation c (v i j) (value (graphOf sheet) f i j)) out) (sym (h .is))
               (subst (λ (i : ℕ). Rows n (λ k l. arrowOperation c (v k l) ((isNode (graphOf sheet) k && eqb k i) && (isNode (graphOf sheet) l && eqb l (h .j)))) out) (h .reads-i)
               (subst (λ (j : ℕ). Rows n (λ k l. arrowOperation c (v k l) ((isNode (graphOf sheet) k && eqb k (getD text (at + 1) 0)) && (isNode (graphOf sheet) l && eqb l j))) out) (h .reads-j) (r v p)));
-          after = omega (arith, h .size);
+          ends = omega (arith, h .size);
         }
 
     pub apart-joined : (other : List ℕ) (nx : ℕ) → IsRelation sheet n at e other nx
         → ((v w : Pairs) → Rows n v old → Rows n w other → Rows n (λ i j. arrowOperation c (v i j) (w i j)) out)
         → IsJoined sheet n at c e old out nx
-    apart-joined other nx a r = record { rows-are = λ v p. r v (value (graphOf sheet) e) p (a .rows-are); after = a .after }
+    apart-joined other nx a r = record { rows-are = λ v p. r v (value (graphOf sheet) e) p (a .rows-are); ends = a .ends }

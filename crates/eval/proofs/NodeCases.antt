@@ -35,7 +35,7 @@ part-whole sheet n w o e x h =
     h ∙ setOf-cong n _ _ (λ i l. ap (_&& value (graphOf sheet) e i) (ap (λ (y : ℕ). member y i) (o .nodes) ∙ member-setOf n (isNode (graphOf sheet)) i l ∙ node-there sheet n (o .count) i l))
 
 pub is-whole : {sheet : List ℕ} {n all at : ℕ} {e : Expr node} {x next : ℕ} → Opened sheet n all → IsPart sheet n at e all x next → IsSet sheet n at e x next
-is-whole {sheet = sheet} {n = n} {all = w} {e = e} {x = x} o h = record { set = part-whole sheet n w o e x (h .set); after = h .after }
+is-whole {sheet = sheet} {n = n} {all = w} {e = e} {x = x} o h = record { set = part-whole sheet n w o e x (h .set); ends = h .ends }
 
 pub part-small : {sheet : List ℕ} {n at : ℕ} {e : Expr node} {within x next : ℕ} → IsPart sheet n at e within x next → x < 2 ^ n
 part-small {n = n} h = set-small n _ (h .set)
@@ -117,7 +117,7 @@ module _ (n : ℕ) (text : List ℕ) (at : ℕ) where
   module _ (sheet : List ℕ) (count : n ≡ graphOf sheet .n) (within z : ℕ) (small : within < 2 ^ n) where
     pub all-set : {e : Expr node} → Leaf e → getD text at 0 ≤ 0x01 → z ≡ within → IsPart sheet n at e within z (at + 1)
     unfolding code value
-    all-set (is-all c l) p h = record { set = h ∙ sym (setOf-member-lt n within small) ∙ setOf-cong n _ _ (λ i l. sym (ap (member within i &&_) (node-there sheet n count i l) ∙ and-true (member within i))); after = refl }
+    all-set (is-all c l) p h = record { set = h ∙ sym (setOf-member-lt n within small) ∙ setOf-cong n _ _ (λ i l. sym (ap (member within i &&_) (node-there sheet n count i l) ∙ and-true (member within i))); ends = refl }
     all-set (is-none c l) p h = absurd (omega arith)
     all-set (is-label c l e r) p h = absurd (omega arith)
     all-set (is-nominal c l e r) p h = absurd (omega arith)
@@ -125,7 +125,7 @@ module _ (n : ℕ) (text : List ℕ) (at : ℕ) where
     pub none-set : {e : Expr node} → Leaf e → 0x01 < getD text at 0 → getD text at 0 ≤ 0x02 → z ≡ 0 → IsPart sheet n at e within z (at + 1)
     unfolding code value
     none-set (is-all c l) p q h = absurd (omega arith)
-    none-set (is-none c l) p q h = record { set = h ∙ sym (setOf-none n) ∙ setOf-cong n _ _ (λ i l. sym (and-false (member within i))); after = refl }
+    none-set (is-none c l) p q h = record { set = h ∙ sym (setOf-none n) ∙ setOf-cong n _ _ (λ i l. sym (and-false (member within i))); ends = refl }
     none-set (is-label c l e r) p q h = absurd (omega arith)
     none-set (is-nominal c l e r) p q h = absurd (omega arith)
 
@@ -138,7 +138,7 @@ module _ (n : ℕ) (text : List ℕ) (at : ℕ) where
           set =
               d ∙ ap₂ (combined _&&_) (sym (setOf-member-lt n within small)) (h ∙ ap₂ (λ (j k : ℕ). setOf j (graphOf sheet .labelled k)) (sym count) e₁)
               ∙ combined-sets _&&_ refl n (member within) (graphOf sheet .labelled k) m;
-          after = refl;
+          ends = refl;
         }
     label-set (is-nominal c l e r) p q m x h d = absurd (omega arith)
 
@@ -148,7 +148,7 @@ module _ (n : ℕ) (text : List ℕ) (at : ℕ) where
     nominal-set (is-none c l) p h = absurd (omega arith)
     nominal-set (is-label c l e r) p h = absurd (omega arith)
     nominal-set (is-nominal {i} c l e r) p h =
-        record { set = h ∙ setOf-cong n _ _ (λ k o. ap (member within k &&_) (ap (eqb k) e ∙ ap (_&& eqb k i) (sym (node-there sheet n count k o)))); after = refl }
+        record { set = h ∙ setOf-cong n _ _ (λ k o. ap (member within k &&_) (ap (eqb k) e ∙ ap (_&& eqb k i) (sym (node-there sheet n count k o)))); ends = refl }
 
   -- 05
   pub record IsComplement (e : Expr node) : Type 0 where
@@ -261,7 +261,7 @@ module _ (n : ℕ) (text : List ℕ) (at : ℕ) where
               ∙ combined-sets (λ a b. a && not b) refl n (member within) (λ i. member within i && value g (h .E) i) (omega (arith, o .few))
               ∙ setOf-cong n _ (λ i. member within i && value g (complement (h .E)) i) (λ i l. go (member within i) (value g (h .E) i) ∙ ap (λ (b : Bool). member within i && (b && not (value g (h .E) i))) (sym (node-there sheet n (o .count) i l)))
               ∙ ap (λ (f : Expr node). setOf n (λ i. member within i && value g f i)) (sym (h .is));
-          after = omega (arith, a .after, h .parts .size);
+          ends = omega (arith, a .ends, h .parts .size);
         }
       where
         go : (a b : Bool) → (a && not (a && b)) ≡ (a && (true && not b))
@@ -276,13 +276,13 @@ module _ (n : ℕ) (text : List ℕ) (at : ℕ) where
     and-set h x nx y ny p q =
         let g = graphOf sheet in
         let a = p (h .E) (h .parts .first) in
-        let b = q (h .F) (h .parts .second nx (a .after)) in
+        let b = q (h .F) (h .parts .second nx (a .ends)) in
         record {
           set =
               b .set
               ∙ setOf-cong n _ (λ i. member within i && value g (and (h .E) (h .F)) i) (λ i l. ap (_&& value g (h .F) i) (ap (λ (z : ℕ). member z i) (a .set) ∙ member-setOf n (λ i. member within i && value g (h .E) i) i l) ∙ go (member within i) (value g (h .E) i) (value g (h .F) i))
               ∙ ap (λ (f : Expr node). setOf n (λ i. member within i && value g f i)) (sym (h .is));
-          after = omega (arith, a .after, b .after, h .parts .size);
+          ends = omega (arith, a .ends, b .ends, h .parts .size);
         }
       where
         go : (a b c : Bool) → ((a && b) && c) ≡ (a && (b && c))
@@ -299,7 +299,7 @@ module _ (n : ℕ) (text : List ℕ) (at : ℕ) where
     or-set h x nx w y ny z p s q r =
         let g = graphOf sheet in
         let a = p (h .E) (h .parts .first) in
-        let b = q (h .F) (h .parts .second nx (a .after)) in
+        let b = q (h .F) (h .parts .second nx (a .ends)) in
         let rest : w ≡ setOf n (λ i. member within i && not (member within i && value g (h .E) i)) =
         s ∙ ap₂ (combined (λ a b. a && not b)) (sym (setOf-member-lt n within small)) (a .set)
         ∙ combined-sets (λ a b. a && not b) refl n (member within) (λ i. member within i && value g (h .E) i) (omega (arith, o .few)) in
@@ -309,7 +309,7 @@ module _ (n : ℕ) (text : List ℕ) (at : ℕ) where
               ∙ combined-sets _||_ refl n (λ i. member within i && value g (h .E) i) (λ i. member w i && value g (h .F) i) (omega (arith, o .few))
               ∙ setOf-cong n _ (λ i. member within i && value g (or (h .E) (h .F)) i) (λ i l. ap (λ (c : Bool). (member within i && value g (h .E) i) || (c && value g (h .F) i)) (ap (λ (z : ℕ). member z i) rest ∙ member-setOf n _ i l) ∙ go (member within i) (value g (h .E) i) (value g (h .F) i))
               ∙ ap (λ (f : Expr node). setOf n (λ i. member within i && value g f i)) (sym (h .is));
-          after = omega (arith, a .after, b .after, h .parts .size);
+          ends = omega (arith, a .ends, b .ends, h .parts .size);
         }
       where
         go : (a b c : Bool) → ((a && b) || ((a && not (a && b)) && c)) ≡ (a && (b || c))
@@ -326,7 +326,7 @@ module _ (n : ℕ) (text : List ℕ) (at : ℕ) where
         let g = graphOf sheet in
         let c = getD text at 0 in
         let m = getD text (at + k - 1) 0 in
-        let b = q (h .E) (h .parts .second nx (omega (arith, d .after, s))) in
+        let b = q (h .E) (h .parts .second nx (omega (arith, d .ends, s))) in
         let ends : (i : ℕ) → quantified c m n (value g (h .R) i) (member x) ≡ quantified c m n (value g (h .R) i) (value g (h .E)) =
         λ i. quantified-cong c m n (value g (h .R) i) _ _ (λ j l. ap (λ (y : ℕ). member y j) (part-whole sheet n all o (h .E) x (b .set)) ∙ member-setOf n (value g (h .E)) j l) in
         record {
@@ -337,7 +337,7 @@ module _ (n : ℕ) (text : List ℕ) (at : ℕ) where
               ∙ ap (λ (y : ℕ). quantified c m y (value g (h .R) i) (value g (h .E))) (o .count)
               ∙ nodes-there c m (g .n) (isNode g) (value g (h .R)) (value g (h .E)) i (node-there sheet n (o .count) i l)
               ∙ ap (λ (v : Nodes). v i) (sym (h .means g))));
-          after = omega (arith, d .after, s, b .after, h .parts .size);
+          ends = omega (arith, d .ends, s, b .ends, h .parts .size);
         }
 
     pub quantifier-set : (k : ℕ) → IsQuantifier k e → (turned : Bool) (next : ℕ) (rows : List ℕ) (x nx ny z : ℕ)
@@ -349,7 +349,7 @@ module _ (n : ℕ) (text : List ℕ) (at : ℕ) where
     quantifier-set k h turned next rows x nx ny z t p q r =
         let d = t (h .R) (h .parts .first) in
         let a = p (d .R) (d .stands) in
-        quantifier-part k h turned next x nx ny z d (a .after) q (r (value (graphOf sheet) (d .R)) (a .rows-are))
+        quantifier-part k h turned next x nx ny z d (a .ends) q (r (value (graphOf sheet) (d .R)) (a .rows-are))
 
     -- over 11, or 12 11
     pub quantifier-kind : (k : ℕ) → IsQuantifier k e → (turned : Bool) (next x ny z : ℕ)

@@ -175,7 +175,7 @@ module _ (n : ℕ) (text : List ℕ) (at : ℕ) where
     sub-nodes-truth h x nx y ny p q r =
         let g = graphOf sheet in
         let s = p (h .E) (h .parts .first) in
-        let t = q (h .F) (h .parts .second nx (s .after)) in
+        let t = q (h .F) (h .parts .second nx (s .ends)) in
         let whole = part-whole sheet n all o (h .E) x (s .set) in
         record {
           truth =
@@ -183,7 +183,7 @@ module _ (n : ℕ) (text : List ℕ) (at : ℕ) where
               ∙ all-cong n _ (λ i. implies (value g (h .E) i) (value g (h .F) i)) (λ i l. ap (λ (c : Bool). implies (value g (h .E) i) (c && value g (h .F) i)) (ap (λ (z : ℕ). member z i) whole ∙ member-setOf n (value g (h .E)) i l) ∙ go (value g (h .E) i) (value g (h .F) i))
               ∙ ap (λ (m : ℕ). allBelow m (λ i. implies (value g (h .E) i) (value g (h .F) i))) (o .count)
               ∙ ap (value g) (sym (h .is));
-          after = omega (arith, s .after, t .after, h .parts .size);
+          ends = omega (arith, s .ends, t .ends, h .parts .size);
         }
       where
         go : (c d : Bool) → implies c (c && d) ≡ implies c d
@@ -199,13 +199,13 @@ module _ (n : ℕ) (text : List ℕ) (at : ℕ) where
     sub-arrows-truth h first second nx ny p q r =
         let g = graphOf sheet in
         let s = p (h .R) (h .parts .first) in
-        let t = q (h .S) (h .parts .second nx (s .after)) in
+        let t = q (h .S) (h .parts .second nx (s .ends)) in
         record {
           truth =
               r (value g (h .R)) (value g (h .S)) (s .rows-are) (t .rows-are)
               ∙ ap (λ (m : ℕ). allBelow m (λ i. allBelow m (λ j. implies (value g (h .R) i j) (value g (h .S) i j)))) (o .count)
               ∙ ap (value g) (sym (h .is));
-          after = omega (arith, s .after, t .after, h .parts .size);
+          ends = omega (arith, s .ends, t .ends, h .parts .size);
         }
 
     pub node-in-truth : IsNodeIn e → (w x nx : ℕ)
@@ -224,7 +224,7 @@ module _ (n : ℕ) (text : List ℕ) (at : ℕ) where
               r n (λ k. member w k && value g (h .E) k) l (s .set)
               ∙ ap (_&& value g (h .E) i) (ap (λ (z : ℕ). member z i) d ∙ member-setOf n _ i l ∙ ap₂ _&&_ (node-there sheet n (o .count) i l) (eq-eqb i i refl))
               ∙ ap (value g (h .E)) (h .reads) ∙ ap (value g) (sym (h .is));
-          after = omega (arith, s .after, h .parts .size);
+          ends = omega (arith, s .ends, h .parts .size);
         }
 
     pub pair-in-truth : IsPairIn e → (rows : List ℕ) (nx : ℕ)
@@ -240,7 +240,7 @@ module _ (n : ℕ) (text : List ℕ) (at : ℕ) where
               r n (value g (h .R)) (omega (arith, h .reads-i, h .range-i)) (omega (arith, h .reads-j, h .range-j)) (s .rows-are)
               ∙ ap₂ (value g (h .R)) (h .reads-i) (h .reads-j)
               ∙ ap (value g) (sym (h .is));
-          after = omega (arith, s .after, h .parts .size);
+          ends = omega (arith, s .ends, h .parts .size);
         }
 
   module _ (sheet : List ℕ) (e : Expr rule) where
@@ -253,7 +253,7 @@ module _ (n : ℕ) (text : List ℕ) (at : ℕ) where
         let s = p (h .K) (h .parts .first) in
         record {
           truth = go (eqb (getD text at 0) 0x25) x (value (graphOf sheet) (h .L)) (sym r ∙ d) ∙ ap (λ (c : Bool). ruleOperation (getD text at 0) c (value (graphOf sheet) (h .L))) (s .truth) ∙ sym (h .means (graphOf sheet));
-          after = omega (arith, s .after, q (h .L) (h .parts .second nx (s .after)), h .parts .size);
+          ends = omega (arith, s .ends, q (h .L) (h .parts .second nx (s .ends)), h .parts .size);
         }
       where
         no : false ≡ true → ⊥
@@ -272,10 +272,10 @@ module _ (n : ℕ) (text : List ℕ) (at : ℕ) where
         → IsTruth sheet at e y ny
     second-truth h x y b nx ny p q r d =
         let s = p (h .K) (h .parts .first) in
-        let t = q (h .L) (h .parts .second nx (s .after)) in
+        let t = q (h .L) (h .parts .second nx (s .ends)) in
         record {
           truth = go (eqb (getD text at 0) 0x25) x y (sym r ∙ d) ∙ ap₂ (ruleOperation (getD text at 0)) (s .truth) (t .truth) ∙ sym (h .means (graphOf sheet));
-          after = omega (arith, s .after, t .after, h .parts .size);
+          ends = omega (arith, s .ends, t .ends, h .parts .size);
         }
       where
         no : true ≡ false → ⊥
@@ -295,5 +295,5 @@ module _ (n : ℕ) (text : List ℕ) (at : ℕ) where
         let s = p (h .K) (h .parts .first) in
         record {
           truth = ap not (s .truth) ∙ ap (value (graphOf sheet)) (sym (h .is));
-          after = omega (arith, s .after, h .parts .size);
+          ends = omega (arith, s .ends, h .parts .size);
         }

@@ -15,7 +15,7 @@ use Rattle.eval.specs.Evaluated.{IsTurned}
 use Rattle.eval.proofs.ArrowCases.{as-reversed}
 
 pub turned-none : (n : ℕ) (text : List ℕ) (at : ℕ) (e : Expr arrow) → Stands (ranges n) text at e → IsTurned n text at e false at
-turned-none n text at e h = record { R = e; stands = h; means = λ g. refl; on = omega arith; after = refl }
+turned-none n text at e h = record { R = e; stands = h; means = λ g. refl; on = omega arith; ends = refl }
 
 pub turned-more : (n : ℕ) (text : List ℕ) (at : ℕ) (e : Expr arrow) (b : Bool) (p : ℕ) → IsTurned n text at e b p → getD text p 0 ≡ 0x12 → IsTurned n text at e (not b) (p + 1)
 unfolding value
@@ -26,7 +26,7 @@ turned-more n text at e b p t c =
       stands = q .parts .first;
       means = λ g. t .means g ∙ ap (λ (f : Expr arrow). turn b (value g f)) (q .is) ∙ go b (value g (q .R));
       on = omega (arith, t .on);
-      after = omega (arith, t .after, q .parts .size);
+      ends = omega (arith, t .ends, q .parts .size);
     }
   where
     go : (b : Bool) (v : Pairs) → turn b (λ i j. v j i) ≡ turn (not b) v

@@ -25,25 +25,25 @@ pub record Opened (sheet : List ℕ) (n all : ℕ) : Type 0 where
 
 pub record IsSet (sheet : List ℕ) (n at : ℕ) (e : Expr node) (x next : ℕ) : Type 0 where
   pub set : x ≡ setOf n (value (graphOf sheet) e)
-  pub after : next ≡ at + length (code e)
+  pub ends : next ≡ at + length (code e)
 
 -- The same of the nodes that are asked about alone.
 pub record IsPart (sheet : List ℕ) (n at : ℕ) (e : Expr node) (within x next : ℕ) : Type 0 where
   pub set : x ≡ setOf n (λ i. member within i && value (graphOf sheet) e i)
-  pub after : next ≡ at + length (code e)
+  pub ends : next ≡ at + length (code e)
 
 pub record IsRelation (sheet : List ℕ) (n at : ℕ) (e : Expr arrow) (rows : List ℕ) (next : ℕ) : Type 0 where
   pub rows-are : Rows n (value (graphOf sheet) e) rows
-  pub after : next ≡ at + length (code e)
+  pub ends : next ≡ at + length (code e)
 
 -- The relation joined, by the code c, to the one that the rows held before.
 pub record IsJoined (sheet : List ℕ) (n at c : ℕ) (e : Expr arrow) (old rows : List ℕ) (next : ℕ) : Type 0 where
   pub rows-are : (v : Pairs) → Rows n v old → Rows n (λ i j. arrowOperation c (v i j) (value (graphOf sheet) e i j)) rows
-  pub after : next ≡ at + length (code e)
+  pub ends : next ≡ at + length (code e)
 
 pub record IsTruth (sheet : List ℕ) (at : ℕ) (e : Expr rule) (holds : Bool) (next : ℕ) : Type 0 where
   pub truth : holds ≡ value (graphOf sheet) e
-  pub after : next ≡ at + length (code e)
+  pub ends : next ≡ at + length (code e)
 
 -- 25 and; 26 or
 abbrev pub ruleOperation : ℕ → Bool → Bool → Bool
@@ -55,7 +55,7 @@ pub record IsTurned (n : ℕ) (text : List ℕ) (at : ℕ) (e : Expr arrow) (tur
   pub stands : Stands (ranges n) text next R
   pub means : (g : Graph) → value g e ≡ turn turned (value g R)
   pub on : at ≤ next
-  pub after : at + length (code e) ≡ next + length (code R)
+  pub ends : at + length (code e) ≡ next + length (code R)
 
 -- 25 and 26: whether the first rule alone decides.
 abbrev pub decided : ℕ → Bool → Bool

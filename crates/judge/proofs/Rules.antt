@@ -95,9 +95,9 @@ module _ (sheet : List ℕ) (n : ℕ) (text : List ℕ) (end : ℕ) where
           let v : value (graphOf sheet) (f .K) ≡ true = sym (judged .truth) ∙ t in
           record {
             left = f .others;
-            stand = f .stand next (judged .after);
+            stand = f .stand next (judged .ends);
             answer-same = d .answer-same ∙ ap (λ (l : List (Expr rule)). askRules (graphOf sheet) l i) (f .are) ∙ rw (v, askRules) (ap (askRules (graphOf sheet) (f .others)) (sym (add-one i)));
-            part-same = d .part-same ∙ ap (λ (l : List (Expr rule)). brokenPart (graphOf sheet) l at) (f .are) ∙ rw (v, brokenPart) (ap (brokenPart (graphOf sheet) (f .others)) (sym (judged .after)));
+            part-same = d .part-same ∙ ap (λ (l : List (Expr rule)). brokenPart (graphOf sheet) l at) (f .are) ∙ rw (v, brokenPart) (ap (brokenPart (graphOf sheet) (f .others)) (sym (judged .ends)));
           }
 
       pub broken-answer : b ≡ false → askRules (graphOf sheet) rules 0 ≡ refused 41 i
@@ -112,7 +112,7 @@ module _ (sheet : List ℕ) (n : ℕ) (text : List ℕ) (end : ℕ) where
       broken-part t =
           let f = first h in
           let v : value (graphOf sheet) (f .K) ≡ false = sym (judged .truth) ∙ t in
-          let s : length (code (f .K)) ≡ next - at = omega (arith, judged .after) in
+          let s : length (code (f .K)) ≡ next - at = omega (arith, judged .ends) in
           d .part-same ∙ ap (λ (l : List (Expr rule)). brokenPart (graphOf sheet) l at) (f .are) ∙ rw (v, brokenPart) (ap (λ (k : ℕ). record { start = at; size = k }) s)
 
     pub all-hold : end ≤ at → askRules (graphOf sheet) rules 0 ≡ passed tt

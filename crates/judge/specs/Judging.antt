@@ -10,12 +10,12 @@ use Rattle.text.specs.Stands.{RulesInRange}
 use Rattle.eval.specs.Judge.{Part, judgedPart}
 
 -- The bytes of a part.
-abbrev pub cut : List ℕ → Part → List ℕ
-cut book p = take (p .size) (drop (p .start) book)
+abbrev pub partBytes : List ℕ → Part → List ℕ
+partBytes book p = take (p .size) (drop (p .start) book)
 
 -- What judge hands back: the first broken rule, cut from the book; empty in every other outcome.
 unfoldable pub judgedRule : List ℕ → List ℕ → List ℕ
-judgedRule sheet book = cut book (judgedPart sheet book)
+judgedRule sheet book = partBytes book (judgedPart sheet book)
 
 -- Rules that stand from a place to an end. An inner function asks for some and speaks of all such.
 pub record RulesStand (r : Ranges) (text : List ℕ) (at end : ℕ) (rules : List (Expr rule)) : Type 0 where

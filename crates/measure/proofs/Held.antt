@@ -9,28 +9,28 @@ use borrow.Author.Tests.{eq-eqb}
 use lib.ListN.{length, getD, set, length-set}
 use lib.Seq.{getD-set-same, getD-set-other}
 use Rattle.tree.specs.Tree.{Tree, name, leaf, one, two, height, count, deep, same, under}
-use Rattle.tree.specs.Sizes.{Measure, measure, passed, cut, cutM}
+use Rattle.tree.specs.Sizes.{Measure, measure, substituted, capped, cappedMeasure}
 use Rattle.tree.proofs.Measured.{under-max, under-under, under-nothing, same-eq}
-use Rattle.tree.proofs.Cut.{cut-max, cut-under, cut-mul}
+use Rattle.tree.proofs.Capped.{capped-max, capped-under, capped-mul}
 use Rattle.ends.specs.Shapes.{Named, cell}
 use Rattle.measure.specs.State.{Holds, added}
 
-pub deeper-none : (v : ℕ) → v ≡ 0 → 0 ≡ cut (under v 2)
+pub deeper-none : (v : ℕ) → v ≡ 0 → 0 ≡ capped (under v 2)
 unfolding under
-deeper-none v e = sym (ap (λ (u : ℕ). cut (under u 2)) e)
+deeper-none v e = sym (ap (λ (u : ℕ). capped (under u 2)) e)
 
-pub deeper-some : (v : ℕ) → (v ≡ 0 → ⊥) → v < 16385 → v + 1 ≡ cut (under v 2)
+pub deeper-some : (v : ℕ) → (v ≡ 0 → ⊥) → v < 16385 → v + 1 ≡ capped (under v 2)
 unfolding under
 deeper-some zero n l = absurd (n refl)
 deeper-some (suc v) n l = omega arith
 
-pub deeper-cut : (v : ℕ) → 16385 ≤ v → 16385 ≡ cut (under v 2)
+pub deeper-cut : (v : ℕ) → 16385 ≤ v → 16385 ≡ capped (under v 2)
 unfolding under
 deeper-cut zero l = absurd (omega arith)
 deeper-cut (suc v) l = omega arith
 
-pub holds-same : {l : List ℕ} {M N : Measure} → cutM M ≡ cutM N → Holds l M → Holds l N
-unfolding cutM
+pub holds-same : {l : List ℕ} {M N : Measure} → cappedMeasure M ≡ cappedMeasure N → Holds l M → Holds l N
+unfolding cappedMeasure
 holds-same e h = record {
   len-at = h .len-at ∙ ap (λ (X : Measure). X .len) e;
   tall-at = h .tall-at ∙ ap (λ (X : Measure). X .tall) e;
@@ -86,7 +86,7 @@ under-1 zero = refl
 under-1 (suc v) = omega arith
 
 pub holds-touch : (l : List ℕ) (M : Measure) (c k w v : ℕ) → length l ≡ 130 → v ≤ 16385 → Named c k → Holds l M
-    → Holds (set (set l (cell c k) (cut (getD l (cell c k) 0 + w))) (64 + cell c k) (max (getD l (64 + cell c k) 0) v)) (marked c k w v M)
+    → Holds (set (set l (cell c k) (capped (getD l (cell c k) 0 + w))) (64 + cell c k) (max (getD l (64 + cell c k) 0) v)) (marked c k w v M)
 holds-touch l M c k w v e b n h = record {
   len-at = other m (64 + i) 128 y (λ q. omega (arith, named-lt c k n)) ∙ other l i 128 x (λ q. omega (arith, named-lt c k n)) ∙ h .len-at;
   tall-at = other m (64 + i) 129 y (λ q. omega (arith, named-lt c k n)) ∙ other l i 129 x (λ q. omega (arith, named-lt c k n)) ∙ h .tall-at;
@@ -98,7 +98,7 @@ holds-touch l M c k w v e b n h = record {
     i = cell c k
 
     x : ℕ
-    x = cut (getD l i 0 + w)
+    x = capped (getD l i 0 + w)
 
     y : ℕ
     y = max (getD l (64 + i) 0) v
@@ -106,23 +106,23 @@ holds-touch l M c k w v e b n h = record {
     m : List ℕ
     m = set l i x
 
-    counts : (c′ k′ : ℕ) → Named c′ k′ → (b : Bool) → same c k c′ k′ ≡ b → getD m (cell c′ k′) 0 ≡ cut (M .counts c′ k′ + w * cond b 1 0)
+    counts : (c′ k′ : ℕ) → Named c′ k′ → (b : Bool) → same c k c′ k′ ≡ b → getD m (cell c′ k′) 0 ≡ capped (M .counts c′ k′ + w * cond b 1 0)
     counts c′ k′ n′ true q =
         let j : cell c′ k′ ≡ i = alike c k c′ k′ q in
-        ap (λ (u : ℕ). getD m u 0) j ∙ getD-set-same l i x 0 (omega (arith, named-lt c k n)) ∙ ap (λ (u : ℕ). cut (u + w)) (ap (λ (u : ℕ). getD l u 0) (sym j) ∙ h .count-at c′ k′ n′) ∙ omega arith
+        ap (λ (u : ℕ). getD m u 0) j ∙ getD-set-same l i x 0 (omega (arith, named-lt c k n)) ∙ ap (λ (u : ℕ). capped (u + w)) (ap (λ (u : ℕ). getD l u 0) (sym j) ∙ h .count-at c′ k′ n′) ∙ omega arith
     counts c′ k′ n′ false q = other l i (cell c′ k′) x (apart c k c′ k′ n n′ q) ∙ h .count-at c′ k′ n′ ∙ omega arith
 
-    deeps : (c′ k′ : ℕ) → Named c′ k′ → (b : Bool) → same c k c′ k′ ≡ b → getD (set m (64 + i) y) (64 + cell c′ k′) 0 ≡ cut (max (M .deeps c′ k′) (under v (cond b 1 0)))
+    deeps : (c′ k′ : ℕ) → Named c′ k′ → (b : Bool) → same c k c′ k′ ≡ b → getD (set m (64 + i) y) (64 + cell c′ k′) 0 ≡ capped (max (M .deeps c′ k′) (under v (cond b 1 0)))
     deeps c′ k′ n′ true q =
         let j : cell c′ k′ ≡ i = alike c k c′ k′ q in
-        let z : getD l (64 + i) 0 ≡ cut (M .deeps c′ k′) = ap (λ (u : ℕ). getD l (64 + u) 0) (sym j) ∙ h .deep-at c′ k′ n′ in
-        ap (λ (u : ℕ). getD (set m (64 + i) y) (64 + u) 0) j ∙ getD-set-same m (64 + i) y 0 (omega (arith, named-lt c k n, length-set l i x)) ∙ ap (λ (u : ℕ). max u v) z ∙ both (M .deeps c′ k′) ∙ sym (ap (λ (u : ℕ). cut (max (M .deeps c′ k′) u)) (under-1 v))
+        let z : getD l (64 + i) 0 ≡ capped (M .deeps c′ k′) = ap (λ (u : ℕ). getD l (64 + u) 0) (sym j) ∙ h .deep-at c′ k′ n′ in
+        ap (λ (u : ℕ). getD (set m (64 + i) y) (64 + u) 0) j ∙ getD-set-same m (64 + i) y 0 (omega (arith, named-lt c k n, length-set l i x)) ∙ ap (λ (u : ℕ). max u v) z ∙ both (M .deeps c′ k′) ∙ sym (ap (λ (u : ℕ). capped (max (M .deeps c′ k′) u)) (under-1 v))
       where
-        both : (d : ℕ) → max (cut d) v ≡ cut (max d v)
+        both : (d : ℕ) → max (capped d) v ≡ capped (max d v)
         both d = omega arith
     deeps c′ k′ n′ false q =
         other m (64 + i) (64 + cell c′ k′) y (λ r. apart c k c′ k′ n n′ q (omega (arith, r))) ∙ other l i (64 + cell c′ k′) x (λ r. omega (arith, named-lt c k n)) ∙ h .deep-at c′ k′ n′
-        ∙ (let z : M .deeps c′ k′ ≡ max (M .deeps c′ k′) (under v 0) = omega (arith, under-nothing v) in ap cut z)
+        ∙ (let z : M .deeps c′ k′ ≡ max (M .deeps c′ k′) (under v 0) = omega (arith, under-nothing v) in ap capped z)
 
 -- a tree's codes one by one
 pub added-name : (w v c k : ℕ) (M : Measure) → marked c k w v (risen v M) ≡ added w v (measure (name c k)) M
@@ -171,18 +171,18 @@ added-two w v h x y M = λ i. record { len = M .len; tall = tops (M .tall) (heig
         a ∙ ap (max m) (sym (under-max (under v 2) p q) ∙ under-under v 2 (max p q))
 
 -- a level cut beforehand
-pub added-cut : (w v : ℕ) (E M : Measure) → cutM (added w (cut v) E M) ≡ cutM (added w v E M)
-unfolding added cutM
-added-cut w v E M = λ i. record { len = cut (M .len); tall = tips (M .tall) (E .tall) i; counts = λ c k. cut (M .counts c k + w * E .counts c k); deeps = λ c k. tips (M .deeps c k) (E .deeps c k) i }
+pub added-cut : (w v : ℕ) (E M : Measure) → cappedMeasure (added w (capped v) E M) ≡ cappedMeasure (added w v E M)
+unfolding added cappedMeasure
+added-cut w v E M = λ i. record { len = capped (M .len); tall = tips (M .tall) (E .tall) i; counts = λ c k. capped (M .counts c k + w * E .counts c k); deeps = λ c k. tips (M .deeps c k) (E .deeps c k) i }
   where
-    tips : (m e : ℕ) → cut (max m (under (cut v) e)) ≡ cut (max m (under v e))
-    tips m e = cut-max m (under (cut v) e) ∙ ap (max (cut m)) (cut-under v e) ∙ sym (cut-max m (under v e))
+    tips : (m e : ℕ) → capped (max m (under (capped v) e)) ≡ capped (max m (under v e))
+    tips m e = capped-max m (under (capped v) e) ∙ ap (max (capped m)) (capped-under v e) ∙ sym (capped-max m (under v e))
 
 -- a name's deepest level one lower
 abbrev pub lowered : (c k : ℕ) → Measure → Measure
 lowered c k M = record { len = M .len; tall = M .tall; counts = M .counts; deeps = λ c′ k′. cond (same c′ k′ c k) (under (M .deeps c k) 2) (M .deeps c′ k′) }
 
-pub holds-lower : (l : List ℕ) (M : Measure) (c k x : ℕ) → length l ≡ 130 → Named c k → x ≡ cut (under (getD l (64 + cell c k) 0) 2) → Holds l M → Holds (set l (64 + cell c k) x) (lowered c k M)
+pub holds-lower : (l : List ℕ) (M : Measure) (c k x : ℕ) → length l ≡ 130 → Named c k → x ≡ capped (under (getD l (64 + cell c k) 0) 2) → Holds l M → Holds (set l (64 + cell c k) x) (lowered c k M)
 holds-lower l M c k x e n f h = record {
   len-at = other l j 128 x (λ q. omega (arith, named-lt c k n)) ∙ h .len-at;
   tall-at = other l j 129 x (λ q. omega (arith, named-lt c k n)) ∙ h .tall-at;
@@ -193,26 +193,26 @@ holds-lower l M c k x e n f h = record {
     j : ℕ
     j = 64 + cell c k
 
-    deeps : (c′ k′ : ℕ) → Named c′ k′ → (b : Bool) → same c′ k′ c k ≡ b → getD (set l j x) (64 + cell c′ k′) 0 ≡ cut (cond b (under (M .deeps c k) 2) (M .deeps c′ k′))
+    deeps : (c′ k′ : ℕ) → Named c′ k′ → (b : Bool) → same c′ k′ c k ≡ b → getD (set l j x) (64 + cell c′ k′) 0 ≡ capped (cond b (under (M .deeps c k) 2) (M .deeps c′ k′))
     deeps c′ k′ n′ true q =
-        ap (λ (u : ℕ). getD (set l j x) (64 + u) 0) (sym (alike c′ k′ c k q)) ∙ getD-set-same l j x 0 (omega (arith, named-lt c k n)) ∙ f ∙ ap (λ (u : ℕ). cut (under u 2)) (h .deep-at c k n) ∙ cut-under (M .deeps c k) 2
+        ap (λ (u : ℕ). getD (set l j x) (64 + u) 0) (sym (alike c′ k′ c k q)) ∙ getD-set-same l j x 0 (omega (arith, named-lt c k n)) ∙ f ∙ ap (λ (u : ℕ). capped (under u 2)) (h .deep-at c k n) ∙ capped-under (M .deeps c k) 2
     deeps c′ k′ n′ false q = other l j (64 + cell c′ k′) x (λ r. apart c′ k′ c k n′ n q (omega (arith, r))) ∙ h .deep-at c′ k′ n′
 
 -- x bytes more
 abbrev pub longer : ℕ → Measure → Measure
 longer x M = record { len = M .len + x; tall = M .tall; counts = M .counts; deeps = M .deeps }
 
-pub holds-longer : (l : List ℕ) (M : Measure) (x y : ℕ) → length l ≡ 130 → y ≡ cut (getD l 128 0 + x) → Holds l M → Holds (set l 128 y) (longer x M)
+pub holds-longer : (l : List ℕ) (M : Measure) (x y : ℕ) → length l ≡ 130 → y ≡ capped (getD l 128 0 + x) → Holds l M → Holds (set l 128 y) (longer x M)
 holds-longer l M x y e f h = record {
-  len-at = getD-set-same l 128 y 0 (omega arith) ∙ f ∙ ap (λ (u : ℕ). cut (u + x)) (h .len-at) ∙ omega arith;
+  len-at = getD-set-same l 128 y 0 (omega arith) ∙ f ∙ ap (λ (u : ℕ). capped (u + x)) (h .len-at) ∙ omega arith;
   tall-at = other l 128 129 y (λ q. omega arith) ∙ h .tall-at;
   count-at = λ c k n. other l 128 (cell c k) y (λ q. omega (arith, named-lt c k n)) ∙ h .count-at c k n;
   deep-at = λ c k n. other l 128 (64 + cell c k) y (λ q. omega (arith, named-lt c k n)) ∙ h .deep-at c k n;
 }
 
 -- the parts of a step together
-pub together : (c k more : ℕ) (E M : Measure) → cutM (longer (cut (M .counts c k) * (more + E .len)) (added (cut (M .counts c k)) (cut (under (M .deeps c k) (suc more))) E (lowered c k M))) ≡ cutM (passed c k more E M)
-unfolding cutM added passed
+pub together : (c k more : ℕ) (E M : Measure) → cappedMeasure (longer (capped (M .counts c k) * (more + E .len)) (added (capped (M .counts c k)) (capped (under (M .deeps c k) (suc more))) E (lowered c k M))) ≡ cappedMeasure (substituted c k more E M)
+unfolding cappedMeasure added substituted
 together c k more E M = λ i. record {
   len = sums (M .len) (more + E .len) i;
   tall = tips (M .tall) (E .tall) i;
@@ -226,12 +226,12 @@ together c k more E M = λ i. record {
     w : ℕ
     w = M .counts c k
 
-    sums : (x y : ℕ) → cut (x + cut w * y) ≡ cut (x + w * y)
-    sums x y = (let a : cut (x + cut w * y) ≡ cut (cut x + cut w * y) = omega arith in a) ∙ cut-mul x w y
+    sums : (x y : ℕ) → capped (x + capped w * y) ≡ capped (x + w * y)
+    sums x y = (let a : capped (x + capped w * y) ≡ capped (capped x + capped w * y) = omega arith in a) ∙ capped-mul x w y
 
-    tips : (m e : ℕ) → cut (max m (under (cut d) e)) ≡ cut (max m (under d e))
-    tips m e = cut-max m (under (cut d) e) ∙ ap (max (cut m)) (cut-under d e) ∙ sym (cut-max m (under d e))
+    tips : (m e : ℕ) → capped (max m (under (capped d) e)) ≡ capped (max m (under d e))
+    tips m e = capped-max m (under (capped d) e) ∙ ap (max (capped m)) (capped-under d e) ∙ sym (capped-max m (under d e))
 
-pub twice : (d x : ℕ) → x ≡ cut (under d 2) → cut (under x 2) ≡ cut (under d 3)
+pub twice : (d x : ℕ) → x ≡ capped (under d 2) → capped (under x 2) ≡ capped (under d 3)
 unfolding under
-twice d x e = ap (λ (u : ℕ). cut (under u 2)) e ∙ cut-under (under d 2) 2 ∙ ap cut (under-under d 2 2)
+twice d x e = ap (λ (u : ℕ). capped (under u 2)) e ∙ capped-under (under d 2) 2 ∙ ap capped (under-under d 2 2)

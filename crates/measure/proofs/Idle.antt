@@ -12,9 +12,9 @@ use Rattle.logic.specs.Carry.{carry, carriedBook}
 use Rattle.logic.specs.Limits.{Ranges, EditInRange}
 use Rattle.text.specs.Code.{editCode, bookCode, bookLevels}
 use Rattle.text.specs.Stands.{EditStands}
-use Rattle.tree.specs.Tree.{Tree, name, leaf, one, two, bytes, height, graft, only, same, count, tree}
+use Rattle.tree.specs.Tree.{Tree, name, leaf, one, two, treeCode, height, graft, only, same, count, tree}
 use Rattle.tree.specs.Sizes.{Measure, measure, back, join, nothing, measures}
-use Rattle.tree.proofs.Trees.{bytes-tree, height-tree, tree-putLabel, tree-putArrow}
+use Rattle.tree.proofs.Trees.{code-tree, height-tree, tree-putLabel, tree-putArrow}
 use Rattle.tree.proofs.Measured.{measured}
 use Rattle.tree.proofs.Books.{join-nothing, join-comm, join-assoc, back-join}
 use Rattle.measure.specs.Pruned.{pruned}
@@ -103,7 +103,7 @@ same-rules A f g gc r s Z (K ∷ Ks) M N e p =
 -- The whole book: the same bytes and the same levels.
 pub pruned-code : (Z : Edit) (rules : List (Expr rule)) → bookCode (carriedBook (pruned (length rules) Z (measures rules)) rules) ≡ bookCode (carriedBook Z rules)
 unfolding bookCode
-pruned-code Z rules = same-rules (List ℕ) (λ t l. bytes t ++ l) bookCode (λ K Ks. ap (λ (l : List ℕ). l ++ bookCode Ks) (sym (bytes-tree K))) (length rules) 0 Z rules (measures rules) nothing (omega arith) (sym (join-nothing (measures rules)))
+pruned-code Z rules = same-rules (List ℕ) (λ t l. treeCode t ++ l) bookCode (λ K Ks. ap (λ (l : List ℕ). l ++ bookCode Ks) (sym (code-tree K))) (length rules) 0 Z rules (measures rules) nothing (omega arith) (sym (join-nothing (measures rules)))
 
 pub pruned-levels : (Z : Edit) (rules : List (Expr rule)) → bookLevels (carriedBook (pruned (length rules) Z (measures rules)) rules) ≡ bookLevels (carriedBook Z rules)
 unfolding bookLevels

@@ -7,12 +7,12 @@ use native.Mathlib.Decide.{decLt}
 use lib.ListN.{length, getD, set, length-set}
 use lib.Seq.{getD-set-same, getD-set-other}
 use Rattle.tree.specs.Tree.{Tree, size, height, under}
-use Rattle.tree.specs.Sizes.{Measure, measure, chosen, cut}
+use Rattle.tree.specs.Sizes.{Measure, measure, chosen, capped}
 use Rattle.tree.proofs.Measured.{under-max, under-under, under-more, height-pos}
-use Rattle.tree.proofs.Cut.{cut-max, cut-under, cut-under-under}
+use Rattle.tree.proofs.Capped.{capped-max, capped-under, capped-under-under}
 use Rattle.ends.specs.Shapes.{cell, At}
 use Rattle.measure.specs.State.{Holds, added, Scanned}
-use Rattle.measure.specs.Edits.{after, Merged, Kept, Joined}
+use Rattle.measure.specs.Edits.{Merged, Kept, Joined}
 use Rattle.measure.proofs.Held.{holds-is, holds-longer, longer, named-lt}
 
 other : (l : List ℕ) (i j x : ℕ) → (i ≡ j → ⊥) → getD (set l i x) j 0 ≡ getD l j 0
@@ -42,10 +42,10 @@ kept-kept a b l m n le p q = record { same = λ i r. q .same i (omega arith) ∙
 
 -- merging, i cells of 64 done
 abbrev pub sum-of : List ℕ → List ℕ → ℕ → ℕ
-sum-of t l i = cut (getD t i 0 + getD l i 0)
+sum-of t l i = capped (getD t i 0 + getD l i 0)
 
 abbrev pub low-of : List ℕ → List ℕ → ℕ → ℕ
-low-of t l i = cut (under (cut (under (max (getD t (64 + i) 0) (getD l (64 + i) 0)) 2)) 2)
+low-of t l i = capped (under (capped (under (max (getD t (64 + i) 0) (getD l (64 + i) 0)) 2)) 2)
 
 pub record Merging (t l₀ l : List ℕ) (i : ℕ) : Type 0 where
   pub count : (j : ℕ) → j < i → getD l j 0 ≡ sum-of t l₀ j
@@ -76,14 +76,14 @@ merging-more t l₀ l l′ i long m h e = subst (λ (u : List ℕ). Merging t l�
     counts : (j : ℕ) → j < i + 1 → Dec (j < i) → getD k j 0 ≡ sum-of t l₀ j
     counts j p (yes q) = other l i j x (λ r. omega (arith, q)) ∙ h .count j q
     counts j p (no q) = let f : j ≡ i = omega arith in
-        ap (λ (u : ℕ). getD k u 0) f ∙ getD-set-same l i x 0 (omega arith) ∙ ap (λ (u : ℕ). cut (getD t i 0 + u)) (h .count-left i (omega arith) m) ∙ ap (sum-of t l₀) (sym f)
+        ap (λ (u : ℕ). getD k u 0) f ∙ getD-set-same l i x 0 (omega arith) ∙ ap (λ (u : ℕ). capped (getD t i 0 + u)) (h .count-left i (omega arith) m) ∙ ap (sum-of t l₀) (sym f)
 
     deeps : (j : ℕ) → j < i + 1 → Dec (j < i) → getD (set k (64 + i) y) (64 + j) 0 ≡ low-of t l₀ j
     deeps j p (yes q) = other k (64 + i) (64 + j) y (λ r. omega (arith, q)) ∙ other l i (64 + j) x (λ r. omega (arith, q)) ∙ h .deep j q
     deeps j p (no q) = let f : j ≡ i = omega arith in
-        ap (λ (u : ℕ). getD (set k (64 + i) y) (64 + u) 0) f ∙ getD-set-same k (64 + i) y 0 (omega (arith, length-set l i x)) ∙ ap (λ (u : ℕ). cut (under (cut (under (max (getD t (64 + i) 0) u) 2)) 2)) (h .deep-left i (omega arith) m) ∙ ap (low-of t l₀) (sym f)
+        ap (λ (u : ℕ). getD (set k (64 + i) y) (64 + u) 0) f ∙ getD-set-same k (64 + i) y 0 (omega (arith, length-set l i x)) ∙ ap (λ (u : ℕ). capped (under (capped (under (max (getD t (64 + i) 0) u) 2)) 2)) (h .deep-left i (omega arith) m) ∙ ap (low-of t l₀) (sym f)
 
-pub merging-end : (t l₀ l : List ℕ) (i n d : ℕ) → length l ≡ 130 → 64 ≤ i → Merging t l₀ l i → n ≡ cut (getD t 128 0 + getD l₀ 128 0) → d ≡ cut (max (getD t 129 0) (getD l₀ 129 0) + 2) → Merged t l₀ (set (set l 128 n) 129 d)
+pub merging-end : (t l₀ l : List ℕ) (i n d : ℕ) → length l ≡ 130 → 64 ≤ i → Merging t l₀ l i → n ≡ capped (getD t 128 0 + getD l₀ 128 0) → d ≡ capped (max (getD t 129 0) (getD l₀ 129 0) + 2) → Merged t l₀ (set (set l 128 n) 129 d)
 merging-end t l₀ l i n d long m h e f = record {
   count = λ j p. other (set l 128 n) 129 j d (λ r. omega arith) ∙ other l 128 j n (λ r. omega arith) ∙ h .count j (omega arith);
   deep = λ j p. other (set l 128 n) 129 (64 + j) d (λ r. omega arith) ∙ other l 128 (64 + j) n (λ r. omega arith) ∙ h .deep j (omega arith);
@@ -102,35 +102,35 @@ under-comm zero (suc b) = refl
 under-comm (suc a) zero = refl
 under-comm (suc a) (suc b) = omega arith
 
-lower-two : (x y : ℕ) → cut (under (cut (under (max (cut x) (cut y)) 2)) 2) ≡ cut (max (under 3 x) (under 3 y))
+lower-two : (x y : ℕ) → capped (under (capped (under (max (capped x) (capped y)) 2)) 2) ≡ capped (max (under 3 x) (under 3 y))
 unfolding under
 lower-two x y =
-    cut-under (under (max (cut x) (cut y)) 2) 2 ∙ ap (λ (u : ℕ). cut (under (under u 2) 2)) (sym (cut-max x y)) ∙ cut-under-under (max x y) 2 2
-    ∙ ap cut (under-under (max x y) 2 2 ∙ under-comm (max x y) 3 ∙ under-max 3 x y)
+    capped-under (under (max (capped x) (capped y)) 2) 2 ∙ ap (λ (u : ℕ). capped (under (under u 2) 2)) (sym (capped-max x y)) ∙ capped-under-under (max x y) 2 2
+    ∙ ap capped (under-under (max x y) 2 2 ∙ under-comm (max x y) 3 ∙ under-max 3 x y)
 
 pub merged-holds : (t l l′ : List ℕ) (T U : Measure) → Merged t l l′ → Holds t T → Holds l U → Holds l′ (lows T U)
 merged-holds t l l′ T U m h k = record {
-  len-at = m .len ∙ ap₂ (λ (x y : ℕ). cut (x + y)) (h .len-at) (k .len-at) ∙ sums (T .len) (U .len);
-  tall-at = m .tall ∙ ap₂ (λ (x y : ℕ). cut (max x y + 2)) (h .tall-at) (k .tall-at) ∙ tops (T .tall) (U .tall);
-  count-at = λ c j n. m .count (cell c j) (named-lt c j n) ∙ ap₂ (λ (x y : ℕ). cut (x + y)) (h .count-at c j n) (k .count-at c j n) ∙ sums (T .counts c j) (U .counts c j);
-  deep-at = λ c j n. m .deep (cell c j) (named-lt c j n) ∙ ap₂ (λ (x y : ℕ). cut (under (cut (under (max x y) 2)) 2)) (h .deep-at c j n) (k .deep-at c j n) ∙ lower-two (T .deeps c j) (U .deeps c j);
+  len-at = m .len ∙ ap₂ (λ (x y : ℕ). capped (x + y)) (h .len-at) (k .len-at) ∙ sums (T .len) (U .len);
+  tall-at = m .tall ∙ ap₂ (λ (x y : ℕ). capped (max x y + 2)) (h .tall-at) (k .tall-at) ∙ tops (T .tall) (U .tall);
+  count-at = λ c j n. m .count (cell c j) (named-lt c j n) ∙ ap₂ (λ (x y : ℕ). capped (x + y)) (h .count-at c j n) (k .count-at c j n) ∙ sums (T .counts c j) (U .counts c j);
+  deep-at = λ c j n. m .deep (cell c j) (named-lt c j n) ∙ ap₂ (λ (x y : ℕ). capped (under (capped (under (max x y) 2)) 2)) (h .deep-at c j n) (k .deep-at c j n) ∙ lower-two (T .deeps c j) (U .deeps c j);
 }
   where
-    sums : (x y : ℕ) → cut (cut x + cut y) ≡ cut (x + y)
+    sums : (x y : ℕ) → capped (capped x + capped y) ≡ capped (x + y)
     sums x y = omega arith
 
-    tops : (x y : ℕ) → cut (max (cut x) (cut y) + 2) ≡ cut (max x y + 2)
+    tops : (x y : ℕ) → capped (max (capped x) (capped y) + 2) ≡ capped (max x y + 2)
     tops x y = omega arith
 
 pub joined : (text : List ℕ) (at r : ℕ) (t l l₁ l₂ l₃ : List ℕ) (next y : ℕ) → length l₂ ≡ 130 → Merged t l l₁
-    → ((K : Tree) → At text at K → Scanned at (2 * r) 4 K next l₁ l₂) → y ≡ cut (getD l₂ 128 0 + r * (4 + 2 * (next - at))) → l₃ ≡ set l₂ 128 y → (K : Tree) → At text at K → Joined r K t l l₃
+    → ((K : Tree) → At text at K → Scanned at (2 * r) 4 K next l₁ l₂) → y ≡ capped (getD l₂ 128 0 + r * (4 + 2 * (next - at))) → l₃ ≡ set l₂ 128 y → (K : Tree) → At text at K → Joined r K t l l₃
 unfolding measure added chosen
 joined text at r t l l₁ l₂ l₃ next y long m f e g K a = record {
   holds = λ T U h k.
       let s = f K a in
       let n₂ = s .state (lows T U) (merged-holds t l l₁ T U m h k) in
       let n₃ = holds-longer l₂ (added (2 * r) 4 (measure K) (lows T U)) (r * (4 + 2 * (next - at))) y long e n₂ in
-      let ps : next - at ≡ size K = omega (arith, s .after) in
+      let ps : next - at ≡ size K = omega (arith, s .ends) in
       holds-is (λ i. record { len = T .len + U .len + r * (4 + 2 * ps i); tall = tops (T .tall) (U .tall) i; counts = λ c j. T .counts c j + U .counts c j + (2 * r) * measure K .counts c j; deeps = λ c j. max (max (under 3 (T .deeps c j)) (under 3 (U .deeps c j))) (under 4 (measure K .deeps c j)) })
       (subst (λ (u : List ℕ). Holds u (longer (r * (4 + 2 * (next - at))) (added (2 * r) 4 (measure K) (lows T U)))) (sym g) n₃);
 }

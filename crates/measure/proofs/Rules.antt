@@ -11,8 +11,8 @@ use Rattle.logic.specs.Limits.{Ranges}
 use Rattle.text.specs.Code.{code, editCode, bookCode, bookLevels}
 use Rattle.text.specs.Stands.{RulesInRange}
 use Rattle.tree.specs.Tree.{Tree, tree, size, height, under}
-use Rattle.tree.proofs.Trees.{bytes-tree, height-tree, size-is}
-use Rattle.tree.specs.Sizes.{Measure, measure, back, join, nothing, measures, cut}
+use Rattle.tree.proofs.Trees.{code-tree, height-tree, size-is}
+use Rattle.tree.specs.Sizes.{Measure, measure, back, join, nothing, measures, capped}
 use Rattle.tree.proofs.Books.{join-nothing, join-comm, join-assoc, measured-book, len-codes, tall-levels}
 use Rattle.tree.proofs.Measured.{under-one, measured}
 use Rattle.ends.specs.Shapes.{At, cell}
@@ -27,10 +27,10 @@ use Rattle.measure.proofs.Held.{holds-is, holds-longer, longer}
 use Rattle.ends.proofs.Formed.{formed-tree}
 
 pub rule-at : (text : List ℕ) (at : ℕ) (K : Expr rule) → RuleAt text at K → At text at (tree K)
-rule-at text at K h = record { rest = h .place .rest; here = h .place .here ∙ ap (λ (l : List ℕ). l ++ h .place .rest) (sym (bytes-tree K)); formed = formed-tree (h .limits) K (h .place .range) }
+rule-at text at K h = record { rest = h .place .rest; here = h .place .here ∙ ap (λ (l : List ℕ). l ++ h .place .rest) (sym (code-tree K)); formed = formed-tree (h .limits) K (h .place .range) }
 
 pub rule-size : (K : Expr rule) → size (tree K) ≡ length (code K)
-rule-size K = sym (size-is (tree K)) ∙ ap length (bytes-tree K)
+rule-size K = sym (size-is (tree K)) ∙ ap length (code-tree K)
 
 zero-at : (n i : ℕ) → _≡_ {A = ℕ} (getD (replicate n 0) i 0) 0
 zero-at zero i = refl
@@ -56,12 +56,12 @@ put-once t x M e = λ i. record { len = M .len + e i; tall = tops (M .tall) (hei
     sums m y = omega arith
 
 pub rule-added : (text : List ℕ) (at : ℕ) (K : Expr rule) → RuleAt text at K → (next : ℕ) (l₀ l l′ : List ℕ) → length l ≡ 130 → ((t : Tree) → At text at t → Scanned at 1 1 t next l₀ l)
-    → (y : ℕ) → y ≡ cut (getD l 128 0 + (next - at)) → l′ ≡ set l 128 y → RuleAdded at K next l₀ l′
+    → (y : ℕ) → y ≡ capped (getD l 128 0 + (next - at)) → l′ ≡ set l 128 y → RuleAdded at K next l₀ l′
 rule-added text at K h next l₀ l l′ long f y e g =
     let s = f (tree K) (rule-at text at K h) in
     record {
-      after = s .after ∙ ap (λ (n : ℕ). at + n) (rule-size K);
-      holds = λ M m. holds-is (put-once (tree K) (next - at) M (omega (arith, s .after))) (subst (λ (u : List ℕ). Holds u (longer (next - at) (added 1 1 (measure (tree K)) M))) (sym g) (holds-longer l _ (next - at) y long e (s .state M m)));
+      ends = s .ends ∙ ap (λ (n : ℕ). at + n) (rule-size K);
+      holds = λ M m. holds-is (put-once (tree K) (next - at) M (omega (arith, s .ends))) (subst (λ (u : List ℕ). Holds u (longer (next - at) (added 1 1 (measure (tree K)) M))) (sym g) (holds-longer l _ (next - at) y long e (s .state M m)));
     }
 
 -- one rule
@@ -72,7 +72,7 @@ pub rule-sized : (Z : Edit) (K : Expr rule) (l l′ out out′ : List ℕ) (pos 
 unfolding measure
 rule-sized Z K l l′ out out′ pos pos′ h b =
     let w = holds-is (sym (measured Z K)) (b .holds (measure (tree K)) h) in
-    record { len-is = w .len-at ∙ ap cut (rule-size (carry Z K)); tall-is = w .tall-at ∙ ap cut (height-tree (carry Z K)) }
+    record { len-is = w .len-at ∙ ap capped (rule-size (carry Z K)); tall-is = w .tall-at ∙ ap capped (height-tree (carry Z K)) }
 
 -- the rules of a book not yet added
 pub record Left (book : List ℕ) (rules : List (Expr rule)) (at n : ℕ) (state : List ℕ) : Type 0 where
@@ -127,7 +127,7 @@ first-left book rules at n state l h = go (h .left) (h .range) (h .here) (h .num
         left = Ks;
         limits = h .limits;
         range = r .1;
-        here = ap (λ (x : ℕ). drop x book) (a .after) ∙ behind book at (code K) (bookCode Ks) e;
+        here = ap (λ (x : ℕ). drop x book) (a .ends) ∙ behind book at (code K) (bookCode Ks) e;
         number = omega (arith, m);
         M = join (h .M) (measure (tree K));
         holds = a .holds (h .M) (h .holds);
@@ -158,7 +158,7 @@ book-sized book ne [] Z h l l′ out out′ n pos pos′ a b = absurd (ne (ap le
 book-sized book ne (K ∷ Ks) Z h l l′ out out′ n pos pos′ a b =
     let e : n ≡ 1 + length Ks = a .number-is ∙ omega arith in
     let w = holds-is (ap (λ (r : ℕ). back r Z (measures (K ∷ Ks))) e ∙ sym (measured-book Z K Ks)) (b .holds (measures (K ∷ Ks)) (a .holds)) in
-    record { len-is = w .len-at ∙ ap cut (len-codes (carriedBook Z (K ∷ Ks))); tall-is = w .tall-at ∙ ap cut (tall-levels (carriedBook Z (K ∷ Ks))) }
+    record { len-is = w .len-at ∙ ap capped (len-codes (carriedBook Z (K ∷ Ks))); tall-is = w .tall-at ∙ ap capped (tall-levels (carriedBook Z (K ∷ Ks))) }
 
 pub book-kept : (Z : Edit) (rules : List (Expr rule)) (l l′ out out′ : List ℕ) (n pos pos′ : ℕ) → length out ≡ pos → BookAdded rules n l → Backed n Z l out pos l′ out′ pos′ → BookKept Z rules pos′ out′
 book-kept Z rules l l′ out out′ n pos pos′ e a b =

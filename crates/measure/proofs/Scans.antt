@@ -5,7 +5,7 @@ use Prim.Native.Nat.{ℕ, _+_, _%_, max, _≤_, _<_}
 use native.Mathlib.Omega.{arith}
 use lib.ListN.{length, getD, set, length-set}
 use Rattle.tree.specs.Tree.{Tree, size, under}
-use Rattle.tree.specs.Sizes.{Measure, measure, cut, cutM}
+use Rattle.tree.specs.Sizes.{Measure, measure, capped, cappedMeasure}
 use Rattle.ends.specs.Shapes.{shapeOf, cell, At}
 use Rattle.measure.specs.State.{Holds, added, Scanned}
 use Rattle.ends.proofs.Places.{IsName, IsLeaf, IsOne, IsTwo}
@@ -23,29 +23,29 @@ module _ (text : List ℕ) (at w v : ℕ) where
     long₁ = ap length rose ∙ length-set l₀ 129 (max (getD l₀ 129 0) v) ∙ long
 
     pub name-scanned : (t : Tree) → IsName text at t → (i : ℕ) → i ≡ cell (getD text at 0) (getD text (at + 1) 0) → (l₂ : List ℕ)
-        → l₂ ≡ set (set l₁ i (cut (getD l₁ i 0 + w))) (64 + i) (max (getD l₁ (64 + i) 0) v) → Scanned at w v t (at + 2) l₀ l₂
+        → l₂ ≡ set (set l₁ i (capped (getD l₁ i 0 + w))) (64 + i) (max (getD l₁ (64 + i) 0) v) → Scanned at w v t (at + 2) l₀ l₂
     unfolding size
     name-scanned t q i e l₂ f = subst (λ (u : Tree). Scanned at w v u (at + 2) l₀ l₂) (sym (q .is)) (record {
-      after = refl;
+      ends = refl;
       state = λ M h. holds-is (added-name w v (q .c) (q .k) M) (subst (λ (l : List ℕ). Holds l (marked (q .c) (q .k) w v (risen v M)))
-          (sym (f ∙ ap (λ (j : ℕ). set (set l₁ j (cut (getD l₁ j 0 + w))) (64 + j) (max (getD l₁ (64 + j) 0) v)) (e ∙ ap₂ cell (q .reads-c) (q .reads-k))))
+          (sym (f ∙ ap (λ (j : ℕ). set (set l₁ j (capped (getD l₁ j 0 + w))) (64 + j) (max (getD l₁ (64 + j) 0) v)) (e ∙ ap₂ cell (q .reads-c) (q .reads-k))))
           (holds-touch l₁ (risen v M) (q .c) (q .k) w v long₁ low (q .named) (risen-held M h)));
     })
 
     pub leaf-scanned : (t : Tree) → IsLeaf text at t → (next s : ℕ) → s ≡ shapeOf (getD text at 0) → next ≡ at + s % 4 → Scanned at w v t next l₀ l₁
     unfolding size
     leaf-scanned t q next s e f = subst (λ (u : Tree). Scanned at w v u next l₀ l₁) (sym (q .is)) (record {
-      after = f ∙ ap (λ (x : ℕ). at + x % 4) e ∙ ap (λ (x : ℕ). at + x) (sym (q .head));
+      ends = f ∙ ap (λ (x : ℕ). at + x % 4) e ∙ ap (λ (x : ℕ). at + x) (sym (q .head));
       state = λ M h. holds-is (added-leaf w v (q .h) M) (risen-held M h);
     })
 
     -- the level below, cut
-    module _ (below : ℕ) (down : below ≡ cut (under v 2)) where
+    module _ (below : ℕ) (down : below ≡ capped (under v 2)) where
       lower : {l : List ℕ} (E M : Measure) → Holds l (added w below E M) → Holds l (added w (under v 2) E M)
       lower E M h = holds-same (ap (λ (x : ℕ). cutOf x) down ∙ added-cut w (under v 2) E M) h
         where
           cutOf : ℕ → Measure
-          cutOf x = cutM (added w x E M)
+          cutOf x = cappedMeasure (added w x E M)
 
       pub one-scanned : (t : Tree) → IsOne text at t → (s first next : ℕ) (l₂ : List ℕ) → s ≡ shapeOf (getD text at 0) → first ≡ at + s % 4
           → ((x : Tree) → At text first x → Scanned first w below x next l₁ l₂) → Scanned at w v t next l₀ l₂
@@ -54,7 +54,7 @@ module _ (text : List ℕ) (at w v : ℕ) where
           let g : first ≡ at + shapeOf (getD text at 0) % 4 = f ∙ ap (λ (x : ℕ). at + x % 4) e in
           let a = r (q .x) (subst (λ (p : ℕ). At text p (q .x)) (sym g) (q .first)) in
           subst (λ (u : Tree). Scanned at w v u next l₀ l₂) (sym (q .is)) (record {
-            after = omega (arith, a .after, g, q .head);
+            ends = omega (arith, a .ends, g, q .head);
             state = λ M h. holds-is (added-one w v (q .h) (q .x) M) (lower (measure (q .x)) (risen v M) (a .state (risen v M) (risen-held M h)));
           })
 
@@ -64,9 +64,9 @@ module _ (text : List ℕ) (at w v : ℕ) where
       two-scanned t q s first second next l₂ l₃ e f r r′ =
           let g : first ≡ at + shapeOf (getD text at 0) % 4 = f ∙ ap (λ (x : ℕ). at + x % 4) e in
           let a = r (q .x) (subst (λ (p : ℕ). At text p (q .x)) (sym g) (q .first)) in
-          let b = r′ (q .y) (q .second second (a .after ∙ ap (λ (p : ℕ). p + size (q .x)) g)) in
+          let b = r′ (q .y) (q .second second (a .ends ∙ ap (λ (p : ℕ). p + size (q .x)) g)) in
           subst (λ (u : Tree). Scanned at w v u next l₀ l₃) (sym (q .is)) (record {
-            after = omega (arith, a .after, b .after, g, q .head);
+            ends = omega (arith, a .ends, b .ends, g, q .head);
             state = λ M h. holds-is (added-two w v (q .h) (q .x) (q .y) M)
                 (lower (measure (q .y)) (added w (under v 2) (measure (q .x)) (risen v M)) (b .state _ (lower (measure (q .x)) (risen v M) (a .state (risen v M) (risen-held M h)))));
           })

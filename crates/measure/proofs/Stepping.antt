@@ -11,11 +11,11 @@ use lib.ListN.{length, getD, set}
 use Rattle.logic.specs.Syntax.{Edit}
 use Rattle.text.specs.Code.{editCode}
 use Rattle.tree.specs.Tree.{Tree, size, under}
-use Rattle.tree.specs.Sizes.{Measure, measure, passed, back, cut}
-use Rattle.tree.proofs.Cut.{cut-under}
+use Rattle.tree.specs.Sizes.{Measure, measure, substituted, back, capped}
+use Rattle.tree.proofs.Capped.{capped-under}
 use Rattle.ends.specs.Shapes.{cell, At}
 use Rattle.measure.specs.State.{Holds, added, Scanned}
-use Rattle.measure.specs.Edits.{Held, behindStep, Stepped, Prefixed, PutBefore}
+use Rattle.measure.specs.Edits.{Held, behindStep, StepMeasured, Prefixed, PutBefore}
 use Rattle.measure.specs.Pruned.{pruned}
 use Rattle.measure.proofs.Puts.{head-of}
 use Rattle.measure.proofs.Held.{holds-same, holds-is, holds-lower, holds-longer, lowered, longer, together, twice, named-lt}
@@ -29,22 +29,22 @@ module _ (text : List ℕ) (at : ℕ) (Z : Edit) (q : IsStep text at Z) where
   step-low x i e f = omega (arith, named-lt (q .c) (q .k) (q .named), step-cell x i e f)
 
   -- the level of the step's expression
-  level : (D d v : ℕ) → d ≡ cut (under (cut D) 2) → v ≡ cond (eqb (getD text at 0) 0x32) (cut (under d 2)) d → v ≡ cut (under D (suc (q .more)))
+  level : (D d v : ℕ) → d ≡ capped (under (capped D) 2) → v ≡ cond (eqb (getD text at 0) 0x32) (capped (under d 2)) d → v ≡ capped (under D (suc (q .more)))
   level D d v e f = go (eqb (getD text at 0) 0x32) f (q .is-more)
     where
-      e′ : d ≡ cut (under D 2)
-      e′ = e ∙ cut-under D 2
+      e′ : d ≡ capped (under D 2)
+      e′ = e ∙ capped-under D 2
 
-      go : (b : Bool) → v ≡ cond b (cut (under d 2)) d → q .more ≡ cond b 2 1 → v ≡ cut (under D (suc (q .more)))
-      go true p r = p ∙ twice D d e′ ∙ sym (ap (λ (x : ℕ). cut (under D (suc x))) r)
-      go false p r = p ∙ e′ ∙ sym (ap (λ (x : ℕ). cut (under D (suc x))) r)
+      go : (b : Bool) → v ≡ cond b (capped (under d 2)) d → q .more ≡ cond b 2 1 → v ≡ capped (under D (suc (q .more)))
+      go true p r = p ∙ twice D d e′ ∙ sym (ap (λ (x : ℕ). capped (under D (suc x))) r)
+      go false p r = p ∙ e′ ∙ sym (ap (λ (x : ℕ). capped (under D (suc x))) r)
 
   pub stepped : (l₀ l₁ l₂ l₃ : List ℕ) (x i d w v next m y : ℕ) → length l₀ ≡ 130 → length l₂ ≡ 130
       → x ≡ cond (ltb (getD text at 0) 0x33) 0x03 0x11 → i ≡ cell x (getD text (at + 1) 0)
-      → d ≡ cut (under (getD l₀ (64 + i) 0) 2) → l₁ ≡ set l₀ (64 + i) d → w ≡ getD l₀ i 0 → v ≡ cond (eqb (getD text at 0) 0x32) (cut (under d 2)) d
+      → d ≡ capped (under (getD l₀ (64 + i) 0) 2) → l₁ ≡ set l₀ (64 + i) d → w ≡ getD l₀ i 0 → v ≡ cond (eqb (getD text at 0) 0x32) (capped (under d 2)) d
       → ((t : Tree) → At text (at + 2) t → Scanned (at + 2) w v t next l₁ l₂)
-      → m ≡ cond (eqb (getD text at 0) 0x32) 2 1 → y ≡ cut (getD l₂ 128 0 + w * (m + (next - (at + 2)))) → l₃ ≡ set l₂ 128 y
-      → (rules : ℕ) → Stepped rules Z l₀ l₃
+      → m ≡ cond (eqb (getD text at 0) 0x32) 2 1 → y ≡ capped (getD l₂ 128 0 + w * (m + (next - (at + 2)))) → l₃ ≡ set l₂ 128 y
+      → (rules : ℕ) → StepMeasured rules Z l₀ l₃
   unfolding measure
   stepped l₀ l₁ l₂ l₃ x i d w v next m y long₀ long₂ ex ei ed el ew ev sc em ey el₃ rules = record { holds = λ M h. holds-is (sym (q .backs rules M)) (go (back rules (behindStep Z) M) h) }
     where
@@ -54,21 +54,21 @@ module _ (text : List ℕ) (at : ℕ) (Z : Edit) (q : IsStep text at Z) where
       a : Scanned (at + 2) w v (q .E) next l₁ l₂
       a = sc (q .E) (q .what)
 
-      go : (N : Measure) → Holds l₀ N → Holds l₃ (passed (q .c) (q .k) (q .more) (measure (q .E)) N)
+      go : (N : Measure) → Holds l₀ N → Holds l₃ (substituted (q .c) (q .k) (q .more) (measure (q .E)) N)
       go N h =
-          let n₁ = subst (λ (l : List ℕ). Holds l (lowered (q .c) (q .k) N)) (sym (el ∙ ap (λ (u : ℕ). set l₀ (64 + u) d) j)) (holds-lower l₀ N (q .c) (q .k) d long₀ (q .named) (ed ∙ ap (λ (u : ℕ). cut (under (getD l₀ (64 + u) 0) 2)) j) h) in
+          let n₁ = subst (λ (l : List ℕ). Holds l (lowered (q .c) (q .k) N)) (sym (el ∙ ap (λ (u : ℕ). set l₀ (64 + u) d) j)) (holds-lower l₀ N (q .c) (q .k) d long₀ (q .named) (ed ∙ ap (λ (u : ℕ). capped (under (getD l₀ (64 + u) 0) 2)) j) h) in
           let n₂ = a .state (lowered (q .c) (q .k) N) n₁ in
           let n₃ = holds-longer l₂ (added w v (measure (q .E)) (lowered (q .c) (q .k) N)) (w * (m + (next - (at + 2)))) y long₂ ey n₂ in
-          let pw : w ≡ cut (N .counts (q .c) (q .k)) = ew ∙ ap (λ (u : ℕ). getD l₀ u 0) j ∙ h .count-at (q .c) (q .k) (q .named) in
-          let pv : v ≡ cut (under (N .deeps (q .c) (q .k)) (suc (q .more))) = level (N .deeps (q .c) (q .k)) d v (ed ∙ ap (λ (u : ℕ). cut (under (getD l₀ (64 + u) 0) 2)) j ∙ ap (λ (u : ℕ). cut (under u 2)) (h .deep-at (q .c) (q .k) (q .named))) ev in
-          let ps : next - (at + 2) ≡ size (q .E) = omega (arith, a .after) in
+          let pw : w ≡ capped (N .counts (q .c) (q .k)) = ew ∙ ap (λ (u : ℕ). getD l₀ u 0) j ∙ h .count-at (q .c) (q .k) (q .named) in
+          let pv : v ≡ capped (under (N .deeps (q .c) (q .k)) (suc (q .more))) = level (N .deeps (q .c) (q .k)) d v (ed ∙ ap (λ (u : ℕ). capped (under (getD l₀ (64 + u) 0) 2)) j ∙ ap (λ (u : ℕ). capped (under u 2)) (h .deep-at (q .c) (q .k) (q .named))) ev in
+          let ps : next - (at + 2) ≡ size (q .E) = omega (arith, a .ends) in
           let pm : m ≡ q .more = em ∙ sym (q .is-more) in
           holds-same (together (q .c) (q .k) (q .more) (measure (q .E)) N)
           (holds-is (λ t. longer (pw t * (pm t + ps t)) (added (pw t) (pv t) (measure (q .E)) (lowered (q .c) (q .k) N)))
           (subst (λ (l : List ℕ). Holds l (longer (w * (m + (next - (at + 2)))) (added w v (measure (q .E)) (lowered (q .c) (q .k) N)))) (sym el₃) n₃))
 
   -- how often the step's name stands in what follows it
-  counted : (l : List ℕ) (i : ℕ) → i ≡ cell (q .c) (q .k) → (N : Measure) → Holds l N → getD l i 0 ≡ cut (N .counts (q .c) (q .k))
+  counted : (l : List ℕ) (i : ℕ) → i ≡ cell (q .c) (q .k) → (N : Measure) → Holds l N → getD l i 0 ≡ capped (N .counts (q .c) (q .k))
   counted l i j N h = ap (λ (u : ℕ). getD l u 0) j ∙ h .count-at (q .c) (q .k) (q .named)
 
   pub step-idle : (l out : List ℕ) (pos i : ℕ) → i ≡ cell (q .c) (q .k) → getD l i 0 ≡ 0 → (rules : ℕ) → Prefixed rules Z l out pos out pos
@@ -83,8 +83,8 @@ module _ (text : List ℕ) (at : ℕ) (Z : Edit) (q : IsStep text at Z) where
       let f : length (q .head) ≡ end - at = omega (arith, q .head-long, e) in
       record {
         text = λ M h tail p.
-            w .bytes ∙ (λ t. head-of text at (q .head) (q .tail) (end - at) (q .split) f t ++ p t) ∙ sym (append-assoc (q .head) (editCode (pruned rules (behindStep Z) M)) tail)
-            ∙ sym ((λ t. q .prunes rules M t ++ tail) ∙ (λ t. cond (ne-eqb (back rules (behindStep Z) M .counts (q .c) (q .k)) 0 (λ z. n (counted l i j (back rules (behindStep Z) M) h ∙ ap cut z)) t) (editCode (pruned rules (behindStep Z) M)) (q .head ++ editCode (pruned rules (behindStep Z) M)) ++ tail));
+            w .text ∙ (λ t. head-of text at (q .head) (q .tail) (end - at) (q .split) f t ++ p t) ∙ sym (append-assoc (q .head) (editCode (pruned rules (behindStep Z) M)) tail)
+            ∙ sym ((λ t. q .prunes rules M t ++ tail) ∙ (λ t. cond (ne-eqb (back rules (behindStep Z) M .counts (q .c) (q .k)) 0 (λ z. n (counted l i j (back rules (behindStep Z) M) h ∙ ap capped z)) t) (editCode (pruned rules (behindStep Z) M)) (q .head ++ editCode (pruned rules (behindStep Z) M)) ++ tail));
         room = omega (arith, q .long, w .start, e);
         low = omega (arith, w .start);
       }
@@ -96,7 +96,7 @@ module _ (text : List ℕ) (at : ℕ) (Z : Edit) (q : IsStep text at Z) where
   pub step-product : (w m n : ℕ) → w ≤ 16385 → m ≤ 2 → n ≤ 4096 → w * (m + n) ≤ 16385 * 4098
   step-product w m n a b c = mul-le-mul a (let e : m + n ≤ 4098 = omega arith in e)
 
-pub low-level : (b : Bool) (x d v : ℕ) → d ≡ cut x → v ≡ cond b (cut (under d 2)) d → v ≤ 16385
+pub low-level : (b : Bool) (x d v : ℕ) → d ≡ capped x → v ≡ cond b (capped (under d 2)) d → v ≤ 16385
 low-level true x d v e f = omega (arith, f)
 low-level false x d v e f = omega (arith, f, e)
 

@@ -11,8 +11,8 @@ use Rattle.logic.specs.Syntax.{Sort, rule, Expr, Edit, finish, addLabel, takeLa
 use Rattle.logic.specs.Limits.{Ranges, InRange, EditInRange}
 use Rattle.text.specs.Code.{code, editCode}
 use Rattle.tree.specs.Tree.{Tree, tree, size}
-use Rattle.tree.proofs.Trees.{bytes-tree, size-is}
-use Rattle.tree.specs.Sizes.{Measure, measure, passed, chosen, back}
+use Rattle.tree.proofs.Trees.{code-tree, size-is}
+use Rattle.tree.specs.Sizes.{Measure, measure, substituted, chosen, back}
 use Rattle.ends.specs.Shapes.{Named, At}
 use Rattle.measure.specs.Edits.{EditAt, behindStep}
 use Rattle.measure.specs.Pruned.{pruned}
@@ -63,7 +63,7 @@ pub record IsStep (text : List ℕ) (at : ℕ) (Z : Edit) : Type 0 where
   pub what : At text (at + 2) E
   pub next : (p : ℕ) → p ≡ at + 2 + size E → EditAt text p (behindStep Z)
   pub long : length (editCode Z) ≡ 2 + size E + length (editCode (behindStep Z))
-  pub backs : (r : ℕ) (M : Measure) → back r Z M ≡ passed c k more (measure E) (back r (behindStep Z) M)
+  pub backs : (r : ℕ) (M : Measure) → back r Z M ≡ substituted c k more (measure E) (back r (behindStep Z) M)
   pub head : List ℕ
   pub tail : List ℕ
   pub split : drop at text ≡ head ++ tail
@@ -79,19 +79,19 @@ module _ (text : List ℕ) (at : ℕ) (c₀ k : ℕ) {s : Sort} (E : Expr s) (Z 
   step-split = behind text at (c₀ ∷ k ∷ []) (code E ++ (editCode Z ++ rest)) (e ∙ ap (λ (l : List ℕ). c₀ ∷ k ∷ l) (append-assoc (code E) (editCode Z) rest))
 
   pub step-what : (lim : Ranges) → InRange lim E → At text (at + 2) (tree E)
-  step-what lim r = record { rest = editCode Z ++ rest; here = step-split ∙ ap (λ (l : List ℕ). l ++ (editCode Z ++ rest)) (sym (bytes-tree E)); formed = formed-tree lim E r }
+  step-what lim r = record { rest = editCode Z ++ rest; here = step-split ∙ ap (λ (l : List ℕ). l ++ (editCode Z ++ rest)) (sym (code-tree E)); formed = formed-tree lim E r }
 
   pub step-next : (lim : Ranges) → EditInRange lim Z → (p : ℕ) → p ≡ at + 2 + size (tree E) → EditAt text p Z
-  step-next lim r p q = record { limits = lim; place = record { rest = rest; here = ap (λ (n : ℕ). drop n text) (q ∙ ap (λ (n : ℕ). at + 2 + n) (sym (size-is (tree E)) ∙ ap length (bytes-tree E))) ∙ behind text (at + 2) (code E) (editCode Z ++ rest) step-split; range = r } }
+  step-next lim r p q = record { limits = lim; place = record { rest = rest; here = ap (λ (n : ℕ). drop n text) (q ∙ ap (λ (n : ℕ). at + 2 + n) (sym (size-is (tree E)) ∙ ap length (code-tree E))) ∙ behind text (at + 2) (code E) (editCode Z ++ rest) step-split; range = r } }
 
   pub step-len : length (c₀ ∷ k ∷ code E ++ editCode Z) ≡ 2 + size (tree E) + length (editCode Z)
-  step-len = omega (arith, length-append (c₀ ∷ k ∷ code E) (editCode Z), ap length (bytes-tree E), size-is (tree E))
+  step-len = omega (arith, length-append (c₀ ∷ k ∷ code E) (editCode Z), ap length (code-tree E), size-is (tree E))
 
   step-cut : drop at text ≡ (c₀ ∷ k ∷ code E) ++ (editCode Z ++ rest)
   step-cut = e ∙ append-assoc (c₀ ∷ k ∷ code E) (editCode Z) rest
 
   step-head : length (c₀ ∷ k ∷ code E) ≡ 2 + size (tree E)
-  step-head = omega (arith, ap length (bytes-tree E), size-is (tree E))
+  step-head = omega (arith, ap length (code-tree E), size-is (tree E))
 
   pub step-k : getD text (at + 1) 0 ≡ k
   step-k = byte-at text (at + 1) k ((code E ++ editCode Z) ++ rest) (behind text at (c₀ ∷ []) (k ∷ (code E ++ editCode Z) ++ rest) e)
@@ -206,7 +206,7 @@ four a p q z r = append-assoc (a ++ p ++ q) z r ∙ append-assoc (a ++ p) q (z +
 
 module _ (text : List ℕ) (at : ℕ) (K : Expr rule) (P Q Z : Edit) (rest : List ℕ) (e : drop at text ≡ ((0x35 ∷ code K) ++ editCode P ++ editCode Q ++ editCode Z) ++ rest) where
   pub size-K : length (code K) ≡ size (tree K)
-  size-K = sym (ap length (bytes-tree K)) ∙ size-is (tree K)
+  size-K = sym (ap length (code-tree K)) ∙ size-is (tree K)
 
   c0 : drop at text ≡ (0x35 ∷ code K) ++ (editCode P ++ (editCode Q ++ (editCode Z ++ rest)))
   c0 = e ∙ four (0x35 ∷ code K) (editCode P) (editCode Q) (editCode Z) rest
@@ -234,7 +234,7 @@ as-choose text at (choose K P Q Z) h m = record {
   K = tree K;
   P = P;
   Q = Q;
-  what = record { rest = editCode P ++ (editCode Q ++ (editCode Z ++ h .place .rest)); here = cK text at K P Q Z (h .place .rest) (h .place .here) ∙ ap (λ (l : List ℕ). l ++ (editCode P ++ (editCode Q ++ (editCode Z ++ h .place .rest)))) (sym (bytes-tree K)); formed = formed-tree (h .limits) K (h .place .range .0) };
+  what = record { rest = editCode P ++ (editCode Q ++ (editCode Z ++ h .place .rest)); here = cK text at K P Q Z (h .place .rest) (h .place .here) ∙ ap (λ (l : List ℕ). l ++ (editCode P ++ (editCode Q ++ (editCode Z ++ h .place .rest)))) (sym (code-tree K)); formed = formed-tree (h .limits) K (h .place .range .0) };
   first = λ p q. record { limits = h .limits; place = record { rest = editCode Q ++ (editCode Z ++ h .place .rest); here = cP text at K P Q Z (h .place .rest) (h .place .here) p q; range = h .place .range .1 } };
   second = λ p q. record { limits = h .limits; place = record { rest = editCode Z ++ h .place .rest; here = cQ text at K P Q Z (h .place .rest) (h .place .here) p q; range = h .place .range .2 } };
   next = λ p q. record { limits = h .limits; place = record { rest = h .place .rest; here = cZ text at K P Q Z (h .place .rest) (h .place .here) p q; range = h .place .range .3 } };

@@ -14,7 +14,7 @@ use Rattle.tree.specs.Sizes.{Measure, back}
 use Rattle.ends.specs.Shapes.{At}
 use Rattle.measure.specs.State.{Holds}
 use Rattle.measure.specs.Pruned.{pruned}
-use Rattle.measure.specs.Edits.{EditAt, SomeEdit, EditRoom, StepRoom, Held, behindStep, after, Pushed, NextAt, Kept, Joined, Stepped, Prefixed, Backed, PutBefore, EndBefore}
+use Rattle.measure.specs.Edits.{EditAt, SomeEdit, EditRoom, StepRoom, Held, behindStep, behindSteps, Pushed, NextAt, Kept, Joined, StepMeasured, Prefixed, Backed, PutBefore, EndBefore}
 use Rattle.measure.proofs.Held.{holds-is}
 use Rattle.measure.proofs.Steps.{as-finish, as-choose, four}
 use Rattle.measure.proofs.Puts.{head-of, end-tail}
@@ -32,15 +32,15 @@ pub record Going (text : List ℕ) (at : ℕ) (stack₀ stack : List ℕ) (top p
   pub room : length stack ≡ length stack₀
   pub some : SomeEdit text p
   pub kept : Kept top stack₀ stack
-  pub reached : (Z : Edit) → EditAt text at Z → EditAt text p (after steps Z)
-  pub end : (Z : Edit) → EditAt text at Z → p + length (editCode (after steps Z)) ≡ at + length (editCode Z)
-  pub reach : (Z : Edit) → EditAt text at Z → (i : ℕ) → i < steps → getD stack (top + i) 0 + length (editCode (after i Z)) ≡ at + length (editCode Z)
-  pub each : (Z : Edit) → EditAt text at Z → (i : ℕ) → i < steps → EditAt text (getD stack (top + i) 0) (after i Z)
+  pub reached : (Z : Edit) → EditAt text at Z → EditAt text p (behindSteps steps Z)
+  pub end : (Z : Edit) → EditAt text at Z → p + length (editCode (behindSteps steps Z)) ≡ at + length (editCode Z)
+  pub reach : (Z : Edit) → EditAt text at Z → (i : ℕ) → i < steps → getD stack (top + i) 0 + length (editCode (behindSteps i Z)) ≡ at + length (editCode Z)
+  pub each : (Z : Edit) → EditAt text at Z → (i : ℕ) → i < steps → EditAt text (getD stack (top + i) 0) (behindSteps i Z)
   pub step : (i : ℕ) → i < steps → getD text (getD stack (top + i) 0) 0 ≡ 0x30 → ⊥
   pub lows : (i : ℕ) → i < steps → (at ≤ getD stack (top + i) 0) × (top + i ≤ getD stack (top + i) 0)
 
 pub going-first : (text : List ℕ) (at : ℕ) (stack : List ℕ) (top : ℕ) → top ≤ at → SomeEdit text at → Going text at stack stack top at top
-unfolding after
+unfolding behindSteps
 going-first text at stack top l s = record {
   steps = 0;
   is = sym (add-zero top);
@@ -59,7 +59,7 @@ going-first text at stack top l s = record {
 
 pub going-more : (text : List ℕ) (at : ℕ) (stack₀ stack : List ℕ) (top p n next : ℕ) → n < length stack → (getD text p 0 ≡ 0x30 → ⊥) → Going text at stack₀ stack top p n
     → ((Z : Edit) → EditAt text p Z → NextAt text p Z next) → Going text at stack₀ (set stack n p) top next (n + 1)
-unfolding after
+unfolding behindSteps
 going-more text at stack₀ stack top p n next l m g f =
     let s = f (g .some .what) (g .some .stands) in
     record {
@@ -70,8 +70,8 @@ going-more text at stack₀ stack top p n next l m g f =
       room = length-set stack n p ∙ g .room;
       some = record { what = behindStep (g .some .what); stands = s .stands };
       kept = record { same = λ i r. other stack n i p (λ e. omega (arith, g .is)) ∙ g .kept .same i r };
-      reached = λ Z h. f (after (g .steps) Z) (g .reached Z h) .stands;
-      end = λ Z h. f (after (g .steps) Z) (g .reached Z h) .ends ∙ g .end Z h;
+      reached = λ Z h. f (behindSteps (g .steps) Z) (g .reached Z h) .stands;
+      end = λ Z h. f (behindSteps (g .steps) Z) (g .reached Z h) .ends ∙ g .end Z h;
       reach = λ Z h i r. reach i r Z h (decLt i (g .steps));
       each = λ Z h i r. each i r Z h (decLt i (g .steps));
       step = λ i r. step i r (decLt i (g .steps));
@@ -87,13 +87,13 @@ going-more text at stack₀ stack top p n next l m g f =
         ap′ : top + i ≡ n → getD (set stack n p) (top + i) 0 ≡ getD (set stack n p) n 0
         ap′ q = λ t. getD (set stack n p) (q t) 0
 
-    each : (i : ℕ) → i < suc (g .steps) → (Z : Edit) → EditAt text at Z → Dec (i < g .steps) → EditAt text (getD (set stack n p) (top + i) 0) (after i Z)
-    each i r Z h (yes q) = subst (λ (x : ℕ). EditAt text x (after i Z)) (sym (old i q)) (g .each Z h i q)
-    each i r Z h (no q) = let e : i ≡ g .steps = omega arith in subst (λ (x : ℕ). EditAt text x (after i Z)) (sym (new i e)) (subst (λ (j : ℕ). EditAt text p (after j Z)) (sym e) (g .reached Z h))
+    each : (i : ℕ) → i < suc (g .steps) → (Z : Edit) → EditAt text at Z → Dec (i < g .steps) → EditAt text (getD (set stack n p) (top + i) 0) (behindSteps i Z)
+    each i r Z h (yes q) = subst (λ (x : ℕ). EditAt text x (behindSteps i Z)) (sym (old i q)) (g .each Z h i q)
+    each i r Z h (no q) = let e : i ≡ g .steps = omega arith in subst (λ (x : ℕ). EditAt text x (behindSteps i Z)) (sym (new i e)) (subst (λ (j : ℕ). EditAt text p (behindSteps j Z)) (sym e) (g .reached Z h))
 
-    reach : (i : ℕ) → i < suc (g .steps) → (Z : Edit) → EditAt text at Z → Dec (i < g .steps) → getD (set stack n p) (top + i) 0 + length (editCode (after i Z)) ≡ at + length (editCode Z)
-    reach i r Z h (yes q) = (λ t. old i q t + length (editCode (after i Z))) ∙ g .reach Z h i q
-    reach i r Z h (no q) = let e : i ≡ g .steps = omega arith in (λ t. new i e t + length (editCode (after (e t) Z))) ∙ g .end Z h
+    reach : (i : ℕ) → i < suc (g .steps) → (Z : Edit) → EditAt text at Z → Dec (i < g .steps) → getD (set stack n p) (top + i) 0 + length (editCode (behindSteps i Z)) ≡ at + length (editCode Z)
+    reach i r Z h (yes q) = (λ t. old i q t + length (editCode (behindSteps i Z))) ∙ g .reach Z h i q
+    reach i r Z h (no q) = let e : i ≡ g .steps = omega arith in (λ t. new i e t + length (editCode (behindSteps (e t) Z))) ∙ g .end Z h
 
     step : (i : ℕ) → i < suc (g .steps) → Dec (i < g .steps) → getD text (getD (set stack n p) (top + i) 0) 0 ≡ 0x30 → ⊥
     step i r (yes q) e = g .step i q (sym (λ t. getD text (old i q t) 0) ∙ e)
@@ -104,7 +104,7 @@ going-more text at stack₀ stack top p n next l m g f =
     lows i r (no q) = let e : i ≡ g .steps = omega arith in (omega (arith, new i e, g .ap), omega (arith, new i e, g .np, g .is))
 
 pub going-end : (text : List ℕ) (at : ℕ) (stack₀ stack : List ℕ) (top p n : ℕ) → getD text p 0 ≡ 0x30 → Going text at stack₀ stack top p n → (Z : Edit) → EditAt text at Z → Pushed text at Z stack top n
-going-end text at stack₀ stack top p n e g Z h = record { steps = g .steps; ends = g .is; stands = g .each Z h; step = g .step; low = g .lows; reach = g .reach Z h; last = as-finish text p (after (g .steps) Z) (g .reached Z h) e }
+going-end text at stack₀ stack top p n e g Z h = record { steps = g .steps; ends = g .is; stands = g .each Z h; step = g .step; low = g .lows; reach = g .reach Z h; last = as-finish text p (behindSteps (g .steps) Z) (g .reached Z h) e }
 
 -- Steps of an edit still on the stack; behind `start` stands the text of what follows them, without its idle steps.
 -- The numbers, bytes and place with ₀ are those from before the first of them.
@@ -118,13 +118,13 @@ pub record Backing (text : List ℕ) (at rules top : ℕ) (stack₀ stack state�
   pub wide : length out ≡ length out₀
   pub below : start ≤ start₀
   pub kept : Kept top stack₀ stack
-  pub each : (Z : Edit) → EditAt text at Z → (i : ℕ) → i < left → EditAt text (getD stack (top + i) 0) (after i Z)
-  pub reach : (Z : Edit) → EditAt text at Z → (i : ℕ) → i < left → getD stack (top + i) 0 + length (editCode (after i Z)) ≡ at + length (editCode Z)
+  pub each : (Z : Edit) → EditAt text at Z → (i : ℕ) → i < left → EditAt text (getD stack (top + i) 0) (behindSteps i Z)
+  pub reach : (Z : Edit) → EditAt text at Z → (i : ℕ) → i < left → getD stack (top + i) 0 + length (editCode (behindSteps i Z)) ≡ at + length (editCode Z)
   pub step : (i : ℕ) → i < left → getD text (getD stack (top + i) 0) 0 ≡ 0x30 → ⊥
   pub lows : (i : ℕ) → i < left → (at ≤ getD stack (top + i) 0) × (top + i ≤ getD stack (top + i) 0)
-  pub sofar : (Z : Edit) → EditAt text at Z → (M : Measure) → Holds state₀ M → Holds state (back rules (after left Z) M)
-  pub wrote : (Z : Edit) → EditAt text at Z → (M : Measure) → Holds state₀ M → drop start out ≡ editCode (pruned rules (after left Z) M) ++ drop (start₀ + 1) out₀
-  pub used : (Z : Edit) → EditAt text at Z → start₀ + 1 ≤ start + length (editCode (after left Z))
+  pub sofar : (Z : Edit) → EditAt text at Z → (M : Measure) → Holds state₀ M → Holds state (back rules (behindSteps left Z) M)
+  pub wrote : (Z : Edit) → EditAt text at Z → (M : Measure) → Holds state₀ M → drop start out ≡ editCode (pruned rules (behindSteps left Z) M) ++ drop (start₀ + 1) out₀
+  pub used : (Z : Edit) → EditAt text at Z → start₀ + 1 ≤ start + length (editCode (behindSteps left Z))
 
 pub backing-first : (text : List ℕ) (at rules top : ℕ) (stack₀ stack state out : List ℕ) (n start : ℕ) → EditRoom text at (start + 1) → Held state → length stack ≡ length stack₀
     → ((Z : Edit) → EditAt text at Z → Pushed text at Z stack top n) → Kept top stack₀ stack → drop start out ≡ 0x30 ∷ drop (start + 1) out → Backing text at rules top stack₀ stack state state out out start n start
@@ -150,8 +150,8 @@ backing-first text at rules top stack₀ stack state out n start s h l f k e₀ 
       used = λ Z a. omega (arith, ap (λ (Y : Edit). length (editCode Y)) (none Z a));
     }
   where
-    none : (Z : Edit) → EditAt text at Z → after (f (s .what) (s .stands) .steps) Z ≡ finish
-    none Z a = let p = f (s .what) (s .stands) in let q = f Z a in let e : p .steps ≡ q .steps = omega (arith, p .ends, q .ends) in (λ u. after (e u) Z) ∙ q .last
+    none : (Z : Edit) → EditAt text at Z → behindSteps (f (s .what) (s .stands) .steps) Z ≡ finish
+    none Z a = let p = f (s .what) (s .stands) in let q = f Z a in let e : p .steps ≡ q .steps = omega (arith, p .ends, q .ends) in (λ u. behindSteps (e u) Z) ∙ q .last
 
 pub record Next (text : List ℕ) (at rules top : ℕ) (stack₀ stack state₀ state out₀ out : List ℕ) (start₀ n start : ℕ) : Type 0 where
   pub what : StepRoom text (getD stack n 0) start
@@ -160,18 +160,18 @@ pub record Next (text : List ℕ) (at rules top : ℕ) (stack₀ stack state₀ 
   pub lower : n ≤ getD stack n 0
   pub held : Held state
   pub more : (stack′ state′ out′ : List ℕ) (start′ : ℕ) → length stack′ ≡ length stack → length state′ ≡ length state → length out′ ≡ length out
-      → ((Z : Edit) → EditAt text (getD stack n 0) Z → Stepped rules Z state state′ × Prefixed rules Z state out start out′ start′) → Kept n stack stack′ → Backing text at rules top stack₀ stack′ state₀ state′ out₀ out′ start₀ n start′
+      → ((Z : Edit) → EditAt text (getD stack n 0) Z → StepMeasured rules Z state state′ × Prefixed rules Z state out start out′ start′) → Kept n stack stack′ → Backing text at rules top stack₀ stack′ state₀ state′ out₀ out′ start₀ n start′
 
 pub backing-next : (text : List ℕ) (at rules top : ℕ) (stack₀ stack state₀ state out₀ out : List ℕ) (start₀ n start : ℕ) → top < n → Backing text at rules top stack₀ stack state₀ state out₀ out start₀ n start
     → Next text at rules top stack₀ stack state₀ state out₀ out start₀ (n - 1) start
-unfolding after
+unfolding behindSteps
 backing-next text at rules top stack₀ stack state₀ state out₀ out start₀ n start l b = go (b .left) refl
   where
     go : (j : ℕ) → b .left ≡ j → Next text at rules top stack₀ stack state₀ state out₀ out start₀ (n - 1) start
     go zero e = absurd (omega (arith, b .is))
     go (suc j) e = record {
       what = record {
-        what = after j (b .some .what);
+        what = behindSteps j (b .some .what);
         stands = at-j (b .some .what) (b .some .stands);
         room = omega (arith, here, b .reach (b .some .what) (b .some .stands) j low, b .some .room, used (b .some .what) (b .some .stands));
       };
@@ -187,15 +187,15 @@ backing-next text at rules top stack₀ stack state₀ state out₀ out start₀
         room = p ∙ b .room;
         long = q ∙ b .long;
         wide = o ∙ b .wide;
-        below = omega (arith, b .below, f (after j (b .some .what)) (at-j (b .some .what) (b .some .stands)) .1 .low);
+        below = omega (arith, b .below, f (behindSteps j (b .some .what)) (at-j (b .some .what) (b .some .stands)) .1 .low);
         kept = record { same = λ i r. k .same i (omega (arith, m)) ∙ b .kept .same i r };
-        each = λ Z a i r. subst (λ (x : ℕ). EditAt text x (after i Z)) (sym (k .same (top + i) (omega (arith, m)))) (b .each Z a i (omega (arith, e)));
-        reach = λ Z a i r. (λ t. k .same (top + i) (omega (arith, m)) t + length (editCode (after i Z))) ∙ b .reach Z a i (omega (arith, e));
+        each = λ Z a i r. subst (λ (x : ℕ). EditAt text x (behindSteps i Z)) (sym (k .same (top + i) (omega (arith, m)))) (b .each Z a i (omega (arith, e)));
+        reach = λ Z a i r. (λ t. k .same (top + i) (omega (arith, m)) t + length (editCode (behindSteps i Z))) ∙ b .reach Z a i (omega (arith, e));
         step = λ i r x. b .step i (omega (arith, e)) (sym (λ t. getD text (k .same (top + i) (omega (arith, m)) t) 0) ∙ x);
         lows = λ i r. let w = b .lows i (omega (arith, e)) in let v = k .same (top + i) (omega (arith, m)) in (omega (arith, w .0, v), omega (arith, w .1, v));
-        sofar = λ Z a M h. f (after j Z) (at-j Z a) .0 .holds M (later Z a M h);
-        wrote = λ Z a M h. f (after j Z) (at-j Z a) .1 .text M (later Z a M h) (drop (start₀ + 1) out₀) (b .wrote Z a M h ∙ (λ t. editCode (pruned rules (after (e t) Z) M) ++ drop (start₀ + 1) out₀));
-        used = λ Z a. omega (arith, used Z a, f (after j Z) (at-j Z a) .1 .room);
+        sofar = λ Z a M h. f (behindSteps j Z) (at-j Z a) .0 .holds M (later Z a M h);
+        wrote = λ Z a M h. f (behindSteps j Z) (at-j Z a) .1 .text M (later Z a M h) (drop (start₀ + 1) out₀) (b .wrote Z a M h ∙ (λ t. editCode (pruned rules (behindSteps (e t) Z) M) ++ drop (start₀ + 1) out₀));
+        used = λ Z a. omega (arith, used Z a, f (behindSteps j Z) (at-j Z a) .1 .room);
       };
     }
       where
@@ -208,24 +208,24 @@ backing-next text at rules top stack₀ stack state₀ state out₀ out start₀
         here : getD stack (n - 1) 0 ≡ getD stack (top + j) 0
         here = λ t. getD stack (m t) 0
 
-        at-j : (Z : Edit) → EditAt text at Z → EditAt text (getD stack (n - 1) 0) (after j Z)
-        at-j Z a = subst (λ (x : ℕ). EditAt text x (after j Z)) (sym here) (b .each Z a j low)
+        at-j : (Z : Edit) → EditAt text at Z → EditAt text (getD stack (n - 1) 0) (behindSteps j Z)
+        at-j Z a = subst (λ (x : ℕ). EditAt text x (behindSteps j Z)) (sym here) (b .each Z a j low)
 
-        later : (Z : Edit) → EditAt text at Z → (M : Measure) → Holds state₀ M → Holds state (back rules (behindStep (after j Z)) M)
-        later Z a M h = holds-is (λ t. back rules (after (e t) Z) M) (b .sofar Z a M h)
+        later : (Z : Edit) → EditAt text at Z → (M : Measure) → Holds state₀ M → Holds state (back rules (behindStep (behindSteps j Z)) M)
+        later Z a M h = holds-is (λ t. back rules (behindSteps (e t) Z) M) (b .sofar Z a M h)
 
-        used : (Z : Edit) → EditAt text at Z → start₀ + 1 ≤ start + length (editCode (behindStep (after j Z)))
-        used Z a = omega (arith, b .used Z a, ap (λ (i : ℕ). length (editCode (after i Z))) e)
+        used : (Z : Edit) → EditAt text at Z → start₀ + 1 ≤ start + length (editCode (behindStep (behindSteps j Z)))
+        used Z a = omega (arith, b .used Z a, ap (λ (i : ℕ). length (editCode (behindSteps i Z))) e)
 
 pub backing-end : (text : List ℕ) (at rules top : ℕ) (stack₀ stack state₀ state out₀ out : List ℕ) (start₀ n start : ℕ) → n ≤ top → Backing text at rules top stack₀ stack state₀ state out₀ out start₀ n start
     → (outₑ : List ℕ) (pos : ℕ) → EndBefore outₑ pos out₀ start₀ → (Z : Edit) → EditAt text at Z → Backed rules Z state₀ outₑ pos state out start
-unfolding after
+unfolding behindSteps
 backing-end text at rules top stack₀ stack state₀ state out₀ out start₀ n start l b outₑ pos w Z a =
     let e : b .left ≡ 0 = omega (arith, b .is) in
     record {
-      holds = λ M h. holds-is (λ t. back rules (after (e t) Z) M) (b .sofar Z a M h);
-      text = λ M h. b .wrote Z a M h ∙ (λ t. editCode (pruned rules (after (e t) Z) M) ++ end-tail outₑ pos out₀ start₀ w t);
-      room = omega (arith, b .used Z a, w .start, ap (λ (i : ℕ). length (editCode (after i Z))) e);
+      holds = λ M h. holds-is (λ t. back rules (behindSteps (e t) Z) M) (b .sofar Z a M h);
+      text = λ M h. b .wrote Z a M h ∙ (λ t. editCode (pruned rules (behindSteps (e t) Z) M) ++ end-tail outₑ pos out₀ start₀ w t);
+      room = omega (arith, b .used Z a, w .start, ap (λ (i : ℕ). length (editCode (behindSteps i Z))) e);
       low = omega (arith, b .below, w .start);
     }
 
@@ -233,7 +233,7 @@ backing-end text at rules top stack₀ stack state₀ state out₀ out start₀ 
 module _ (text : List ℕ) (at rules : ℕ) (m : getD text at 0 ≡ 0x35) (first second : ℕ) (f : (t : Tree) → At text (at + 1) t → first ≡ at + 1 + size t) (g : (Y : Edit) → EditAt text first Y → second ≡ first + length (editCode Y))
     (state state₂ other₁ other₂ out out₁ out₂ : List ℕ) (pos q p : ℕ) (k : Kept 130 state other₁) (b₂ : (Y : Edit) → EditAt text second Y → Backed rules Y state out pos state₂ out₁ q)
     (b₁ : (Y : Edit) → EditAt text first Y → Backed rules Y other₁ out₁ q other₂ out₂ p) where
-  pub choice-stepped : (state₃ : List ℕ) → ((K : Tree) → At text (at + 1) K → Joined rules K other₂ state₂ state₃) → (Z : Edit) → EditAt text at Z → Stepped rules Z state state₃
+  pub choice-stepped : (state₃ : List ℕ) → ((K : Tree) → At text (at + 1) K → Joined rules K other₂ state₂ state₃) → (Z : Edit) → EditAt text at Z → StepMeasured rules Z state state₃
   choice-stepped state₃ j Z h =
       let c = as-choose text at Z h m in
       let a = f (c .K) (c .what) in
@@ -253,7 +253,7 @@ module _ (text : List ℕ) (at rules : ℕ) (m : getD text at 0 ≡ 0x35) (first
       let n : length (c .head) ≡ first - at = omega (arith, c .head-long, a) in
       record {
         text = λ M x tail e.
-            w .bytes ∙ (λ t. (head-of text at (c .head) (c .tail) (first - at) (c .split) n t) ++ (bP .text _ (kept-holds state other₁ _ k x) ∙ (λ u. editCode (pruned rules (c .P) (back rules (behindStep Z) M)) ++ (bQ .text _ x ∙ (λ v. editCode (pruned rules (c .Q) (back rules (behindStep Z) M)) ++ e v)) u)) t)
+            w .text ∙ (λ t. (head-of text at (c .head) (c .tail) (first - at) (c .split) n t) ++ (bP .text _ (kept-holds state other₁ _ k x) ∙ (λ u. editCode (pruned rules (c .P) (back rules (behindStep Z) M)) ++ (bQ .text _ x ∙ (λ v. editCode (pruned rules (c .Q) (back rules (behindStep Z) M)) ++ e v)) u)) t)
             ∙ sym (four (c .head) _ _ _ tail) ∙ (λ t. sym (c .prunes rules M) t ++ tail);
         room = omega (arith, w .start, bP .room, bQ .room, c .long, a);
         low = omega (arith, w .start, bP .low, bQ .low);

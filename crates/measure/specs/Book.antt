@@ -10,7 +10,7 @@ use Rattle.text.specs.Code.{code, levels, editCode, bookCode, bookLevels}
 use Rattle.text.specs.Questions.{mostRules}
 use Rattle.text.specs.Stands.{Stands, RulesInRange}
 use Rattle.tree.specs.Tree.{tree}
-use Rattle.tree.specs.Sizes.{Measure, measure, join, measures, cut}
+use Rattle.tree.specs.Sizes.{Measure, measure, join, measures, capped}
 use Rattle.measure.specs.State.{Holds}
 use Rattle.measure.specs.Pruned.{pruned}
 
@@ -36,7 +36,7 @@ pub record SomeBook (book : List ℕ) : Type 0 where
 
 -- a rule's measure joined to that of the rules before it; `next` is the place behind the rule
 pub record RuleAdded (at : ℕ) (K : Expr rule) (next : ℕ) (l l′ : List ℕ) : Type 0 where
-  pub after : next ≡ at + length (code K)
+  pub ends : next ≡ at + length (code K)
   pub holds : (M : Measure) → Holds l M → Holds l′ (join M (measure (tree K)))
 
 -- the number of a book's rules and its measure
@@ -46,12 +46,12 @@ pub record BookAdded (rules : List (Expr rule)) (number : ℕ) (l : List ℕ) : 
 
 -- the length and the levels of a carried rule, and of a carried book, cut at 16,385
 pub record RuleSized (Z : Edit) (K : Expr rule) (len tall : ℕ) : Type 0 where
-  pub len-is : len ≡ cut (length (code (carry Z K)))
-  pub tall-is : tall ≡ cut (levels (carry Z K))
+  pub len-is : len ≡ capped (length (code (carry Z K)))
+  pub tall-is : tall ≡ capped (levels (carry Z K))
 
 pub record BookSized (Z : Edit) (rules : List (Expr rule)) (len tall : ℕ) : Type 0 where
-  pub len-is : len ≡ cut (length (bookCode (carriedBook Z rules)))
-  pub tall-is : tall ≡ cut (bookLevels (carriedBook Z rules))
+  pub len-is : len ≡ capped (length (bookCode (carriedBook Z rules)))
+  pub tall-is : tall ≡ capped (bookLevels (carriedBook Z rules))
 
 -- where the book is not empty, a buffer holds from a place on the edit without its idle steps
 pub record BookKept (Z : Edit) (rules : List (Expr rule)) (start : ℕ) (kept : List ℕ) : Type 0 where

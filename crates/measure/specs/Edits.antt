@@ -8,7 +8,7 @@ use Rattle.logic.specs.Syntax.{Edit, finish, addLabel, takeLabel, addArrow, tak
 use Rattle.logic.specs.Limits.{Ranges}
 use Rattle.text.specs.Stands.{EditStands}
 use Rattle.text.specs.Code.{editCode}
-use Rattle.tree.specs.Sizes.{Measure, measure, chosen, back, cut}
+use Rattle.tree.specs.Sizes.{Measure, measure, chosen, back, capped}
 use Rattle.measure.specs.State.{Holds}
 use Rattle.measure.specs.Pruned.{pruned}
 
@@ -21,9 +21,9 @@ behindStep (addArrow a R Z) = Z
 behindStep (takeArrow a R Z) = Z
 behindStep (choose K P Q Z) = Z
 
-unfoldable pub after : ℕ → Edit → Edit
-after zero Z = Z
-after (suc j) Z = behindStep (after j Z)
+unfoldable pub behindSteps : ℕ → Edit → Edit
+behindSteps zero Z = Z
+behindSteps (suc j) Z = behindStep (behindSteps j Z)
 
 -- an edit whose numbers are in range stands in a text at a place, whatever the ranges
 pub record EditAt (text : List ℕ) (at : ℕ) (Z : Edit) : Type 0 where
@@ -55,14 +55,14 @@ pub record Held (l : List ℕ) : Type 0 where
 pub record Pushed (text : List ℕ) (at : ℕ) (Z : Edit) (stack : List ℕ) (top end : ℕ) : Type 0 where
   pub steps : ℕ
   pub ends : end ≡ top + steps
-  pub stands : (i : ℕ) → i < steps → EditAt text (getD stack (top + i) 0) (after i Z)
+  pub stands : (i : ℕ) → i < steps → EditAt text (getD stack (top + i) 0) (behindSteps i Z)
   pub step : (i : ℕ) → i < steps → getD text (getD stack (top + i) 0) 0 ≡ 0x30 → ⊥
   pub low : (i : ℕ) → i < steps → (at ≤ getD stack (top + i) 0) × (top + i ≤ getD stack (top + i) 0)
-  pub reach : (i : ℕ) → i < steps → getD stack (top + i) 0 + length (editCode (after i Z)) ≡ at + length (editCode Z)
-  pub last : after steps Z ≡ finish
+  pub reach : (i : ℕ) → i < steps → getD stack (top + i) 0 + length (editCode (behindSteps i Z)) ≡ at + length (editCode Z)
+  pub last : behindSteps steps Z ≡ finish
 
 -- a walk back over the first step
-pub record Stepped (rules : ℕ) (Z : Edit) (l l′ : List ℕ) : Type 0 where
+pub record StepMeasured (rules : ℕ) (Z : Edit) (l l′ : List ℕ) : Type 0 where
   pub holds : (M : Measure) → Holds l (back rules (behindStep Z) M) → Holds l′ (back rules Z M)
 
 -- .. which puts the first step in front of what stands at `pos`, unless it is idle
@@ -81,12 +81,12 @@ pub record Backed (rules : ℕ) (Z : Edit) (l out : List ℕ) (pos : ℕ) (l′ 
 -- the bytes from `at` to `end` put in front of what stands at `pos`
 pub record PutBefore (text : List ℕ) (at end : ℕ) (out : List ℕ) (pos : ℕ) (out′ : List ℕ) (pos′ : ℕ) : Type 0 where
   pub start : pos′ + (end - at) ≡ pos
-  pub bytes : drop pos′ out′ ≡ take (end - at) (drop at text) ++ drop pos out
+  pub text : drop pos′ out′ ≡ take (end - at) (drop at text) ++ drop pos out
 
 -- an edit's end put there
 pub record EndBefore (out : List ℕ) (pos : ℕ) (out′ : List ℕ) (pos′ : ℕ) : Type 0 where
   pub start : pos′ + 1 ≡ pos
-  pub bytes : drop pos′ out′ ≡ 0x30 ∷ drop pos out
+  pub text : drop pos′ out′ ≡ 0x30 ∷ drop pos out
 
 -- a place is behind an edit's first step, or behind the edit
 pub record NextAt (text : List ℕ) (at : ℕ) (Z : Edit) (next : ℕ) : Type 0 where
@@ -96,10 +96,10 @@ pub record NextAt (text : List ℕ) (at : ℕ) (Z : Edit) (next : ℕ) : Type 0 
 
 -- the numbers t and l of a choice's two ways, two levels lower together
 pub record Merged (t l l′ : List ℕ) : Type 0 where
-  pub count : (i : ℕ) → i < 64 → getD l′ i 0 ≡ cut (getD t i 0 + getD l i 0)
-  pub deep : (i : ℕ) → i < 64 → getD l′ (64 + i) 0 ≡ cut (under (cut (under (max (getD t (64 + i) 0) (getD l (64 + i) 0)) 2)) 2)
-  pub len : getD l′ 128 0 ≡ cut (getD t 128 0 + getD l 128 0)
-  pub tall : getD l′ 129 0 ≡ cut (max (getD t 129 0) (getD l 129 0) + 2)
+  pub count : (i : ℕ) → i < 64 → getD l′ i 0 ≡ capped (getD t i 0 + getD l i 0)
+  pub deep : (i : ℕ) → i < 64 → getD l′ (64 + i) 0 ≡ capped (under (capped (under (max (getD t (64 + i) 0) (getD l (64 + i) 0)) 2)) 2)
+  pub len : getD l′ 128 0 ≡ capped (getD t 128 0 + getD l 128 0)
+  pub tall : getD l′ 129 0 ≡ capped (max (getD t 129 0) (getD l 129 0) + 2)
 
 -- the same numbers below a place
 pub record Kept (top : ℕ) (l l′ : List ℕ) : Type 0 where

@@ -4,14 +4,14 @@ use mathlib.Core.List.{List}
 use Prim.Native.Nat.{ℕ, _+_, _*_, max}
 use lib.ListN.{getD}
 use Rattle.tree.specs.Tree.{Tree, under, size}
-use Rattle.tree.specs.Sizes.{Measure, measure, cut}
+use Rattle.tree.specs.Sizes.{Measure, measure, capped}
 use Rattle.ends.specs.Shapes.{Named, cell}
 
 pub record Holds (l : List ℕ) (M : Measure) : Type 0 where
-  pub len-at : getD l 128 0 ≡ cut (M .len)
-  pub tall-at : getD l 129 0 ≡ cut (M .tall)
-  pub count-at : (c k : ℕ) → Named c k → getD l (cell c k) 0 ≡ cut (M .counts c k)
-  pub deep-at : (c k : ℕ) → Named c k → getD l (64 + cell c k) 0 ≡ cut (M .deeps c k)
+  pub len-at : getD l 128 0 ≡ capped (M .len)
+  pub tall-at : getD l 129 0 ≡ capped (M .tall)
+  pub count-at : (c k : ℕ) → Named c k → getD l (cell c k) 0 ≡ capped (M .counts c k)
+  pub deep-at : (c k : ℕ) → Named c k → getD l (64 + cell c k) 0 ≡ capped (M .deeps c k)
 
 -- w copies of a text put in, their first codes on level v at the deepest; their length not counted
 unfoldable pub added : (w v : ℕ) (E M : Measure) → Measure
@@ -23,5 +23,5 @@ added w v E M = record {
 }
 
 pub record Scanned (at w v : ℕ) (t : Tree) (next : ℕ) (l l′ : List ℕ) : Type 0 where
-  pub after : next ≡ at + size t
+  pub ends : next ≡ at + size t
   pub state : (M : Measure) → Holds l M → Holds l′ (added w v (measure t) M)

@@ -12,11 +12,11 @@ ghost use lib.ListN.{length, getD, set, replicate};
 ghost use Rattle.logic.specs.Syntax.{Edit, Expr, rule};
 ghost use Rattle.text.specs.Code.{editCode};
 ghost use Rattle.tree.specs.Tree.{Tree, under, size};
-ghost use Rattle.tree.specs.Sizes.{cut};
+ghost use Rattle.tree.specs.Sizes.{capped};
 ghost use Rattle.tree.specs.Stack.{touched};
 ghost use Rattle.ends.specs.Shapes.{cell, At, Some};
 ghost use Rattle.measure.specs.State.{Scanned};
-ghost use Rattle.measure.specs.Edits.{EditAt, SomeEdit, EditRoom, StepRoom, Held, Stepped, Prefixed, Backed, PutBefore, EndBefore, NextAt, Pushed, Merged, Kept, Joined};
+ghost use Rattle.measure.specs.Edits.{EditAt, SomeEdit, EditRoom, StepRoom, Held, StepMeasured, Prefixed, Backed, PutBefore, EndBefore, NextAt, Pushed, Merged, Kept, Joined};
 ghost use Rattle.measure.specs.Book.{RuleAt, SomeRule, BookIs, SomeBook, RuleAdded, BookAdded, RuleSized, BookSized, BookKept};
 
 // The larger number.
@@ -28,7 +28,7 @@ fn larger(a: usize, b: usize) -> usize
 
 // A sum, cut; no operand can make it wrap.
 fn sum(a: usize, b: usize) -> usize
-    ensures { λ r. ⌜ r ≡ cut (a + b) ⌝ }
+    ensures { λ r. ⌜ r ≡ capped (a + b) ⌝ }
 {
     if a >= 16385 {
         return 16385;
@@ -41,7 +41,7 @@ fn sum(a: usize, b: usize) -> usize
 
 // One level below `v`, cut; 0 is nowhere and stays so.
 fn deeper(v: usize) -> usize
-    ensures { λ r. ⌜ r ≡ cut (under v 2) ⌝ }
+    ensures { λ r. ⌜ r ≡ capped (under v 2) ⌝ }
 {
     if v == 0 {
         return 0;
@@ -69,7 +69,7 @@ fn rise(state: &mut [usize], v: usize)
 // Inner: over the 130 numbers.
 fn touch(state: &mut [usize], i: usize, w: usize, v: usize)
     requires { ⌜ (length (now state) ≡ 130) × (i < 64) ⌝ }
-    ensures { λ r. ⌜ now (state .exit) ≡ set (set (now (state .entry)) i (cut (getD (now (state .entry)) i 0 + w))) (64 + i) (max (getD (now (state .entry)) (64 + i) 0) v) ⌝ }
+    ensures { λ r. ⌜ now (state .exit) ≡ set (set (now (state .entry)) i (capped (getD (now (state .entry)) i 0 + w))) (64 + i) (max (getD (now (state .entry)) (64 + i) 0) v) ⌝ }
 {
     let n = sum(state[i], w);
     let d = larger(state[64 + i], v);
@@ -118,7 +118,7 @@ fn extra(op: u8) -> usize
 
 // The level of a step's expression, `d` being one below the name's.
 fn lower(op: u8, d: usize) -> usize
-    ensures { λ r. ⌜ r ≡ cond (eqb op 0x32) (cut (under d 2)) d ⌝ }
+    ensures { λ r. ⌜ r ≡ cond (eqb op 0x32) (capped (under d 2)) d ⌝ }
 {
     if op == 0x32 { deeper(d) } else { d }
 }
@@ -127,7 +127,7 @@ fn lower(op: u8, d: usize) -> usize
 // Inner: the text was read before.
 fn step_back(text: &[u8], at: usize, state: &mut [usize])
     requires { ⌜ SomeEdit (now text) at × Held (now state) × (length (now text) ≤ 4096) × (getD (now text) at 0 ≡ 0x30 → ⊥) × (getD (now text) at 0 ≡ 0x35 → ⊥) ⌝ }
-    ensures { λ r. ⌜ ((Z : Edit) → EditAt (now (text .entry)) at Z → (rules : ℕ) → Stepped rules Z (now (state .entry)) (now (state .exit))) ⌝ }
+    ensures { λ r. ⌜ ((Z : Edit) → EditAt (now (text .entry)) at Z → (rules : ℕ) → StepMeasured rules Z (now (state .entry)) (now (state .exit))) ⌝ }
 {
     let op = text[at];
     let i = cell_of(name_code(op), text[at + 1]);
@@ -199,7 +199,7 @@ fn copy(src: &[usize], out: &mut [usize])
 // Inner: over the 130 numbers.
 fn merge_one(t: &[usize], state: &mut [usize], i: usize)
     requires { ⌜ (length (now t) ≡ 130) × (length (now state) ≡ 130) × (i < 64) ⌝ }
-    ensures { λ r. ⌜ now (state .exit) ≡ set (set (now (state .entry)) i (cut (getD (now (t .entry)) i 0 + getD (now (state .entry)) i 0))) (64 + i) (cut (under (cut (under (max (getD (now (t .entry)) (64 + i) 0) (getD (now (state .entry)) (64 + i) 0)) 2)) 2)) ⌝ }
+    ensures { λ r. ⌜ now (state .exit) ≡ set (set (now (state .entry)) i (capped (getD (now (t .entry)) i 0 + getD (now (state .entry)) i 0))) (64 + i) (capped (under (capped (under (max (getD (now (t .entry)) (64 + i) 0) (getD (now (state .entry)) (64 + i) 0)) 2)) 2)) ⌝ }
 {
     let n = sum(t[i], state[i]);
     let d = deeper(deeper(larger(t[64 + i], state[64 + i])));
@@ -287,7 +287,7 @@ fn one_back(
     pos: usize,
 ) -> usize
     requires { ⌜ StepRoom (now text) at pos × (getD (now text) at 0 ≡ 0x30 → ⊥) × (top ≤ at) × (length (now text) ≤ length (now stack)) × (length (now text) ≤ 4096) × (rules ≤ 32) × Held (now state) × (pos ≤ length (now out)) ⌝ }
-    ensures { λ r. ⌜ ((Z : Edit) → EditAt (now (text .entry)) at Z → Stepped rules Z (now (state .entry)) (now (state .exit)) × Prefixed rules Z (now (state .entry)) (now (out .entry)) pos (now (out .exit)) r) × Kept top (now (stack .entry)) (now (stack .exit)) ⌝ }
+    ensures { λ r. ⌜ ((Z : Edit) → EditAt (now (text .entry)) at Z → StepMeasured rules Z (now (state .entry)) (now (state .exit)) × Prefixed rules Z (now (state .entry)) (now (out .entry)) pos (now (out .exit)) r) × Kept top (now (stack .entry)) (now (stack .exit)) ⌝ }
 {
     let c = text[at];
     if c != 0x35 {

@@ -13,7 +13,7 @@ use Rattle.text.specs.declared.Stop.{Stop}
 use Rattle.text.specs.declared.Step.the-variants.{Next, Stopped}
 use Rattle.text.specs.Code.{code}
 use Rattle.text.specs.Reading.{textLimits, Want, Thing, expr, edit, operand, done, Fault, missing, wrongSort, tooDeep, outOfRange, Read, got, fault, follow, readAs}
-use Rattle.text.specs.Questions.{faultNumber, first, whole, rulesOf, rulesEnd, askBook, askFirst, askEdit, askRuleEnd, firstRule}
+use Rattle.text.specs.Questions.{faultNumber, first, whole, readRules, rulesEnd, askBook, askFirst, askEdit, askRuleEnd, firstRule}
 use Rattle.text.specs.Rows.{rowPlan, stopOf, stepOf, stepAt, stepAnswer}
 use Rattle.text.proofs.Converse.{read-is-written}
 use Rattle.text.proofs.Books.{rules-step, rules-fault}
@@ -80,42 +80,42 @@ module _ (t : List ℕ) (n : ℕ) where
   unfolding askBook outcome is _>>_
   book-long h = rw (lt-leb (length t) 4096 h) refl
 
-  pub book-short : length t ≤ 4096 → outcome (rulesOf (textLimits n) 32 t 0) ≡ outcome (askBook (textLimits n) t)
+  pub book-short : length t ≤ 4096 → outcome (readRules (textLimits n) 32 t 0) ≡ outcome (askBook (textLimits n) t)
   unfolding askBook is _>>_
   book-short h = rw (le-leb (length t) 4096 h) refl
 
   module _ (m at : ℕ) where
-    pub rules-end : length t ≤ at → passed tt ≡ outcome (rulesOf (textLimits n) m (drop at t) at)
-    unfolding rulesOf outcome
+    pub rules-end : length t ≤ at → passed tt ≡ outcome (readRules (textLimits n) m (drop at t) at)
+    unfolding readRules outcome
     rules-end h = rw (drop-of-length-le t h) (go m)
       where
-        go : (k : ℕ) → passed tt ≡ outcome (rulesOf (textLimits n) k [] at)
+        go : (k : ℕ) → passed tt ≡ outcome (readRules (textLimits n) k [] at)
         go zero = refl
         go (suc k) = refl
 
     module _ (more : at < length t) where
-      pub rules-full : m ≡ 0 → refused 16 at ≡ outcome (rulesOf (textLimits n) m (drop at t) at)
-      unfolding rulesOf outcome
+      pub rules-full : m ≡ 0 → refused 16 at ≡ outcome (readRules (textLimits n) m (drop at t) at)
+      unfolding readRules outcome
       rules-full h = rw (h, drop-cons t at 0 more) refl
 
       module _ (some : m ≡ 0 → ⊥) where
-        pub rules-next : {p : ℕ} → stepAt t n (rowPlan 14 1) at ≡ Next p → outcome (rulesOf (textLimits n) (m - 1) (drop p t) p) ≡ outcome (rulesOf (textLimits n) m (drop at t) at)
+        pub rules-next : {p : ℕ} → stepAt t n (rowPlan 14 1) at ≡ Next p → outcome (readRules (textLimits n) (m - 1) (drop p t) p) ≡ outcome (readRules (textLimits n) m (drop at t) at)
         rules-next {p} e = go m some (was-read (expr rule) at e)
           where
-            go : (k : ℕ) → (k ≡ 0 → ⊥) → WasRead t n (expr rule) at p → outcome (rulesOf (textLimits n) (k - 1) (drop p t) p) ≡ outcome (rulesOf (textLimits n) k (drop at t) at)
+            go : (k : ℕ) → (k ≡ 0 → ⊥) → WasRead t n (expr rule) at p → outcome (readRules (textLimits n) (k - 1) (drop p t) p) ≡ outcome (readRules (textLimits n) k (drop at t) at)
             go zero s r = absurd (s refl)
             go (suc k) s r =
-                ap (λ j. outcome (rulesOf (textLimits n) j (drop p t) p)) (less-one k)
-                ∙ sym (ap outcome (rules-step (textLimits n) k (drop at t) at (r .thing) (drop p t) p (r .reading)) ∙ outcome-bind (rulesOf (textLimits n) k (drop p t) p) (λ book. r .thing ∷ book))
+                ap (λ j. outcome (readRules (textLimits n) j (drop p t) p)) (less-one k)
+                ∙ sym (ap outcome (rules-step (textLimits n) k (drop at t) at (r .thing) (drop p t) p (r .reading)) ∙ outcome-bind (readRules (textLimits n) k (drop p t) p) (λ book. r .thing ∷ book))
 
-        pub rules-stopped : {s : Stop} → stepAt t n (rowPlan 14 1) at ≡ Stopped s → stepAnswer 10 (stepAt t n (rowPlan 14 1) at) ≡ outcome (rulesOf (textLimits n) m (drop at t) at)
+        pub rules-stopped : {s : Stop} → stepAt t n (rowPlan 14 1) at ≡ Stopped s → stepAnswer 10 (stepAt t n (rowPlan 14 1) at) ≡ outcome (readRules (textLimits n) m (drop at t) at)
         unfolding outcome
         rules-stopped e = go m some (was-fault (expr rule) at e)
           where
             left : drop at t ≡ [] → ⊥
             left z = omega (arith, sym (length-drop at t) ∙ ap length z)
 
-            go : (k : ℕ) → (k ≡ 0 → ⊥) → WasFault t n (expr rule) at → stepAnswer 10 (stepAt t n (rowPlan 14 1) at) ≡ outcome (rulesOf (textLimits n) k (drop at t) at)
+            go : (k : ℕ) → (k ≡ 0 → ⊥) → WasFault t n (expr rule) at → stepAnswer 10 (stepAt t n (rowPlan 14 1) at) ≡ outcome (readRules (textLimits n) k (drop at t) at)
             go zero h f = absurd (h refl)
             go (suc k) h f = fault-answer (expr rule) at 10 f ∙ sym (ap outcome (rules-fault (textLimits n) k (drop at t) at (f .why) (f .place) left (f .reading)))
 

@@ -11,7 +11,7 @@ use Rattle.logic.specs.Syntax.{Expr, rule, Edit}
 use Rattle.text.specs.Code.{code, editCode, bookCode}
 use Rattle.text.specs.Reading.{Limits, expr, edit, Fault, Read, got, fault, follow, readAs}
 use Rattle.text.specs.Stands.{RulesInRange}
-use Rattle.text.specs.Questions.{faultNumber, mostRules, first, whole, rulesOf, askBook, askFirst, askEdit}
+use Rattle.text.specs.Questions.{faultNumber, mostRules, first, whole, readRules, askBook, askFirst, askEdit}
 use Rattle.text.proofs.Converse.{Allowed, Written, Wrote, wrote}
 use Rattle.text.proofs.ReadBack.{reads}
 
@@ -66,8 +66,8 @@ module _ (l : Limits) where
   Rules m t (passed book) = SpellsRules l m t book
   Rules m t (refused q p) = Unit {0}
 
-  rules : (m : ℕ) (t : List ℕ) (at : ℕ) → Rules m t (rulesOf l m t at)
-  unfolding rulesOf bookCode _>>=_
+  rules : (m : ℕ) (t : List ℕ) (at : ℕ) → Rules m t (readRules l m t at)
+  unfolding readRules bookCode _>>=_
   rules zero [] at = record { text-is = refl; few = omega arith; rules = tt }
   rules zero (c ∷ t) at = tt
   rules (suc m) [] at = record { text-is = refl; few = omega arith; rules = tt }
@@ -77,25 +77,25 @@ module _ (l : Limits) where
       more K r p w (passed book) h = record { text-is = w .text-is ∙ ap (code K ++_) (h .text-is); few = omega (arith, h .few); rules = (w .within, h .rules) }
       more K r p w (refused q p′) h = tt
 
-      go : (x : Read (Expr rule)) → Wrote l (expr rule) 1 (c ∷ t) at x → ((r : List ℕ) (p : ℕ) → Rules m r (rulesOf l m r p))
-          → Rules (suc m) (c ∷ t) (elim x [ got K r p ↦ rulesOf l m r p >>= (λ book. passed (K ∷ book)) | fault why p ↦ refused (faultNumber 10 why) p ])
-      go (got K r p) w k = more K r p w (rulesOf l m r p) (k r p)
+      go : (x : Read (Expr rule)) → Wrote l (expr rule) 1 (c ∷ t) at x → ((r : List ℕ) (p : ℕ) → Rules m r (readRules l m r p))
+          → Rules (suc m) (c ∷ t) (elim x [ got K r p ↦ readRules l m r p >>= (λ book. passed (K ∷ book)) | fault why p ↦ refused (faultNumber 10 why) p ])
+      go (got K r p) w k = more K r p w (readRules l m r p) (k r p)
       go (fault why p) w k = tt
 
   -- where a rule is read, the rules are that one and those behind it
-  pub rules-step : (m : ℕ) (t : List ℕ) (at : ℕ) (K : Expr rule) (r : List ℕ) (p : ℕ) → readAs l (expr rule) t at ≡ got K r p → rulesOf l (suc m) t at ≡ rulesOf l m r p >>= (λ book. passed (K ∷ book))
-  unfolding rulesOf follow
+  pub rules-step : (m : ℕ) (t : List ℕ) (at : ℕ) (K : Expr rule) (r : List ℕ) (p : ℕ) → readAs l (expr rule) t at ≡ got K r p → readRules l (suc m) t at ≡ readRules l m r p >>= (λ book. passed (K ∷ book))
+  unfolding readRules follow
   rules-step m [] at K r p h = let z : _≡_ {A = ℕ} 0 1 = cc in absurd (omega arith)
-  rules-step m (c ∷ t) at K r p h = ap (λ x. elim x as (λ y. Asked (List (Expr rule))) [ got K r p ↦ rulesOf l m r p >>= (λ book. passed (K ∷ book)) | fault why p ↦ refused (faultNumber 10 why) p ]) h
+  rules-step m (c ∷ t) at K r p h = ap (λ x. elim x as (λ y. Asked (List (Expr rule))) [ got K r p ↦ readRules l m r p >>= (λ book. passed (K ∷ book)) | fault why p ↦ refused (faultNumber 10 why) p ]) h
 
-  pub rules-fault : (m : ℕ) (t : List ℕ) (at : ℕ) (why : Fault) (p : ℕ) → (t ≡ [] → ⊥) → readAs l (expr rule) t at ≡ fault why p → rulesOf l (suc m) t at ≡ refused (faultNumber 10 why) p
-  unfolding rulesOf
+  pub rules-fault : (m : ℕ) (t : List ℕ) (at : ℕ) (why : Fault) (p : ℕ) → (t ≡ [] → ⊥) → readAs l (expr rule) t at ≡ fault why p → readRules l (suc m) t at ≡ refused (faultNumber 10 why) p
+  unfolding readRules
   rules-fault m [] at why p some h = absurd (some refl)
   rules-fault m (c ∷ t) at why p some h =
-      ap (λ x. elim x as (λ y. Asked (List (Expr rule))) [ got K r p ↦ rulesOf l m r p >>= (λ book. passed (K ∷ book)) | fault why p ↦ refused (faultNumber 10 why) p ]) h
+      ap (λ x. elim x as (λ y. Asked (List (Expr rule))) [ got K r p ↦ readRules l m r p >>= (λ book. passed (K ∷ book)) | fault why p ↦ refused (faultNumber 10 why) p ]) h
 
-  rules-back : (m : ℕ) (book : List (Expr rule)) (at : ℕ) → length book ≤ m → EachAllowed l book → rulesOf l m (bookCode book) at ≡ passed book
-  unfolding rulesOf bookCode _>>=_
+  rules-back : (m : ℕ) (book : List (Expr rule)) (at : ℕ) → length book ≤ m → EachAllowed l book → readRules l m (bookCode book) at ≡ passed book
+  unfolding readRules bookCode _>>=_
   rules-back zero [] at h a = refl
   rules-back zero (K ∷ book) at h a = absurd (omega arith)
   rules-back (suc m) [] at h a = refl
@@ -107,14 +107,14 @@ module _ (l : Limits) where
   pub book-is-spelled : (t : List ℕ) (book : List (Expr rule)) → askBook l t ≡ passed book → SpellsBook l t book
   unfolding askBook
   book-is-spelled t book h =
-      let q = is-then (leb (length t) (l .longest)) 11 0 (rulesOf l mostRules t 0) book h in
+      let q = is-then (leb (length t) (l .longest)) 11 0 (readRules l mostRules t 0) book h in
       record { short = leb→le (length t) (l .longest) (q .so); spells = subst (Rules mostRules t) (q .then) (rules mostRules t 0) }
 
   pub spelled-book-passes : (t : List ℕ) (book : List (Expr rule)) → SpellsBook l t book → askBook l t ≡ passed book
   unfolding askBook
   spelled-book-passes t book s =
-      is-passed (leb (length t) (l .longest)) 11 0 (rulesOf l mostRules t 0) (le→leb (length t) (l .longest) (s .short))
-      ∙ ap (λ x. rulesOf l mostRules x 0) (s .spells .text-is)
+      is-passed (leb (length t) (l .longest)) 11 0 (readRules l mostRules t 0) (le→leb (length t) (l .longest) (s .short))
+      ∙ ap (λ x. readRules l mostRules x 0) (s .spells .text-is)
       ∙ rules-back mostRules book 0 (s .spells .few) (s .spells .rules)
 
   -- An edit likewise.

@@ -1,6 +1,6 @@
 -- The steps that the code makes: along a row, and at a code byte, which the table of rows has as the plans have it.
 use mathlib.Core.Path.{_≡_, refl, sym, _∙_, ap, ap₂, subst}
-use mathlib.Core.Bool.{Bool, true, false, _&&_}
+use mathlib.Core.Bool.{Bool, true, false, _&&_, cond}
 use mathlib.Core.List.{List, [], _∷_}
 use mathlib.Core.Logic.{_≢_}
 use Prim.Native.Nat.{ℕ, zero, suc, _+_, _-_, _/_, _%_, _≤_, _<_}
@@ -18,7 +18,7 @@ use Rattle.text.specs.declared.Stop.the-variants.{Missing, WrongSort, To
 use Rattle.text.specs.declared.Step.{Step}
 use Rattle.text.specs.declared.Step.the-variants.{Next, Stopped}
 use Rattle.text.specs.Reading.{textLimits, Want, expr, edit, Thing, Plan, number, operand, _>>=_, Entry, Read, fault, tooDeep, outOfRange, codes, choice, follow}
-use Rattle.text.specs.Rows.{Item, nothing, takes, deeper, here, items, itemOf, nodeRows, arrowRows, ruleRows, editRows, CodeSort, nodes, arrows, rules, edits, noCode, codeSort, rowIn, sortDigit, rowOf, itemPlan, finished, rowPlan, pick, sortOf, numberFits, stopOf, stepOf, stepAt, headAt}
+use Rattle.text.specs.Rows.{Item, nothing, takes, deeper, here, items, itemOf, nodeRows, arrowRows, ruleRows, editRows, CodeSort, nodes, arrows, rules, edits, noCode, codeSort, rowIn, sortDigit, rowOf, itemPlan, finished, rowPlan, sortOf, numberFits, stopOf, stepOf, stepAt, headAt}
 use Rattle.text.proofs.Compose.{Alike, same-end, same-number, same-operand, alike-bind, alike-steps, andThen, step-then}
 
 -- What holds of each number below m.
@@ -205,7 +205,7 @@ in-range lo hi c h = let q = both-true (leb lo c) (leb c hi) h in (leb-true lo c
 abbrev Chosen : ℕ → Bool → Bool → Bool → Bool → Type 0
 Chosen x p q r s = ((x ≡ 0xC → p ≡ true) × (x ≡ 0xD → q ≡ true)) × ((x ≡ 0xE → r ≡ true) × (x ≡ 0xF → s ≡ true))
 
-chosen : (p q r s : Bool) → Chosen (sortDigit (pick p nodes (pick q arrows (pick r rules (pick s edits noCode))))) p q r s
+chosen : (p q r s : Bool) → Chosen (sortDigit (cond p nodes (cond q arrows (cond r rules (cond s edits noCode))))) p q r s
 unfolding sortDigit
 chosen true q r s = ((λ h. refl, λ h. absurd (omega arith)), (λ h. absurd (omega arith), λ h. absurd (omega arith)))
 chosen false true r s = ((λ h. absurd (omega arith), λ h. refl), (λ h. absurd (omega arith), λ h. absurd (omega arith)))
@@ -254,38 +254,38 @@ has-entry edit d c h n =
 
 module _ (text : List ℕ) (n : ℕ) where
   -- a thing wanted at a place with a byte c and others behind it
-  at-byte : (w : Want) (d at c : ℕ) (t : List ℕ) → stepOf (follow (textLimits n) (c ∷ t) (operand w d (λ e. finished)) at) ≡ pick (eqb (sortOf c) (digit w)) (pick (leb d 32) (stepOf (follow (textLimits n) t (rowPlan (rowOf c) d) (suc at))) (Stopped (TooDeep at))) (Stopped (WrongSort at))
+  at-byte : (w : Want) (d at c : ℕ) (t : List ℕ) → stepOf (follow (textLimits n) (c ∷ t) (operand w d (λ e. finished)) at) ≡ cond (eqb (sortOf c) (digit w)) (cond (leb d 32) (stepOf (follow (textLimits n) t (rowPlan (rowOf c) d) (suc at))) (Stopped (TooDeep at))) (Stopped (WrongSort at))
   unfolding follow stepOf stopOf
   at-byte w d at c t = go (eqb (sortOf c) (digit w)) (eqb-true (sortOf c) (digit w)) (eqb-false (sortOf c) (digit w))
     where
-      opened : (b : Bool) (p : Plan (Thing w)) → Alike p (rowPlan (rowOf c) d) → stepOf {A = Unit {0}} (elim b as (λ z. Read (Unit {0})) [ true ↦ follow (textLimits n) t (p >>= (λ e. finished)) (suc at) | false ↦ fault tooDeep at ]) ≡ pick b (stepOf (follow (textLimits n) t (rowPlan (rowOf c) d) (suc at))) (Stopped (TooDeep at))
+      opened : (b : Bool) (p : Plan (Thing w)) → Alike p (rowPlan (rowOf c) d) → stepOf {A = Unit {0}} (elim b as (λ z. Read (Unit {0})) [ true ↦ follow (textLimits n) t (p >>= (λ e. finished)) (suc at) | false ↦ fault tooDeep at ]) ≡ cond b (stepOf (follow (textLimits n) t (rowPlan (rowOf c) d) (suc at))) (Stopped (TooDeep at))
       opened true p a = alike-steps (textLimits n) (alike-bind tt a) t (suc at)
       opened false p a = refl
 
-      go : (b : Bool) → (b ≡ true → sortOf c ≡ digit w) → (b ≡ false → sortOf c ≡ digit w → ⊥) → stepOf (follow (textLimits n) (c ∷ t) (operand w d (λ e. finished)) at) ≡ pick b (pick (leb d 32) (stepOf (follow (textLimits n) t (rowPlan (rowOf c) d) (suc at))) (Stopped (TooDeep at))) (Stopped (WrongSort at))
+      go : (b : Bool) → (b ≡ true → sortOf c ≡ digit w) → (b ≡ false → sortOf c ≡ digit w → ⊥) → stepOf (follow (textLimits n) (c ∷ t) (operand w d (λ e. finished)) at) ≡ cond b (cond (leb d 32) (stepOf (follow (textLimits n) t (rowPlan (rowOf c) d) (suc at))) (Stopped (TooDeep at))) (Stopped (WrongSort at))
       go true f g = an-entry w d c _ _ _ (opened (leb d 32)) (codes d w) (codes-rows w d) (has-entry w d c (f refl))
       go false f g = ap stepOf (no-entry w d c _ _ (codes d w) (codes-rows w d) (g refl))
 
-  pick-then : (b e : Bool) (at : ℕ) (k : ℕ → Step) → pick b (pick e (k (at + 1)) (Stopped (TooDeep at))) (Stopped (WrongSort at)) ≡ andThen (pick b (pick e (Next (at + 1)) (Stopped (TooDeep at))) (Stopped (WrongSort at))) k
-  pick-then true true at k = refl
-  pick-then true false at k = refl
-  pick-then false e at k = refl
+  cond-then : (b e : Bool) (at : ℕ) (k : ℕ → Step) → cond b (cond e (k (at + 1)) (Stopped (TooDeep at))) (Stopped (WrongSort at)) ≡ andThen (cond b (cond e (Next (at + 1)) (Stopped (TooDeep at))) (Stopped (WrongSort at))) k
+  cond-then true true at k = refl
+  cond-then true false at k = refl
+  cond-then false e at k = refl
 
   -- A code at a place: its questions, and then its row from the next byte on.
   pub at-code : (w : Want) (d at : ℕ) → stepAt text n (operand w d (λ e. finished)) at ≡ andThen (headAt text (digit w) d at) (λ p. stepAt text n (rowPlan (rowOf (getD text at 0)) d) p)
   unfolding stepAt headAt stepOf stopOf follow
   at-code w d at = elim (decLt at (length text)) [ yes h ↦ there h | no h ↦ ends (omega arith) ]
     where
-      ends : length text ≤ at → stepOf (follow (textLimits n) (drop at text) (operand w d (λ e. finished)) at) ≡ andThen (pick (ltb at (length text)) (pick (eqb (sortOf (getD text at 0)) (digit w)) (pick (leb d 32) (Next (at + 1)) (Stopped (TooDeep at))) (Stopped (WrongSort at))) (Stopped (Missing at))) (λ p. stepOf (follow (textLimits n) (drop p text) (rowPlan (rowOf (getD text at 0)) d) p))
+      ends : length text ≤ at → stepOf (follow (textLimits n) (drop at text) (operand w d (λ e. finished)) at) ≡ andThen (cond (ltb at (length text)) (cond (eqb (sortOf (getD text at 0)) (digit w)) (cond (leb d 32) (Next (at + 1)) (Stopped (TooDeep at))) (Stopped (WrongSort at))) (Stopped (Missing at))) (λ p. stepOf (follow (textLimits n) (drop p text) (rowPlan (rowOf (getD text at 0)) d) p))
       ends h = rw (drop-of-length-le text h, le-ltb at (length text) h) refl
 
-      there : at < length text → stepOf (follow (textLimits n) (drop at text) (operand w d (λ e. finished)) at) ≡ andThen (pick (ltb at (length text)) (pick (eqb (sortOf (getD text at 0)) (digit w)) (pick (leb d 32) (Next (at + 1)) (Stopped (TooDeep at))) (Stopped (WrongSort at))) (Stopped (Missing at))) (λ p. stepOf (follow (textLimits n) (drop p text) (rowPlan (rowOf (getD text at 0)) d) p))
+      there : at < length text → stepOf (follow (textLimits n) (drop at text) (operand w d (λ e. finished)) at) ≡ andThen (cond (ltb at (length text)) (cond (eqb (sortOf (getD text at 0)) (digit w)) (cond (leb d 32) (Next (at + 1)) (Stopped (TooDeep at))) (Stopped (WrongSort at))) (Stopped (Missing at))) (λ p. stepOf (follow (textLimits n) (drop p text) (rowPlan (rowOf (getD text at 0)) d) p))
       there h =
           ap (λ z. stepOf (follow (textLimits n) z (operand w d (λ e. finished)) at)) (drop-cons text at 0 h)
           ∙ at-byte w d at (getD text at 0) (drop (suc at) text)
-          ∙ ap (λ m. pick (eqb (sortOf (getD text at 0)) (digit w)) (pick (leb d 32) (stepOf (follow (textLimits n) (drop m text) (rowPlan (rowOf (getD text at 0)) d) m)) (Stopped (TooDeep at))) (Stopped (WrongSort at))) (sym (add-one at))
-          ∙ pick-then (eqb (sortOf (getD text at 0)) (digit w)) (leb d 32) at (λ p. stepOf (follow (textLimits n) (drop p text) (rowPlan (rowOf (getD text at 0)) d) p))
-          ∙ ap (λ b. andThen (pick b (pick (eqb (sortOf (getD text at 0)) (digit w)) (pick (leb d 32) (Next (at + 1)) (Stopped (TooDeep at))) (Stopped (WrongSort at))) (Stopped (Missing at))) (λ p. stepOf (follow (textLimits n) (drop p text) (rowPlan (rowOf (getD text at 0)) d) p))) (sym (lt-ltb at (length text) h))
+          ∙ ap (λ m. cond (eqb (sortOf (getD text at 0)) (digit w)) (cond (leb d 32) (stepOf (follow (textLimits n) (drop m text) (rowPlan (rowOf (getD text at 0)) d) m)) (Stopped (TooDeep at))) (Stopped (WrongSort at))) (sym (add-one at))
+          ∙ cond-then (eqb (sortOf (getD text at 0)) (digit w)) (leb d 32) at (λ p. stepOf (follow (textLimits n) (drop p text) (rowPlan (rowOf (getD text at 0)) d) p))
+          ∙ ap (λ b. andThen (cond b (cond (eqb (sortOf (getD text at 0)) (digit w)) (cond (leb d 32) (Next (at + 1)) (Stopped (TooDeep at))) (Stopped (WrongSort at))) (Stopped (Missing at))) (λ p. stepOf (follow (textLimits n) (drop p text) (rowPlan (rowOf (getD text at 0)) d) p))) (sym (lt-ltb at (length text) h))
 
   -- A row at its first item, where that stands not on the code's own level: the item, and then the others.
   pub at-item : (row d at : ℕ) → row < 65536 → row % 16 < 12 → stepAt text n (rowPlan row d) at ≡ andThen (stepAt text n (itemPlan (itemOf (row % 16)) d finished) at) (λ p. stepAt text n (rowPlan (row / 16) d) p)
@@ -326,7 +326,7 @@ module _ (text : List ℕ) (n : ℕ) where
   unfolding itemPlan stepAt stepOf stopOf follow
   number-missing k d at h = rw (drop-of-length-le text h) refl
 
-  pub number-there : (k : Kind) (d at : ℕ) → at < length text → stepAt text n (itemPlan (takes k) d finished) at ≡ pick (fits (ranges n) k (getD text at 0)) (Next (at + 1)) (Stopped (OutOfRange at))
+  pub number-there : (k : Kind) (d at : ℕ) → at < length text → stepAt text n (itemPlan (takes k) d finished) at ≡ cond (fits (ranges n) k (getD text at 0)) (Next (at + 1)) (Stopped (OutOfRange at))
   unfolding itemPlan stepAt stepOf stopOf follow
   number-there k d at h = ap (λ z. stepOf (follow (textLimits n) z (number k (λ x. finished)) at)) (drop-cons text at 0 h) ∙ go (fits (ranges n) k (getD text at 0)) (drop (suc at) text)
     where
@@ -334,7 +334,7 @@ module _ (text : List ℕ) (n : ℕ) where
       next [] = ap Next (sym (add-one at))
       next (x ∷ t) = ap Next (sym (add-one at))
 
-      go : (b : Bool) (t : List ℕ) → stepOf {A = Unit {0}} (elim b as (λ z. Read (Unit {0})) [ true ↦ follow (textLimits n) t finished (suc at) | false ↦ fault outOfRange at ]) ≡ pick b (Next (at + 1)) (Stopped (OutOfRange at))
+      go : (b : Bool) (t : List ℕ) → stepOf {A = Unit {0}} (elim b as (λ z. Read (Unit {0})) [ true ↦ follow (textLimits n) t finished (suc at) | false ↦ fault outOfRange at ]) ≡ cond b (Next (at + 1)) (Stopped (OutOfRange at))
       go true t = next t
       go false t = refl
 
@@ -352,7 +352,7 @@ pub head-passed : (text : List ℕ) (x d at p : ℕ) → headAt text x d at ≡ 
 unfolding headAt
 head-passed text x d at p h = go (ltb at (length text)) (eqb (sortOf (getD text at 0)) x) (leb d 32) (ltb-true at (length text)) (leb-true d 32) h
   where
-    go : (a b c : Bool) → (a ≡ true → at < length text) → (c ≡ true → d ≤ 32) → pick a (pick b (pick c (Next (at + 1)) (Stopped (TooDeep at))) (Stopped (WrongSort at))) (Stopped (Missing at)) ≡ Next p → Headed text d at p
+    go : (a b c : Bool) → (a ≡ true → at < length text) → (c ≡ true → d ≤ 32) → cond a (cond b (cond c (Next (at + 1)) (Stopped (TooDeep at))) (Stopped (WrongSort at))) (Stopped (Missing at)) ≡ Next p → Headed text d at p
     go true true true i j e = record { inside = i refl; level = j refl; place-is = cc }
     go true true false i j e = let z : _≡_ {A = ℕ} 0 1 = cc in absurd (omega arith)
     go true false c i j e = let z : _≡_ {A = ℕ} 0 1 = cc in absurd (omega arith)
@@ -387,14 +387,14 @@ module _ (text : List ℕ) (n x at : ℕ) where
     pub number-ends : length text ≤ at → Stopped (Missing at) ≡ stepAt text n (itemPlan (itemOf x) 0 finished) at
     number-ends h = let q = is-number x low high in sym (ap (λ i. stepAt text n (itemPlan i 0 finished) at) (q .item-is) ∙ number-missing text n (q .kind) 0 at h)
 
-    pub number-is : (b : Bool) → at < length text → numberFits n (itemOf x) (getD text at 0) ≡ b → pick b (Next (at + 1)) (Stopped (OutOfRange at)) ≡ stepAt text n (itemPlan (itemOf x) 0 finished) at
+    pub number-is : (b : Bool) → at < length text → numberFits n (itemOf x) (getD text at 0) ≡ b → cond b (Next (at + 1)) (Stopped (OutOfRange at)) ≡ stepAt text n (itemPlan (itemOf x) 0 finished) at
     unfolding numberFits
     number-is b h e =
         let q = is-number x low high in
         sym
         (ap (λ i. stepAt text n (itemPlan i 0 finished) at) (q .item-is)
         ∙ number-there text n (q .kind) 0 at h
-        ∙ ap (λ c. pick c (Next (at + 1)) (Stopped (OutOfRange at))) (sym (ap (λ i. numberFits n i (getD text at 0)) (q .item-is)) ∙ e))
+        ∙ ap (λ c. cond c (Next (at + 1)) (Stopped (OutOfRange at))) (sym (ap (λ i. numberFits n i (getD text at 0)) (q .item-is)) ∙ e))
 
 -- The kinds by their digits; one that is none of label, arrow and node takes any byte.
 module _ (n x y : ℕ) where

@@ -8,7 +8,7 @@ use Rattle.logic.specs.Carry.{replace, putLabel, putArrow, carry}
 use Rattle.text.specs.Code.{code}
 use Rattle.text.specs.Reading.{codes, choice, follow}
 use Rattle.text.specs.Reading as reading
-use Rattle.text.specs.Questions.{first, whole, rulesOf, askBook, askFirst, askEdit}
+use Rattle.text.specs.Questions.{first, whole, readRules, askBook, askFirst, askEdit}
 use Rattle.text.specs.Marked.{sheetT, members, onT, judgedOnT, throughOnT, Right, examples, times, found, texts}
 
 -- Examples 1 to 10: from the printed bytes to what is printed.
@@ -18,5 +18,5 @@ marked = refl
 
 -- The faults and their places.
 pub faults : Right texts
-unfolding texts times found first whole rulesOf askBook askFirst askEdit _>>=_ _>>_ is codes choice follow reading._>>=_
+unfolding texts times found first whole readRules askBook askFirst askEdit _>>=_ _>>_ is codes choice follow reading._>>=_
 faults = refl

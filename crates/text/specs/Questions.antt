@@ -33,13 +33,13 @@ whole (fault why p) = refused (faultNumber 20 why) p
 
 module _ (l : Limits) where
   -- The rules of a text, at most m of them: 12 to 15 of each, and 16 before one too many.
-  unfoldable pub rulesOf : (m : ℕ) → List ℕ → ℕ → Asked (List (Expr rule))
-  rulesOf zero [] at = passed []
-  rulesOf zero (c ∷ t) at = refused 16 at
-  rulesOf (suc m) [] at = passed []
-  rulesOf (suc m) (c ∷ t) at =
+  unfoldable pub readRules : (m : ℕ) → List ℕ → ℕ → Asked (List (Expr rule))
+  readRules zero [] at = passed []
+  readRules zero (c ∷ t) at = refused 16 at
+  readRules (suc m) [] at = passed []
+  readRules (suc m) (c ∷ t) at =
       elim (readAs l (expr rule) (c ∷ t) at) [
-        | got K rest p ↦ rulesOf m rest p >>= (λ book. passed (K ∷ book))
+        | got K rest p ↦ readRules m rest p >>= (λ book. passed (K ∷ book))
         | fault why p ↦ refused (faultNumber 10 why) p
       ]
 
@@ -56,7 +56,7 @@ module _ (l : Limits) where
   unfoldable pub askBook : List ℕ → Asked (List (Expr rule))
   askBook t = do
     is (leb (length t) (l .longest)) 11 0
-    rulesOf mostRules t 0
+    readRules mostRules t 0
 
   -- The first rule of a text: 11, then 12 to 15 for it alone.
   unfoldable pub askFirst : List ℕ → Asked (Expr rule)

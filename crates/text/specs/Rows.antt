@@ -1,5 +1,5 @@
 -- The codes as a table of rows, one number for each code, and how the code's steps follow the plans of a reading.
-use mathlib.Core.Bool.{Bool, true, false, _&&_}
+use mathlib.Core.Bool.{Bool, true, _&&_, cond}
 use mathlib.Core.List.{List, [], _∷_}
 use Prim.Native.Nat.{ℕ, suc, _+_, _-_, _/_, _%_}
 use lib.Dec.{leb, ltb, eqb}
@@ -32,10 +32,6 @@ items =
 
 unfoldable pub itemOf : ℕ → Item
 itemOf x = getD items x nothing
-
-abbrev pub pick : {A : Type 0} → Bool → A → A → A
-pick true a b = a
-pick false a b = b
 
 -- The row of each code: its items as hexadecimal digits, the first item is the last digit.
 unfoldable pub nodeRows : List ℕ
@@ -91,10 +87,10 @@ pub data CodeSort : Type 0 where
 
 unfoldable pub codeSort : ℕ → CodeSort
 codeSort c =
-    pick (leb 0x01 c && leb c 0x0B) nodes
-    (pick (leb 0x11 c && leb c 0x17) arrows
-    (pick (leb 0x21 c && leb c 0x27) rules
-    (pick (leb 0x30 c && leb c 0x35) edits noCode)))
+    cond (leb 0x01 c && leb c 0x0B) nodes
+    (cond (leb 0x11 c && leb c 0x17) arrows
+    (cond (leb 0x21 c && leb c 0x27) rules
+    (cond (leb 0x30 c && leb c 0x35) edits noCode)))
 
 -- The row of a code of a sort, and the sort as the digit of an item that stands on the code's level; 0 where the byte is no code.
 unfoldable pub rowIn : CodeSort → ℕ → ℕ
@@ -164,6 +160,6 @@ stepAt text n plan at = stepOf (follow (textLimits n) (drop at text) plan at)
 -- The questions at a code byte: is it there, is it of the sort, is its level within the limit.
 unfoldable pub headAt : List ℕ → (sort d at : ℕ) → Step
 headAt text sort d at =
-    pick (ltb at (length text))
-    (pick (eqb (sortOf (getD text at 0)) sort) (pick (leb d 32) (Next (at + 1)) (Stopped (TooDeep at))) (Stopped (WrongSort at)))
+    cond (ltb at (length text))
+    (cond (eqb (sortOf (getD text at 0)) sort) (cond (leb d 32) (Next (at + 1)) (Stopped (TooDeep at))) (Stopped (WrongSort at)))
     (Stopped (Missing at))

@@ -10,8 +10,8 @@ use Rattle.logic.specs.Syntax.{rule, Expr, Edit, finish, addLabel, takeLabel, a
 use Rattle.logic.specs.Carry.{carry}
 use Rattle.text.specs.Code.{code, bookCode, bookLevels}
 use Rattle.tree.specs.Tree.{same, under, tree}
-use Rattle.tree.proofs.Trees.{bytes-tree, height-tree, size-is}
-use Rattle.tree.specs.Sizes.{Measure, measure, passed, chosen, back, join, nothing, measures}
+use Rattle.tree.proofs.Trees.{code-tree, height-tree, size-is}
+use Rattle.tree.specs.Sizes.{Measure, measure, substituted, chosen, back, join, nothing, measures}
 use Rattle.tree.proofs.Measured.{under-max, max-under, measured}
 
 -- Joining is a sum, and a maximum, in each number.
@@ -50,9 +50,9 @@ join-assoc M N O = λ i. record {
     top : (x y z : ℕ) → max (max x y) z ≡ max x (max y z)
     top x y z = omega arith
 
-pub passed-join : (c k more : ℕ) (E M N : Measure) → passed c k more E (join M N) ≡ join (passed c k more E M) (passed c k more E N)
-unfolding passed join
-passed-join c k more E M N = λ i. record {
+pub substituted-join : (c k more : ℕ) (E M N : Measure) → substituted c k more E (join M N) ≡ join (substituted c k more E M) (substituted c k more E N)
+unfolding substituted join
+substituted-join c k more E M N = λ i. record {
   len = sums (M .len) (N .len) (more + E .len) i;
   tall = tops (M .tall) (N .tall) (E .tall) i;
   counts = λ c′ k′. sums (M .counts c′ k′) (N .counts c′ k′) (E .counts c′ k′) i;
@@ -111,10 +111,10 @@ chosen-join r s K T U T′ U′ = λ i. record {
 pub back-join : (r s : ℕ) (Z : Edit) (M N : Measure) → back (r + s) Z (join M N) ≡ join (back r Z M) (back s Z N)
 unfolding back
 back-join r s finish M N = refl
-back-join r s (addLabel k E Z) M N = ap (passed 0x03 k 1 (measure (tree E))) (back-join r s Z M N) ∙ passed-join 0x03 k 1 (measure (tree E)) (back r Z M) (back s Z N)
-back-join r s (takeLabel k E Z) M N = ap (passed 0x03 k 2 (measure (tree E))) (back-join r s Z M N) ∙ passed-join 0x03 k 2 (measure (tree E)) (back r Z M) (back s Z N)
-back-join r s (addArrow a R Z) M N = ap (passed 0x11 a 1 (measure (tree R))) (back-join r s Z M N) ∙ passed-join 0x11 a 1 (measure (tree R)) (back r Z M) (back s Z N)
-back-join r s (takeArrow a R Z) M N = ap (passed 0x11 a 1 (measure (tree R))) (back-join r s Z M N) ∙ passed-join 0x11 a 1 (measure (tree R)) (back r Z M) (back s Z N)
+back-join r s (addLabel k E Z) M N = ap (substituted 0x03 k 1 (measure (tree E))) (back-join r s Z M N) ∙ substituted-join 0x03 k 1 (measure (tree E)) (back r Z M) (back s Z N)
+back-join r s (takeLabel k E Z) M N = ap (substituted 0x03 k 2 (measure (tree E))) (back-join r s Z M N) ∙ substituted-join 0x03 k 2 (measure (tree E)) (back r Z M) (back s Z N)
+back-join r s (addArrow a R Z) M N = ap (substituted 0x11 a 1 (measure (tree R))) (back-join r s Z M N) ∙ substituted-join 0x11 a 1 (measure (tree R)) (back r Z M) (back s Z N)
+back-join r s (takeArrow a R Z) M N = ap (substituted 0x11 a 1 (measure (tree R))) (back-join r s Z M N) ∙ substituted-join 0x11 a 1 (measure (tree R)) (back r Z M) (back s Z N)
 back-join r s (choose K P Q Z) M N =
     ap₂ (chosen (r + s) (measure (tree K))) (ap (back (r + s) P) (back-join r s Z M N) ∙ back-join r s P (back r Z M) (back s Z N)) (ap (back (r + s) Q) (back-join r s Z M N) ∙ back-join r s Q (back r Z M) (back s Z N))
     ∙ chosen-join r s (measure (tree K)) (back r P (back r Z M)) (back s P (back s Z N)) (back r Q (back r Z M)) (back s Q (back s Z N))
@@ -131,7 +131,7 @@ measured-book Z K (L ∷ Ks) =
 pub len-codes : (Ks : List (Expr rule)) → measures Ks .len ≡ length (bookCode Ks)
 unfolding measures join nothing measure bookCode
 len-codes [] = refl
-len-codes (K ∷ Ks) = omega (arith, size-is (tree K), ap length (bytes-tree K), len-codes Ks, length-append (code K) (bookCode Ks))
+len-codes (K ∷ Ks) = omega (arith, size-is (tree K), ap length (code-tree K), len-codes Ks, length-append (code K) (bookCode Ks))
 
 -- its levels are those of the deepest rule
 pub tall-levels : (Ks : List (Expr rule)) → measures Ks .tall ≡ bookLevels Ks

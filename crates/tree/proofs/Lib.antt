@@ -1,5 +1,5 @@
 pub mod Trees
 pub mod Measured
-pub mod Cut
+pub mod Capped
 pub mod Books
 pub mod Written

@@ -11,7 +11,7 @@ use Rattle.logic.specs.Syntax.{rule, Expr, label, complement, and, or, arrowKin
 use Rattle.logic.specs.Carry.{carry}
 use Rattle.tree.specs.Tree.{Tree, name, leaf, one, two, graft, same, only, size, height, count, under, deep, tree}
 use Rattle.tree.proofs.Trees.{tree-putLabel, tree-putArrow}
-use Rattle.tree.specs.Sizes.{measure, passed, chosen, back}
+use Rattle.tree.specs.Sizes.{measure, substituted, chosen, back}
 
 pub under-max : (d x y : ℕ) → under d (max x y) ≡ max (under d x) (under d y)
 unfolding under
@@ -200,8 +200,8 @@ module _ (c k more : ℕ) (E F : Tree) (size-F : size F ≡ 2 + (more + size E))
           two-none : (x : ℕ) → under x (under 2 0) ≡ 0
           two-none x = under-nothing x
 
-  pub step-measure : (t : Tree) → measure (graft (only c k F) t) ≡ passed c k more (measure E) (measure t)
-  unfolding measure passed
+  pub step-measure : (t : Tree) → measure (graft (only c k F) t) ≡ substituted c k more (measure E) (measure t)
+  unfolding measure substituted
   step-measure t = λ i. record {
     len = size-only c k F (more + size E) size-F t i;
     tall = tall-path i;
@@ -213,12 +213,12 @@ module _ (c k more : ℕ) (E F : Tree) (size-F : size F ≡ 2 + (more + size E))
       tall-path = height-only c k F t ∙ ap (λ (x : ℕ). max (height t) (under (deep t c k) x)) (height-F ∙ sym (under-more more (height E) (height-pos E))) ∙ ap (max (height t)) (sym (under-under (deep t c k) (suc more) (height E)))
 
 -- 07 c k E, 13 c k E, 15 c k E
-pub plain-step : (b c k : ℕ) (E t : Tree) → measure (graft (only c k (two (b ∷ []) (name c k) E)) t) ≡ passed c k 1 (measure E) (measure t)
+pub plain-step : (b c k : ℕ) (E t : Tree) → measure (graft (only c k (two (b ∷ []) (name c k) E)) t) ≡ substituted c k 1 (measure E) (measure t)
 unfolding size height count deep
 plain-step b c k E t = step-measure c k 1 E (two (b ∷ []) (name c k) E) (omega arith) (omega (arith, height-pos E)) (λ c′ k′. refl) (λ c′ k′. under-max 2 (cond (same c k c′ k′) 1 0) (deep E c′ k′)) t
 
 -- 06 c k 05 E
-pub not-step : (c k : ℕ) (E t : Tree) → measure (graft (only c k (two (0x06 ∷ []) (name c k) (one (0x05 ∷ []) E))) t) ≡ passed c k 2 (measure E) (measure t)
+pub not-step : (c k : ℕ) (E t : Tree) → measure (graft (only c k (two (0x06 ∷ []) (name c k) (one (0x05 ∷ []) E))) t) ≡ substituted c k 2 (measure E) (measure t)
 unfolding size height count deep under
 not-step c k E t = step-measure c k 2 E (two (0x06 ∷ []) (name c k) (one (0x05 ∷ []) E)) (omega arith) (omega (arith, height-pos E)) (λ c′ k′. refl)
     (λ c′ k′. under-max 2 (cond (same c k c′ k′) 1 0) (under 2 (deep E c′ k′)) ∙ ap (max (under 2 (cond (same c k c′ k′) 1 0))) (sym (under-under 2 2 (deep E c′ k′)))) t
@@ -250,10 +250,10 @@ choice-measure K T U = λ i. record { len = lens i; tall = talls i; counts = λ 
 pub measured : (Z : Edit) (K : Expr rule) → measure (tree (carry Z K)) ≡ back 1 Z (measure (tree K))
 unfolding carry back tree
 measured finish K = refl
-measured (addLabel k E Z) K = ap measure (tree-putLabel k (or (label k) E) (carry Z K)) ∙ plain-step 0x07 0x03 k (tree E) (tree (carry Z K)) ∙ ap (passed 0x03 k 1 (measure (tree E))) (measured Z K)
-measured (takeLabel k E Z) K = ap measure (tree-putLabel k (and (label k) (complement E)) (carry Z K)) ∙ not-step 0x03 k (tree E) (tree (carry Z K)) ∙ ap (passed 0x03 k 2 (measure (tree E))) (measured Z K)
-measured (addArrow a R Z) K = ap measure (tree-putArrow a (union (arrowKind a) R) (carry Z K)) ∙ plain-step 0x13 0x11 a (tree R) (tree (carry Z K)) ∙ ap (passed 0x11 a 1 (measure (tree R))) (measured Z K)
-measured (takeArrow a R Z) K = ap measure (tree-putArrow a (minus (arrowKind a) R) (carry Z K)) ∙ plain-step 0x15 0x11 a (tree R) (tree (carry Z K)) ∙ ap (passed 0x11 a 1 (measure (tree R))) (measured Z K)
+measured (addLabel k E Z) K = ap measure (tree-putLabel k (or (label k) E) (carry Z K)) ∙ plain-step 0x07 0x03 k (tree E) (tree (carry Z K)) ∙ ap (substituted 0x03 k 1 (measure (tree E))) (measured Z K)
+measured (takeLabel k E Z) K = ap measure (tree-putLabel k (and (label k) (complement E)) (carry Z K)) ∙ not-step 0x03 k (tree E) (tree (carry Z K)) ∙ ap (substituted 0x03 k 2 (measure (tree E))) (measured Z K)
+measured (addArrow a R Z) K = ap measure (tree-putArrow a (union (arrowKind a) R) (carry Z K)) ∙ plain-step 0x13 0x11 a (tree R) (tree (carry Z K)) ∙ ap (substituted 0x11 a 1 (measure (tree R))) (measured Z K)
+measured (takeArrow a R Z) K = ap measure (tree-putArrow a (minus (arrowKind a) R) (carry Z K)) ∙ plain-step 0x15 0x11 a (tree R) (tree (carry Z K)) ∙ ap (substituted 0x11 a 1 (measure (tree R))) (measured Z K)
 measured (choose K₁ P Q Z) K =
     choice-measure (tree K₁) (tree (carry P (carry Z K))) (tree (carry Q (carry Z K)))
     ∙ ap₂ (chosen 1 (measure (tree K₁))) (measured P (carry Z K) ∙ ap (back 1 P) (measured Z K)) (measured Q (carry Z K) ∙ ap (back 1 Q) (measured Z K))

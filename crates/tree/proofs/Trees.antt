@@ -10,35 +10,35 @@ use Rattle.logic.specs.Syntax.{Sort, node, arrow, rule, Expr, all, none, label,
 use Rattle.logic.specs.Steps.{update}
 use Rattle.logic.specs.Carry.{replace, putLabel, putArrow}
 use Rattle.text.specs.Code.{code, levels}
-use Rattle.tree.specs.Tree.{Tree, name, leaf, one, two, bytes, graft, only, size, height, tree}
+use Rattle.tree.specs.Tree.{Tree, name, leaf, one, two, treeCode, graft, only, size, height, tree}
 
-pub bytes-tree : {s : Sort} (e : Expr s) → bytes (tree e) ≡ code e
-unfolding bytes tree code
-bytes-tree (label k) = refl
-bytes-tree (arrowKind a) = refl
-bytes-tree all = refl
-bytes-tree none = refl
-bytes-tree (nominal i) = refl
-bytes-tree (complement E) = ap (λ l. 0x05 ∷ l) (bytes-tree E)
-bytes-tree (and E F) = ap₂ (λ u v. 0x06 ∷ u ++ v) (bytes-tree E) (bytes-tree F)
-bytes-tree (or E F) = ap₂ (λ u v. 0x07 ∷ u ++ v) (bytes-tree E) (bytes-tree F)
-bytes-tree (some R E) = ap₂ (λ u v. 0x08 ∷ u ++ v) (bytes-tree R) (bytes-tree E)
-bytes-tree (every R E) = ap₂ (λ u v. 0x09 ∷ u ++ v) (bytes-tree R) (bytes-tree E)
-bytes-tree (atLeast m R E) = ap₂ (λ u v. 0x0A ∷ m ∷ u ++ v) (bytes-tree R) (bytes-tree E)
-bytes-tree (atMost m R E) = ap₂ (λ u v. 0x0B ∷ m ∷ u ++ v) (bytes-tree R) (bytes-tree E)
-bytes-tree (reversed R) = ap (λ l. 0x12 ∷ l) (bytes-tree R)
-bytes-tree (union R S) = ap₂ (λ u v. 0x13 ∷ u ++ v) (bytes-tree R) (bytes-tree S)
-bytes-tree (common R S) = ap₂ (λ u v. 0x14 ∷ u ++ v) (bytes-tree R) (bytes-tree S)
-bytes-tree (minus R S) = ap₂ (λ u v. 0x15 ∷ u ++ v) (bytes-tree R) (bytes-tree S)
-bytes-tree (endingIn R E) = ap₂ (λ u v. 0x16 ∷ u ++ v) (bytes-tree R) (bytes-tree E)
-bytes-tree (pair i j) = refl
-bytes-tree (subNodes E F) = ap₂ (λ u v. 0x21 ∷ u ++ v) (bytes-tree E) (bytes-tree F)
-bytes-tree (subArrows R S) = ap₂ (λ u v. 0x22 ∷ u ++ v) (bytes-tree R) (bytes-tree S)
-bytes-tree (nodeIn i E) = ap (λ l. 0x23 ∷ i ∷ l) (bytes-tree E)
-bytes-tree (pairIn i j R) = ap (λ l. 0x24 ∷ i ∷ j ∷ l) (bytes-tree R)
-bytes-tree (both K L) = ap₂ (λ u v. 0x25 ∷ u ++ v) (bytes-tree K) (bytes-tree L)
-bytes-tree (either K L) = ap₂ (λ u v. 0x26 ∷ u ++ v) (bytes-tree K) (bytes-tree L)
-bytes-tree (notRule K) = ap (λ l. 0x27 ∷ l) (bytes-tree K)
+pub code-tree : {s : Sort} (e : Expr s) → treeCode (tree e) ≡ code e
+unfolding treeCode tree code
+code-tree (label k) = refl
+code-tree (arrowKind a) = refl
+code-tree all = refl
+code-tree none = refl
+code-tree (nominal i) = refl
+code-tree (complement E) = ap (λ l. 0x05 ∷ l) (code-tree E)
+code-tree (and E F) = ap₂ (λ u v. 0x06 ∷ u ++ v) (code-tree E) (code-tree F)
+code-tree (or E F) = ap₂ (λ u v. 0x07 ∷ u ++ v) (code-tree E) (code-tree F)
+code-tree (some R E) = ap₂ (λ u v. 0x08 ∷ u ++ v) (code-tree R) (code-tree E)
+code-tree (every R E) = ap₂ (λ u v. 0x09 ∷ u ++ v) (code-tree R) (code-tree E)
+code-tree (atLeast m R E) = ap₂ (λ u v. 0x0A ∷ m ∷ u ++ v) (code-tree R) (code-tree E)
+code-tree (atMost m R E) = ap₂ (λ u v. 0x0B ∷ m ∷ u ++ v) (code-tree R) (code-tree E)
+code-tree (reversed R) = ap (λ l. 0x12 ∷ l) (code-tree R)
+code-tree (union R S) = ap₂ (λ u v. 0x13 ∷ u ++ v) (code-tree R) (code-tree S)
+code-tree (common R S) = ap₂ (λ u v. 0x14 ∷ u ++ v) (code-tree R) (code-tree S)
+code-tree (minus R S) = ap₂ (λ u v. 0x15 ∷ u ++ v) (code-tree R) (code-tree S)
+code-tree (endingIn R E) = ap₂ (λ u v. 0x16 ∷ u ++ v) (code-tree R) (code-tree E)
+code-tree (pair i j) = refl
+code-tree (subNodes E F) = ap₂ (λ u v. 0x21 ∷ u ++ v) (code-tree E) (code-tree F)
+code-tree (subArrows R S) = ap₂ (λ u v. 0x22 ∷ u ++ v) (code-tree R) (code-tree S)
+code-tree (nodeIn i E) = ap (λ l. 0x23 ∷ i ∷ l) (code-tree E)
+code-tree (pairIn i j R) = ap (λ l. 0x24 ∷ i ∷ j ∷ l) (code-tree R)
+code-tree (both K L) = ap₂ (λ u v. 0x25 ∷ u ++ v) (code-tree K) (code-tree L)
+code-tree (either K L) = ap₂ (λ u v. 0x26 ∷ u ++ v) (code-tree K) (code-tree L)
+code-tree (notRule K) = ap (λ l. 0x27 ∷ l) (code-tree K)
 
 pub height-tree : {s : Sort} (e : Expr s) → height (tree e) ≡ levels e
 unfolding height tree levels
@@ -121,9 +121,9 @@ pub tree-putArrow : (a : ℕ) (S : Expr arrow) (K : Expr rule) → tree (putArro
 unfolding putArrow only tree
 tree-putArrow a S K = tree-replace label (update arrowKind a S) (only 0x11 a (tree S)) (λ k. refl) (only-arrow a S) K
 
-pub size-is : (t : Tree) → length (bytes t) ≡ size t
-unfolding size bytes
+pub size-is : (t : Tree) → length (treeCode t) ≡ size t
+unfolding size treeCode
 size-is (name c k) = refl
 size-is (leaf h) = refl
-size-is (one h x) = omega (arith, length-append h (bytes x), size-is x)
-size-is (two h x y) = omega (arith, length-append (h ++ bytes x) (bytes y), length-append h (bytes x), size-is x, size-is y)
+size-is (one h x) = omega (arith, length-append h (treeCode x), size-is x)
+size-is (two h x y) = omega (arith, length-append (h ++ treeCode x) (treeCode y), length-append h (treeCode x), size-is x, size-is y)

@@ -16,8 +16,8 @@ unfoldable pub measure : Tree → Measure
 measure t = record { len = size t; tall = height t; counts = count t; deeps = deep t }
 
 -- a text measured M, before a step that puts E to each name c k; `more` codes stand above E
-unfoldable pub passed : (c k more : ℕ) (E M : Measure) → Measure
-passed c k more E M = record {
+unfoldable pub substituted : (c k more : ℕ) (E M : Measure) → Measure
+substituted c k more E M = record {
   len = M .len + M .counts c k * (more + E .len);
   tall = max (M .tall) (under (under (M .deeps c k) (suc more)) (E .tall));
   counts = λ c′ k′. M .counts c′ k′ + M .counts c k * E .counts c′ k′;
@@ -35,10 +35,10 @@ chosen r K T U = record {
 
 unfoldable pub back : ℕ → Edit → Measure → Measure
 back r finish M = M
-back r (addLabel k E Z) M = passed 0x03 k 1 (measure (tree E)) (back r Z M)
-back r (takeLabel k E Z) M = passed 0x03 k 2 (measure (tree E)) (back r Z M)
-back r (addArrow a R Z) M = passed 0x11 a 1 (measure (tree R)) (back r Z M)
-back r (takeArrow a R Z) M = passed 0x11 a 1 (measure (tree R)) (back r Z M)
+back r (addLabel k E Z) M = substituted 0x03 k 1 (measure (tree E)) (back r Z M)
+back r (takeLabel k E Z) M = substituted 0x03 k 2 (measure (tree E)) (back r Z M)
+back r (addArrow a R Z) M = substituted 0x11 a 1 (measure (tree R)) (back r Z M)
+back r (takeArrow a R Z) M = substituted 0x11 a 1 (measure (tree R)) (back r Z M)
 back r (choose K P Q Z) M = chosen r (measure (tree K)) (back r P (back r Z M)) (back r Q (back r Z M))
 
 -- A book measured as one text: the measures of its rules joined.
@@ -53,8 +53,8 @@ measures [] = nothing
 measures (K ∷ Ks) = join (measure (tree K)) (measures Ks)
 
 -- A number cut at 16,385: exact up to 16,384, and over it when the true number is.
-abbrev pub cut : ℕ → ℕ
-cut x = min x 16385
+abbrev pub capped : ℕ → ℕ
+capped x = min x 16385
 
-unfoldable pub cutM : Measure → Measure
-cutM M = record { len = cut (M .len); tall = cut (M .tall); counts = λ c k. cut (M .counts c k); deeps = λ c k. cut (M .deeps c k) }
+unfoldable pub cappedMeasure : Measure → Measure
+cappedMeasure M = record { len = capped (M .len); tall = capped (M .tall); counts = λ c k. capped (M .counts c k); deeps = λ c k. capped (M .deeps c k) }

@@ -5,7 +5,7 @@ use Prim.Native.Nat.{ℕ}
 use lib.Dec.{eqb, ltb}
 use Rattle.logic.specs.Syntax.{Sort, rule, Expr, Edit}
 use Rattle.logic.specs.Carry.{carry}
-use Rattle.tree.specs.Tree.{Tree, name, one, two, bytes, graft, same, tree}
+use Rattle.tree.specs.Tree.{Tree, name, one, two, treeCode, graft, same, tree}
 
 -- a step as the stack holds it: its code byte 31 to 34, the number behind it, its expression
 pub record Step : Type 0 where
@@ -26,13 +26,13 @@ unfoldable pub env : List Step → ℕ → ℕ → Tree
 env [] c k = name c k
 env (s ∷ σ) c k = cond (same c k (touched (s .op)) (s .number)) (becomes (s .op) (env σ (touched (s .op)) (s .number)) (graft (env σ) (s .what))) (env σ c k)
 
--- the text of a rule carried through an edit, under the steps passed followedBy it
+-- the text of a rule carried through an edit, under the steps passed before it
 unfoldable pub written : List Step → Edit → Expr rule → List ℕ
-written σ Z K = bytes (graft (env σ) (tree (carry Z K)))
+written σ Z K = treeCode (graft (env σ) (tree (carry Z K)))
 
--- the text of an expression under the steps passed followedBy it
+-- the text of an expression under the steps passed
 unfoldable pub shown : List Step → {s : Sort} → Expr s → List ℕ
-shown σ e = bytes (graft (env σ) (tree e))
+shown σ e = treeCode (graft (env σ) (tree e))
 
 -- the bytes that a touched name becomes
 abbrev pub lead : ℕ → ℕ

@@ -12,11 +12,11 @@ pub data Tree : Type 0 where
   one : (h : List ℕ) (x : Tree) → Tree
   two : (h : List ℕ) (x y : Tree) → Tree
 
-unfoldable pub bytes : Tree → List ℕ
-bytes (name c k) = c ∷ k ∷ []
-bytes (leaf h) = h
-bytes (one h x) = h ++ bytes x
-bytes (two h x y) = h ++ bytes x ++ bytes y
+unfoldable pub treeCode : Tree → List ℕ
+treeCode (name c k) = c ∷ k ∷ []
+treeCode (leaf h) = h
+treeCode (one h x) = h ++ treeCode x
+treeCode (two h x y) = h ++ treeCode x ++ treeCode y
 
 -- every name replaced
 unfoldable pub graft : (ℕ → ℕ → Tree) → Tree → Tree

@@ -6,7 +6,7 @@ use native.Mathlib.Omega.{arith}
 use lib.ListN.{length, getD, set}
 use lib.Seq.{set-set, set-getD}
 use Rattle.logic.specs.Syntax.{Edit}
-use Rattle.tree.specs.Tree.{Tree, tree, bytes, graft}
+use Rattle.tree.specs.Tree.{Tree, tree, treeCode, graft}
 use Rattle.tree.specs.Stack.{Step, env, written}
 use Rattle.ends.specs.Shapes.{At}
 use Rattle.measure.specs.Edits.{EditAt}
@@ -15,7 +15,7 @@ use Rattle.measure.proofs.Rules.{rule-at}
 use Rattle.write.specs.Laid.{Wrote}
 use Rattle.write.specs.Offsets.{StackIs}
 use Rattle.write.specs.Writing.{SomeShown}
-use Rattle.write.specs.Ways.{followed, Walked, Chosen, SomeCarried, Carried}
+use Rattle.write.specs.Ways.{followed, Walked, Chosen, SomeCarried, WayWritten}
 use Rattle.write.proofs.Laying.{wrote-more, wrote-as}
 use Rattle.write.proofs.Walking.{steps-kept, kept-more}
 use Rattle.write.proofs.Choosing.{end-written, choice-written, choice-length, first-way, second-way}
@@ -33,12 +33,12 @@ place-inside {text} {edit} {stack} {behind} {from} {at} w = edit-inside edit at 
 
 -- the end
 pub end-some : {text edit stack behind : List ℕ} {from at h d pos room : ℕ} → SomeCarried text from edit stack behind at h d pos room → getD edit at 0 ≡ 0x30 → d ≡ 0 → SomeShown text from edit stack h pos room
-end-some {text} {edit} {stack} {behind} {from} w c z = record { steps = w .way .steps; is = w .way .way .passed; stands = w .way .way .steps; what = tree (w .K); what-at = rule-at text from (w .K) (w .K-at); fits = omega (arith, w .fits, ap length (end-written (w .way .way) c z (w .K))) }
+end-some {text} {edit} {stack} {behind} {from} w c z = record { steps = w .way .steps; is = w .way .way .steps-passed; stands = w .way .way .steps; what = tree (w .K); what-at = rule-at text from (w .K) (w .K-at); fits = omega (arith, w .fits, ap length (end-written (w .way .way) c z (w .K))) }
 
 pub end-carried : {text edit stack behind stack′ o o′ : List ℕ} {from at h d at′ h′ d′ pos pos′ : ℕ} → Walked edit stack behind at h d stack′ at′ h′ d′ → getD edit at′ 0 ≡ 0x30 → d′ ≡ 0
-    → ((σ : List Step) (t : Tree) → h′ ≡ length σ → StackIs edit stack′ σ → At text from t → Wrote o pos (bytes (graft (env σ) t)) pos′ o′) → Carried text from edit stack behind at h d o pos pos′ stack′ behind o′
+    → ((σ : List Step) (t : Tree) → h′ ≡ length σ → StackIs edit stack′ σ → At text from t → Wrote o pos (treeCode (graft (env σ) t)) pos′ o′) → WayWritten text from edit stack behind at h d o pos pos′ stack′ behind o′
 end-carried {text} {edit} {stack} {behind} {stack′} {o} {o′} {from} a c z f = record {
-  wrote = λ σ Z Ws y K r. let m = a .each σ Z Ws y in wrote-as (end-written (m .way) c z K ∙ sym (m .same K)) (f (m .steps) (tree K) (m .way .passed) (m .way .steps) (rule-at text from K r));
+  wrote = λ σ Z Ws y K r. let m = a .each σ Z Ws y in wrote-as (end-written (m .way) c z K ∙ sym (m .same K)) (f (m .steps) (tree K) (m .way .steps-passed) (m .way .steps) (rule-at text from K r));
   kept = a .kept;
   again = refl;
 }
@@ -56,16 +56,16 @@ module _ {edit behind : List ℕ} {at d first second next : ℕ} (C : (Z : Edit)
     q = C (w .way .what) (w .way .way .here)
 
     sizes : length (written (w .way .steps) (followed (w .way .what) (w .way .later)) (w .K))
-        ≡ 4 + length (bytes (graft (env (w .way .steps)) (tree (q .test)))) + length (written (w .way .steps) (followed (q .P) (q .W ∷ w .way .later)) (w .K))
-        + length (bytes (graft (env (w .way .steps)) (tree (q .test)))) + length (written (w .way .steps) (followed (q .Q) (q .W ∷ w .way .later)) (w .K))
+        ≡ 4 + length (treeCode (graft (env (w .way .steps)) (tree (q .test)))) + length (written (w .way .steps) (followed (q .P) (q .W ∷ w .way .later)) (w .K))
+        + length (treeCode (graft (env (w .way .steps)) (tree (q .test)))) + length (written (w .way .steps) (followed (q .Q) (q .W ∷ w .way .later)) (w .K))
     sizes = choice-length (w .way .way) q (w .K)
 
     pub first-shown : SomeShown edit (at + 1) edit stack h (pos + 3) room
-    first-shown = record { steps = w .way .steps; is = w .way .way .passed; stands = w .way .way .steps; what = tree (q .test); what-at = q .test-at; fits = omega (arith, w .fits, sizes) }
+    first-shown = record { steps = w .way .steps; is = w .way .way .steps-passed; stands = w .way .way .steps; what = tree (q .test); what-at = q .test-at; fits = omega (arith, w .fits, sizes) }
 
-    module _ {o o₁ behind₁ : List ℕ} {p : ℕ} (f : (σ : List Step) (t : Tree) → h ≡ length σ → StackIs edit stack σ → At edit (at + 1) t → Wrote o pos (0x25 ∷ 0x26 ∷ 0x27 ∷ bytes (graft (env σ) t)) p o₁) (e : behind₁ ≡ set behind d next) where
-      first-counted : p ≡ pos + (3 + length (bytes (graft (env (w .way .steps)) (tree (q .test)))))
-      first-counted = omega (arith, f (w .way .steps) (tree (q .test)) (w .way .way .passed) (w .way .way .steps) (q .test-at) .counted)
+    module _ {o o₁ behind₁ : List ℕ} {p : ℕ} (f : (σ : List Step) (t : Tree) → h ≡ length σ → StackIs edit stack σ → At edit (at + 1) t → Wrote o pos (0x25 ∷ 0x26 ∷ 0x27 ∷ treeCode (graft (env σ) t)) p o₁) (e : behind₁ ≡ set behind d next) where
+      first-counted : p ≡ pos + (3 + length (treeCode (graft (env (w .way .steps)) (tree (q .test)))))
+      first-counted = omega (arith, f (w .way .steps) (tree (q .test)) (w .way .way .steps-passed) (w .way .way .steps) (q .test-at) .counted)
 
       pub first-further : {room′ : ℕ} → room′ ≡ room → Further text from edit stack behind₁ first h (d + 1) pos p room′
       first-further r = record {
@@ -79,23 +79,23 @@ module _ {edit behind : List ℕ} {at d first second next : ℕ} (C : (Z : Edit)
         };
       }
 
-      module _ {stack₂ behind₂ o₂ : List ℕ} {p₂ : ℕ} (c : Carried text from edit stack behind₁ first h (d + 1) o₁ p p₂ stack₂ behind₂ o₂) where
+      module _ {stack₂ behind₂ o₂ : List ℕ} {p₂ : ℕ} (c : WayWritten text from edit stack behind₁ first h (d + 1) o₁ p p₂ stack₂ behind₂ o₂) where
         second-counted : p₂ ≡ p + length (written (w .way .steps) (followed (q .P) (q .W ∷ w .way .later)) (w .K))
         second-counted = c .wrote (w .way .steps) (q .P) (q .W ∷ w .way .later) (first-way (w .way .way) q (record { same = λ i b. refl }) e l) (w .K) (w .K-at) .counted
 
         pub second-shown : {room′ : ℕ} → room′ ≡ room → SomeShown edit (at + 1) edit stack₂ h (p₂ + 1) room′
         second-shown r = record {
           steps = w .way .steps;
-          is = w .way .way .passed;
-          stands = steps-kept edit (w .way .steps) (omega (arith, w .way .way .passed)) (c .kept) (w .way .way .steps);
+          is = w .way .way .steps-passed;
+          stands = steps-kept edit (w .way .steps) (omega (arith, w .way .way .steps-passed)) (c .kept) (w .way .way .steps);
           what = tree (q .test);
           what-at = q .test-at;
           fits = omega (arith, w .fits, sizes, first-counted, second-counted, r);
         }
 
-        module _ {o₃ : List ℕ} {p₃ : ℕ} (g : (σ : List Step) (t : Tree) → h ≡ length σ → StackIs edit stack₂ σ → At edit (at + 1) t → Wrote o₂ p₂ (0x26 ∷ bytes (graft (env σ) t)) p₃ o₃) where
-          third-counted : p₃ ≡ p₂ + (1 + length (bytes (graft (env (w .way .steps)) (tree (q .test)))))
-          third-counted = omega (arith, g (w .way .steps) (tree (q .test)) (w .way .way .passed) (steps-kept edit (w .way .steps) (omega (arith, w .way .way .passed)) (c .kept) (w .way .way .steps)) (q .test-at) .counted)
+        module _ {o₃ : List ℕ} {p₃ : ℕ} (g : (σ : List Step) (t : Tree) → h ≡ length σ → StackIs edit stack₂ σ → At edit (at + 1) t → Wrote o₂ p₂ (0x26 ∷ treeCode (graft (env σ) t)) p₃ o₃) where
+          third-counted : p₃ ≡ p₂ + (1 + length (treeCode (graft (env (w .way .steps)) (tree (q .test)))))
+          third-counted = omega (arith, g (w .way .steps) (tree (q .test)) (w .way .way .steps-passed) (steps-kept edit (w .way .steps) (omega (arith, w .way .way .steps-passed)) (c .kept) (w .way .way .steps)) (q .test-at) .counted)
 
           pub second-further : {room′ : ℕ} → room′ ≡ room → Further text from edit stack₂ behind₂ second h (d + 1) pos p₃ room′
           second-further r = record {
@@ -110,21 +110,21 @@ module _ {edit behind : List ℕ} {at d first second next : ℕ} (C : (Z : Edit)
           }
 
   pub choice-carried : {text stack₀ stack stack₂ stack₃ behind₁ behind₂ behind₃ behind₄ o o₁ o₂ o₃ o₄ : List ℕ} {from at₀ h₀ d₀ h pos p p₂ p₃ p₄ : ℕ} → Walked edit stack₀ behind at₀ h₀ d₀ stack at h d
-      → ((σ : List Step) (t : Tree) → h ≡ length σ → StackIs edit stack σ → At edit (at + 1) t → Wrote o pos (0x25 ∷ 0x26 ∷ 0x27 ∷ bytes (graft (env σ) t)) p o₁) → behind₁ ≡ set behind d next
-      → Carried text from edit stack behind₁ first h (d + 1) o₁ p p₂ stack₂ behind₂ o₂
-      → ((σ : List Step) (t : Tree) → h ≡ length σ → StackIs edit stack₂ σ → At edit (at + 1) t → Wrote o₂ p₂ (0x26 ∷ bytes (graft (env σ) t)) p₃ o₃)
-      → Carried text from edit stack₂ behind₂ second h (d + 1) o₃ p₃ p₄ stack₃ behind₃ o₄ → behind₄ ≡ set behind₃ d (getD behind d 0)
-      → Carried text from edit stack₀ behind at₀ h₀ d₀ o pos p₄ stack₃ behind₄ o₄
+      → ((σ : List Step) (t : Tree) → h ≡ length σ → StackIs edit stack σ → At edit (at + 1) t → Wrote o pos (0x25 ∷ 0x26 ∷ 0x27 ∷ treeCode (graft (env σ) t)) p o₁) → behind₁ ≡ set behind d next
+      → WayWritten text from edit stack behind₁ first h (d + 1) o₁ p p₂ stack₂ behind₂ o₂
+      → ((σ : List Step) (t : Tree) → h ≡ length σ → StackIs edit stack₂ σ → At edit (at + 1) t → Wrote o₂ p₂ (0x26 ∷ treeCode (graft (env σ) t)) p₃ o₃)
+      → WayWritten text from edit stack₂ behind₂ second h (d + 1) o₃ p₃ p₄ stack₃ behind₃ o₄ → behind₄ ≡ set behind₃ d (getD behind d 0)
+      → WayWritten text from edit stack₀ behind at₀ h₀ d₀ o pos p₄ stack₃ behind₄ o₄
   choice-carried a f e c g c′ e′ = record {
     wrote = λ σ Z Ws y K r.
         let m = a .each σ Z Ws y in
         let q = C (m .what) (m .way .here) in
-        let s = steps-kept edit (m .steps) (omega (arith, m .way .passed)) (c .kept) (m .way .steps) in
+        let s = steps-kept edit (m .steps) (omega (arith, m .way .steps-passed)) (c .kept) (m .way .steps) in
         wrote-as (choice-written (m .way) q K ∙ sym (m .same K))
         (wrote-more (wrote-more (wrote-more
-        (f (m .steps) (tree (q .test)) (m .way .passed) (m .way .steps) (q .test-at))
+        (f (m .steps) (tree (q .test)) (m .way .steps-passed) (m .way .steps) (q .test-at))
         (c .wrote (m .steps) (q .P) (q .W ∷ m .later) (first-way (m .way) q (record { same = λ i b. refl }) e l) K r))
-        (g (m .steps) (tree (q .test)) (m .way .passed) s (q .test-at)))
+        (g (m .steps) (tree (q .test)) (m .way .steps-passed) s (q .test-at)))
         (c′ .wrote (m .steps) (q .Q) (q .W ∷ m .later) (second-way (m .way) q (c .kept) (c .again ∙ e) l) K r));
     kept = kept-more (a .up) (a .kept) (kept-more (omega arith) (c .kept) (c′ .kept));
     again = e′ ∙ ap (λ (b : List ℕ). set b d (getD behind d 0)) (c′ .again ∙ c .again ∙ e) ∙ set-set behind d next (getD behind d 0) ∙ set-getD behind d 0;

@@ -9,9 +9,9 @@ use Rattle.logic.specs.Syntax.{rule, Expr, Edit, finish, addLabel, takeLabel, a
 use Rattle.logic.specs.Limits.{EditInRange}
 use Rattle.logic.specs.Carry.{followedBy}
 use Rattle.text.specs.Code.{code, editCode}
-use Rattle.tree.specs.Tree.{Tree, tree, size, bytes, graft}
+use Rattle.tree.specs.Tree.{Tree, tree, size, treeCode, graft}
 use Rattle.tree.specs.Stack.{Step, env, written, shown}
-use Rattle.tree.proofs.Trees.{bytes-tree}
+use Rattle.tree.proofs.Trees.{code-tree}
 use Rattle.tree.proofs.Written.{written-finish, written-choose}
 use Rattle.ends.specs.Shapes.{At, Some}
 use Rattle.measure.specs.Edits.{EditAt, SomeEdit, Kept}
@@ -50,7 +50,7 @@ parts edit at (choose K P Q Z) h m =
       Q = Q;
       W = Z;
       is = refl;
-      test-at = record { rest = editCode P ++ (editCode Q ++ (editCode Z ++ rest)); here = cK edit at K P Q Z rest e ∙ ap (λ (l : List ℕ). l ++ (editCode P ++ (editCode Q ++ (editCode Z ++ rest)))) (sym (bytes-tree K)); formed = formed-tree (h .limits) K (h .place .range .0) };
+      test-at = record { rest = editCode P ++ (editCode Q ++ (editCode Z ++ rest)); here = cK edit at K P Q Z rest e ∙ ap (λ (l : List ℕ). l ++ (editCode P ++ (editCode Q ++ (editCode Z ++ rest)))) (sym (code-tree K)); formed = formed-tree (h .limits) K (h .place .range .0) };
       first = λ p q. record { limits = h .limits; place = record { rest = editCode Q ++ (editCode Z ++ rest); here = cP edit at K P Q Z rest e p q; range = h .place .range .1 } };
       second = λ p q. record { limits = h .limits; place = record { rest = editCode Z ++ rest; here = cQ edit at K P Q Z rest e p q; range = h .place .range .2 } };
       next = λ p q. record { limits = h .limits; place = record { rest = rest; here = cZ edit at K P Q Z rest e p q; range = h .place .range .3 } };
@@ -99,18 +99,18 @@ module _ (edit : List ℕ) (at : ℕ) (m : getD edit at 0 ≡ 0x35) where
 
 -- The end: what is written is the rule under the steps passed.
 pub end-written : {edit stack behind : List ℕ} {at h d : ℕ} {σ : List Step} {Z : Edit} {Ws : List Edit} → Way edit stack behind at h d σ Z Ws → getD edit at 0 ≡ 0x30 → d ≡ 0 → (K : Expr rule)
-    → bytes (graft (env σ) (tree K)) ≡ written σ (followed Z Ws) K
+    → treeCode (graft (env σ) (tree K)) ≡ written σ (followed Z Ws) K
 unfolding followed shown
 end-written {edit} {stack} {behind} {at} {h} {d} {σ} {Z} {Ws} y c z K = go Ws (y .around) ∙ sym (ap (λ (Y : Edit). written σ (followed Y Ws) K) (as-finish edit at Z (y .here) c))
   where
-    go : (Ws : List Edit) → d ≡ length Ws → bytes (graft (env σ) (tree K)) ≡ written σ (followed finish Ws) K
+    go : (Ws : List Edit) → d ≡ length Ws → treeCode (graft (env σ) (tree K)) ≡ written σ (followed finish Ws) K
     go [] e = sym (written-finish σ K)
     go (W ∷ Ws) e = absurd (omega (arith, e, z))
 
 -- A 35: 25 26 27 K1 T 26 K1 U.
 module _ {edit stack behind : List ℕ} {at h d first second next : ℕ} {σ : List Step} {Z : Edit} {Ws : List Edit} (y : Way edit stack behind at h d σ Z Ws) (q : Chosen edit at first second next Z) where
   abbrev shown-test : List ℕ
-  shown-test = bytes (graft (env σ) (tree (q .test)))
+  shown-test = treeCode (graft (env σ) (tree (q .test)))
 
   pub choice-written : (K : Expr rule) → (((0x25 ∷ 0x26 ∷ 0x27 ∷ shown-test) ++ written σ (followed (q .P) (q .W ∷ Ws)) K) ++ (0x26 ∷ shown-test)) ++ written σ (followed (q .Q) (q .W ∷ Ws)) K ≡ written σ (followed Z Ws) K
   unfolding followed followedBy shown
@@ -136,8 +136,8 @@ module _ {edit stack behind : List ℕ} {at h d first second next : ℕ} {σ : L
       let kept : Kept d behind behind′ = subst (λ (b : List ℕ). Kept d behind b) (sym e) (kept-set behind d next) in
       let r = behind-kept edit (at + length (editCode Z)) Ws (omega (arith, y .around)) kept (y .rest) in
       record {
-        passed = y .passed;
-        steps = steps-kept edit σ (omega (arith, y .passed)) k (y .steps);
+        steps-passed = y .steps-passed;
+        steps = steps-kept edit σ (omega (arith, y .steps-passed)) k (y .steps);
         here = a;
         around = omega (arith, y .around);
         rest = (omega (arith, n, o), subst (λ (x : ℕ). EditAt edit x (q .W)) (sym n) (q .next-at), subst (λ (x : ℕ). BehindIs edit behind′ x Ws) (sym (ap (λ (x : ℕ). x + length (editCode (q .W))) n ∙ q .ends)) r);

@@ -7,12 +7,12 @@ use native.Mathlib.Omega.{arith}
 use lib.Dec.{eqb}
 use lib.ListN.{length, getD, set, take, drop, length-append}
 use lib.Seq.{take-append-seam}
-use Rattle.tree.specs.Tree.{Tree, name, leaf, one, two, bytes, graft}
+use Rattle.tree.specs.Tree.{Tree, name, leaf, one, two, treeCode, graft}
 use Rattle.tree.specs.Stack.{Step, env, lead, inner}
-use Rattle.tree.proofs.Written.{bytes-becomes}
+use Rattle.tree.proofs.Written.{code-becomes}
 use Rattle.ends.specs.Shapes.{At, Named, shapeOf}
 use Rattle.ends.proofs.Places.{IsName, as-name, tag, tag-at}
-use Rattle.ends.proofs.Pending.{headOf, partsOf, texts, texts-append, bytes-opened, Pending, pending-one, First, first, Turn, turn}
+use Rattle.ends.proofs.Pending.{headOf, partsOf, texts, texts-append, code-opened, Pending, pending-one, First, first, Turn, turn}
 use Rattle.write.specs.Laid.{Wrote}
 use Rattle.write.specs.Offsets.{StackIs}
 use Rattle.write.specs.Links.{lastIn}
@@ -21,9 +21,9 @@ use Rattle.write.specs.Writing.{SomeName, SomeShown}
 use Rattle.write.proofs.Laying.{wrote-none, wrote-one, wrote-more, wrote-as}
 
 -- A name that no step touches, and one that the step at index j touches last.
-pub untouched : {edit stack : List ℕ} {σ : List Step} {c k r : ℕ} → Found edit stack σ c k r → r ≡ 0 → c ∷ k ∷ [] ≡ bytes (env σ c k)
-unfolding bytes
-untouched f e = sym (ap bytes (f .none e))
+pub untouched : {edit stack : List ℕ} {σ : List Step} {c k r : ℕ} → Found edit stack σ c k r → r ≡ 0 → c ∷ k ∷ [] ≡ treeCode (env σ c k)
+unfolding treeCode
+untouched f e = sym (ap treeCode (f .none e))
 
 pub last-hit : {edit stack : List ℕ} {σ : List Step} {c k r : ℕ} → Found edit stack σ c k r → (r ≡ 0 → ⊥) → Hit edit stack σ c k (r - 1)
 last-hit {edit} {stack} {σ} {c} {k} {r} f n = f .some (r - 1) (omega arith)
@@ -36,30 +36,30 @@ inner-first b l = go (eqb b 0x32)
     go false = refl
 
 module _ {edit stack : List ℕ} {σ : List Step} {c k j : ℕ} (H : Hit edit stack σ c k j) (op : ℕ) (e : op ≡ H .s .op) where
-  hit-bytes : ((lead op ∷ []) ++ bytes (env (H .below) c k)) ++ inner op [] ++ bytes (graft (env (H .below)) (H .s .what)) ≡ bytes (env σ c k)
+  hit-bytes : ((lead op ∷ []) ++ treeCode (env (H .below) c k)) ++ inner op [] ++ treeCode (graft (env (H .below)) (H .s .what)) ≡ treeCode (env σ c k)
   hit-bytes =
-      let x : List ℕ = bytes (env (H .below) c k) in
-      let y : List ℕ = bytes (graft (env (H .below)) (H .s .what)) in
+      let x : List ℕ = treeCode (env (H .below) c k) in
+      let y : List ℕ = treeCode (graft (env (H .below)) (H .s .what)) in
       append-assoc (lead op ∷ x) (inner op []) y ∙ ap (λ (l : List ℕ). (lead op ∷ x) ++ l) (sym (inner-first op y))
       ∙ ap (λ (b : ℕ). (lead b ∷ x) ++ inner b y) e
-      ∙ sym (bytes-becomes (H .s .op) (env (H .below) c k) (graft (env (H .below)) (H .s .what))) ∙ sym (ap bytes (H .is))
+      ∙ sym (code-becomes (H .s .op) (env (H .below) c k) (graft (env (H .below)) (H .s .what))) ∙ sym (ap treeCode (H .is))
 
-  pub hit-length : length (bytes (env σ c k)) ≡ 1 + length (bytes (env (H .below) c k)) + length (inner op []) + length (bytes (graft (env (H .below)) (H .s .what)))
+  pub hit-length : length (treeCode (env σ c k)) ≡ 1 + length (treeCode (env (H .below) c k)) + length (inner op []) + length (treeCode (graft (env (H .below)) (H .s .what)))
   hit-length =
-      let x : List ℕ = bytes (env (H .below) c k) in
-      let y : List ℕ = bytes (graft (env (H .below)) (H .s .what)) in
+      let x : List ℕ = treeCode (env (H .below) c k) in
+      let y : List ℕ = treeCode (graft (env (H .below)) (H .s .what)) in
       omega (arith, ap length hit-bytes, length-append ((lead op ∷ x) ++ inner op []) y, length-append (lead op ∷ x) (inner op []))
 
-  pub hit-wrote : {o o₁ o₂ o₃ : List ℕ} {pos b p q r : ℕ} → b ≡ lead op → Wrote (set o pos b) (pos + 1) (bytes (env (H .below) c k)) p o₁ → Wrote o₁ p (inner op []) q o₂
-      → Wrote o₂ q (bytes (graft (env (H .below)) (H .s .what))) r o₃ → Wrote o pos (bytes (env σ c k)) r o₃
+  pub hit-wrote : {o o₁ o₂ o₃ : List ℕ} {pos b p q r : ℕ} → b ≡ lead op → Wrote (set o pos b) (pos + 1) (treeCode (env (H .below) c k)) p o₁ → Wrote o₁ p (inner op []) q o₂
+      → Wrote o₂ q (treeCode (graft (env (H .below)) (H .s .what))) r o₃ → Wrote o pos (treeCode (env σ c k)) r o₃
   hit-wrote {o} {o₁} {o₂} {o₃} {pos} {b} {p} {q} {r} f u v w = wrote-as hit-bytes (wrote-more (wrote-more (wrote-more (wrote-as (ap (λ (n : ℕ). n ∷ []) f) (wrote-one o pos b)) u) v) w)
 
 -- The text of a tree under the steps passed, and of one that is no name by its head and its operands.
 abbrev shownBy : List Step → Tree → List ℕ
-shownBy σ t = bytes (graft (env σ) t)
+shownBy σ t = treeCode (graft (env σ) t)
 
 opened : (σ : List Step) (t : Tree) → tag t < 16 → shownBy σ t ≡ headOf t ++ texts (shownBy σ) (partsOf t)
-unfolding graft bytes texts
+unfolding graft treeCode texts
 opened σ (name c k) l = absurd (omega arith)
 opened σ (leaf h) l = sym (append-nil h)
 opened σ (one h x) l = ap (λ (r : List ℕ). h ++ r) (sym (append-nil (shownBy σ x)))
@@ -67,20 +67,20 @@ opened σ (two h x y) l = append-assoc h (shownBy σ x) (shownBy σ y) ∙ ap (�
 
 head-taken : (text : List ℕ) (at : ℕ) (t : Tree) → At text at t → (n : ℕ) → length (headOf t) ≡ n → take n (drop at text) ≡ headOf t
 head-taken text at t a n e =
-    let r : List ℕ = texts bytes (partsOf t) ++ a .rest in
-    let here : drop at text ≡ headOf t ++ r = a .here ∙ ap (λ (l : List ℕ). l ++ a .rest) (bytes-opened t) ∙ append-assoc (headOf t) (texts bytes (partsOf t)) (a .rest) in
+    let r : List ℕ = texts treeCode (partsOf t) ++ a .rest in
+    let here : drop at text ≡ headOf t ++ r = a .here ∙ ap (λ (l : List ℕ). l ++ a .rest) (code-opened t) ∙ append-assoc (headOf t) (texts treeCode (partsOf t)) (a .rest) in
     ap (take n) here ∙ ap (λ (m : ℕ). take m (headOf t ++ r)) (sym e) ∙ take-append-seam (headOf t) r
 
 -- An expression partly written: so many trees are wanted at p, and their texts are still to be written.
-pub record Shown (text : List ℕ) (σ : List Step) (t : Tree) (p wanted : ℕ) (o : List ℕ) (pos q : ℕ) (o′ : List ℕ) : Type 0 where
+pub record Emitted (text : List ℕ) (σ : List Step) (t : Tree) (p wanted : ℕ) (o : List ℕ) (pos q : ℕ) (o′ : List ℕ) : Type 0 where
   pub parts : List Tree
   pub pending : Pending text p wanted parts
   pub done : List ℕ
   pub whole : done ++ texts (shownBy σ) parts ≡ shownBy σ t
   pub wrote : Wrote o pos done q o′
 
-shown-more : {text : List ℕ} {σ : List Step} {t : Tree} {p wanted : ℕ} {o : List ℕ} {pos q : ℕ} {o′ : List ℕ} (w : Shown text σ t p wanted o pos q o′) {p′ wanted′ : ℕ} {parts′ : List Tree} {b : List ℕ} {q′ : ℕ} {o″ : List ℕ}
-    → Pending text p′ wanted′ parts′ → texts (shownBy σ) (w .parts) ≡ b ++ texts (shownBy σ) parts′ → Wrote o′ q b q′ o″ → Shown text σ t p′ wanted′ o pos q′ o″
+shown-more : {text : List ℕ} {σ : List Step} {t : Tree} {p wanted : ℕ} {o : List ℕ} {pos q : ℕ} {o′ : List ℕ} (w : Emitted text σ t p wanted o pos q o′) {p′ wanted′ : ℕ} {parts′ : List Tree} {b : List ℕ} {q′ : ℕ} {o″ : List ℕ}
+    → Pending text p′ wanted′ parts′ → texts (shownBy σ) (w .parts) ≡ b ++ texts (shownBy σ) parts′ → Wrote o′ q b q′ o″ → Emitted text σ t p′ wanted′ o pos q′ o″
 shown-more {text} {σ} {t} {p} {wanted} {o} {pos} {q} {o′} w {p′} {wanted′} {parts′} {b} n e u = record {
   parts = parts′;
   pending = n;
@@ -91,7 +91,7 @@ shown-more {text} {σ} {t} {p} {wanted} {o} {pos} {q} {o′} w {p′} {wanted′
 
 -- whatever expression stands there, and whatever the steps on the stack
 pub record Showing (text : List ℕ) (at : ℕ) (edit stack : List ℕ) (h p wanted : ℕ) (o : List ℕ) (pos q : ℕ) (o′ : List ℕ) : Type 0 where
-  pub each : (σ : List Step) (t : Tree) → h ≡ length σ → StackIs edit stack σ → At text at t → Shown text σ t p wanted o pos q o′
+  pub each : (σ : List Step) (t : Tree) → h ≡ length σ → StackIs edit stack σ → At text at t → Emitted text σ t p wanted o pos q o′
   pub long : length o′ ≡ length o
 
 pub showing-first : (text : List ℕ) (at : ℕ) (edit stack : List ℕ) (h : ℕ) (o : List ℕ) (pos : ℕ) → Showing text at edit stack h at 1 o pos pos o
@@ -99,23 +99,23 @@ unfolding texts
 showing-first text at edit stack h o pos = record { each = λ σ t e i a. record { parts = t ∷ []; pending = pending-one text at t a; done = []; whole = append-nil (shownBy σ t); wrote = wrote-none o pos }; long = refl }
 
 pub showing-end : {text edit stack o o′ : List ℕ} {at h p wanted pos q : ℕ} → Showing text at edit stack h p wanted o pos q o′ → wanted ≤ 0
-    → (σ : List Step) (t : Tree) → h ≡ length σ → StackIs edit stack σ → At text at t → Wrote o pos (bytes (graft (env σ) t)) q o′
+    → (σ : List Step) (t : Tree) → h ≡ length σ → StackIs edit stack σ → At text at t → Wrote o pos (treeCode (graft (env σ) t)) q o′
 unfolding texts
 showing-end {text} {edit} {stack} {o} {o′} {at} {h} {p} {wanted} {pos} {q} I l σ t e i a = let w = I .each σ t e i a in go w (w .parts) (w .pending .count) (w .whole)
   where
-    go : (w : Shown text σ t p wanted o pos q o′) (parts : List Tree) → length parts ≡ wanted → w .done ++ texts (shownBy σ) parts ≡ shownBy σ t → Wrote o pos (shownBy σ t) q o′
+    go : (w : Emitted text σ t p wanted o pos q o′) (parts : List Tree) → length parts ≡ wanted → w .done ++ texts (shownBy σ) parts ≡ shownBy σ t → Wrote o pos (shownBy σ t) q o′
     go w [] n e = wrote-as (sym (append-nil (w .done)) ∙ e) (w .wrote)
     go w (x ∷ more) n e = absurd (omega (arith, n, l))
 
 module _ {text edit stack o o′ : List ℕ} {at h p wanted pos q : ℕ} (I : Showing text at edit stack h p wanted o pos q o′) (l : 0 < wanted) where
   module _ {room : ℕ} (w : SomeShown text at edit stack h pos room) where
-    pub some : Shown text (w .steps) (w .what) p wanted o pos q o′
+    pub some : Emitted text (w .steps) (w .what) p wanted o pos q o′
     some = I .each (w .steps) (w .what) (w .is) (w .stands) (w .what-at)
 
     pub head-first : First text p (some .parts)
     head-first = first (some .pending) l
 
-    pub still : (q + length (texts (λ (t : Tree). bytes (graft (env (w .steps)) t)) (some .parts)) ≤ room) × (pos ≤ q)
+    pub still : (q + length (texts (λ (t : Tree). treeCode (graft (env (w .steps)) t)) (some .parts)) ≤ room) × (pos ≤ q)
     still = (omega (arith, w .fits, some .wrote .counted, ap length (some .whole), length-append (some .done) (texts (shownBy (w .steps)) (some .parts))), omega (arith, some .wrote .counted))
 
   module _ (s : ℕ) (e : s ≡ shapeOf (getD text p 0)) where
@@ -124,12 +124,12 @@ module _ {text edit stack o o′ : List ℕ} {at h p wanted pos q : ℕ} (I : Sh
       named : {t : Tree} → At text p t → IsName text p t
       named {t} a = as-name text p t a (omega (arith, high, e))
 
-      name-text : (σ : List Step) (parts : List Tree) (f : First text p parts) → texts (shownBy σ) parts ≡ bytes (env σ (getD text p 0) (getD text (p + 1) 0)) ++ texts (shownBy σ) (f .more)
+      name-text : (σ : List Step) (parts : List Tree) (f : First text p parts) → texts (shownBy σ) parts ≡ treeCode (env σ (getD text p 0) (getD text (p + 1) 0)) ++ texts (shownBy σ) (f .more)
       unfolding graft texts
       name-text σ parts f =
           let q = named (f .at) in
           ap (texts (shownBy σ)) (f .is) ∙ ap (λ (u : Tree). shownBy σ u ++ texts (shownBy σ) (f .more)) (q .is)
-          ∙ sym (ap₂ (λ (c k : ℕ). bytes (env σ c k) ++ texts (shownBy σ) (f .more)) (q .reads-c) (q .reads-k))
+          ∙ sym (ap₂ (λ (c k : ℕ). treeCode (env σ c k) ++ texts (shownBy σ) (f .more)) (q .reads-c) (q .reads-k))
 
       name-next : {parts : List Tree} → Pending text p wanted parts → (f : First text p parts) → Pending text (p + 2) (wanted - 1) (f .more)
       name-next {parts} v f =
@@ -149,9 +149,9 @@ module _ {text edit stack o o′ : List ℕ} {at h p wanted pos q : ℕ} (I : Sh
         name-named = let q = named (head-first w .at) in subst (λ (c : ℕ). Named c (getD text (p + 1) 0)) (sym (q .reads-c)) (subst (Named (q .c)) (sym (q .reads-k)) (q .named))
 
         pub name-some : {j : ℕ} → j ≡ lastIn edit stack h (getD text p 0) (getD text (p + 1) 0) → SomeName edit stack j (getD text p 0) (getD text (p + 1) 0) q room
-        name-some f = record { steps = w .steps; is = f ∙ ap (λ (x : ℕ). lastIn edit stack x (getD text p 0) (getD text (p + 1) 0)) (w .is); stands = w .stands; fits = omega (arith, still w .0, ap length (name-text (w .steps) (some w .parts) (head-first w)), length-append (bytes (env (w .steps) (getD text p 0) (getD text (p + 1) 0))) (texts (shownBy (w .steps)) (head-first w .more))) }
+        name-some f = record { steps = w .steps; is = f ∙ ap (λ (x : ℕ). lastIn edit stack x (getD text p 0) (getD text (p + 1) 0)) (w .is); stands = w .stands; fits = omega (arith, still w .0, ap length (name-text (w .steps) (some w .parts) (head-first w)), length-append (treeCode (env (w .steps) (getD text p 0) (getD text (p + 1) 0))) (texts (shownBy (w .steps)) (head-first w .more))) }
 
-      pub name-shown : {q′ : ℕ} {o″ : List ℕ} → ((σ : List Step) → h ≡ length σ → StackIs edit stack σ → Wrote o′ q (bytes (env σ (getD text p 0) (getD text (p + 1) 0))) q′ o″) → length o″ ≡ length o′ → Showing text at edit stack h (p + 2) (wanted - 1) o pos q′ o″
+      pub name-shown : {q′ : ℕ} {o″ : List ℕ} → ((σ : List Step) → h ≡ length σ → StackIs edit stack σ → Wrote o′ q (treeCode (env σ (getD text p 0) (getD text (p + 1) 0))) q′ o″) → length o″ ≡ length o′ → Showing text at edit stack h (p + 2) (wanted - 1) o pos q′ o″
       name-shown u m = record { each = λ σ t g i a. let v = I .each σ t g i a in let f = first (v .pending) l in shown-more v (name-next (v .pending) f) (name-text σ (v .parts) f) (u σ g i); long = m ∙ I .long }
 
     -- any other code

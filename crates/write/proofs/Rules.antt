@@ -19,13 +19,13 @@ use Rattle.text.proofs.Standing.{behind}
 use Rattle.measure.proofs.Rules.{rule-at, rule-size, rule-fits}
 use Rattle.write.specs.Laid.{Wrote}
 use Rattle.write.specs.Offsets.{StackIs}
-use Rattle.write.specs.Ways.{followed, BehindIs, Way, SomeCarried, Carried}
-use Rattle.write.specs.Carried.{SomeRuleFits, RuleWritten, SomeBookFits, BookWritten}
+use Rattle.write.specs.Ways.{followed, BehindIs, Way, SomeCarried, WayWritten}
+use Rattle.write.specs.Rules.{SomeRuleFits, RuleWritten, SomeBookFits, BookWritten}
 use Rattle.write.proofs.Laying.{laid-fits, wrote-none, wrote-more, wrote-as}
 
 start : (edit stack behind : List ℕ) (from : ℕ) (Z : Edit) → EditAt edit from Z → Way edit stack behind from 0 0 [] Z []
 unfolding StackIs BehindIs
-start edit stack behind from Z h = record { passed = refl; steps = tt; here = h; around = refl; rest = tt }
+start edit stack behind from Z h = record { steps-passed = refl; steps = tt; here = h; around = refl; rest = tt }
 
 start-written : (Z : Edit) (K : Expr rule) → written [] (followed Z []) K ≡ code (carry Z K)
 unfolding followed
@@ -42,7 +42,7 @@ start-some {text} {edit} {at} {from} stack behind w = record {
   fits = omega (arith, w .fits, ap length (start-written (w .Z) (w .K)));
 }
 
-pub rule-written : {text edit stack behind stack′ behind′ o o′ : List ℕ} {at from pos pos′ next : ℕ} → ((t : Tree) → At text at t → next ≡ at + size t) → Carried text at edit stack behind from 0 0 o pos pos′ stack′ behind′ o′
+pub rule-written : {text edit stack behind stack′ behind′ o o′ : List ℕ} {at from pos pos′ next : ℕ} → ((t : Tree) → At text at t → next ≡ at + size t) → WayWritten text at edit stack behind from 0 0 o pos pos′ stack′ behind′ o′
     → (K : Expr rule) (Z : Edit) → RuleAt text at K → EditAt edit from Z → RuleWritten Z K at o pos next pos′ o′
 rule-written {text} {edit} {stack} {behind} {stack′} {behind′} {o} {o′} {at} {from} f c K Z r h = record {
   read = f (tree K) (rule-at text at K r) ∙ ap (λ (n : ℕ). at + n) (rule-size K);

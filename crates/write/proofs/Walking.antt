@@ -21,7 +21,7 @@ use Rattle.ends.proofs.Places.{inside}
 use Rattle.text.proofs.Standing.{byte-at}
 use Rattle.measure.proofs.Steps.{tag-edit, as-finish, as-step, edit-inside, step-what, step-next, step-len, step-k, step-room}
 use Rattle.write.specs.Offsets.{StepAt, StackIs}
-use Rattle.write.specs.Ways.{followed, BehindIs, Way, SomeWay, Moved, resting, Passed, Walked}
+use Rattle.write.specs.Ways.{followed, BehindIs, Way, SomeWay, SameWay, resting, Passed, Walked}
 
 -- what is below on a stack stays what it is
 pub steps-kept : (edit : List ℕ) {stack stack′ : List ℕ} {top : ℕ} (σ : List Step) → length σ ≤ top → Kept top stack stack′ → StackIs edit stack σ → StackIs edit stack′ σ
@@ -104,9 +104,9 @@ module _ {edit stack behind : List ℕ} {at h d : ℕ} where
         low-behind = omega (arith, l, w .low-behind);
       }
     where
-      go : (σ : List Step) (Z : Edit) (Ws : List Edit) → Way edit stack behind at h d σ Z Ws → (q : Stepping edit at Z) → next ≡ at + 2 + size (q .s .what) → Moved edit (set stack h at) behind next (h + 1) d σ Z Ws
+      go : (σ : List Step) (Z : Edit) (Ws : List Edit) → Way edit stack behind at h d σ Z Ws → (q : Stepping edit at Z) → next ≡ at + 2 + size (q .s .what) → SameWay edit (set stack h at) behind next (h + 1) d σ Z Ws
       go σ Z Ws y q e =
-          let here : getD (set stack h at) (length σ) 0 ≡ at = ap (λ (i : ℕ). getD (set stack h at) i 0) (sym (y .passed)) ∙ getD-set-same stack h at 0 room in
+          let here : getD (set stack h at) (length σ) 0 ≡ at = ap (λ (i : ℕ). getD (set stack h at) i 0) (sym (y .steps-passed)) ∙ getD-set-same stack h at 0 room in
           let from : at + length (editCode Z) ≡ next + length (editCode (q .rest)) = omega (arith, e, q .long) in
           record {
             steps = q .s ∷ σ;
@@ -114,8 +114,8 @@ module _ {edit stack behind : List ℕ} {at h d : ℕ} where
             later = Ws;
             same = q .same σ Ws;
             way = record {
-              passed = omega (arith, y .passed);
-              steps = (subst (λ (o : ℕ). StepAt edit o (q .s)) (sym here) (q .s-at), steps-kept edit σ (omega (arith, y .passed)) (kept-set stack h at) (y .steps));
+              steps-passed = omega (arith, y .steps-passed);
+              steps = (subst (λ (o : ℕ). StepAt edit o (q .s)) (sym here) (q .s-at), steps-kept edit σ (omega (arith, y .steps-passed)) (kept-set stack h at) (y .steps));
               here = q .rest-at next e;
               around = y .around;
               rest = subst (λ (x : ℕ). BehindIs edit behind x Ws) from (y .rest);
@@ -132,7 +132,7 @@ module _ {edit stack behind : List ℕ} {at h d : ℕ} where
       let z = as-finish edit at (w .what) (w .way .here) c in
       let b = on (w .later) (w .way .around) (subst (λ (Z : Edit). BehindIs edit behind (at + length (editCode Z)) (w .later)) z (w .way .rest)) in
       record {
-        each = λ σ Z Ws y. let e = as-finish edit at Z (y .here) c in subst (λ (Y : Edit). Moved edit stack behind (getD behind (d - 1) 0) h (d - 1) σ Y Ws) (sym e) (go σ Ws y (y .around) (subst (λ (Y : Edit). BehindIs edit behind (at + length (editCode Y)) Ws) e (y .rest)));
+        each = λ σ Z Ws y. let e = as-finish edit at Z (y .here) c in subst (λ (Y : Edit). SameWay edit stack behind (getD behind (d - 1) 0) h (d - 1) σ Y Ws) (sym e) (go σ Ws y (y .around) (subst (λ (Y : Edit). BehindIs edit behind (at + length (editCode Y)) Ws) e (y .rest)));
         kept = record { same = λ i r. refl };
         on = omega (arith, b);
         up = omega arith;
@@ -144,7 +144,7 @@ module _ {edit stack behind : List ℕ} {at h d : ℕ} where
       on [] e i = absurd (omega (arith, e, l))
       on (W ∷ Ws) e i = let m : length Ws ≡ d - 1 = omega (arith, e) in subst (λ (x : ℕ). at + 1 ≤ getD behind x 0) m (i .0)
 
-      go : (σ : List Step) (Ws : List Edit) {Z : Edit} → Way edit stack behind at h d σ Z Ws → d ≡ length Ws → BehindIs edit behind (at + 1) Ws → Moved edit stack behind (getD behind (d - 1) 0) h (d - 1) σ finish Ws
+      go : (σ : List Step) (Ws : List Edit) {Z : Edit} → Way edit stack behind at h d σ Z Ws → d ≡ length Ws → BehindIs edit behind (at + 1) Ws → SameWay edit stack behind (getD behind (d - 1) 0) h (d - 1) σ finish Ws
       go σ [] y e i = absurd (omega (arith, e, l))
       go σ (W ∷ Ws) y e i =
           let m : length Ws ≡ d - 1 = omega (arith, e) in
@@ -153,14 +153,14 @@ module _ {edit stack behind : List ℕ} {at h d : ℕ} where
             what = W;
             later = Ws;
             same = λ K. refl;
-            way = record { passed = y .passed; steps = y .steps; here = subst (λ (x : ℕ). EditAt edit (getD behind x 0) W) m (i .1); around = sym m; rest = subst (λ (x : ℕ). BehindIs edit behind (getD behind x 0 + length (editCode W)) Ws) m (i .2) };
+            way = record { steps-passed = y .steps-passed; steps = y .steps; here = subst (λ (x : ℕ). EditAt edit (getD behind x 0) W) m (i .1); around = sym m; rest = subst (λ (x : ℕ). BehindIs edit behind (getD behind x 0 + length (editCode W)) Ws) m (i .2) };
           }
 
 -- a walk of many
 pub record Walking (edit stack behind : List ℕ) (at h d : ℕ) (stack′ : List ℕ) (at′ h′ d′ : ℕ) : Type 0 where
   pub long : length stack′ ≡ length stack
   pub some : SomeWay edit stack′ behind at′ h′ d′
-  pub each : (σ : List Step) (Z : Edit) (Ws : List Edit) → Way edit stack behind at h d σ Z Ws → Moved edit stack′ behind at′ h′ d′ σ Z Ws
+  pub each : (σ : List Step) (Z : Edit) (Ws : List Edit) → Way edit stack behind at h d σ Z Ws → SameWay edit stack′ behind at′ h′ d′ σ Z Ws
   pub kept : Kept h stack stack′
   pub up : h ≤ h′
 

@@ -3,4 +3,4 @@ pub mod Offsets
 pub mod Links
 pub mod Writing
 pub mod Ways
-pub mod Carried
+pub mod Rules

@@ -29,7 +29,7 @@ BehindIs edit behind from (W ∷ Ws) =
 
 -- h steps passed, the edit at a place, and d edits behind it
 pub record Way (edit stack behind : List ℕ) (at h d : ℕ) (σ : List Step) (Z : Edit) (Ws : List Edit) : Type 0 where
-  pub passed : h ≡ length σ
+  pub steps-passed : h ≡ length σ
   pub steps : StackIs edit stack σ
   pub here : EditAt edit at Z
   pub around : d ≡ length Ws
@@ -45,7 +45,7 @@ pub record SomeWay (edit stack behind : List ℕ) (at h d : ℕ) : Type 0 where
   pub low-behind : 2 * d ≤ at
 
 -- further on the same way: what is written of each rule is the same
-pub record Moved (edit stack behind : List ℕ) (at h d : ℕ) (σ : List Step) (Z : Edit) (Ws : List Edit) : Type 0 where
+pub record SameWay (edit stack behind : List ℕ) (at h d : ℕ) (σ : List Step) (Z : Edit) (Ws : List Edit) : Type 0 where
   pub steps : List Step
   pub what : Edit
   pub later : List Edit
@@ -58,7 +58,7 @@ resting c d = cond (eqb c 0x35) true (cond (eqb c 0x30) (eqb d 0) false)
 
 -- what passing a step or an end leaves, and what a walk leaves
 pub record Passed (edit stack behind : List ℕ) (at h d : ℕ) (stack′ : List ℕ) (at′ h′ d′ : ℕ) : Type 0 where
-  pub each : (σ : List Step) (Z : Edit) (Ws : List Edit) → Way edit stack behind at h d σ Z Ws → Moved edit stack′ behind at′ h′ d′ σ Z Ws
+  pub each : (σ : List Step) (Z : Edit) (Ws : List Edit) → Way edit stack behind at h d σ Z Ws → SameWay edit stack′ behind at′ h′ d′ σ Z Ws
   pub kept : Kept h stack stack′
   pub on : at < at′
   pub up : h ≤ h′
@@ -66,7 +66,7 @@ pub record Passed (edit stack behind : List ℕ) (at h d : ℕ) (stack′ : List
   pub low-behind : 2 * d′ ≤ at′
 
 pub record Walked (edit stack behind : List ℕ) (at h d : ℕ) (stack′ : List ℕ) (at′ h′ d′ : ℕ) : Type 0 where
-  pub each : (σ : List Step) (Z : Edit) (Ws : List Edit) → Way edit stack behind at h d σ Z Ws → Moved edit stack′ behind at′ h′ d′ σ Z Ws
+  pub each : (σ : List Step) (Z : Edit) (Ws : List Edit) → Way edit stack behind at h d σ Z Ws → SameWay edit stack′ behind at′ h′ d′ σ Z Ws
   pub kept : Kept h stack stack′
   pub up : h ≤ h′
   pub low : h′ ≤ at′
@@ -97,7 +97,7 @@ pub record SomeCarried (text : List ℕ) (from : ℕ) (edit stack behind : List 
   pub fits : pos + length (written (way .steps) (followed (way .what) (way .later)) K) ≤ room
 
 -- what writing a rule along a way leaves
-pub record Carried (text : List ℕ) (from : ℕ) (edit stack behind : List ℕ) (at h d : ℕ) (o : List ℕ) (pos pos′ : ℕ) (stack′ behind′ o′ : List ℕ) : Type 0 where
+pub record WayWritten (text : List ℕ) (from : ℕ) (edit stack behind : List ℕ) (at h d : ℕ) (o : List ℕ) (pos pos′ : ℕ) (stack′ behind′ o′ : List ℕ) : Type 0 where
   pub wrote : (σ : List Step) (Z : Edit) (Ws : List Edit) → Way edit stack behind at h d σ Z Ws → (K : Expr rule) → RuleAt text from K → Wrote o pos (written σ (followed Z Ws) K) pos′ o′
   pub kept : Kept h stack stack′
   pub again : behind′ ≡ behind

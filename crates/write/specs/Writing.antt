@@ -3,7 +3,7 @@ use mathlib.Core.Path.{_≡_}
 use mathlib.Core.List.{List}
 use Prim.Native.Nat.{ℕ, _+_, _≤_}
 use lib.ListN.{length}
-use Rattle.tree.specs.Tree.{Tree, bytes, graft}
+use Rattle.tree.specs.Tree.{Tree, treeCode, graft}
 use Rattle.tree.specs.Stack.{Step, env}
 use Rattle.ends.specs.Shapes.{At}
 use Rattle.write.specs.Offsets.{StackIs}
@@ -15,7 +15,7 @@ pub record SomeName (edit stack : List ℕ) (j c k pos room : ℕ) : Type 0 wher
   pub steps : List Step
   pub is : j ≡ lastIn edit stack (length steps) c k
   pub stands : StackIs edit stack steps
-  pub fits : pos + length (bytes (env steps c k)) ≤ room
+  pub fits : pos + length (treeCode (env steps c k)) ≤ room
 
 -- some steps are on the stack, and an expression that stands in a text fits likewise under them
 pub record SomeShown (text : List ℕ) (at : ℕ) (edit stack : List ℕ) (h pos room : ℕ) : Type 0 where
@@ -24,4 +24,4 @@ pub record SomeShown (text : List ℕ) (at : ℕ) (edit stack : List ℕ) (h pos
   pub stands : StackIs edit stack steps
   pub what : Tree
   pub what-at : At text at what
-  pub fits : pos + length (bytes (graft (env steps) what)) ≤ room
+  pub fits : pos + length (treeCode (graft (env steps) what)) ≤ room

@@ -4,18 +4,17 @@ ghost use mathlib.Core.List.{List, [], _∷_};
 ghost use mathlib.Core.Bool.{false};
 ghost use Prim.Native.Nat.{_+_, _*_, _<_, _≤_};
 ghost use lib.ListN.{length, getD, take, drop};
-ghost use Rattle.tree.specs.Tree.{Tree, bytes, graft};
-ghost use Rattle.tree.specs.Stack.{Step, touched, env};
-ghost use Rattle.tree.specs.Stack as words;
+ghost use Rattle.tree.specs.Tree.{Tree, treeCode, graft};
+ghost use Rattle.tree.specs.Stack.{Step, touched, env, lead, inner};
 ghost use Rattle.logic.specs.Syntax.{rule, Expr, Edit};
 ghost use Rattle.ends.specs.Shapes.{At, Named};
 ghost use Rattle.measure.specs.Edits.{EditAt, SomeEdit, Kept};
 ghost use Rattle.measure.specs.Book.{RuleAt, BookIs};
 ghost use Rattle.write.specs.Laid.{Wrote};
-ghost use Rattle.write.specs.Carried.{SomeRuleFits, RuleWritten, SomeBookFits, BookWritten};
+ghost use Rattle.write.specs.Rules.{SomeRuleFits, RuleWritten, SomeBookFits, BookWritten};
 ghost use Rattle.write.specs.Offsets.{StackIs};
 ghost use Rattle.write.specs.Links.{lastIn, Linked, SomeLinks, Link, Relinked, Fitting};
-ghost use Rattle.write.specs.Ways.{SomeWay, resting, Passed, Walked, Chosen, SomeCarried, Carried};
+ghost use Rattle.write.specs.Ways.{SomeWay, resting, Passed, Walked, Chosen, SomeCarried, WayWritten};
 ghost use Rattle.write.specs.Writing.{SomeName, SomeShown};
 
 // Where reading and writing stand.
@@ -40,7 +39,7 @@ fn find(edit: &[u8], stack: &[u16], links: &[u16], last: &[u16], h: usize, c: u8
 
 // The code that a step puts before a name.
 fn lead(op: u8) -> u8
-    ensures { λ r. ⌜ r ≡ words.lead op ⌝ }
+    ensures { λ r. ⌜ r ≡ lead op ⌝ }
 {
     if op == 0x31 {
         return 0x07;
@@ -79,8 +78,8 @@ fn put_two(a: u8, b: u8, out: &mut [u8], pos: usize) -> usize
 // Writes the 05 that a step 32 puts before its expression.
 // Inner: there is room.
 fn put_not(op: u8, out: &mut [u8], pos: usize) -> usize
-    requires { ⌜ pos + length (words.inner op []) ≤ length (now out) ⌝ }
-    ensures { λ r. ⌜ Wrote (now (out .entry)) pos (words.inner op []) r (now (out .exit)) ⌝ }
+    requires { ⌜ pos + length (inner op []) ≤ length (now out) ⌝ }
+    ensures { λ r. ⌜ Wrote (now (out .entry)) pos (inner op []) r (now (out .exit)) ⌝ }
 {
     if op == 0x32 {
         out[pos] = 0x05;
@@ -103,7 +102,7 @@ fn name(
     pos: usize,
 ) -> usize
     requires { ⌜ SomeName (now edit) (now stack) j c k pos (length (now out)) × (j ≤ length (now stack)) × SomeLinks (now edit) (now stack) (now links) (now last) j ⌝ }
-    ensures { λ r. ⌜ ((σ : List Step) → j ≡ lastIn (now (edit .entry)) (now (stack .entry)) (length σ) c k → StackIs (now (edit .entry)) (now (stack .entry)) σ → Wrote (now (out .entry)) pos (bytes (env σ c k)) r (now (out .exit))) ⌝ }
+    ensures { λ r. ⌜ ((σ : List Step) → j ≡ lastIn (now (edit .entry)) (now (stack .entry)) (length σ) c k → StackIs (now (edit .entry)) (now (stack .entry)) σ → Wrote (now (out .entry)) pos (treeCode (env σ c k)) r (now (out .exit))) ⌝ }
 {
     if j == 0 {
         return put_two(c, k, out, pos);
@@ -133,7 +132,7 @@ fn emit(
     pos: usize,
 ) -> usize
     requires { ⌜ SomeShown (now text) at (now edit) (now stack) h pos (length (now out)) × (h ≤ length (now stack)) × SomeLinks (now edit) (now stack) (now links) (now last) h ⌝ }
-    ensures { λ r. ⌜ ((σ : List Step) (t : Tree) → h ≡ length σ → StackIs (now (edit .entry)) (now (stack .entry)) σ → At (now (text .entry)) at t → Wrote (now (out .entry)) pos (bytes (graft (env σ) t)) r (now (out .exit))) ⌝ }
+    ensures { λ r. ⌜ ((σ : List Step) (t : Tree) → h ≡ length σ → StackIs (now (edit .entry)) (now (stack .entry)) σ → At (now (text .entry)) at t → Wrote (now (out .entry)) pos (treeCode (graft (env σ) t)) r (now (out .exit))) ⌝ }
 {
     let mut p = at;
     let mut q = pos;
@@ -286,7 +285,7 @@ fn open_first(
     pos: usize,
 ) -> usize
     requires { ⌜ SomeShown (now edit) at (now edit) (now stack) h (pos + 3) (length (now out)) × (h ≤ length (now stack)) × SomeLinks (now edit) (now stack) (now links) (now last) h ⌝ }
-    ensures { λ r. ⌜ ((σ : List Step) (t : Tree) → h ≡ length σ → StackIs (now (edit .entry)) (now (stack .entry)) σ → At (now (edit .entry)) at t → Wrote (now (out .entry)) pos (0x25 ∷ 0x26 ∷ 0x27 ∷ bytes (graft (env σ) t)) r (now (out .exit))) ⌝ }
+    ensures { λ r. ⌜ ((σ : List Step) (t : Tree) → h ≡ length σ → StackIs (now (edit .entry)) (now (stack .entry)) σ → At (now (edit .entry)) at t → Wrote (now (out .entry)) pos (0x25 ∷ 0x26 ∷ 0x27 ∷ treeCode (graft (env σ) t)) r (now (out .exit))) ⌝ }
 {
     let p = put_two(0x25, 0x26, out, pos);
     out[p] = 0x27;
@@ -306,7 +305,7 @@ fn open_second(
     pos: usize,
 ) -> usize
     requires { ⌜ SomeShown (now edit) at (now edit) (now stack) h (pos + 1) (length (now out)) × (h ≤ length (now stack)) × SomeLinks (now edit) (now stack) (now links) (now last) h ⌝ }
-    ensures { λ r. ⌜ ((σ : List Step) (t : Tree) → h ≡ length σ → StackIs (now (edit .entry)) (now (stack .entry)) σ → At (now (edit .entry)) at t → Wrote (now (out .entry)) pos (0x26 ∷ bytes (graft (env σ) t)) r (now (out .exit))) ⌝ }
+    ensures { λ r. ⌜ ((σ : List Step) (t : Tree) → h ≡ length σ → StackIs (now (edit .entry)) (now (stack .entry)) σ → At (now (edit .entry)) at t → Wrote (now (out .entry)) pos (0x26 ∷ treeCode (graft (env σ) t)) r (now (out .exit))) ⌝ }
 {
     out[pos] = 0x26;
     emit(edit, at, edit, stack, links, last, h, out, pos + 1)
@@ -342,7 +341,7 @@ fn write_way(
     pos: usize,
 ) -> usize
     requires { ⌜ SomeCarried (now text) from (now edit) (now stack) (now behind) at h d pos (length (now out)) × Fitting (now edit) (now stack) (now links) (now last) (now behind) × Linked (now edit) (now stack) (now links) (now last) h ⌝ }
-    ensures { λ r. ⌜ Carried (now (text .entry)) from (now (edit .entry)) (now (stack .entry)) (now (behind .entry)) at h d (now (out .entry)) pos r (now (stack .exit)) (now (behind .exit)) (now (out .exit)) × Kept h (now (links .entry)) (now (links .exit)) ⌝ }
+    ensures { λ r. ⌜ WayWritten (now (text .entry)) from (now (edit .entry)) (now (stack .entry)) (now (behind .entry)) at h d (now (out .entry)) pos r (now (stack .exit)) (now (behind .exit)) (now (out .exit)) × Kept h (now (links .entry)) (now (links .exit)) ⌝ }
 {
     let rest = walk(edit, at, stack, links, last, h, behind, d);
     let p = rest.at;

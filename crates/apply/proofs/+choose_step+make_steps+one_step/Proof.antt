@@ -69,16 +69,16 @@ pub +choose-step+make-steps+one-step-spec : {M : Type 1} → statement M
     (λ c. let s = c .before .before .before in omega (arith, starts-inside _ _ _ (s .pre .1 .1 .what) (s .pre .1 .1 .stands)))
     (λ c κs. let s = c .before .before .before in let q = as-choose _ _ _ (s .pre .1 .1 .what) (s .pre .1 .1 .stands) (s .pre .1 .2) in (opened _ _ _ (s .pre .1 .0), record { what = q .K; stands = q .what }))
     (λ c κs. let s = c .before .before .before .before .before .before in let q = as-choose _ _ _ (s .pre .1 .1 .what) (s .pre .1 .1 .stands) (s .pre .1 .2) in
-    let a = c .before .before .eval-rule .ensures (q .K) (q .what) .after in
+    let a = c .before .before .eval-rule .ensures (q .K) (q .what) .ends in
     (omega (arith, s .pre .0, a, starts-inside _ _ _ (s .pre .1 .1 .what) (s .pre .1 .1 .stands)), (s .pre .1 .0, record { what = q .P; stands = q .first _ a })))
     (λ c κs. let s = c .before .before .before .before .before .before .before .before .before in let q = as-choose _ _ _ (s .pre .1 .1 .what) (s .pre .1 .1 .stands) (s .pre .1 .2) in
-    let a = c .before .before .before .before .before .eval-rule .ensures (q .K) (q .what) .after in
+    let a = c .before .before .before .before .before .eval-rule .ensures (q .K) (q .what) .ends in
     let m = c .before .before .make-steps .ensures .1 (q .P) (q .first _ a) in
     record { what = q .Q; stands = record { limits = _; place = q .second _ (m .ends ∙ ap (λ (x : ℕ). x + length (editCode (q .P))) a) } })
     (λ c κs. let s = c .before .before .before .before .before in let q = as-choose _ _ _ (s .pre .1 .1 .what) (s .pre .1 .1 .stands) (s .pre .1 .2) in
-    record { what = q .P; stands = record { limits = _; place = q .first _ (c .before .eval-rule .ensures (q .K) (q .what) .after) } })
+    record { what = q .P; stands = record { limits = _; place = q .first _ (c .before .eval-rule .ensures (q .K) (q .what) .ends) } })
     (λ c κs. let s = c .before .before .before .before .before .before .before in let q = as-choose _ _ _ (s .pre .1 .1 .what) (s .pre .1 .1 .stands) (s .pre .1 .2) in
-    let a = c .before .before .before .eval-rule .ensures (q .K) (q .what) .after in
+    let a = c .before .before .before .eval-rule .ensures (q .K) (q .what) .ends in
     let b = c .before .end-of2 .ensures (q .P) (record { limits = _; place = q .first _ a }) ∙ ap (λ (x : ℕ). x + length (editCode (q .P))) a in
     (omega (arith, s .pre .0, b, starts-inside _ _ _ (s .pre .1 .1 .what) (s .pre .1 .1 .stands)), (s .pre .1 .0, record { what = q .Q; stands = q .second _ b })))
     (λ c. c .before .before .before .make-steps .kept .0)
@@ -87,8 +87,8 @@ pub +choose-step+make-steps+one-step-spec : {M : Type 1} → statement M
       λ Z h.
           let s = c .before .before .before .before .before .before .before .before .before .before in let q = as-choose _ _ _ Z h (s .pre .1 .2) in
           let k = c .before .before .before .before .before .before .eval-rule .ensures (q .K) (q .what) in
-          let m = c .before .before .before .make-steps .ensures .1 (q .P) (q .first _ (k .after)) in
-          let e = c .end-of .ensures (q .Q) (record { limits = _; place = q .second _ (m .ends ∙ ap (λ (x : ℕ). x + length (editCode (q .P))) (k .after)) }) in
+          let m = c .before .before .before .make-steps .ensures .1 (q .P) (q .first _ (k .ends)) in
+          let e = c .end-of .ensures (q .Q) (record { limits = _; place = q .second _ (m .ends ∙ ap (λ (x : ℕ). x + length (editCode (q .P))) (k .ends)) }) in
           first-made _ _ _ (s .pre .1 .0) _ _ Z q _ _ _ _ _ k (c .before .before .before .before .before .if1 .taken) m e,
     ))
     (λ c. c .before .before .make-steps2 .kept .0)
@@ -97,8 +97,8 @@ pub +choose-step+make-steps+one-step-spec : {M : Type 1} → statement M
       λ Z h.
           let s = c .before .before .before .before .before .before .before .before .before .before in let q = as-choose _ _ _ Z h (s .pre .1 .2) in
           let k = c .before .before .before .before .before .before .eval-rule .ensures (q .K) (q .what) in
-          let e = c .before .before .before .before .end-of2 .ensures (q .P) (record { limits = _; place = q .first _ (k .after) }) in
-          let m = c .before .before .make-steps2 .ensures .1 (q .Q) (q .second _ (e ∙ ap (λ (x : ℕ). x + length (editCode (q .P))) (k .after))) in
+          let e = c .before .before .before .before .end-of2 .ensures (q .P) (record { limits = _; place = q .first _ (k .ends) }) in
+          let m = c .before .before .make-steps2 .ensures .1 (q .Q) (q .second _ (e ∙ ap (λ (x : ℕ). x + length (editCode (q .P))) (k .ends))) in
           second-made _ _ _ (s .pre .1 .0) _ _ Z q _ _ _ _ _ k (c .before .before .before .before .before .if1 .left) e m,
     ))
     )

@@ -39,7 +39,7 @@ sub-t12 c =
     let s = c .before .before .before .before .before .before .before .before .before .before in
     let d = c .before .before .before .before .before .loop .inv .1 (s .pre .1 .what) (for-count _ _ _ _ _ _ (c .before .before .before .before .before .before .before .node-count .ensures .0) (s .pre .1 .stand)) in
     let f = first-of _ _ _ _ (d .left) (d .stand) (c .before .before .before .before .loop-test .taken) in
-    omega (arith, c .before .before .before .eval-rule .ensures (f .K) (f .stands) .after)
+    omega (arith, c .before .before .before .eval-rule .ensures (f .K) (f .stands) .ends)
 
 returns : tie.Need-returns Inv-loop μ-loop
 returns c rules s =
@@ -58,14 +58,14 @@ loop-less c =
     let s = c .before .before .before .before .before .before .before .before .before in
     let d = c .before .before .before .before .loop .inv .1 (s .pre .1 .what) (for-count _ _ _ _ _ _ (c .before .before .before .before .before .before .node-count .ensures .0) (s .pre .1 .stand)) in
     let f = first-of _ _ _ _ (d .left) (d .stand) (c .before .before .before .loop-test .taken) in
-    omega (arith, c .before .before .eval-rule .ensures (f .K) (f .stands) .after, f .inside, f .some)
+    omega (arith, c .before .before .eval-rule .ensures (f .K) (f .stands) .ends, f .inside, f .some)
 
 loop-again : tie.Need-loop-again Inv-loop μ-loop
 loop-again c =
     let s = c .before .before .before .before .before .before .before .before .before in
     let d = c .before .before .before .before .loop .inv .1 (s .pre .1 .what) (for-count _ _ _ _ _ _ (c .before .before .before .before .before .before .node-count .ensures .0) (s .pre .1 .stand)) in
     let f = first-of _ _ _ _ (d .left) (d .stand) (c .before .before .before .loop-test .taken) in (
-      omega (arith, c .before .before .eval-rule .ensures (f .K) (f .stands) .after, f .some, c .before .before .before .before .loop .inv .0),
+      omega (arith, c .before .before .eval-rule .ensures (f .K) (f .stands) .ends, f .some, c .before .before .before .before .loop .inv .0),
       λ rules r. reached-next _ _ _ _ _ _ rules (c .before .before .before .before .loop .inv .1 rules r) _ _ (c .before .before .eval-rule .ensures) (c .before .before .before .loop-test .taken) (not-is _ _ (c .if1 .left)),
     )
 

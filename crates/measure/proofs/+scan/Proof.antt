@@ -56,7 +56,7 @@ pub +scan-spec : {M : Type 1} → statement M
     (λ c κs. let s = c .before .before .before .before .before .before .before .before .before .before .before .before .before .before .before .before .before in
     let q = as-two _ _ (s .pre .1 .0 .what) (s .pre .1 .0 .stands) (omega (arith, c .before .before .before .before .before .before .before .before .if1 .left, c .before .before .before .before .before .before .before .before .before .before .before .before .before .shape .ensures)) (omega (arith, c .before .if3 .left, c .before .before .before .before .before .before .before .before .before .before .before .before .before .shape .ensures)) in
     let a = c .before .before .before .before .scan .ensures (q .x) (subst (λ (p : ℕ). At (now (s .args .text)) (s .args .at + p % 4) (q .x)) (sym (c .before .before .before .before .before .before .before .before .before .before .before .before .before .shape .ensures)) (q .first)) in
-    let n = a .after ∙ ap (λ (p : ℕ). s .args .at + p % 4 + size (q .x)) (c .before .before .before .before .before .before .before .before .before .before .before .before .before .shape .ensures) in
+    let n = a .ends ∙ ap (λ (p : ℕ). s .args .at + p % 4 + size (q .x)) (c .before .before .before .before .before .before .before .before .before .before .before .before .before .shape .ensures) in
     (omega (arith, s .pre .0, q .head, q .pos, inside _ _ (q .y) (q .second _ n), n), (record { what = q .y; stands = q .second _ n }, omega (arith, c .before .before .before .before .before .before .deeper .ensures), search needs)))
     (λ c. search needs)
     (λ c. λ t h. two-scanned _ _ _ _ _ _ (c .before .before .before .before .before .before .before .before .before .before .before .before .before .before .before .before .before .before .before .before .pre .1 .2) (c .before .before .before .before .before .before .before .before .before .before .before .before .before .before .before .before .before .before .before .before .pre .1 .1) (c .before .before .before .before .before .before .before .before .before .before .before .before .before .before .rise .ensures) _ (c .before .before .before .before .before .before .before .before .before .deeper .ensures) t (as-two _ _ t h (omega (arith, c .before .before .before .before .before .before .before .before .before .before .before .if1 .left, c .before .before .before .before .before .before .before .before .before .before .before .before .before .before .before .before .shape .ensures)) (omega (arith, c .before .before .before .before .if3 .left, c .before .before .before .before .before .before .before .before .before .before .before .before .before .before .before .before .shape .ensures))) _ _ _ _ _ _ (c .before .before .before .before .before .before .before .before .before .before .before .before .before .before .before .before .shape .ensures) refl (c .before .before .before .before .before .before .before .scan .ensures) (c .before .before .scan2 .ensures))

@@ -11,7 +11,7 @@ pub add-rule-spec : {M : Type 1} → statement M
 add-rule-spec = tie.close (tie.spec
     (λ c κs. let s = c .before .before .before in (record { what = tree (s .pre .0 .what); stands = rule-at _ _ (s .pre .0 .what) (s .pre .0 .stands) }, omega arith, s .pre .1))
     (λ c. search needs)
-    (λ c. let s = c .before .before .before .before .before .before .before in omega (arith, c .before .before .before .scan .ensures (tree (s .pre .0 .what)) (rule-at _ _ (s .pre .0 .what) (s .pre .0 .stands)) .after))
+    (λ c. let s = c .before .before .before .before .before .before .before in omega (arith, c .before .before .before .scan .ensures (tree (s .pre .0 .what)) (rule-at _ _ (s .pre .0 .what) (s .pre .0 .stands)) .ends))
     (λ c κs. search needs)
     (λ c. search needs)
     (λ c. length-set (c .before .before .before .before .scan .last .1 .1 .1 .1 .0) 128 (c .sum .result) ∙ c .before .before .before .before .scan .kept .1 .1 .1 .1 .0)

@@ -18,11 +18,11 @@ join-ways-spec = tie.close (tie.spec
     (λ c. search needs)
     (λ c κs. let s = c .before .before .before .before .before .before .before .before in (s .pre .0, omega arith, c .before .before .before .merge .kept .1 .0 ∙ s .pre .4))
     (λ c. let s = c .before .before .before .before .before .before .before .before .before .before .before .before in omega (arith, c .before .before .before .before .before .before .before .merge .kept .1 .0, s .pre .4, c .before .before .before .scan .kept .1 .1 .1 .1 .0))
-    (λ c. let s = c .before .before .before .before .before .before .before .before .before .before .before .before in omega (arith, c .before .before .before .scan .ensures (s .pre .0 .what) (s .pre .0 .stands) .after))
-    (λ c. let s = c .before .before .before .before .before .before .before .before .before .before .before .before in omega (arith, c .before .before .before .scan .ensures (s .pre .0 .what) (s .pre .0 .stands) .after, fits _ _ (s .pre .0 .what) (s .pre .0 .stands), s .pre .1))
-    (λ c. let s = c .before .before .before .before .before .before .before .before .before .before .before .before in omega (arith, c .before .before .before .scan .ensures (s .pre .0 .what) (s .pre .0 .stands) .after, fits _ _ (s .pre .0 .what) (s .pre .0 .stands), s .pre .1))
+    (λ c. let s = c .before .before .before .before .before .before .before .before .before .before .before .before in omega (arith, c .before .before .before .scan .ensures (s .pre .0 .what) (s .pre .0 .stands) .ends))
+    (λ c. let s = c .before .before .before .before .before .before .before .before .before .before .before .before in omega (arith, c .before .before .before .scan .ensures (s .pre .0 .what) (s .pre .0 .stands) .ends, fits _ _ (s .pre .0 .what) (s .pre .0 .stands), s .pre .1))
+    (λ c. let s = c .before .before .before .before .before .before .before .before .before .before .before .before in omega (arith, c .before .before .before .scan .ensures (s .pre .0 .what) (s .pre .0 .stands) .ends, fits _ _ (s .pre .0 .what) (s .pre .0 .stands), s .pre .1))
     (λ c. let s = c .before .before .before .before .before .before .before .before .before .before .before .before in
-    let n : c .before .before .before .scan .result - s .args .at ≤ 4096 = omega (arith, c .before .before .before .scan .ensures (s .pre .0 .what) (s .pre .0 .stands) .after, fits _ _ (s .pre .0 .what) (s .pre .0 .stands), s .pre .1) in
+    let n : c .before .before .before .scan .result - s .args .at ≤ 4096 = omega (arith, c .before .before .before .scan .ensures (s .pre .0 .what) (s .pre .0 .stands) .ends, fits _ _ (s .pre .0 .what) (s .pre .0 .stands), s .pre .1) in
     omega (arith, product (s .args .rules) (c .before .before .before .scan .result - s .args .at) (s .pre .2) n))
     (λ c κs. search needs)
     (λ c. let s = c .before .before .before .before .before .before .before .before .before .before .before .before .before in omega (arith, c .before .before .before .before .before .before .before .before .merge .kept .1 .0, s .pre .4, c .before .before .before .before .scan .kept .1 .1 .1 .1 .0))

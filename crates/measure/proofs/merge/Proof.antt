@@ -3,7 +3,7 @@ use borrow.Author.Needs.{needs}
 use mathlib.Core.Path.{_≡_, sym, ap, _∙_}
 use Prim.Native.Nat.{ℕ, _≤_, _-_, _+_}
 use lib.ListN.{length, length-set, set}
-use Rattle.tree.specs.Sizes.{cut}
+use Rattle.tree.specs.Sizes.{capped}
 use Rattle.measure.proofs.Loops.{Merging, merging-none, merging-more, merging-end}
 use Rattle.measure.proofs.merge.Statement.{statement}
 use Rattle.measure.proofs.merge.Tie as tie
@@ -31,5 +31,5 @@ merge-spec = tie.close (tie.spec Inv-loop μ-loop
     (λ c. omega (arith, c .before .loop .inv .1))
     (λ c. let l = c .before .loop in omega (arith, l .inv .1, length-set (l .state) 128 (c .before .before .before .before .before .before .sum .result)))
     (λ c. let l = c .before .loop in length-set (set (l .state) 128 (c .before .before .before .before .before .before .sum .result)) 129 (c .before .before .sum2 .result) ∙ length-set (l .state) 128 (c .before .before .before .before .before .before .sum .result) ∙ l .inv .1 ∙ sym (c .before .before .before .before .before .before .before .before .before .before .before .pre .1))
-    (λ c. let l = c .before .loop in merging-end _ _ _ _ _ _ (l .inv .1) (c .loop-test .left) (l .inv .2) (c .before .before .before .before .before .before .sum .ensures) (c .before .before .sum2 .ensures ∙ ap (λ (u : ℕ). cut (u + 2)) (c .before .before .before .larger .ensures)))
+    (λ c. let l = c .before .loop in merging-end _ _ _ _ _ _ (l .inv .1) (c .loop-test .left) (l .inv .2) (c .before .before .before .before .before .before .sum .ensures) (c .before .before .sum2 .ensures ∙ ap (λ (u : ℕ). capped (u + 2)) (c .before .before .before .larger .ensures)))
     )

@@ -5,14 +5,14 @@ use mathlib.Core.Path.{_≡_, sym, ap, _∙_}
 use lib.ListN.{drop}
 use Rattle.answer.specs.Asked.{outcome}
 use Rattle.text.specs.Reading.{textLimits}
-use Rattle.text.specs.Questions.{rulesOf, askBook}
+use Rattle.text.specs.Questions.{readRules, askBook}
 use Rattle.text.specs.Rows.{stepAnswer}
 use Rattle.text.proofs.Answers.{book-long, book-short, rules-end, rules-full, rules-next, rules-stopped}
 use Rattle.text.proofs.Text.check_book.Statement.{statement}
 use Rattle.text.proofs.Text.check_book.Tie as tie
 
 abbrev Inv-loop : tie.InvT-loop
-Inv-loop book n p₀ left₀ p left = outcome (rulesOf (textLimits n) left (drop p book) p) ≡ outcome (askBook (textLimits n) book)
+Inv-loop book n p₀ left₀ p left = outcome (readRules (textLimits n) left (drop p book) p) ≡ outcome (askBook (textLimits n) book)
 
 abbrev μ-loop : tie.MeasureT-loop
 μ-loop book n p₀ left₀ p left = left
