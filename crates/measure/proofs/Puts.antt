@@ -12,10 +12,10 @@ pub head-of : (text : List ℕ) (at : ℕ) (h l : List ℕ) (n : ℕ) → drop a
 head-of text at h l n e f = ap (take n) e ∙ take-at h l n f
 
 pub end-tail : (out : List ℕ) (pos : ℕ) (out′ : List ℕ) (pos′ : ℕ) → EndBefore out pos out′ pos′ → drop (pos′ + 1) out′ ≡ drop pos out
-end-tail out pos out′ pos′ w = behind out′ pos′ (0x30 ∷ []) (drop pos out) (w .text)
+end-tail out pos out′ pos′ w = behind out′ pos′ (0x30 ∷ []) (drop pos out) (w .put-is)
 
 pub end-here : (out : List ℕ) (pos : ℕ) (out′ : List ℕ) (pos′ : ℕ) → EndBefore out pos out′ pos′ → drop pos′ out′ ≡ 0x30 ∷ drop (pos′ + 1) out′
-end-here out pos out′ pos′ w = w .text ∙ ap (λ (l : List ℕ). 0x30 ∷ l) (sym (end-tail out pos out′ pos′ w))
+end-here out pos out′ pos′ w = w .put-is ∙ ap (λ (l : List ℕ). 0x30 ∷ l) (sym (end-tail out pos out′ pos′ w))
 
 -- one byte
 drop-set : (out : List ℕ) (p x : ℕ) → p < length out → drop p (set out p x) ≡ x ∷ drop (suc p) out
@@ -24,7 +24,7 @@ drop-set out p x l =
     ∙ ap (λ (l : List ℕ). x ∷ l) (drop-set-lt (suc p) out p x (omega arith))
 
 pub end-put : (out : List ℕ) (pos p : ℕ) → p + 1 ≡ pos → pos ≤ length out → EndBefore out pos (set out p 0x30) p
-end-put out pos p e l = record { start = e; text = drop-set out p 0x30 (omega arith) ∙ ap (λ (n : ℕ). 0x30 ∷ drop n out) (let f : suc p ≡ pos = omega arith in f) }
+end-put out pos p e l = record { start = e; put-is = drop-set out p 0x30 (omega arith) ∙ ap (λ (n : ℕ). 0x30 ∷ drop n out) (let f : suc p ≡ pos = omega arith in f) }
 
 -- the bytes from e on are put
 pub record Putting (text : List ℕ) (at end : ℕ) (out₀ : List ℕ) (pos : ℕ) (out : List ℕ) (e p : ℕ) : Type 0 where
@@ -32,10 +32,10 @@ pub record Putting (text : List ℕ) (at end : ℕ) (out₀ : List ℕ) (pos : �
   pub high : e ≤ end
   pub moved : p + end ≡ pos + e
   pub long : length out ≡ length out₀
-  pub text : drop p out ≡ take (end - e) (drop e text) ++ drop pos out₀
+  pub put-is : drop p out ≡ take (end - e) (drop e text) ++ drop pos out₀
 
 pub putting-first : (text : List ℕ) (at end : ℕ) (out : List ℕ) (pos : ℕ) → at ≤ end → Putting text at end out pos out end pos
-putting-first text at end out pos l = record { low = l; high = omega arith; moved = refl; long = refl; text = sym (ap (λ (n : ℕ). take n (drop end text) ++ drop pos out) (let f : end - end ≡ 0 = omega arith in f)) }
+putting-first text at end out pos l = record { low = l; high = omega arith; moved = refl; long = refl; put-is = sym (ap (λ (n : ℕ). take n (drop end text) ++ drop pos out) (let f : end - end ≡ 0 = omega arith in f)) }
 
 pub putting-more : (text : List ℕ) (at end : ℕ) (out₀ : List ℕ) (pos : ℕ) (out : List ℕ) (e p : ℕ) → at < e → end ≤ length text → end ≤ at + pos → pos ≤ length out₀ → Putting text at end out₀ pos out e p
     → Putting text at end out₀ pos (set out (p - 1) (getD text (e - 1) 0)) (e - 1) (p - 1)
@@ -44,7 +44,7 @@ putting-more text at end out₀ pos out e p l t r w h = record {
   high = omega (arith, h .high);
   moved = omega (arith, h .moved, h .high);
   long = length-set out (p - 1) (getD text (e - 1) 0) ∙ h .long;
-  text = drop-set out (p - 1) x (omega (arith, h .moved, h .high, h .long)) ∙ ap (λ (n : ℕ). x ∷ drop n out) sp ∙ ap (λ (l : List ℕ). x ∷ l) (h .text) ∙ sym (λ i. taken i ++ drop pos out₀);
+  put-is = drop-set out (p - 1) x (omega (arith, h .moved, h .high, h .long)) ∙ ap (λ (n : ℕ). x ∷ drop n out) sp ∙ ap (λ (l : List ℕ). x ∷ l) (h .put-is) ∙ sym (λ i. taken i ++ drop pos out₀);
 }
   where
     x : ℕ
@@ -62,4 +62,4 @@ putting-more text at end out₀ pos out e p l t r w h = record {
 pub putting-end : (text : List ℕ) (at end : ℕ) (out₀ : List ℕ) (pos : ℕ) (out : List ℕ) (e p : ℕ) → e ≤ at → Putting text at end out₀ pos out e p → PutBefore text at end out₀ pos out p
 putting-end text at end out₀ pos out e p l h =
     let f : e ≡ at = omega (arith, h .low) in
-    record { start = omega (arith, h .moved, h .high); text = h .text ∙ ap (λ (n : ℕ). take (end - n) (drop n text) ++ drop pos out₀) f }
+    record { start = omega (arith, h .moved, h .high); put-is = h .put-is ∙ ap (λ (n : ℕ). take (end - n) (drop n text) ++ drop pos out₀) f }

@@ -83,7 +83,7 @@ module _ (text : List ℕ) (at : ℕ) (Z : Edit) (q : IsStep text at Z) where
       let f : length (q .head) ≡ end - at = omega (arith, q .head-long, e) in
       record {
         text = λ M h tail p.
-            w .text ∙ (λ t. head-of text at (q .head) (q .tail) (end - at) (q .split) f t ++ p t) ∙ sym (append-assoc (q .head) (editCode (pruned rules (behindStep Z) M)) tail)
+            w .put-is ∙ (λ t. head-of text at (q .head) (q .tail) (end - at) (q .split) f t ++ p t) ∙ sym (append-assoc (q .head) (editCode (pruned rules (behindStep Z) M)) tail)
             ∙ sym ((λ t. q .prunes rules M t ++ tail) ∙ (λ t. cond (ne-eqb (back rules (behindStep Z) M .counts (q .c) (q .k)) 0 (λ z. n (counted l i j (back rules (behindStep Z) M) h ∙ ap capped z)) t) (editCode (pruned rules (behindStep Z) M)) (q .head ++ editCode (pruned rules (behindStep Z) M)) ++ tail));
         room = omega (arith, q .long, w .start, e);
         low = omega (arith, w .start);

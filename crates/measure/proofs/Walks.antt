@@ -253,7 +253,7 @@ module _ (text : List ℕ) (at rules : ℕ) (m : getD text at 0 ≡ 0x35) (first
       let n : length (c .head) ≡ first - at = omega (arith, c .head-long, a) in
       record {
         text = λ M x tail e.
-            w .text ∙ (λ t. (head-of text at (c .head) (c .tail) (first - at) (c .split) n t) ++ (bP .text _ (kept-holds state other₁ _ k x) ∙ (λ u. editCode (pruned rules (c .P) (back rules (behindStep Z) M)) ++ (bQ .text _ x ∙ (λ v. editCode (pruned rules (c .Q) (back rules (behindStep Z) M)) ++ e v)) u)) t)
+            w .put-is ∙ (λ t. (head-of text at (c .head) (c .tail) (first - at) (c .split) n t) ++ (bP .text _ (kept-holds state other₁ _ k x) ∙ (λ u. editCode (pruned rules (c .P) (back rules (behindStep Z) M)) ++ (bQ .text _ x ∙ (λ v. editCode (pruned rules (c .Q) (back rules (behindStep Z) M)) ++ e v)) u)) t)
             ∙ sym (four (c .head) _ _ _ tail) ∙ (λ t. sym (c .prunes rules M) t ++ tail);
         room = omega (arith, w .start, bP .room, bQ .room, c .long, a);
         low = omega (arith, w .start, bP .low, bQ .low);

@@ -81,12 +81,12 @@ pub record Backed (rules : ℕ) (Z : Edit) (l out : List ℕ) (pos : ℕ) (l′ 
 -- the bytes from `at` to `end` put in front of what stands at `pos`
 pub record PutBefore (text : List ℕ) (at end : ℕ) (out : List ℕ) (pos : ℕ) (out′ : List ℕ) (pos′ : ℕ) : Type 0 where
   pub start : pos′ + (end - at) ≡ pos
-  pub text : drop pos′ out′ ≡ take (end - at) (drop at text) ++ drop pos out
+  pub put-is : drop pos′ out′ ≡ take (end - at) (drop at text) ++ drop pos out
 
 -- an edit's end put there
 pub record EndBefore (out : List ℕ) (pos : ℕ) (out′ : List ℕ) (pos′ : ℕ) : Type 0 where
   pub start : pos′ + 1 ≡ pos
-  pub text : drop pos′ out′ ≡ 0x30 ∷ drop pos out
+  pub put-is : drop pos′ out′ ≡ 0x30 ∷ drop pos out
 
 -- a place is behind an edit's first step, or behind the edit
 pub record NextAt (text : List ℕ) (at : ℕ) (Z : Edit) (next : ℕ) : Type 0 where
