@@ -1,0 +1,2 @@
+// The squared sheet on paper (document 02, item 1).
+mod lines;
