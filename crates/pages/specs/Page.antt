@@ -26,9 +26,15 @@ unfoldable pub setLine : (n x : ℕ) → Nodes → List ℕ
 setLine n x v = digits 2 x ++ (0x20 ∷ chunks maxNodes 0 (λ j. square n v j ∷ []) ++ (0x0A ∷ []))
 
 -- The page of an arrow kind: A, two digits of the kind; then one line for each node.
+unfoldable pub rowLines : Graph → ℕ → List ℕ
+rowLines g a = chunks (g .n) 0 (λ i. setLine (g .n) i (g .joined a i))
+
 unfoldable pub arrowPage : Graph → ℕ → List ℕ
-arrowPage g a = headLine 0x41 a ++ chunks (g .n) 0 (λ i. setLine (g .n) i (g .joined a i))
+arrowPage g a = headLine 0x41 a ++ rowLines g a
 
 -- The label page: L, two digits of n; then 48 such lines, one per label.
+unfoldable pub labelLines : Graph → List ℕ
+labelLines g = chunks labelCount 0 (λ k. setLine (g .n) k (g .labelled k))
+
 unfoldable pub labelPage : Graph → List ℕ
-labelPage g = headLine 0x4C (g .n) ++ chunks labelCount 0 (λ k. setLine (g .n) k (g .labelled k))
+labelPage g = headLine 0x4C (g .n) ++ labelLines g

@@ -1,2 +1,3 @@
 // The squared sheet on paper (document 02, item 1).
 mod lines;
+mod print;
