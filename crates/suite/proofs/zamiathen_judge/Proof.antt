@@ -1,6 +1,7 @@
 use borrow.Author.Needs.{needs}
-use mathlib.Core.Path.{_∙_}
+use mathlib.Core.Path.{ap, _∙_}
 use Rattle.answer.proofs.AnswerLaws.{unit-number, unit-place}
+use Rattle.judge.specs.Judging.{Part}
 use Rattle.suite.proofs.zamiathen_judge.Statement.{statement}
 use Rattle.suite.proofs.zamiathen_judge.Tie as tie
 
@@ -9,8 +10,8 @@ returns c =
     let v = c .before .before .decide in (
       c .before .number .ensures ∙ unit-number (v .result .answer) _ (v .ensures .0),
       c .place .ensures ∙ unit-place (v .result .answer) _ (v .ensures .0),
-      v .ensures .1,
-      v .ensures .2,
+      ap (λ (p : Part). p .start) (v .ensures .1),
+      ap (λ (p : Part). p .size) (v .ensures .1),
     )
 
 pub zamiathen-judge-spec : {M : Type 1} → statement M
