@@ -28,7 +28,7 @@ demo: target/demo
 test:
 	.ci/run
 
-bench: $(archive) target/staticlib/libprobe.a
+bench: $(archive)
 	bench/run
 	bench/callgrind.sh
 

@@ -1,4 +1,4 @@
-/* The example station through the three functions of zamiathen.h, as a planning suite would call them.
+/* The example station through the calls of zamiathen.h, as a planning suite would make them.
  *
  *   demo DIRECTORY      the directory with station.txt, book.hex, sheet.bin, clash.bin and the edits
  */
@@ -8,7 +8,7 @@
 #include <stdlib.h>
 #include <string.h>
 
-enum { NODES = 60, LABELS = 48, ARROWS = 16, LINES = 64, LINE = 256 };
+enum { LINES = 64, LINE = 256 };
 
 /* A text with the line, behind its #, that explains each part of it. */
 struct text {
@@ -23,10 +23,11 @@ struct text {
 };
 
 static const char *directory;
-static char labels[LABELS][LINE], arrows[ARROWS][LINE], nodes[NODES][LINE];
+static char labels[ZAMIATHEN_LABELS][LINE], arrows[ZAMIATHEN_ARROWS][LINE], nodes[ZAMIATHEN_MAX_NODES][LINE];
 static size_t node_count;
 static struct text book;
 static uint8_t sheet[ZAMIATHEN_SHEET_BYTES], before[ZAMIATHEN_SHEET_BYTES], scratch[ZAMIATHEN_CARRIED_BYTES];
+static int column_changed[ZAMIATHEN_ARROWS][ZAMIATHEN_MAX_NODES];
 
 static FILE *open_file(const char *name) {
     char path[1024];
@@ -55,11 +56,11 @@ static void load_names(void) {
     while (fgets(line, sizeof line, file) != NULL) {
         if (sscanf(line, "%s %u %s", kind, &number, name) != 3)
             continue;
-        if (strcmp(kind, "label") == 0 && number < LABELS)
+        if (strcmp(kind, "label") == 0 && number < ZAMIATHEN_LABELS)
             strcpy(labels[number], name);
-        if (strcmp(kind, "arrow") == 0 && number < ARROWS)
+        if (strcmp(kind, "arrow") == 0 && number < ZAMIATHEN_ARROWS)
             strcpy(arrows[number], name);
-        if (strcmp(kind, "node") == 0 && number < NODES) {
+        if (strcmp(kind, "node") == 0 && number < ZAMIATHEN_MAX_NODES) {
             strcpy(nodes[number], name);
             node_count = number + 1;
         }
@@ -115,50 +116,50 @@ static void print_text(const struct text *text) {
     printf("\n");
 }
 
-/* Row i of a block: of block 0 the nodes with label i, of block a + 1 the nodes to which arrow a goes from node i. */
-static int bit(const uint8_t *bytes, size_t block, size_t i, size_t j) {
-    return bytes[512 * block + 16 + 8 * i + j / 8] >> j % 8 & 1;
+static int has_label(const uint8_t *bytes, size_t k, size_t i) {
+    return (int)zamiathen_label_bit(bytes, ZAMIATHEN_SHEET_BYTES, (uint8_t)k, (uint8_t)i).bit;
+}
+
+static int has_arrow(const uint8_t *bytes, size_t a, size_t i, size_t j) {
+    return (int)zamiathen_arrow_bit(bytes, ZAMIATHEN_SHEET_BYTES, (uint8_t)a, (uint8_t)i, (uint8_t)j).bit;
 }
 
 static void print_changed_labels(void) {
-    for (size_t k = 0; k < LABELS; k++)
+    for (size_t k = 0; k < ZAMIATHEN_LABELS; k++)
         for (size_t i = 0; i < node_count; i++)
-            if (bit(before, 0, k, i) != bit(sheet, 0, k, i))
-                printf("      %c %s: %s\n", bit(sheet, 0, k, i) ? '+' : '-', labels[k], nodes[i]);
+            if (has_label(before, k, i) != has_label(sheet, k, i))
+                printf("      %c %s: %s\n", has_label(sheet, k, i) ? '+' : '-', labels[k], nodes[i]);
 }
 
+/* Prints the arrows that are new or gone, and marks the nodes to which they go. */
 static void print_changed_arrows(size_t a) {
+    memset(column_changed[a], 0, sizeof column_changed[a]);
     for (size_t i = 0; i < node_count; i++)
         for (size_t j = 0; j < node_count; j++)
-            if (bit(before, a + 1, i, j) != bit(sheet, a + 1, i, j))
-                printf("      %c %s %s %s\n", bit(sheet, a + 1, i, j) ? '+' : '-', nodes[i], arrows[a], nodes[j]);
-}
-
-static int column_changed(size_t a, size_t j) {
-    for (size_t i = 0; i < node_count; i++)
-        if (bit(before, a + 1, i, j) != bit(sheet, a + 1, i, j))
-            return 1;
-    return 0;
+            if (has_arrow(before, a, i, j) != has_arrow(sheet, a, i, j)) {
+                printf("      %c %s %s %s\n", has_arrow(sheet, a, i, j) ? '+' : '-', nodes[i], arrows[a], nodes[j]);
+                column_changed[a][j] = 1;
+            }
 }
 
 /* Does arrow a go from node i into a changed column, before or after? */
 static int row_shown(size_t a, size_t i) {
     for (size_t j = 0; j < node_count; j++)
-        if (column_changed(a, j) && (bit(before, a + 1, i, j) || bit(sheet, a + 1, i, j)))
+        if (column_changed[a][j] && (has_arrow(before, a, i, j) || has_arrow(sheet, a, i, j)))
             return 1;
     return 0;
 }
 
 static void print_heads(size_t a) {
     for (size_t j = 0; j < node_count; j++)
-        if (column_changed(a, j))
+        if (column_changed[a][j])
             printf("  %6s", nodes[j]);
 }
 
 static void print_squares(const uint8_t *bytes, size_t a, size_t i) {
     for (size_t j = 0; j < node_count; j++)
-        if (column_changed(a, j))
-            printf("       %s", bit(bytes, a + 1, i, j) ? "■" : "□");
+        if (column_changed[a][j])
+            printf("       %s", has_arrow(bytes, a, i, j) ? "■" : "□");
 }
 
 /* Arrow a before and after, cut to the columns that changed and the rows that have an arrow there. */
@@ -182,26 +183,28 @@ static void print_picture(size_t a) {
 
 static void print_changes(void) {
     print_changed_labels();
-    for (size_t a = 0; a < ARROWS; a++)
+    for (size_t a = 0; a < ZAMIATHEN_ARROWS; a++)
         print_changed_arrows(a);
-    for (size_t a = 0; a < ARROWS; a++)
+    for (size_t a = 0; a < ZAMIATHEN_ARROWS; a++)
         for (size_t j = 0; j < node_count; j++)
-            if (column_changed(a, j)) {
+            if (column_changed[a][j]) {
                 print_picture(a);
                 break;
             }
 }
 
 static void print_rule(size_t place) {
+    size_t start = zamiathen_rule_start(book.bytes, book.length, node_count, place);
+    size_t end = zamiathen_rule_start(book.bytes, book.length, node_count, place + 1);
     printf("      rule %zu   ", place);
-    print_bytes(book.bytes + book.parts[place].start, book.parts[place].length);
+    print_bytes(book.bytes + start, end - start);
     printf("\n               \"%s\"\n", book.parts[place].why);
 }
 
 /* What the broken rule asks of the sheet as it is: the carried book stands in the scratch and can be judged like any other. */
 static void print_condition(const struct text *edit) {
     uint8_t carried[ZAMIATHEN_CARRIED_BYTES];
-    zamiathen_carried c =
+    zamiathen_length c =
         zamiathen_carry_back(book.bytes, book.length, edit->bytes, edit->length, carried, sizeof carried);
     zamiathen_judged j = zamiathen_judge(sheet, sizeof sheet, scratch, c.length);
     if (j.number != ZAMIATHEN_RULE_BROKEN)
