@@ -1,6 +1,6 @@
 # make demo       proves and builds what the C functions need, and runs the example station through them
 # make test       the gate: proves every crate from nothing, tries the must-fail edits, runs all tests
-# make bench      times against plain Rust on the same inputs, and instruction counts (valgrind)
+# make bench      times and instructions of each call beside those of plain Rust on the same inputs (needs valgrind)
 # make install    archive, header and pkg-config file, under PREFIX
 PREFIX ?= /usr/local
 CC = gcc
@@ -30,7 +30,6 @@ test:
 
 bench: $(archive)
 	bench/run
-	bench/callgrind.sh
 
 install: $(archive)
 	install -d $(DESTDIR)$(PREFIX)/lib/pkgconfig $(DESTDIR)$(PREFIX)/include
