@@ -104,12 +104,12 @@ typedef struct {
  * Answers 0, 5 or 1. Every answer but done leaves the buffer as it was. */
 zamiathen_answer zamiathen_blank(uint8_t *sheet, size_t sheet_length, size_t n);
 
-/* Has a node this label? The bit is 1 if so. Answers 0, 1 to 4 or 7: the label is below 48 and the node below n. Writes
- * nothing. Each call asks the whole sheet. */
+/* Has a node this label? The bit is 1 if so. Answers 0, 1 to 4, or 7 unless the label is below 48 and the node below n.
+ * Writes nothing. Each call asks the whole sheet. */
 zamiathen_bit zamiathen_label_bit(const uint8_t *sheet, size_t sheet_length, uint8_t label, uint8_t node);
 
-/* Does an arrow of this kind go from one node to the other? The bit is 1 if so. Answers 0, 1 to 4 or 7: the arrow is
- * below 16 and both nodes are below n. Writes nothing. Each call asks the whole sheet. */
+/* Does an arrow of this kind go from one node to the other? The bit is 1 if so. Answers 0, 1 to 4, or 7 unless the
+ * arrow is below 16 and both nodes are below n. Writes nothing. Each call asks the whole sheet. */
 zamiathen_bit zamiathen_arrow_bit(const uint8_t *sheet, size_t sheet_length, uint8_t arrow, uint8_t from, uint8_t to);
 
 /*
@@ -121,10 +121,10 @@ zamiathen_bit zamiathen_arrow_bit(const uint8_t *sheet, size_t sheet_length, uin
  * not looked at. An empty text has no first rule: 12. Writes nothing. */
 zamiathen_length zamiathen_first_rule(const uint8_t *text, size_t text_length);
 
-/* Where does a rule of a book start, counted from 0? So that the rule can be shown whose number comes with a 41: it is
- * book[zamiathen_rule_start(.., rule)] to the byte before zamiathen_rule_start(.., rule + 1). n is that of the sheet.
- * Asks no question: the answer is a place in the book, or book_length if the book has not so many rules or one of those
- * before cannot be read with node numbers below n. Writes nothing. */
+/* Where a rule of a book starts, the rules counted from 0. A 41 gives the number of the broken rule, and its bytes go
+ * from its start up to that of the next, zamiathen_rule_start(book, book_length, n, rule + 1). n is the sheet's. No
+ * question is asked: the answer is a place, and book_length where the book has no such rule or one of those before it
+ * cannot be read with node numbers below n. Writes nothing. */
 size_t zamiathen_rule_start(const uint8_t *book, size_t book_length, size_t n, size_t rule);
 
 /* Does each rule of the book hold on the sheet? Answers 0, 1 to 4, 11 to 16 or 41. Writes nothing. */
