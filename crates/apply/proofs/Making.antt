@@ -24,7 +24,7 @@ use Rattle.sheet.proofs.Opening.{opening}
 use Rattle.text.specs.Code.{code, editCode}
 use Rattle.text.specs.Stands.{Stands, EditStands, SomeEditStands}
 use Rattle.eval.specs.Evaluated.{Opened, IsSet, IsRelation, IsTruth}
-use Rattle.measure.specs.Edits.{behindStep}
+use Rattle.ends.specs.Edits.{behindStep}
 use Rattle.apply.specs.Apply.{afterSteps}
 use Rattle.apply.specs.Made.{labelOperation, arrowCode, Ready, StepMade, Made}
 use Rattle.apply.proofs.Cases.{labelMade, arrowMade, IsStep, IsChoose, is-finish}

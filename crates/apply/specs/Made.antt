@@ -13,7 +13,7 @@ use Rattle.words.specs.Words.{setOf}
 use Rattle.sheet.specs.Sheet.{store, graphOf}
 use Rattle.text.specs.Code.{editCode}
 use Rattle.text.specs.Stands.{EditStands}
-use Rattle.measure.specs.Edits.{behindStep}
+use Rattle.ends.specs.Edits.{behindStep}
 use Rattle.apply.specs.Apply.{afterSteps}
 
 -- 31 adds to a label, 32 takes from it: whether a node has the label after the step, from whether it had it and is in E.
