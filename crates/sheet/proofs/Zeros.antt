@@ -11,12 +11,14 @@ use borrow.Author.Tests.{eq-eqb, eqb-true, lt-ltb, le-leb, le-ltb}
 use lib.Dec.{eqb, ltb}
 use lib.ListN.{getD}
 use Rattle.logic.specs.Graph.{Nodes, anyBelow, allBelow, implies}
+use Rattle.logic.specs.Limits.{maxNodes, labelCount}
 use Rattle.words.specs.Words.{setOf, member, wordAt}
 use Rattle.words.proofs.SetLaws.{setOf-empty, member-setOf}
 use Rattle.words.proofs.WordLaws.{member-wordAt}
 use Rattle.seal.specs.Seal.{bodyBytes}
 use Rattle.sheet.specs.Questions.{free, zeroRight}
 use Rattle.sheet.specs.Masks.{zerosAt, masked, zeroBut}
+use Rattle.sheet.specs.Sheet.{padding}
 use Rattle.sheet.proofs.Passes.{all-true, if-clear, if-free, no-bit}
 use Rattle.sheet.proofs.Opening.{and-yes, all-below, clear, byte-ext, label-gap, arrow-gap}
 
@@ -82,7 +84,7 @@ more true true e = refl
 more true false e = let z : _≡_ {A = ℕ} 0 1 = cc in absurd (omega arith)
 
 -- a word within its mask, bit for bit: any set of rows and any set of nodes
-module _ (k : List ℕ) (bytes : (p : ℕ) → getD k p 0 < 256) (rows node : Nodes) (j : ℕ) (h : j < 60) where
+module _ (k : List ℕ) (bytes : (p : ℕ) → getD k p 0 < 256) (rows node : Nodes) (j : ℕ) (h : j < maxNodes) where
   mask-bit : (r : ℕ) → r < 64 → member (cond (member (setOf 64 rows) j) (setOf 64 node) 0) r ≡ (rows j && node r)
   mask-bit r l = ap (λ b. member (cond b (setOf 64 node) 0) r) (member-setOf 64 rows j (omega arith)) ∙ go (rows j)
     where
@@ -108,7 +110,7 @@ module _ (k : List ℕ) (bytes : (p : ℕ) → getD k p 0 < 256) (rows node : No
   bits-masked e = masked-is ∙ none-any 64 over (λ r l. over-is r l ∙ more (member (getD k (16 + 8 * j + r / 8) 0) (r % 8)) (rows j && node r) (e r l))
 
 -- a block of m words whose bits are free where the row and the node are there
-module _ (k : List ℕ) (bytes : (p : ℕ) → getD k p 0 < 256) (n b m : ℕ) (some-words : m ≤ 60) (rows node : Nodes)
+module _ (k : List ℕ) (bytes : (p : ℕ) → getD k p 0 < 256) (n b m : ℕ) (some-words : m ≤ maxNodes) (rows node : Nodes)
     (head : (p i : ℕ) → p < 3 → free n b p i ≡ true)
     (gap : (p i : ℕ) → 3 ≤ p → (p < 16) ⊎ (16 + 8 * m ≤ p) → free n b p i ≡ false)
     (inner : (p i : ℕ) → 16 ≤ p → p < 16 + 8 * m → free n b p i ≡ (rows ((p - 16) / 8) && node (p % 8 * 8 + i))) where
@@ -135,14 +137,14 @@ module _ (k : List ℕ) (bytes : (p : ℕ) → getD k p 0 < 256) (n b m : ℕ) (
     unfolding zeroBut zerosAt
     asks =
         ap₂ _&&_ (all-true 13 _ (λ j l. gap-zero (3 + j) (omega arith) (omega arith) (inl (omega arith))))
-        (ap₂ _&&_ (all-true m _ word-right) (all-true (494 - 8 * m) _ (λ j l. gap-zero (16 + 8 * m + j) (omega arith) (omega arith) (inr (omega arith)))))
+        (ap₂ _&&_ (all-true m _ word-right) (all-true (padding m) _ (λ j l. gap-zero (16 + 8 * m + j) (omega arith) (omega arith) (inr (omega arith)))))
 
   module _ (e : zeroBut m (setOf 64 rows) (setOf 64 node) k ≡ true) where
-    front : (zerosAt k 3 13 ≡ true) × ((allBelow m (masked k (setOf 64 rows) (setOf 64 node)) && zerosAt k (16 + 8 * m) (494 - 8 * m)) ≡ true)
+    front : (zerosAt k 3 13 ≡ true) × ((allBelow m (masked k (setOf 64 rows) (setOf 64 node)) && zerosAt k (16 + 8 * m) (padding m)) ≡ true)
     unfolding zeroBut
     front = and-yes (zerosAt k 3 13) _ e
 
-    behind : (allBelow m (masked k (setOf 64 rows) (setOf 64 node)) ≡ true) × (zerosAt k (16 + 8 * m) (494 - 8 * m) ≡ true)
+    behind : (allBelow m (masked k (setOf 64 rows) (setOf 64 node)) ≡ true) × (zerosAt k (16 + 8 * m) (padding m) ≡ true)
     behind = and-yes (allBelow m (masked k (setOf 64 rows) (setOf 64 node))) _ (front .1)
 
     zero-bit : (at c : ℕ) → zerosAt k at c ≡ true → (p i : ℕ) → at ≤ p → p < at + c → member (getD k p 0) i ≡ false
@@ -164,7 +166,7 @@ module _ (k : List ℕ) (bytes : (p : ℕ) → getD k p 0 < 256) (n b m : ℕ) (
     bit-right p i l s (yes x) d g = if-free (member (getD k p 0) i) _ (head p i x)
     bit-right p i l s (no x) (yes d) g = if-clear _ _ (zero-bit 3 13 (front .0) p i (omega arith) (omega arith))
     bit-right p i l s (no x) (no d) (yes g) = word-bits p i (omega arith) g s
-    bit-right p i l s (no x) (no d) (no g) = if-clear _ _ (zero-bit (16 + 8 * m) (494 - 8 * m) (behind .1) p i (omega arith) (omega arith))
+    bit-right p i l s (no x) (no d) (no g) = if-clear _ _ (zero-bit (16 + 8 * m) (padding m) (behind .1) p i (omega arith) (omega arith))
 
     answered : zeroRight n b k ≡ true
     unfolding zeroRight
@@ -178,20 +180,20 @@ below n i = ltb i n
 
 module _ (k : List ℕ) (bytes : (p : ℕ) → getD k p 0 < 256) (n b : ℕ) where
   -- of block 0
-  pub masks-first : b ≡ 0 → zeroBut 48 (setOf 64 (below 48)) (setOf 64 (below n)) k ≡ zeroRight n b k
+  pub masks-first : b ≡ 0 → zeroBut labelCount (setOf 64 (below labelCount)) (setOf 64 (below n)) k ≡ zeroRight n b k
   unfolding free
   masks-first e =
-      by-masks k bytes n 0 48 (omega arith) (below 48) (below n) (λ p i h. rw (lt-ltb p 3 h)) (label-gap n)
-      (λ p i l u. rw (le-ltb p 3 (omega arith), le-leb 16 p l, lt-ltb p 400 u, lt-ltb ((p - 16) / 8) 48 (omega arith)))
+      by-masks k bytes n 0 labelCount (omega arith) (below labelCount) (below n) (λ p i h. rw (lt-ltb p 3 h)) (label-gap n)
+      (λ p i l u. rw (le-ltb p 3 (omega arith), le-leb 16 p l, lt-ltb p (16 + 8 * labelCount) u, lt-ltb ((p - 16) / 8) labelCount (omega arith)))
       ∙ ap (λ x. zeroRight n x k) (sym e)
 
   -- of a later block
-  pub masks-later : (b ≡ 0 → ⊥) → zeroBut 60 (setOf 64 (below n)) (setOf 64 (below n)) k ≡ zeroRight n b k
+  pub masks-later : (b ≡ 0 → ⊥) → zeroBut maxNodes (setOf 64 (below n)) (setOf 64 (below n)) k ≡ zeroRight n b k
   unfolding free
   masks-later e = go b e
     where
-      go : (b : ℕ) → (b ≡ 0 → ⊥) → zeroBut 60 (setOf 64 (below n)) (setOf 64 (below n)) k ≡ zeroRight n b k
+      go : (b : ℕ) → (b ≡ 0 → ⊥) → zeroBut maxNodes (setOf 64 (below n)) (setOf 64 (below n)) k ≡ zeroRight n b k
       go zero e = absurd (e refl)
       go (suc a) e =
-          by-masks k bytes n (suc a) 60 (omega arith) (below n) (below n) (λ p i h. rw (lt-ltb p 3 h)) (arrow-gap n a)
-          (λ p i l u. rw (le-ltb p 3 (omega arith), le-leb 16 p l, lt-ltb p 496 u))
+          by-masks k bytes n (suc a) maxNodes (omega arith) (below n) (below n) (λ p i h. rw (lt-ltb p 3 h)) (arrow-gap n a)
+          (λ p i l u. rw (le-ltb p 3 (omega arith), le-leb 16 p l, lt-ltb p (16 + 8 * maxNodes) u))

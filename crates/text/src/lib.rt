@@ -1,6 +1,9 @@
 // Reading rules, books and edits ("The code" and "The questions, in order" of document 01).
 use answer::Answer;
 use answer::Refusal;
+use logic::Arrow;
+use logic::Label;
+use logic::Node;
 ghost use mathlib.Core.Path.{_≡_};
 ghost use Prim.Native.Nat.{_<_, _≤_};
 ghost use Rattle.text.specs.Rows.{itemOf, rowOf, itemPlan, finished, rowPlan, sortOf, numberFits, stepAt, headAt, stepAnswer};
@@ -231,11 +234,11 @@ impl Text {
     // rules of a book
     pub const RULES: usize = 32;
     // label numbers, arrow numbers and, where there is no sheet, node numbers are below these
-    pub const LABELS: u8 = 48;
+    pub const LABELS: u8 = Label::COUNT;
 
-    pub const ARROWS: u8 = 16;
+    pub const ARROWS: u8 = Arrow::COUNT;
 
-    pub const NODES: usize = 60;
+    pub const NODES: usize = Node::MAX as usize;
 
     // Is a book within the limits for n nodes? 11 to 16.
     pub fn check_book(book: &[u8], n: usize) -> Answer
