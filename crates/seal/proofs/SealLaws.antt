@@ -1,6 +1,6 @@
 -- The check bytes behind a body: their test and their store, as the code does them.
 use mathlib.Core.Path.{_≡_, refl, sym, ap, ap₂, _∙_}
-use mathlib.Core.Bool.{Bool, true, false, _&&_, and-true}
+use mathlib.Core.Bool.{Bool, true, _&&_, and-true, and-eq-true-iff}
 use mathlib.Core.List.{List, [], _∷_, _++_}
 use Prim.Native.Nat.{ℕ, suc, _+_, _-_, _*_, _%_, _≤_, _<_}
 use native.Mathlib.Omega.{arith}
@@ -48,16 +48,12 @@ unfolding sameBytes
 same-refl [] = refl
 same-refl (x ∷ k) = ap₂ _&&_ (so (eqb x x) (eqb-refl x)) (same-refl k)
 
-and-yes : (a b : Bool) → (a && b) ≡ true → (a ≡ true) × (b ≡ true)
-and-yes true b e = (refl, e)
-and-yes false b e = let z : _≡_ {A = ℕ} 0 1 = cc in absurd (omega arith)
-
 same-is : (a b : List ℕ) → sameBytes a b ≡ true → a ≡ b
 unfolding sameBytes
 same-is [] [] e = refl
 same-is [] (y ∷ b) e = let z : _≡_ {A = ℕ} 0 1 = cc in absurd (omega arith)
 same-is (x ∷ a) [] e = let z : _≡_ {A = ℕ} 0 1 = cc in absurd (omega arith)
-same-is (x ∷ a) (y ∷ b) e = ap₂ _∷_ (eqb→eq x y (rw (and-yes (eqb x y) (sameBytes a b) e .0) tt)) (same-is a b (and-yes (eqb x y) (sameBytes a b) e .1))
+same-is (x ∷ a) (y ∷ b) e = ap₂ _∷_ (eqb→eq x y (rw (and-eq-true-iff (eqb x y) (sameBytes a b) .0 e .0) tt)) (same-is a b (and-eq-true-iff (eqb x y) (sameBytes a b) .0 e .1))
 
 -- and passes its question;
 pub sealed-right : (body : List ℕ) → length body ≡ bodyBytes → sealRight (sealed body) ≡ true
@@ -88,7 +84,7 @@ module _ (k : List ℕ) (h : length k ≡ blockBytes) (right : sealRight k ≡ t
   check-bytes =
       let s : ℕ = sums (take bodyBytes k) .s in
       let t : ℕ = sums (take bodyBytes k) .t in
-      let both : (eqb (getD k bodyBytes 0) s ≡ true) × (eqb (getD k (bodyBytes + 1) 0) t ≡ true) = and-yes _ _ (sym (seal-test k s t h refl refl) ∙ right) in
+      let both : (eqb (getD k bodyBytes 0) s ≡ true) × (eqb (getD k (bodyBytes + 1) 0) t ≡ true) = and-eq-true-iff _ _ .0 (sym (seal-test k s t h refl refl) ∙ right) in
       (eqb-true _ _ (both .0), eqb-true _ _ (both .1))
 
   pub byte-put : (p x d s t : ℕ) → p < bodyBytes → d + getD k p 0 ≡ x + 255 → s ≡ getD k bodyBytes 0 → t ≡ getD k (bodyBytes + 1) 0

@@ -2,7 +2,7 @@
 use mathlib.Core.Path.{_≡_, refl, sym, ap, ap₂, _∙_}
 use mathlib.Core.Bool.{false, and-false}
 use mathlib.Core.List.{List, [], _∷_, _++_, append-assoc, append-nil}
-use Prim.Native.Nat.{ℕ, zero, suc, _+_, _*_, _≤_, _<_}
+use Prim.Native.Nat.{ℕ, zero, suc, _+_, _-_, _*_, _≤_, _<_}
 use native.Mathlib.Numerals.{add-one}
 use native.Mathlib.Omega.{arith}
 use borrow.Author.Tests.{eq-eqb, ne-eqb, le-leb, lt-leb}
@@ -34,19 +34,22 @@ pub heads : (l : List ℕ) (m x y z : ℕ) → l ≡ replicate m 0 → m ≡ blo
 unfolding bareBlock
 heads l m x y z e q = ap (λ k. set (set (set k 0 x) 1 y) 2 z) (e ∙ ap (λ k. replicate k 0) q)
 
--- an empty block is a bare one
+-- an empty block is a bare one, whose check bytes are zero
+abbrev unsealed : List ℕ
+unsealed = replicate (blockBytes - bodyBytes) 0
+
 blank-labels : (n : ℕ) → reseal (bareBlock 1 0 n) ≡ labelBlock (blank n)
 unfolding labelBlock chunks bytes bareBlock
 blank-labels n =
-    ap reseal (sym (ap (λ w. raw (labelHead (blank n)) labelCount (λ k. w) (0 ∷ 0 ∷ [])) (setOf-none n)))
-    ∙ seal-raw (labelHead (blank n)) refl labelCount (0 ∷ 0 ∷ []) (λ k. setOf n (λ i. false)) labels-fit
+    ap reseal (sym (ap (λ w. raw (labelHead (blank n)) labelCount (λ k. w) unsealed) (setOf-none n)))
+    ∙ seal-raw (labelHead (blank n)) refl labelCount unsealed (λ k. setOf n (λ i. false)) labels-fit
 
 blank-arrows : (n a : ℕ) → reseal (bareBlock 2 (a + 1) 0) ≡ arrowBlock (blank n) a
 unfolding arrowBlock chunks bytes bareBlock
 blank-arrows n a =
     ap (λ x. reseal (bareBlock 2 x 0)) (add-one a)
-    ∙ ap reseal (sym (ap (λ w. raw (arrowHead a) maxNodes (λ k. w) (0 ∷ 0 ∷ [])) (setOf-none n)))
-    ∙ seal-raw (arrowHead a) refl maxNodes (0 ∷ 0 ∷ []) (λ i. setOf n (λ i. false)) rows-fit
+    ∙ ap reseal (sym (ap (λ w. raw (arrowHead a) maxNodes (λ k. w) unsealed) (setOf-none n)))
+    ∙ seal-raw (arrowHead a) refl maxNodes unsealed (λ i. setOf n (λ i. false)) rows-fit
 
 -- the buffer is blank up to the block of arrow a
 abbrev pub Begun : ℕ → ℕ → List ℕ → Type 0

@@ -1,6 +1,6 @@
 -- A sheet of bytes that passes the questions is the one that stores the graph it reads as, and that graph is within the limits.
 use mathlib.Core.Path.{_≡_, refl, sym, _∙_, ap, ap₂, subst}
-use mathlib.Core.Bool.{Bool, true, false, _&&_, and-false}
+use mathlib.Core.Bool.{Bool, true, false, _&&_, and-eq-true-iff, and-false}
 use mathlib.Core.List.{List, [], _∷_, _++_}
 use mathlib.Core.Logic.{_⊎_, inl, inr}
 use Prim.Native.Nat.{ℕ, zero, suc, _+_, _-_, _*_, _/_, _%_, _≤_, _<_}
@@ -13,16 +13,16 @@ use lib.ListN.{length, getD, take, drop, length-take, length-drop, List·getD-eq
 use lib.Seq.{getD-take, getD-drop, ext-getD, drop-drop}
 use lib.Pow.{pow-pos}
 use Rattle.answer.specs.Asked.{Asked, passed, refused, _>>_, is}
-use Rattle.logic.specs.Graph.{Nodes, isNode, allBelow, implies}
+use Rattle.logic.specs.Graph.{isNode, allBelow, implies}
 use Rattle.logic.specs.Limits.{Within, maxNodes, labelCount, arrowCount}
+use Rattle.logic.proofs.Below.{all-each}
 use Rattle.words.specs.Words.{member}
-use Rattle.words.proofs.SetLaws.{member-setOf, member-beyond, is-setOf, setOf-member-lt}
+use Rattle.words.proofs.SetLaws.{member-zero, member-setOf, member-beyond, is-setOf, setOf-member-lt}
 use Rattle.seal.specs.Seal.{blockBytes, bodyBytes, sealed, sealRight}
 use Rattle.seal.proofs.SealLaws.{right-sealed}
 use Rattle.sheet.specs.Sheet.{sheetBytes, chunks, block, labelBlock, arrowBlock, store, bitIn, graphOf, blockCount}
 use Rattle.sheet.specs.Questions.{blockOf, nodeCountRight, headRight, free, zeroRight, askBlock, askBlocks, askSheet, Sound}
 use Rattle.sheet.proofs.Blocks.{bodyOf, length-body, body-at, head-at, front-zero, pad-zero, word-bit, word-byte, labelHead, labelWord, arrowHead, rowWord, labels-fit, rows-fit}
-use Rattle.sheet.proofs.Passes.{no-bit}
 
 pub is-yes : (b : Bool) (q p : ℕ) → is b q p ≡ passed tt → b ≡ true
 unfolding is
@@ -33,19 +33,6 @@ pub both-yes : (x r : Asked (Unit {0})) → (x >> r) ≡ passed tt → (x ≡ pa
 unfolding _>>_
 both-yes (passed u) r e = (refl, e)
 both-yes (refused q p) r e = let z : _≡_ {A = ℕ} 0 1 = cc in absurd (omega arith)
-
-pub and-yes : (a b : Bool) → (a && b) ≡ true → (a ≡ true) × (b ≡ true)
-and-yes true b e = (refl, e)
-and-yes false b e = let z : _≡_ {A = ℕ} 0 1 = cc in absurd (omega arith)
-
-pub all-below : (n : ℕ) (f : Nodes) → allBelow n f ≡ true → (i : ℕ) → i < n → f i ≡ true
-unfolding allBelow
-all-below zero f e i l = absurd (omega arith)
-all-below (suc n) f e i l = go (decLt i n) (λ k. all-below n f (and-yes (allBelow n f) (f n) e .0) i k)
-  where
-    go : Dec (i < n) → (i < n → f i ≡ true) → f i ≡ true
-    go (yes k) r = r k
-    go (no k) r = let s : i ≡ n = omega arith in ap f s ∙ and-yes (allBelow n f) (f n) e .1
 
 pub clear : (b c : Bool) → c ≡ false → implies b c ≡ true → b ≡ false
 clear true true e h = let z : _≡_ {A = ℕ} 0 1 = cc in absurd (omega arith)
@@ -63,7 +50,7 @@ module _ (head : List ℕ) (m : ℕ) (f : ℕ → ℕ) (h : length head ≡ 3) (
     (zeros : (p i : ℕ) → 3 ≤ p → p < bodyBytes → (p < 16) ⊎ (16 + 8 * m ≤ p) → i < 8 → member (getD k p 0) i ≡ false)
     (bits : (p i : ℕ) → 16 ≤ p → p < 16 + 8 * m → i < 8 → member (getD k p 0) i ≡ member (f ((p - 16) / 8)) (p % 8 * 8 + i)) where
   clear-byte : (p : ℕ) → 3 ≤ p → p < bodyBytes → (p < 16) ⊎ (16 + 8 * m ≤ p) → getD k p 0 ≡ 0
-  clear-byte p l u w = byte-ext (getD k p 0) 0 (small p) (omega arith) (λ i b. zeros p i l u w b ∙ sym (no-bit i))
+  clear-byte p l u w = byte-ext (getD k p 0) 0 (small p) (omega arith) (λ i b. zeros p i l u w b ∙ sym (member-zero i))
 
   stored-lt : (p : ℕ) → 16 ≤ p → p < 16 + 8 * m → getD (block head m f) p 0 < 256
   stored-lt p l u =
@@ -112,7 +99,7 @@ bit-clear : (n b : ℕ) (k : List ℕ) → BlockRight n b k → (p i : ℕ) → 
 unfolding zeroRight
 bit-clear n b k o p i l s f =
     clear (member (getD k p 0) i) (free n b p i) f
-    (all-below 8 (λ i. implies (member (getD k p 0) i) (free n b p i)) (all-below bodyBytes (λ p. allBelow 8 (λ i. implies (member (getD k p 0) i) (free n b p i))) (o .zeros) p l) i s)
+    (all-each 8 (λ i. implies (member (getD k p 0) i) (free n b p i)) (all-each bodyBytes (λ p. allBelow 8 (λ i. implies (member (getD k p 0) i) (free n b p i))) (o .zeros) p l) i s)
 
 -- what must be zero
 pub label-gap : (n p i : ℕ) → 3 ≤ p → (p < 16) ⊎ (16 + 8 * labelCount ≤ p) → free n 0 p i ≡ false
@@ -139,23 +126,23 @@ arrow-row n a p i l u = rw (le-ltb p 3 l, le-ltb ((p - 16) / 8) n u, and-false, 
 
 label-heads : (k : List ℕ) (n : ℕ) → headRight 0 k ≡ true → getD k 2 0 ≡ n → (p : ℕ) → p < 3 → getD k p 0 ≡ getD (1 ∷ 0 ∷ n ∷ []) p 0
 unfolding headRight
-label-heads k n e q zero l = eqb-true (getD k 0 0) 1 (and-yes (eqb (getD k 0 0) 1) _ e .0)
-label-heads k n e q (suc zero) l = eqb-true (getD k 1 0) 0 (and-yes (eqb (getD k 1 0) 0) _ (and-yes (eqb (getD k 0 0) 1) _ e .1) .0)
+label-heads k n e q zero l = eqb-true (getD k 0 0) 1 (and-eq-true-iff (eqb (getD k 0 0) 1) _ .0 e .0)
+label-heads k n e q (suc zero) l = eqb-true (getD k 1 0) 0 (and-eq-true-iff (eqb (getD k 1 0) 0) _ .0 (and-eq-true-iff (eqb (getD k 0 0) 1) _ .0 e .1) .0)
 label-heads k n e q (suc (suc zero)) l = q
 label-heads k n e q (suc (suc (suc p))) l = absurd (omega arith)
 
 pub n-range : (k : List ℕ) → headRight 0 k ≡ true → (1 ≤ getD k 2 0) × (getD k 2 0 ≤ maxNodes)
 unfolding headRight
 n-range k e =
-    let r : nodeCountRight (getD k 2 0) ≡ true = and-yes (eqb (getD k 1 0) 0) _ (and-yes (eqb (getD k 0 0) 1) _ e .1) .1 in
-    let s : (leb 1 (getD k 2 0) ≡ true) × (leb (getD k 2 0) maxNodes ≡ true) = and-yes (leb 1 (getD k 2 0)) (leb (getD k 2 0) maxNodes) r in
+    let r : nodeCountRight (getD k 2 0) ≡ true = and-eq-true-iff (eqb (getD k 1 0) 0) _ .0 (and-eq-true-iff (eqb (getD k 0 0) 1) _ .0 e .1) .1 in
+    let s : (leb 1 (getD k 2 0) ≡ true) × (leb (getD k 2 0) maxNodes ≡ true) = and-eq-true-iff (leb 1 (getD k 2 0)) (leb (getD k 2 0) maxNodes) .0 r in
     (leb-true 1 (getD k 2 0) (s .0), leb-true (getD k 2 0) maxNodes (s .1))
 
 arrow-heads : (k : List ℕ) (a : ℕ) → headRight (suc a) k ≡ true → (p : ℕ) → p < 3 → getD k p 0 ≡ getD (2 ∷ suc a ∷ 0 ∷ []) p 0
 unfolding headRight
-arrow-heads k a e zero l = eqb-true (getD k 0 0) 2 (and-yes (eqb (getD k 0 0) 2) _ e .0)
-arrow-heads k a e (suc zero) l = eqb-true (getD k 1 0) (suc a) (and-yes (eqb (getD k 1 0) (suc a)) (eqb (getD k 2 0) 0) (and-yes (eqb (getD k 0 0) 2) _ e .1) .0)
-arrow-heads k a e (suc (suc zero)) l = eqb-true (getD k 2 0) 0 (and-yes (eqb (getD k 1 0) (suc a)) (eqb (getD k 2 0) 0) (and-yes (eqb (getD k 0 0) 2) _ e .1) .1)
+arrow-heads k a e zero l = eqb-true (getD k 0 0) 2 (and-eq-true-iff (eqb (getD k 0 0) 2) _ .0 e .0)
+arrow-heads k a e (suc zero) l = eqb-true (getD k 1 0) (suc a) (and-eq-true-iff (eqb (getD k 1 0) (suc a)) (eqb (getD k 2 0) 0) .0 (and-eq-true-iff (eqb (getD k 0 0) 2) _ .0 e .1) .0)
+arrow-heads k a e (suc (suc zero)) l = eqb-true (getD k 2 0) 0 (and-eq-true-iff (eqb (getD k 1 0) (suc a)) (eqb (getD k 2 0) 0) .0 (and-eq-true-iff (eqb (getD k 0 0) 2) _ .0 e .1) .1)
 arrow-heads k a e (suc (suc (suc p))) l = absurd (omega arith)
 
 module _ (t : List ℕ) (size : length t ≡ sheetBytes) (small : (p : ℕ) → getD t p 0 < 256) (ok : (b : ℕ) → b < blockCount → BlockRight (getD t 2 0) b (blockOf t b)) where

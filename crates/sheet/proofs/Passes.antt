@@ -2,30 +2,25 @@
 use mathlib.Core.Path.{_≡_, refl, _∙_, ap, ap₂}
 use mathlib.Core.Bool.{Bool, true, false, _&&_, or-true}
 use mathlib.Core.List.{List, _++_}
-use Prim.Native.Nat.{ℕ, zero, suc, _+_, _-_, _*_, _/_, _%_, _^_, _≤_, _<_}
-use native.Mathlib.Nat.{mul-zero, mul-suc, zero-div}
+use Prim.Native.Nat.{ℕ, zero, suc, _+_, _-_, _*_, _/_, _%_, _≤_, _<_}
+use native.Mathlib.Nat.{mul-zero, mul-suc}
 use native.Mathlib.Omega.{arith}
 use native.Mathlib.Decide.{decLt}
 use borrow.Author.Tests.{eq-eqb, lt-ltb, le-leb}
-use lib.Dec.{eqb}
 use lib.ListN.{length, getD, take, drop}
 use lib.Seq.{drop-append-add, take-at}
 use Rattle.answer.specs.Asked.{passed, _>>_, is}
-use Rattle.logic.specs.Graph.{Graph, Nodes, allBelow, implies}
+use Rattle.logic.specs.Graph.{Graph, implies}
 use Rattle.logic.specs.Limits.{Within, maxNodes, labelCount, arrowCount}
 use Rattle.logic.proofs.Inside.{no-node}
+use Rattle.logic.proofs.Below.{all-true}
 use Rattle.words.specs.Words.{member}
-use Rattle.words.proofs.SetLaws.{member-setOf, member-beyond}
+use Rattle.words.proofs.SetLaws.{member-zero, member-setOf, member-beyond}
 use Rattle.seal.specs.Seal.{blockBytes, bodyBytes, sealRight}
 use Rattle.seal.proofs.SealLaws.{sealed-right}
 use Rattle.sheet.specs.Sheet.{chunks, block, labelBlock, arrowBlock, store}
 use Rattle.sheet.specs.Questions.{blockOf, headRight, free, zeroRight, askBlock, askBlocks, askSheet, Sound}
 use Rattle.sheet.proofs.Blocks.{bodyOf, length-body, head-at, front-zero, pad-zero, word-bit, labelHead, labelWord, arrowHead, rowWord, length-labelBlock, length-arrowBlock, length-store, n-is, labels-fit, rows-fit}
-
-pub all-true : (n : ℕ) (f : Nodes) → ((i : ℕ) → i < n → f i ≡ true) → allBelow n f ≡ true
-unfolding allBelow
-all-true zero f h = refl
-all-true (suc n) f h = ap₂ _&&_ (all-true n f (λ i l. h i (omega arith))) (h n (omega arith))
 
 pub if-clear : (b c : Bool) → b ≡ false → implies b c ≡ true
 if-clear b c e = rw e
@@ -33,19 +28,15 @@ if-clear b c e = rw e
 pub if-free : (b c : Bool) → c ≡ true → implies b c ≡ true
 if-free b c e = rw (e, or-true)
 
-pub no-bit : (i : ℕ) → member 0 i ≡ false
-unfolding member
-no-bit i = ap (λ x. eqb (x % 2) 1) (zero-div (2 ^ i))
-
 -- a block of m words, each a set of nodes below n, has nothing where nothing may be
 module _ (head : List ℕ) (m : ℕ) (f : ℕ → ℕ) (h : length head ≡ 3) (fits : 16 + 8 * m ≤ bodyBytes) (n b : ℕ)
     (heads : (p i : ℕ) → p < 3 → free n b p i ≡ true)
     (inside : (p i : ℕ) → 16 ≤ p → p < 16 + 8 * m → i < 8 → implies (member (f ((p - 16) / 8)) (p % 8 * 8 + i)) (free n b p i) ≡ true) where
   bit-right : (p i : ℕ) → p < bodyBytes → i < 8 → Dec (p < 3) → Dec (p < 16) → Dec (p < 16 + 8 * m) → implies (member (getD (block head m f) p 0) i) (free n b p i) ≡ true
   bit-right p i l s (yes x) d e = if-free (member (getD (block head m f) p 0) i) _ (heads p i x)
-  bit-right p i l s (no x) (yes d) e = if-clear _ _ (ap (λ x. member x i) (front-zero head m f h fits p (omega arith) d) ∙ no-bit i)
+  bit-right p i l s (no x) (yes d) e = if-clear _ _ (ap (λ x. member x i) (front-zero head m f h fits p (omega arith) d) ∙ member-zero i)
   bit-right p i l s (no x) (no d) (yes e) = ap (λ y. implies y (free n b p i)) (word-bit head m f h fits p i (omega arith) e s) ∙ inside p i (omega arith) e s
-  bit-right p i l s (no x) (no d) (no e) = if-clear _ _ (ap (λ x. member x i) (pad-zero head m f h fits p (omega arith) l) ∙ no-bit i)
+  bit-right p i l s (no x) (no d) (no e) = if-clear _ _ (ap (λ x. member x i) (pad-zero head m f h fits p (omega arith) l) ∙ member-zero i)
 
   block-zeros : zeroRight n b (block head m f) ≡ true
   unfolding zeroRight

@@ -1,6 +1,6 @@
 -- The steps that the code makes: along a row, and at a code byte, which the table of rows has as the plans have it.
 use mathlib.Core.Path.{_≡_, refl, sym, _∙_, ap, ap₂, subst}
-use mathlib.Core.Bool.{Bool, true, false, _&&_, cond}
+use mathlib.Core.Bool.{Bool, true, false, _&&_, cond, and-eq-true-iff}
 use mathlib.Core.List.{List, [], _∷_}
 use mathlib.Core.Logic.{_≢_}
 use Prim.Native.Nat.{ℕ, zero, suc, _+_, _-_, _/_, _%_, _≤_, _<_}
@@ -195,12 +195,8 @@ module _ (w : Want) (d c : ℕ) {B : Type 0} (found : Plan (Thing w) → Read B)
       go false f g r = r (λ m. n (g refl, m))
 
 -- the range of a code of each sort
-both-true : (a b : Bool) → (a && b) ≡ true → (a ≡ true) × (b ≡ true)
-both-true true b h = (refl, h)
-both-true false b h = let z : _≡_ {A = ℕ} 0 1 = cc in absurd (omega arith)
-
 in-range : (lo hi c : ℕ) → (leb lo c && leb c hi) ≡ true → (lo ≤ c) × (c ≤ hi)
-in-range lo hi c h = let q = both-true (leb lo c) (leb c hi) h in (leb-true lo c (q .0), leb-true c hi (q .1))
+in-range lo hi c h = let q = and-eq-true-iff (leb lo c) (leb c hi) .0 h in (leb-true lo c (q .0), leb-true c hi (q .1))
 
 abbrev Chosen : ℕ → Bool → Bool → Bool → Bool → Type 0
 Chosen x p q r s = ((x ≡ 0xC → p ≡ true) × (x ≡ 0xD → q ≡ true)) × ((x ≡ 0xE → r ≡ true) × (x ≡ 0xF → s ≡ true))
@@ -451,8 +447,8 @@ small (x ∷ xs) = ltb x 65536 && small xs
 small-at : (xs : List ℕ) (i : ℕ) → small xs ≡ true → getD xs i 0 < 65536
 unfolding small
 small-at [] i h = omega arith
-small-at (x ∷ xs) zero h = ltb-true x 65536 (both-true (ltb x 65536) (small xs) h .0)
-small-at (x ∷ xs) (suc i) h = small-at xs i (both-true (ltb x 65536) (small xs) h .1)
+small-at (x ∷ xs) zero h = ltb-true x 65536 (and-eq-true-iff (ltb x 65536) (small xs) .0 h .0)
+small-at (x ∷ xs) (suc i) h = small-at xs i (and-eq-true-iff (ltb x 65536) (small xs) .0 h .1)
 
 pub row-small : (c : ℕ) → rowOf c < 65536
 unfolding rowIn small nodeRows arrowRows ruleRows editRows
