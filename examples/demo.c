@@ -201,18 +201,57 @@ static void print_rule(size_t place) {
     printf("\n               \"%s\"\n", book.parts[place].why);
 }
 
-/* What the broken rule asks of the sheet as it is: the carried book stands in the scratch and can be judged like any other. */
+/* Who breaks a rule on a sheet? Of 21 E F it is each node i for which 23 i 07 05 E F does not hold, of 22 R S each pair
+ * for which 24 i j 15 R S does, and of 25 K L who breaks K or L. A rule of more than 30 levels cannot be asked so: then
+ * nobody is shown. */
+static void print_breakers(const uint8_t *bytes, const uint8_t *rule, size_t length) {
+    uint8_t asked[ZAMIATHEN_TEXT_BYTES + 3];
+    if (rule[0] == 0x25) {
+        size_t first = zamiathen_first_rule(rule + 1, length - 1).length;
+        print_breakers(bytes, rule + 1, first);
+        print_breakers(bytes, rule + 1 + first, length - 1 - first);
+    }
+    if (rule[0] != 0x21 && rule[0] != 0x22)
+        return;
+    memcpy(asked + 4, rule + 1, length - 1);
+    for (uint8_t i = 0; i < node_count; i++) {
+        memcpy(asked, (uint8_t[]){0x23, i, 0x07, 0x05}, 4);
+        if (rule[0] == 0x21 && zamiathen_judge(bytes, sizeof sheet, asked, length + 3).number == ZAMIATHEN_RULE_BROKEN)
+            printf("               broken by %s\n", nodes[i]);
+        for (uint8_t j = 0; j < node_count && rule[0] == 0x22; j++) {
+            memcpy(asked, (uint8_t[]){0x24, i, j, 0x15}, 4);
+            if (zamiathen_judge(bytes, sizeof sheet, asked, length + 3).number == ZAMIATHEN_DONE)
+                printf("               broken by the pair %s, %s\n", nodes[i], nodes[j]);
+        }
+    }
+}
+
+/* Who would break a rule of the book after an edit: the edit is carried out on a copy of the sheet. */
+static void print_breakers_after(const struct text *edit, size_t place) {
+    uint8_t after[ZAMIATHEN_SHEET_BYTES];
+    size_t start = zamiathen_rule_start(book.bytes, book.length, node_count, place);
+    size_t end = zamiathen_rule_start(book.bytes, book.length, node_count, place + 1);
+    memcpy(after, sheet, sizeof after);
+    if (zamiathen_apply(after, sizeof after, edit->bytes, edit->length).number == ZAMIATHEN_DONE)
+        print_breakers(after, book.bytes + start, end - start);
+}
+
+/* What the broken rule asks of the sheet as it is. The carried book stands in the scratch. Where it keeps the limits of a
+ * book it can be judged like one; it may pass them, having up to 16,384 bytes and 255 levels. */
 static void print_condition(const struct text *edit) {
     uint8_t carried[ZAMIATHEN_CARRIED_BYTES];
     zamiathen_length c =
         zamiathen_carry_back(book.bytes, book.length, edit->bytes, edit->length, carried, sizeof carried);
     zamiathen_judged j = zamiathen_judge(sheet, sizeof sheet, scratch, c.length);
-    if (j.number != ZAMIATHEN_RULE_BROKEN)
-        return;
-    printf("      Carried back through the edit it is a condition on the sheet as it is, which does not hold:\n");
-    printf("               ");
-    print_bytes(scratch + j.start, j.length);
-    printf("\n");
+    printf("      Carried back through the edit it is a condition on the sheet as it is, which does not hold");
+    if (j.number == ZAMIATHEN_RULE_BROKEN) {
+        printf(":\n               ");
+        print_bytes(scratch + j.start, j.length);
+        printf("\n");
+    } else {
+        printf(".\n      The %zu bytes of carried rules pass the limits of a book: judged as one they are answered %02zu %05zu.\n",
+               c.length, j.number, j.place);
+    }
 }
 
 static void judge_sheet(void) {
@@ -223,6 +262,7 @@ static void judge_sheet(void) {
     } else if (j.number == ZAMIATHEN_RULE_BROKEN) {
         printf("the sheet breaks\n");
         print_rule(j.place);
+        print_breakers(sheet, book.bytes + j.start, j.length);
     } else {
         printf("refused.\n");
     }
@@ -239,6 +279,7 @@ static void enter_edit(const struct text *edit) {
     } else if (answer.number == ZAMIATHEN_RULE_BROKEN) {
         printf("refused. The sheet after it would break\n");
         print_rule(answer.place);
+        print_breakers_after(edit, answer.place);
         print_condition(edit);
         if (memcmp(before, sheet, sizeof sheet) == 0)
             printf("   The sheet is as it was, to the byte.\n");
@@ -293,5 +334,7 @@ int main(int count, char **words) {
     printf("\n");
     show_edit("repair.hex");
     judge_sheet();
+    printf("\n5. A rule of pairs, and the pair that would break it (one_way.hex)\n\n");
+    show_edit("one_way.hex");
     return 0;
 }

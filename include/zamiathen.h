@@ -12,7 +12,9 @@
  * Threads. The library keeps no state, allocates nothing and takes no lock. Calls may run at the same time in any
  * number of threads as long as no buffer that one call writes is read or written by another.
  *
- * Stack. Every call needs at most ZAMIATHEN_STACK_BYTES bytes of stack in its thread.
+ * Stack. Every call needs at most ZAMIATHEN_STACK_BYTES bytes of stack below the frame that makes it. A thread made for
+ * such calls needs its own frames, and what its C library keeps on the stack, besides: ZAMIATHEN_THREAD_BYTES leaves
+ * 128 KiB for them.
  */
 #ifndef ZAMIATHEN_H
 #define ZAMIATHEN_H
@@ -24,11 +26,18 @@
 extern "C" {
 #endif
 
+/* The version. The first number moves when the form of sheets or an answer of a call changes, the second when a call is
+ * added: a card written under another first number may be answered otherwise. As one number: 1000 * first + second. */
+#define ZAMIATHEN_VERSION_FIRST 1
+#define ZAMIATHEN_VERSION_SECOND 1
+#define ZAMIATHEN_VERSION (1000 * ZAMIATHEN_VERSION_FIRST + ZAMIATHEN_VERSION_SECOND)
+
 /* Sizes. */
 #define ZAMIATHEN_SHEET_BYTES 8704    /* a sheet has just this length */
 #define ZAMIATHEN_TEXT_BYTES 4096     /* the longest book and the longest edit */
 #define ZAMIATHEN_CARRIED_BYTES 16384 /* the longest carried book: an output or scratch of this length suffices */
 #define ZAMIATHEN_STACK_BYTES 262144  /* measured: 196,544 at 255 levels, the deepest carried rule */
+#define ZAMIATHEN_THREAD_BYTES 393216 /* a thread's whole stack */
 
 /* Limits. A sheet has n nodes, n from 1 to ZAMIATHEN_MAX_NODES; n is its byte 2. Numbers count from 0. */
 #define ZAMIATHEN_MAX_NODES 60
