@@ -6,9 +6,9 @@ ghost use Rattle.carry.specs.Answers.{carriedAsked};
 ghost use Rattle.carry.specs.Carrying.{carryAnswer, carryOutput};
 ghost use Rattle.demands.specs.Enter.{enterAnswer, enterSheet, enterScratch};
 ghost use Rattle.suite.specs.Numbers.{numbers, lengthNumbers};
-use carry::Carried;
 use crate::LengthNumbers;
 use crate::Numbers;
+use carry::Carried;
 
 #[no_mangle]
 pub extern "C" fn zamiathen_apply(sheet: &mut [u8], edit: &[u8]) -> Numbers
@@ -44,7 +44,12 @@ pub extern "C" fn zamiathen_carry_back(book: &[u8], edit: &[u8], output: &mut [u
 }
 
 #[no_mangle]
-pub extern "C" fn zamiathen_enter(sheet: &mut [u8], book: &[u8], edit: &[u8], scratch: &mut [u8]) -> Numbers
+pub extern "C" fn zamiathen_enter(
+    sheet: &mut [u8],
+    book: &[u8],
+    edit: &[u8],
+    scratch: &mut [u8],
+) -> Numbers
     ensures { λ r. ⌜ r ≡ numbers (enterAnswer (now (sheet .entry)) (now (book .entry)) (now (edit .entry)) (length (now (scratch .entry)))) ⌝ }
     ensures { λ _. ⌜ now (sheet .exit) ≡ enterSheet (now (sheet .entry)) (now (book .entry)) (now (edit .entry)) (length (now (scratch .entry))) ⌝ }
     ensures { λ _. ⌜ now (scratch .exit) ≡ enterScratch (now (sheet .entry)) (now (book .entry)) (now (edit .entry)) (now (scratch .entry)) ⌝ }
