@@ -55,7 +55,7 @@ static int call(char *line) {
     if (!read_text(&edit, strtok(NULL, " \n")))
         return 0;
     if (strcmp(name, "carry") == 0) {
-        zamiathen_carried c =
+        zamiathen_length c =
             zamiathen_carry_back(book.bytes, book.length, edit.bytes, edit.length, scratch, sizeof scratch);
         printf("%02zu %05zu ", c.number, c.place);
         print_bytes(scratch, c.length);
