@@ -15,9 +15,9 @@ use Rattle.logic.proofs.Inside.{taken-label, run-within}
 use Rattle.rows.specs.Operations.{arrowOperation}
 use Rattle.text.specs.Code.{code, editCode}
 use Rattle.text.specs.Stands.{Stands, EditStands}
-use Rattle.measure.specs.Edits.{behindStep}
+use Rattle.ends.specs.Edits.{behindStep}
 use Rattle.text.proofs.Standing.{byte-at, behind}
-use Rattle.measure.proofs.Steps.{editTag, tag-edit, edit-inside, as-finish}
+use Rattle.ends.proofs.Steps.{editTag, tag-edit, edit-inside, as-finish}
 use Rattle.apply.specs.Made.{labelOperation, arrowCode}
 
 -- What a step with the code c does to a label, and to an arrow.

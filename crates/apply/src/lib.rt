@@ -75,9 +75,9 @@ fn choose_step(sheet: &mut [u8], n: usize, all: u64, edit: &[u8], at: usize) -> 
     let rule = eval::eval_rule(sheet, n, all, edit, at + 1);
     if rule.holds {
         let second = make_steps(sheet, n, all, edit, rule.next);
-        measure::end_of(edit, second)
+        ends::end_of(edit, second)
     } else {
-        let second = measure::end_of(edit, rule.next);
+        let second = ends::end_of(edit, rule.next);
         make_steps(sheet, n, all, edit, second)
     }
 }

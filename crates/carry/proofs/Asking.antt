@@ -16,8 +16,9 @@ use Rattle.logic.specs.Carry.{carriedBook}
 use Rattle.text.specs.Code.{bookCode, bookLevels}
 use Rattle.tree.specs.Sizes.{measures}
 use Rattle.measure.specs.Pruned.{pruned}
-use Rattle.measure.specs.Edits.{EditAt}
-use Rattle.measure.specs.Book.{BookIs, BookSized, BookKept}
+use Rattle.ends.specs.Edits.{EditAt}
+use Rattle.ends.specs.Books.{BookIs}
+use Rattle.measure.specs.Book.{BookSized, BookKept}
 use Rattle.measure.proofs.Idle.{pruned-code, kept-stands}
 use Rattle.measure.proofs.Rules.{no-book}
 use Rattle.write.specs.Laid.{Wrote}

@@ -14,8 +14,8 @@ use Rattle.text.specs.Code.{bookCode}
 use Rattle.text.specs.Reading.{textLimits}
 use Rattle.text.specs.Questions.{askBook, askEdit}
 use Rattle.text.proofs.Books.{rules-in-range, book-is-spelled, edit-is-spelled}
-use Rattle.measure.specs.Edits.{EditAt, SomeEdit}
-use Rattle.measure.specs.Book.{BookIs, SomeBook}
+use Rattle.ends.specs.Edits.{EditAt, SomeEdit}
+use Rattle.ends.specs.Books.{BookIs, SomeBook}
 use Rattle.carry.specs.declared.Carried.{Carried}
 use Rattle.carry.specs.declared.Carried.the-variants.{Refused}
 use Rattle.carry.specs.Carrying.{askSize, askCarry, carryAnswer, carryOutput, writtenAtStart}

@@ -7,10 +7,13 @@ use Rattle.logic.specs.Syntax.{Sort, Expr}
 use Rattle.logic.specs.Limits.{Ranges}
 use Rattle.text.specs.Code.{code}
 use Rattle.text.specs.Stands.{Stands, SomeStands}
-use Rattle.tree.specs.Tree.{Tree, tree, treeCode, size}
+use Rattle.tree.specs.Tree.{Tree, tree, size}
 use Rattle.tree.proofs.Trees.{code-tree, size-is}
 use Rattle.ends.specs.Shapes.{At, Some}
 use Rattle.ends.proofs.Formed.{formed-tree}
+
+pub size-code : {s : Sort} (e : Expr s) → size (tree e) ≡ length (code e)
+size-code e = sym (size-is (tree e)) ∙ ap length (code-tree e)
 
 module _ {r : Ranges} {text : List ℕ} {at : ℕ} {s : Sort} where
   pub stands-tree : (e : Expr s) → Stands r text at e → At text at (tree e)
@@ -21,4 +24,4 @@ module _ {r : Ranges} {text : List ℕ} {at : ℕ} {s : Sort} where
 
   -- what `past` finds
   pub behind-stands : (next : ℕ) → ((t : Tree) → At text at t → next ≡ at + size t) → (e : Expr s) → Stands r text at e → next ≡ at + length (code e)
-  behind-stands next f e h = f (tree e) (stands-tree e h) ∙ ap (at +_) (sym (size-is (tree e)) ∙ ap length (code-tree e))
+  behind-stands next f e h = f (tree e) (stands-tree e h) ∙ ap (at +_) (size-code e)

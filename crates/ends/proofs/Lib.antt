@@ -2,3 +2,8 @@ pub mod Places
 pub mod Pending
 pub mod Formed
 pub mod Behind
+pub mod Names
+pub mod Steps
+pub mod Ends
+pub mod Rules
+pub mod Kept

@@ -1,1 +1,4 @@
 pub mod Shapes
+pub mod Edits
+pub mod Books
+pub mod Kept

@@ -1,8 +1,14 @@
-// Where expressions end, found from the code bytes alone: a table says of each code how long it is and how many operands follow.
+// Where expressions, steps and edits end, found from the code bytes alone: a table says of each code how long it is and how many operands follow.
+// And the cells of names.
 ghost use mathlib.Core.Path.{_≡_};
-ghost use Prim.Native.Nat.{_+_, _/_, _%_, _^_, _<_};
+ghost use Prim.Native.Nat.{_+_, _*_, _/_, _%_, _^_, _<_};
+ghost use lib.ListN.{length, getD};
+ghost use Rattle.logic.specs.Syntax.{Edit};
+ghost use Rattle.text.specs.Code.{editCode};
 ghost use Rattle.tree.specs.Tree.{Tree, size};
-ghost use Rattle.ends.specs.Shapes.{shapeOf, At, Some};
+ghost use Rattle.tree.specs.Stack.{touched};
+ghost use Rattle.ends.specs.Shapes.{shapeOf, cell, At, Some};
+ghost use Rattle.ends.specs.Edits.{EditAt, SomeEdit, NextAt};
 
 // How each code goes on: the length of the code byte with its numbers, plus 4 for each operand, plus 16 for a name (03, 11); 0 for no code.
 // The table is in specs/Shapes.antt. Here it is a word for each binary digit of its entries, with a bit for each code: a table of 40 entries
@@ -52,4 +58,46 @@ pub fn past(text: &[u8], at: usize) -> usize
         wanted = wanted - 1 + s / 4 % 4;
     }
     p
+}
+
+// The place behind the first step of the edit at `at`.
+// Inner: the text was read before.
+pub fn next_step(text: &[u8], at: usize) -> usize
+    requires { ⌜ SomeEdit (now text) at × (getD (now text) at 0 ≡ 0x30 → ⊥) ⌝ }
+    ensures { λ r. ⌜ ((Z : Edit) → EditAt (now (text .entry)) at Z → NextAt (now (text .entry)) at Z r) ⌝ }
+{
+    let c = text[at];
+    if c != 0x35 {
+        return past(text, at + 2);
+    }
+    let p = past(text, at + 1);
+    let q = end_of(text, p);
+    end_of(text, q)
+}
+
+// The place behind the edit at `at`.
+// Inner: the text was read before.
+pub fn end_of(text: &[u8], at: usize) -> usize
+    requires { ⌜ SomeEdit (now text) at ⌝ }
+    ensures { λ r. ⌜ ((Z : Edit) → EditAt (now (text .entry)) at Z → r ≡ at + length (editCode Z)) ⌝ }
+{
+    let mut p = at;
+    while text[p] != 0x30 {
+        p = next_step(text, p);
+    }
+    p + 1
+}
+
+// The cell of a name: 03 k at k, 11 a at 48 + a.
+pub fn cell_of(code: u8, number: u8) -> usize
+    ensures { λ r. ⌜ r ≡ cell code number ⌝ }
+{
+    code as usize / 16 * 48 + number as usize
+}
+
+// The code of the names that a step touches.
+pub fn name_code(op: u8) -> u8
+    ensures { λ r. ⌜ r ≡ touched op ⌝ }
+{
+    if op < 0x33 { 0x03 } else { 0x11 }
 }

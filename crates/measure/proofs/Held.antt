@@ -1,18 +1,18 @@
 -- A measure in numbers: what writing one of them does.
-use mathlib.Core.Path.{_≡_, refl, sym, ap, ap₂, _∙_, subst}
-use mathlib.Core.Bool.{Bool, true, false, cond, _&&_}
+use mathlib.Core.Path.{_≡_, refl, sym, ap, _∙_, subst}
+use mathlib.Core.Bool.{Bool, true, false, cond}
 use mathlib.Core.List.{List}
-use mathlib.Core.Logic.{⊎-elim}
 use Prim.Native.Nat.{ℕ, zero, suc, _+_, _*_, max, _≤_, _<_}
 use native.Mathlib.Omega.{arith}
-use borrow.Author.Tests.{eq-eqb}
 use lib.ListN.{length, getD, set, length-set}
-use lib.Seq.{getD-set-same, getD-set-other}
+use lib.Seq.{getD-set-same}
 use Rattle.tree.specs.Tree.{Tree, name, leaf, one, two, height, count, deep, same, under}
 use Rattle.tree.specs.Sizes.{Measure, measure, substituted, capped, cappedMeasure}
-use Rattle.tree.proofs.Measured.{under-max, under-under, under-nothing, same-eq}
+use Rattle.tree.proofs.Measured.{under-max, under-under, under-nothing}
 use Rattle.tree.proofs.Capped.{capped-max, capped-under, capped-mul}
 use Rattle.ends.specs.Shapes.{Named, cell}
+use Rattle.ends.proofs.Names.{named-lt, apart, alike}
+use Rattle.ends.proofs.Kept.{elsewhere}
 use Rattle.measure.specs.State.{Holds, added}
 
 pub deeper-none : (v : ℕ) → v ≡ 0 → 0 ≡ capped (under v 2)
@@ -41,44 +41,19 @@ holds-same e h = record {
 pub holds-is : {l : List ℕ} {M N : Measure} → M ≡ N → Holds l M → Holds l N
 holds-is {l} e h = subst (Holds l) e h
 
-pub named-lt : (c k : ℕ) → Named c k → cell c k < 64
-named-lt c k n = ⊎-elim (λ (p : (c ≡ 0x03) × (k < 48)). omega (arith, p .0, p .1)) (λ (p : (c ≡ 0x11) × (k < 16)). omega (arith, p .0, p .1)) n
-
--- different names have different cells
-cell-inj : (c k c′ k′ : ℕ) → Named c k → Named c′ k′ → cell c k ≡ cell c′ k′ → (c ≡ c′) × (k ≡ k′)
-cell-inj c k c′ k′ n m e = ⊎-elim
-    (λ (p : (c ≡ 0x03) × (k < 48)). ⊎-elim (λ (q : (c′ ≡ 0x03) × (k′ < 48)). (omega (arith, p .0, q .0), omega (arith, p .0, q .0, e))) (λ (q : (c′ ≡ 0x11) × (k′ < 16)). absurd (omega (arith, p .0, p .1, q .0, q .1, e))) m)
-    (λ (p : (c ≡ 0x11) × (k < 16)). ⊎-elim (λ (q : (c′ ≡ 0x03) × (k′ < 48)). absurd (omega (arith, p .0, p .1, q .0, q .1, e))) (λ (q : (c′ ≡ 0x11) × (k′ < 16)). (omega (arith, p .0, q .0), omega (arith, p .0, q .0, e))) m)
-    n
-
 abbrev pub risen : ℕ → Measure → Measure
 risen v M = record { len = M .len; tall = max (M .tall) v; counts = M .counts; deeps = M .deeps }
 
-other : (l : List ℕ) (i j x : ℕ) → (i ≡ j → ⊥) → getD (set l i x) j 0 ≡ getD l j 0
-other l i j x n = getD-set-other l i j x 0 (λ e. n (sym e))
-
 pub holds-rise : (l : List ℕ) (M : Measure) (v : ℕ) → length l ≡ 130 → v ≤ 16385 → Holds l M → Holds (set l 129 (max (getD l 129 0) v)) (risen v M)
 holds-rise l M v e b h = record {
-  len-at = other l 129 128 _ (λ q. omega arith) ∙ h .len-at;
+  len-at = elsewhere l 129 128 _ (λ q. omega arith) ∙ h .len-at;
   tall-at = getD-set-same l 129 _ 0 (omega arith) ∙ omega (arith, h .tall-at);
-  count-at = λ c k n. other l 129 (cell c k) _ (λ q. omega (arith, named-lt c k n)) ∙ h .count-at c k n;
-  deep-at = λ c k n. other l 129 (64 + cell c k) _ (λ q. omega (arith, named-lt c k n)) ∙ h .deep-at c k n;
+  count-at = λ c k n. elsewhere l 129 (cell c k) _ (λ q. omega (arith, named-lt c k n)) ∙ h .count-at c k n;
+  deep-at = λ c k n. elsewhere l 129 (64 + cell c k) _ (λ q. omega (arith, named-lt c k n)) ∙ h .deep-at c k n;
 }
 
 abbrev pub marked : (c k w v : ℕ) → Measure → Measure
 marked c k w v M = record { len = M .len; tall = M .tall; counts = λ c′ k′. M .counts c′ k′ + w * cond (same c k c′ k′) 1 0; deeps = λ c′ k′. max (M .deeps c′ k′) (under v (cond (same c k c′ k′) 1 0)) }
-
-same-refl : (c k : ℕ) → same c k c k ≡ true
-same-refl c k = ap₂ _&&_ (eq-eqb c c refl) (eq-eqb k k refl)
-
-false-true : {b : Bool} → b ≡ false → b ≡ true → ⊥
-false-true e f = let z : _≡_ {A = ℕ} 0 1 = ap {B = ℕ} (λ (x : Bool). cond x 1 0) (sym e ∙ f) in omega (arith, z)
-
-pub apart : (c k c′ k′ : ℕ) → Named c k → Named c′ k′ → same c k c′ k′ ≡ false → cell c k ≡ cell c′ k′ → ⊥
-apart c k c′ k′ n m e q = let p = cell-inj c k c′ k′ n m q in false-true e (ap₂ (λ (u v : ℕ). same c k u v) (sym (p .0)) (sym (p .1)) ∙ same-refl c k)
-
-pub alike : (c k c′ k′ : ℕ) → same c k c′ k′ ≡ true → cell c′ k′ ≡ cell c k
-alike c k c′ k′ e = let p = same-eq c k c′ k′ e in ap₂ cell (sym (p .0)) (sym (p .1))
 
 pub under-1 : (v : ℕ) → under v 1 ≡ v
 unfolding under
@@ -88,9 +63,9 @@ under-1 (suc v) = omega arith
 pub holds-touch : (l : List ℕ) (M : Measure) (c k w v : ℕ) → length l ≡ 130 → v ≤ 16385 → Named c k → Holds l M
     → Holds (set (set l (cell c k) (capped (getD l (cell c k) 0 + w))) (64 + cell c k) (max (getD l (64 + cell c k) 0) v)) (marked c k w v M)
 holds-touch l M c k w v e b n h = record {
-  len-at = other m (64 + i) 128 y (λ q. omega (arith, named-lt c k n)) ∙ other l i 128 x (λ q. omega (arith, named-lt c k n)) ∙ h .len-at;
-  tall-at = other m (64 + i) 129 y (λ q. omega (arith, named-lt c k n)) ∙ other l i 129 x (λ q. omega (arith, named-lt c k n)) ∙ h .tall-at;
-  count-at = λ c′ k′ n′. other m (64 + i) (cell c′ k′) y (λ q. omega (arith, named-lt c k n, named-lt c′ k′ n′)) ∙ counts c′ k′ n′ (same c k c′ k′) refl;
+  len-at = elsewhere m (64 + i) 128 y (λ q. omega (arith, named-lt c k n)) ∙ elsewhere l i 128 x (λ q. omega (arith, named-lt c k n)) ∙ h .len-at;
+  tall-at = elsewhere m (64 + i) 129 y (λ q. omega (arith, named-lt c k n)) ∙ elsewhere l i 129 x (λ q. omega (arith, named-lt c k n)) ∙ h .tall-at;
+  count-at = λ c′ k′ n′. elsewhere m (64 + i) (cell c′ k′) y (λ q. omega (arith, named-lt c k n, named-lt c′ k′ n′)) ∙ counts c′ k′ n′ (same c k c′ k′) refl;
   deep-at = λ c′ k′ n′. deeps c′ k′ n′ (same c k c′ k′) refl;
 }
   where
@@ -110,7 +85,7 @@ holds-touch l M c k w v e b n h = record {
     counts c′ k′ n′ true q =
         let j : cell c′ k′ ≡ i = alike c k c′ k′ q in
         ap (λ (u : ℕ). getD m u 0) j ∙ getD-set-same l i x 0 (omega (arith, named-lt c k n)) ∙ ap (λ (u : ℕ). capped (u + w)) (ap (λ (u : ℕ). getD l u 0) (sym j) ∙ h .count-at c′ k′ n′) ∙ omega arith
-    counts c′ k′ n′ false q = other l i (cell c′ k′) x (apart c k c′ k′ n n′ q) ∙ h .count-at c′ k′ n′ ∙ omega arith
+    counts c′ k′ n′ false q = elsewhere l i (cell c′ k′) x (apart c k c′ k′ n n′ q) ∙ h .count-at c′ k′ n′ ∙ omega arith
 
     deeps : (c′ k′ : ℕ) → Named c′ k′ → (b : Bool) → same c k c′ k′ ≡ b → getD (set m (64 + i) y) (64 + cell c′ k′) 0 ≡ capped (max (M .deeps c′ k′) (under v (cond b 1 0)))
     deeps c′ k′ n′ true q =
@@ -121,7 +96,7 @@ holds-touch l M c k w v e b n h = record {
         both : (d : ℕ) → max (capped d) v ≡ capped (max d v)
         both d = omega arith
     deeps c′ k′ n′ false q =
-        other m (64 + i) (64 + cell c′ k′) y (λ r. apart c k c′ k′ n n′ q (omega (arith, r))) ∙ other l i (64 + cell c′ k′) x (λ r. omega (arith, named-lt c k n)) ∙ h .deep-at c′ k′ n′
+        elsewhere m (64 + i) (64 + cell c′ k′) y (λ r. apart c k c′ k′ n n′ q (omega (arith, r))) ∙ elsewhere l i (64 + cell c′ k′) x (λ r. omega (arith, named-lt c k n)) ∙ h .deep-at c′ k′ n′
         ∙ (let z : M .deeps c′ k′ ≡ max (M .deeps c′ k′) (under v 0) = omega (arith, under-nothing v) in ap capped z)
 
 -- a tree's codes one by one
@@ -184,9 +159,9 @@ lowered c k M = record { len = M .len; tall = M .tall; counts = M .counts; deeps
 
 pub holds-lower : (l : List ℕ) (M : Measure) (c k x : ℕ) → length l ≡ 130 → Named c k → x ≡ capped (under (getD l (64 + cell c k) 0) 2) → Holds l M → Holds (set l (64 + cell c k) x) (lowered c k M)
 holds-lower l M c k x e n f h = record {
-  len-at = other l j 128 x (λ q. omega (arith, named-lt c k n)) ∙ h .len-at;
-  tall-at = other l j 129 x (λ q. omega (arith, named-lt c k n)) ∙ h .tall-at;
-  count-at = λ c′ k′ n′. other l j (cell c′ k′) x (λ q. omega (arith, named-lt c k n, named-lt c′ k′ n′)) ∙ h .count-at c′ k′ n′;
+  len-at = elsewhere l j 128 x (λ q. omega (arith, named-lt c k n)) ∙ h .len-at;
+  tall-at = elsewhere l j 129 x (λ q. omega (arith, named-lt c k n)) ∙ h .tall-at;
+  count-at = λ c′ k′ n′. elsewhere l j (cell c′ k′) x (λ q. omega (arith, named-lt c k n, named-lt c′ k′ n′)) ∙ h .count-at c′ k′ n′;
   deep-at = λ c′ k′ n′. deeps c′ k′ n′ (same c′ k′ c k) refl;
 }
   where
@@ -196,7 +171,7 @@ holds-lower l M c k x e n f h = record {
     deeps : (c′ k′ : ℕ) → Named c′ k′ → (b : Bool) → same c′ k′ c k ≡ b → getD (set l j x) (64 + cell c′ k′) 0 ≡ capped (cond b (under (M .deeps c k) 2) (M .deeps c′ k′))
     deeps c′ k′ n′ true q =
         ap (λ (u : ℕ). getD (set l j x) (64 + u) 0) (sym (alike c′ k′ c k q)) ∙ getD-set-same l j x 0 (omega (arith, named-lt c k n)) ∙ f ∙ ap (λ (u : ℕ). capped (under u 2)) (h .deep-at c k n) ∙ capped-under (M .deeps c k) 2
-    deeps c′ k′ n′ false q = other l j (64 + cell c′ k′) x (λ r. apart c′ k′ c k n′ n q (omega (arith, r))) ∙ h .deep-at c′ k′ n′
+    deeps c′ k′ n′ false q = elsewhere l j (64 + cell c′ k′) x (λ r. apart c′ k′ c k n′ n q (omega (arith, r))) ∙ h .deep-at c′ k′ n′
 
 -- x bytes more
 abbrev pub longer : ℕ → Measure → Measure
@@ -205,9 +180,9 @@ longer x M = record { len = M .len + x; tall = M .tall; counts = M .counts; deep
 pub holds-longer : (l : List ℕ) (M : Measure) (x y : ℕ) → length l ≡ 130 → y ≡ capped (getD l 128 0 + x) → Holds l M → Holds (set l 128 y) (longer x M)
 holds-longer l M x y e f h = record {
   len-at = getD-set-same l 128 y 0 (omega arith) ∙ f ∙ ap (λ (u : ℕ). capped (u + x)) (h .len-at) ∙ omega arith;
-  tall-at = other l 128 129 y (λ q. omega arith) ∙ h .tall-at;
-  count-at = λ c k n. other l 128 (cell c k) y (λ q. omega (arith, named-lt c k n)) ∙ h .count-at c k n;
-  deep-at = λ c k n. other l 128 (64 + cell c k) y (λ q. omega (arith, named-lt c k n)) ∙ h .deep-at c k n;
+  tall-at = elsewhere l 128 129 y (λ q. omega arith) ∙ h .tall-at;
+  count-at = λ c k n. elsewhere l 128 (cell c k) y (λ q. omega (arith, named-lt c k n)) ∙ h .count-at c k n;
+  deep-at = λ c k n. elsewhere l 128 (64 + cell c k) y (λ q. omega (arith, named-lt c k n)) ∙ h .deep-at c k n;
 }
 
 -- the parts of a step together

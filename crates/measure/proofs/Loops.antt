@@ -1,33 +1,22 @@
--- The loops over the numbers: copying them, and merging those of a choice's two ways.
+-- Numbers copied, and those of a choice's two ways merged.
 use mathlib.Core.Path.{_≡_, refl, sym, ap, ap₂, _∙_, subst}
 use mathlib.Core.List.{List}
 use Prim.Native.Nat.{ℕ, zero, suc, _+_, _*_, _-_, max, _≤_, _<_}
 use native.Mathlib.Omega.{arith}
 use native.Mathlib.Decide.{decLt}
 use lib.ListN.{length, getD, set, length-set}
-use lib.Seq.{getD-set-same, getD-set-other}
+use lib.Seq.{getD-set-same}
 use Rattle.tree.specs.Tree.{Tree, size, height, under}
 use Rattle.tree.specs.Sizes.{Measure, measure, chosen, capped}
 use Rattle.tree.proofs.Measured.{under-max, under-under, under-more, height-pos}
 use Rattle.tree.proofs.Capped.{capped-max, capped-under, capped-under-under}
 use Rattle.ends.specs.Shapes.{cell, At}
+use Rattle.ends.specs.Kept.{Kept}
+use Rattle.ends.proofs.Names.{named-lt}
+use Rattle.ends.proofs.Kept.{elsewhere}
 use Rattle.measure.specs.State.{Holds, added, Scanned}
-use Rattle.measure.specs.Edits.{Merged, Kept, Joined}
-use Rattle.measure.proofs.Held.{holds-is, holds-longer, longer, named-lt}
-
-other : (l : List ℕ) (i j x : ℕ) → (i ≡ j → ⊥) → getD (set l i x) j 0 ≡ getD l j 0
-other l i j x n = getD-set-other l i j x 0 (λ e. n (sym e))
-
--- one more number copied
-pub copy-more : (src out : List ℕ) (i : ℕ) → i < length out → Kept i src out → Kept (i + 1) src (set out i (getD src i 0))
-copy-more src out i l h = record { same = λ j m. go j (decLt j i) m }
-  where
-    go : (j : ℕ) → Dec (j < i) → j < i + 1 → getD (set out i (getD src i 0)) j 0 ≡ getD src j 0
-    go j (yes p) m = other out i j _ (λ e. omega (arith, p)) ∙ h .same j p
-    go j (no p) m = let e : j ≡ i = omega arith in ap (λ (k : ℕ). getD (set out i (getD src i 0)) k 0) e ∙ getD-set-same out i _ 0 l ∙ ap (λ (k : ℕ). getD src k 0) (sym e)
-
-pub copy-none : (src out : List ℕ) → Kept 0 src out
-copy-none src out = record { same = λ j m. absurd (omega arith) }
+use Rattle.measure.specs.Edits.{Merged, Joined}
+use Rattle.measure.proofs.Held.{holds-is, holds-longer, longer}
 
 pub kept-holds : (l l′ : List ℕ) (M : Measure) → Kept 130 l l′ → Holds l M → Holds l′ M
 kept-holds l l′ M k h = record {
@@ -36,9 +25,6 @@ kept-holds l l′ M k h = record {
   count-at = λ c j n. k .same (cell c j) (omega (arith, named-lt c j n)) ∙ h .count-at c j n;
   deep-at = λ c j n. k .same (64 + cell c j) (omega (arith, named-lt c j n)) ∙ h .deep-at c j n;
 }
-
-pub kept-kept : (a b : ℕ) (l m n : List ℕ) → a ≤ b → Kept a l m → Kept b m n → Kept a l n
-kept-kept a b l m n le p q = record { same = λ i r. q .same i (omega arith) ∙ p .same i r }
 
 -- merging, i cells of 64 done
 abbrev pub sum-of : List ℕ → List ℕ → ℕ → ℕ
@@ -58,10 +44,10 @@ merging-none t l = record { count = λ j m. absurd (omega arith); deep = λ j m.
 
 pub merging-more : (t l₀ l l′ : List ℕ) (i : ℕ) → length l ≡ 130 → i < 64 → Merging t l₀ l i → l′ ≡ set (set l i (sum-of t l i)) (64 + i) (low-of t l i) → Merging t l₀ l′ (i + 1)
 merging-more t l₀ l l′ i long m h e = subst (λ (u : List ℕ). Merging t l₀ u (i + 1)) (sym e) (record {
-  count = λ j p. other k (64 + i) j y (λ q. omega arith) ∙ counts j p (decLt j i);
+  count = λ j p. elsewhere k (64 + i) j y (λ q. omega arith) ∙ counts j p (decLt j i);
   deep = λ j p. deeps j p (decLt j i);
-  count-left = λ j p q. other k (64 + i) j y (λ r. omega arith) ∙ other l i j x (λ r. omega arith) ∙ h .count-left j (omega arith) q;
-  deep-left = λ j p q. other k (64 + i) (64 + j) y (λ r. omega arith) ∙ other l i (64 + j) x (λ r. omega arith) ∙ h .deep-left j (omega arith) q;
+  count-left = λ j p q. elsewhere k (64 + i) j y (λ r. omega arith) ∙ elsewhere l i j x (λ r. omega arith) ∙ h .count-left j (omega arith) q;
+  deep-left = λ j p q. elsewhere k (64 + i) (64 + j) y (λ r. omega arith) ∙ elsewhere l i (64 + j) x (λ r. omega arith) ∙ h .deep-left j (omega arith) q;
 })
   where
     x : ℕ
@@ -74,20 +60,20 @@ merging-more t l₀ l l′ i long m h e = subst (λ (u : List ℕ). Merging t l�
     k = set l i x
 
     counts : (j : ℕ) → j < i + 1 → Dec (j < i) → getD k j 0 ≡ sum-of t l₀ j
-    counts j p (yes q) = other l i j x (λ r. omega (arith, q)) ∙ h .count j q
+    counts j p (yes q) = elsewhere l i j x (λ r. omega (arith, q)) ∙ h .count j q
     counts j p (no q) = let f : j ≡ i = omega arith in
         ap (λ (u : ℕ). getD k u 0) f ∙ getD-set-same l i x 0 (omega arith) ∙ ap (λ (u : ℕ). capped (getD t i 0 + u)) (h .count-left i (omega arith) m) ∙ ap (sum-of t l₀) (sym f)
 
     deeps : (j : ℕ) → j < i + 1 → Dec (j < i) → getD (set k (64 + i) y) (64 + j) 0 ≡ low-of t l₀ j
-    deeps j p (yes q) = other k (64 + i) (64 + j) y (λ r. omega (arith, q)) ∙ other l i (64 + j) x (λ r. omega (arith, q)) ∙ h .deep j q
+    deeps j p (yes q) = elsewhere k (64 + i) (64 + j) y (λ r. omega (arith, q)) ∙ elsewhere l i (64 + j) x (λ r. omega (arith, q)) ∙ h .deep j q
     deeps j p (no q) = let f : j ≡ i = omega arith in
         ap (λ (u : ℕ). getD (set k (64 + i) y) (64 + u) 0) f ∙ getD-set-same k (64 + i) y 0 (omega (arith, length-set l i x)) ∙ ap (λ (u : ℕ). capped (under (capped (under (max (getD t (64 + i) 0) u) 2)) 2)) (h .deep-left i (omega arith) m) ∙ ap (low-of t l₀) (sym f)
 
 pub merging-end : (t l₀ l : List ℕ) (i n d : ℕ) → length l ≡ 130 → 64 ≤ i → Merging t l₀ l i → n ≡ capped (getD t 128 0 + getD l₀ 128 0) → d ≡ capped (max (getD t 129 0) (getD l₀ 129 0) + 2) → Merged t l₀ (set (set l 128 n) 129 d)
 merging-end t l₀ l i n d long m h e f = record {
-  count = λ j p. other (set l 128 n) 129 j d (λ r. omega arith) ∙ other l 128 j n (λ r. omega arith) ∙ h .count j (omega arith);
-  deep = λ j p. other (set l 128 n) 129 (64 + j) d (λ r. omega arith) ∙ other l 128 (64 + j) n (λ r. omega arith) ∙ h .deep j (omega arith);
-  len = other (set l 128 n) 129 128 d (λ r. omega arith) ∙ getD-set-same l 128 n 0 (omega arith) ∙ e;
+  count = λ j p. elsewhere (set l 128 n) 129 j d (λ r. omega arith) ∙ elsewhere l 128 j n (λ r. omega arith) ∙ h .count j (omega arith);
+  deep = λ j p. elsewhere (set l 128 n) 129 (64 + j) d (λ r. omega arith) ∙ elsewhere l 128 (64 + j) n (λ r. omega arith) ∙ h .deep j (omega arith);
+  len = elsewhere (set l 128 n) 129 128 d (λ r. omega arith) ∙ getD-set-same l 128 n 0 (omega arith) ∙ e;
   tall = getD-set-same (set l 128 n) 129 d 0 (omega (arith, length-set l 128 n)) ∙ f;
 }
 

@@ -6,31 +6,28 @@ use native.Mathlib.Omega.{arith}
 use lib.ListN.{length, getD, set, drop, replicate, length-append, length-drop}
 use lib.Seq.{drop-length}
 use Rattle.logic.specs.Syntax.{rule, Expr, Edit}
-use Rattle.logic.specs.Carry.{carry, carriedBook}
+use Rattle.logic.specs.Carry.{carriedBook}
 use Rattle.logic.specs.Limits.{Ranges}
 use Rattle.text.specs.Code.{code, editCode, bookCode, bookLevels}
 use Rattle.text.specs.Stands.{RulesInRange}
 use Rattle.tree.specs.Tree.{Tree, tree, size, height, under}
-use Rattle.tree.proofs.Trees.{code-tree, height-tree, size-is}
 use Rattle.tree.specs.Sizes.{Measure, measure, back, join, nothing, measures, capped}
 use Rattle.tree.proofs.Books.{join-nothing, join-comm, join-assoc, measured-book, len-codes, tall-levels}
-use Rattle.tree.proofs.Measured.{under-one, measured}
+use Rattle.tree.proofs.Measured.{under-one}
 use Rattle.ends.specs.Shapes.{At, cell}
+use Rattle.ends.specs.Edits.{SomeEdit}
+use Rattle.ends.specs.Books.{RuleAt, BookIs, SomeBook}
 use Rattle.measure.specs.State.{Holds, added, Scanned}
-use Rattle.measure.specs.Edits.{SomeEdit, EditRoom, Backed}
+use Rattle.measure.specs.Edits.{EditRoom, Backed}
 use Rattle.measure.specs.Pruned.{pruned}
-use Rattle.measure.proofs.Steps.{edit-long, edit-inside}
-use Rattle.measure.specs.Book.{RuleAt, BookIs, SomeBook, RuleAdded, BookAdded, RuleSized, BookSized, BookKept}
-use Rattle.ends.proofs.Places.{fits, inside, size-pos}
+use Rattle.measure.specs.Book.{RuleAdded, BookAdded, BookSized, BookKept}
+use Rattle.ends.proofs.Places.{size-pos}
+use Rattle.ends.proofs.Behind.{size-code}
+use Rattle.ends.proofs.Steps.{edit-long, edit-inside}
+use Rattle.ends.proofs.Rules.{rule-at}
 use Rattle.text.proofs.Standing.{behind}
 use Rattle.measure.proofs.Held.{holds-is, holds-longer, longer}
 use Rattle.ends.proofs.Formed.{formed-tree}
-
-pub rule-at : (text : List ℕ) (at : ℕ) (K : Expr rule) → RuleAt text at K → At text at (tree K)
-rule-at text at K h = record { rest = h .place .rest; here = h .place .here ∙ ap (λ (l : List ℕ). l ++ h .place .rest) (sym (code-tree K)); formed = formed-tree (h .limits) K (h .place .range) }
-
-pub rule-size : (K : Expr rule) → size (tree K) ≡ length (code K)
-rule-size K = sym (size-is (tree K)) ∙ ap length (code-tree K)
 
 zero-at : (n i : ℕ) → _≡_ {A = ℕ} (getD (replicate n 0) i 0) 0
 zero-at zero i = refl
@@ -40,9 +37,6 @@ zero-at (suc n) (suc i) = zero-at n i
 zeros : Holds (replicate 130 0) nothing
 unfolding nothing
 zeros = record { len-at = zero-at 130 128; tall-at = zero-at 130 129; count-at = λ c k n. zero-at 130 (cell c k); deep-at = λ c k n. zero-at 130 (64 + cell c k) }
-
-pub rule-fits : (text : List ℕ) (at : ℕ) (K : Expr rule) → RuleAt text at K → (0 < length (code K)) × (at + length (code K) ≤ length text)
-rule-fits text at K h = let a = rule-at text at K h in (omega (arith, size-pos (tree K) (a .formed), rule-size K), omega (arith, fits text at (tree K) a, inside text at (tree K) a, rule-size K))
 
 -- a text put once at level 1, with its length, is joined
 put-once : (t : Tree) (x : ℕ) (M : Measure) → x ≡ size t → longer x (added 1 1 (measure t) M) ≡ join M (measure t)
@@ -60,19 +54,9 @@ pub rule-added : (text : List ℕ) (at : ℕ) (K : Expr rule) → RuleAt text at
 rule-added text at K h next l₀ l l′ long f y e g =
     let s = f (tree K) (rule-at text at K h) in
     record {
-      ends = s .ends ∙ ap (λ (n : ℕ). at + n) (rule-size K);
+      ends = s .ends ∙ ap (λ (n : ℕ). at + n) (size-code K);
       holds = λ M m. holds-is (put-once (tree K) (next - at) M (omega (arith, s .ends))) (subst (λ (u : List ℕ). Holds u (longer (next - at) (added 1 1 (measure (tree K)) M))) (sym g) (holds-longer l _ (next - at) y long e (s .state M m)));
     }
-
--- one rule
-pub rule-holds : (at : ℕ) (K : Expr rule) (next : ℕ) (l′ : List ℕ) → RuleAdded at K next (replicate 130 0) l′ → Holds l′ (measure (tree K))
-rule-holds at K next l′ a = holds-is (join-comm nothing (measure (tree K)) ∙ join-nothing (measure (tree K))) (a .holds nothing zeros)
-
-pub rule-sized : (Z : Edit) (K : Expr rule) (l l′ out out′ : List ℕ) (pos pos′ : ℕ) → Holds l (measure (tree K)) → Backed 1 Z l out pos l′ out′ pos′ → RuleSized Z K (getD l′ 128 0) (getD l′ 129 0)
-unfolding measure
-rule-sized Z K l l′ out out′ pos pos′ h b =
-    let w = holds-is (sym (measured Z K)) (b .holds (measure (tree K)) h) in
-    record { len-is = w .len-at ∙ ap capped (rule-size (carry Z K)); tall-is = w .tall-at ∙ ap capped (height-tree (carry Z K)) }
 
 -- the rules of a book not yet added
 pub record Left (book : List ℕ) (rules : List (Expr rule)) (at n : ℕ) (state : List ℕ) : Type 0 where
@@ -144,13 +128,13 @@ adding-end book state at n l a rules h = let q = a .each rules h in go (q .left)
   where
     go : (left : List (Expr rule)) (limits : Ranges) → RulesInRange limits left → drop at book ≡ bookCode left → n + length left ≡ length rules → (M : Measure) → Holds state M → join M (measures left) ≡ measures rules → BookAdded rules n state
     go [] lim r e m M w j = record { number-is = omega (arith, m); holds = holds-is (sym (join-nothing M) ∙ j) w }
-    go (K ∷ Ks) lim r e m M w j = absurd (omega (arith, ap length e, length-drop at book, length-append (code K) (bookCode Ks), rule-size K, size-pos (tree K) (formed-tree lim K (r .0))))
+    go (K ∷ Ks) lim r e m M w j = absurd (omega (arith, ap length e, length-drop at book, length-append (code K) (bookCode Ks), size-code K, size-pos (tree K) (formed-tree lim K (r .0))))
 
 -- the empty book, and any other
 pub no-book : (book : List ℕ) → length book ≡ 0 → (rules : List (Expr rule)) (Z : Edit) → BookIs book rules → (start : ℕ) (kept : List ℕ) → BookSized Z rules 0 0 × BookKept Z rules start kept
 unfolding bookCode bookLevels RulesInRange
 no-book book e [] Z h start kept = (record { len-is = refl; tall-is = refl }, record { text = λ ne. absurd (ne refl) })
-no-book book e (K ∷ Ks) Z h start kept = absurd (omega (arith, e, ap length (h .is), length-append (code K) (bookCode Ks), rule-size K, size-pos (tree K) (formed-tree (h .limits) K (h .range .0))))
+no-book book e (K ∷ Ks) Z h start kept = absurd (omega (arith, e, ap length (h .is), length-append (code K) (bookCode Ks), size-code K, size-pos (tree K) (formed-tree (h .limits) K (h .range .0))))
 
 pub book-sized : (book : List ℕ) → (length book ≡ 0 → ⊥) → (rules : List (Expr rule)) (Z : Edit) → BookIs book rules → (l l′ out out′ : List ℕ) (n pos pos′ : ℕ) → BookAdded rules n l → Backed n Z l out pos l′ out′ pos′ → BookSized Z rules (getD l′ 128 0) (getD l′ 129 0)
 unfolding bookCode

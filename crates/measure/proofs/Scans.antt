@@ -9,7 +9,8 @@ use Rattle.tree.specs.Sizes.{Measure, measure, capped, cappedMeasure}
 use Rattle.ends.specs.Shapes.{shapeOf, cell, At}
 use Rattle.measure.specs.State.{Holds, added, Scanned}
 use Rattle.ends.proofs.Places.{IsName, IsLeaf, IsOne, IsTwo}
-use Rattle.measure.proofs.Held.{holds-same, holds-is, holds-rise, holds-touch, risen, marked, named-lt, added-name, added-leaf, added-one, added-two, added-cut}
+use Rattle.ends.proofs.Names.{named-lt}
+use Rattle.measure.proofs.Held.{holds-same, holds-is, holds-rise, holds-touch, risen, marked, added-name, added-leaf, added-one, added-two, added-cut}
 
 module _ (text : List ℕ) (at w v : ℕ) where
   pub place-lt : (t : Tree) → IsName text at t → (i : ℕ) → i ≡ cell (getD text at 0) (getD text (at + 1) 0) → i < 64

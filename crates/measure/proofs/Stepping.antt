@@ -6,92 +6,107 @@ use Prim.Native.Nat.{ℕ, suc, _+_, _*_, _-_, _≤_, _<_}
 use native.Mathlib.Omega.{arith}
 use native.Mathlib.Nat.{mul-le-mul}
 use borrow.Author.Tests.{eq-eqb, ne-eqb}
-use lib.Dec.{eqb, ltb}
+use lib.Dec.{eqb}
 use lib.ListN.{length, getD, set}
 use Rattle.logic.specs.Syntax.{Edit}
 use Rattle.text.specs.Code.{editCode}
 use Rattle.tree.specs.Tree.{Tree, size, under}
 use Rattle.tree.specs.Sizes.{Measure, measure, substituted, back, capped}
+use Rattle.tree.specs.Stack.{touched}
+use Rattle.tree.proofs.Trees.{size-is}
 use Rattle.tree.proofs.Capped.{capped-under}
 use Rattle.ends.specs.Shapes.{cell, At}
+use Rattle.ends.specs.Edits.{behindStep}
+use Rattle.ends.proofs.Names.{named-lt}
+use Rattle.ends.proofs.Steps.{editTag, editNumber, editTree, stepCode, IsStep}
 use Rattle.measure.specs.State.{Holds, added, Scanned}
-use Rattle.measure.specs.Edits.{Held, behindStep, StepMeasured, Prefixed, PutBefore}
+use Rattle.measure.specs.Edits.{Held, StepMeasured, Prefixed, PutBefore}
 use Rattle.measure.specs.Pruned.{pruned}
 use Rattle.measure.proofs.Puts.{head-of}
-use Rattle.measure.proofs.Held.{holds-same, holds-is, holds-lower, holds-longer, lowered, longer, together, twice, named-lt}
-use Rattle.measure.proofs.Steps.{IsStep}
+use Rattle.measure.proofs.Held.{holds-same, holds-is, holds-lower, holds-longer, lowered, longer, together, twice}
+use Rattle.measure.proofs.Firsts.{back-step, pruned-step}
 
 module _ (text : List ℕ) (at : ℕ) (Z : Edit) (q : IsStep text at Z) where
-  pub step-cell : (x i : ℕ) → x ≡ cond (ltb (getD text at 0) 0x33) 0x03 0x11 → i ≡ cell x (getD text (at + 1) 0) → i ≡ cell (q .c) (q .k)
-  step-cell x i e f = f ∙ ap₂ cell (e ∙ sym (q .is-c)) (q .reads-k)
+  -- the name that the step touches, and how many codes it puts above its expression
+  abbrev c : ℕ
+  c = touched (editTag Z)
 
-  pub step-low : (x i : ℕ) → x ≡ cond (ltb (getD text at 0) 0x33) 0x03 0x11 → i ≡ cell x (getD text (at + 1) 0) → i < 64
-  step-low x i e f = omega (arith, named-lt (q .c) (q .k) (q .named), step-cell x i e f)
+  abbrev k : ℕ
+  k = editNumber Z
+
+  abbrev more : ℕ
+  more = cond (eqb (editTag Z) 0x32) 2 1
+
+  pub step-cell : (x i : ℕ) → x ≡ touched (getD text at 0) → i ≡ cell x (getD text (at + 1) 0) → i ≡ cell c k
+  step-cell x i e f = f ∙ ap₂ cell (e ∙ ap touched (q .reads-op)) (q .reads-k)
+
+  pub step-low : (x i : ℕ) → x ≡ touched (getD text at 0) → i ≡ cell x (getD text (at + 1) 0) → i < 64
+  step-low x i e f = omega (arith, named-lt c k (q .named), step-cell x i e f)
 
   -- the level of the step's expression
-  level : (D d v : ℕ) → d ≡ capped (under (capped D) 2) → v ≡ cond (eqb (getD text at 0) 0x32) (capped (under d 2)) d → v ≡ capped (under D (suc (q .more)))
-  level D d v e f = go (eqb (getD text at 0) 0x32) f (q .is-more)
+  level : (D d v : ℕ) → d ≡ capped (under (capped D) 2) → v ≡ cond (eqb (getD text at 0) 0x32) (capped (under d 2)) d → v ≡ capped (under D (suc more))
+  level D d v e f = go (eqb (editTag Z) 0x32) (f ∙ ap (λ (x : ℕ). cond (eqb x 0x32) (capped (under d 2)) d) (q .reads-op))
     where
       e′ : d ≡ capped (under D 2)
       e′ = e ∙ capped-under D 2
 
-      go : (b : Bool) → v ≡ cond b (capped (under d 2)) d → q .more ≡ cond b 2 1 → v ≡ capped (under D (suc (q .more)))
-      go true p r = p ∙ twice D d e′ ∙ sym (ap (λ (x : ℕ). capped (under D (suc x))) r)
-      go false p r = p ∙ e′ ∙ sym (ap (λ (x : ℕ). capped (under D (suc x))) r)
+      go : (b : Bool) → v ≡ cond b (capped (under d 2)) d → v ≡ capped (under D (suc (cond b 2 1)))
+      go true p = p ∙ twice D d e′
+      go false p = p ∙ e′
 
   pub stepped : (l₀ l₁ l₂ l₃ : List ℕ) (x i d w v next m y : ℕ) → length l₀ ≡ 130 → length l₂ ≡ 130
-      → x ≡ cond (ltb (getD text at 0) 0x33) 0x03 0x11 → i ≡ cell x (getD text (at + 1) 0)
+      → x ≡ touched (getD text at 0) → i ≡ cell x (getD text (at + 1) 0)
       → d ≡ capped (under (getD l₀ (64 + i) 0) 2) → l₁ ≡ set l₀ (64 + i) d → w ≡ getD l₀ i 0 → v ≡ cond (eqb (getD text at 0) 0x32) (capped (under d 2)) d
       → ((t : Tree) → At text (at + 2) t → Scanned (at + 2) w v t next l₁ l₂)
       → m ≡ cond (eqb (getD text at 0) 0x32) 2 1 → y ≡ capped (getD l₂ 128 0 + w * (m + (next - (at + 2)))) → l₃ ≡ set l₂ 128 y
       → (rules : ℕ) → StepMeasured rules Z l₀ l₃
   unfolding measure
-  stepped l₀ l₁ l₂ l₃ x i d w v next m y long₀ long₂ ex ei ed el ew ev sc em ey el₃ rules = record { holds = λ M h. holds-is (sym (q .backs rules M)) (go (back rules (behindStep Z) M) h) }
+  stepped l₀ l₁ l₂ l₃ x i d w v next m y long₀ long₂ ex ei ed el ew ev sc em ey el₃ rules = record { holds = λ M h. holds-is (sym (back-step Z (q .no-end) (q .no-choice) rules M)) (go (back rules (behindStep Z) M) h) }
     where
-      j : i ≡ cell (q .c) (q .k)
+      j : i ≡ cell c k
       j = step-cell x i ex ei
 
-      a : Scanned (at + 2) w v (q .E) next l₁ l₂
-      a = sc (q .E) (q .what)
+      a : Scanned (at + 2) w v (editTree Z) next l₁ l₂
+      a = sc (editTree Z) (q .what)
 
-      go : (N : Measure) → Holds l₀ N → Holds l₃ (substituted (q .c) (q .k) (q .more) (measure (q .E)) N)
+      go : (N : Measure) → Holds l₀ N → Holds l₃ (substituted c k more (measure (editTree Z)) N)
       go N h =
-          let n₁ = subst (λ (l : List ℕ). Holds l (lowered (q .c) (q .k) N)) (sym (el ∙ ap (λ (u : ℕ). set l₀ (64 + u) d) j)) (holds-lower l₀ N (q .c) (q .k) d long₀ (q .named) (ed ∙ ap (λ (u : ℕ). capped (under (getD l₀ (64 + u) 0) 2)) j) h) in
-          let n₂ = a .state (lowered (q .c) (q .k) N) n₁ in
-          let n₃ = holds-longer l₂ (added w v (measure (q .E)) (lowered (q .c) (q .k) N)) (w * (m + (next - (at + 2)))) y long₂ ey n₂ in
-          let pw : w ≡ capped (N .counts (q .c) (q .k)) = ew ∙ ap (λ (u : ℕ). getD l₀ u 0) j ∙ h .count-at (q .c) (q .k) (q .named) in
-          let pv : v ≡ capped (under (N .deeps (q .c) (q .k)) (suc (q .more))) = level (N .deeps (q .c) (q .k)) d v (ed ∙ ap (λ (u : ℕ). capped (under (getD l₀ (64 + u) 0) 2)) j ∙ ap (λ (u : ℕ). capped (under u 2)) (h .deep-at (q .c) (q .k) (q .named))) ev in
-          let ps : next - (at + 2) ≡ size (q .E) = omega (arith, a .ends) in
-          let pm : m ≡ q .more = em ∙ sym (q .is-more) in
-          holds-same (together (q .c) (q .k) (q .more) (measure (q .E)) N)
-          (holds-is (λ t. longer (pw t * (pm t + ps t)) (added (pw t) (pv t) (measure (q .E)) (lowered (q .c) (q .k) N)))
-          (subst (λ (l : List ℕ). Holds l (longer (w * (m + (next - (at + 2)))) (added w v (measure (q .E)) (lowered (q .c) (q .k) N)))) (sym el₃) n₃))
+          let n₁ = subst (λ (l : List ℕ). Holds l (lowered c k N)) (sym (el ∙ ap (λ (u : ℕ). set l₀ (64 + u) d) j)) (holds-lower l₀ N c k d long₀ (q .named) (ed ∙ ap (λ (u : ℕ). capped (under (getD l₀ (64 + u) 0) 2)) j) h) in
+          let n₂ = a .state (lowered c k N) n₁ in
+          let n₃ = holds-longer l₂ (added w v (measure (editTree Z)) (lowered c k N)) (w * (m + (next - (at + 2)))) y long₂ ey n₂ in
+          let pw : w ≡ capped (N .counts c k) = ew ∙ ap (λ (u : ℕ). getD l₀ u 0) j ∙ h .count-at c k (q .named) in
+          let pv : v ≡ capped (under (N .deeps c k) (suc more)) = level (N .deeps c k) d v (ed ∙ ap (λ (u : ℕ). capped (under (getD l₀ (64 + u) 0) 2)) j ∙ ap (λ (u : ℕ). capped (under u 2)) (h .deep-at c k (q .named))) ev in
+          let ps : next - (at + 2) ≡ size (editTree Z) = omega (arith, a .ends) in
+          let pm : m ≡ more = em ∙ ap (λ (x : ℕ). cond (eqb x 0x32) 2 1) (q .reads-op) in
+          holds-same (together c k more (measure (editTree Z)) N)
+          (holds-is (λ t. longer (pw t * (pm t + ps t)) (added (pw t) (pv t) (measure (editTree Z)) (lowered c k N)))
+          (subst (λ (l : List ℕ). Holds l (longer (w * (m + (next - (at + 2)))) (added w v (measure (editTree Z)) (lowered c k N)))) (sym el₃) n₃))
 
   -- how often the step's name stands in what follows it
-  counted : (l : List ℕ) (i : ℕ) → i ≡ cell (q .c) (q .k) → (N : Measure) → Holds l N → getD l i 0 ≡ capped (N .counts (q .c) (q .k))
-  counted l i j N h = ap (λ (u : ℕ). getD l u 0) j ∙ h .count-at (q .c) (q .k) (q .named)
+  counted : (l : List ℕ) (i : ℕ) → i ≡ cell c k → (N : Measure) → Holds l N → getD l i 0 ≡ capped (N .counts c k)
+  counted l i j N h = ap (λ (u : ℕ). getD l u 0) j ∙ h .count-at c k (q .named)
 
-  pub step-idle : (l out : List ℕ) (pos i : ℕ) → i ≡ cell (q .c) (q .k) → getD l i 0 ≡ 0 → (rules : ℕ) → Prefixed rules Z l out pos out pos
+  pub step-idle : (l out : List ℕ) (pos i : ℕ) → i ≡ cell c k → getD l i 0 ≡ 0 → (rules : ℕ) → Prefixed rules Z l out pos out pos
   step-idle l out pos i j z rules = record {
-    text = λ M h tail e. e ∙ sym ((λ t. q .prunes rules M t ++ tail) ∙ (λ t. cond (eq-eqb (back rules (behindStep Z) M .counts (q .c) (q .k)) 0 (omega (arith, counted l i j (back rules (behindStep Z) M) h)) t) (editCode (pruned rules (behindStep Z) M)) (q .head ++ editCode (pruned rules (behindStep Z) M)) ++ tail));
+    text = λ M h tail e. e ∙ sym ((λ t. pruned-step Z (q .no-end) (q .no-choice) rules M t ++ tail) ∙ (λ t. cond (eq-eqb (back rules (behindStep Z) M .counts c k) 0 (omega (arith, counted l i j (back rules (behindStep Z) M) h)) t) (editCode (pruned rules (behindStep Z) M)) (stepCode Z ++ editCode (pruned rules (behindStep Z) M)) ++ tail));
     room = omega (arith, q .long);
     low = omega arith;
   }
 
-  pub step-kept : (l out out′ : List ℕ) (pos i end r : ℕ) → i ≡ cell (q .c) (q .k) → (getD l i 0 ≡ 0 → ⊥) → end ≡ at + 2 + size (q .E) → PutBefore text at end out pos out′ r → (rules : ℕ) → Prefixed rules Z l out pos out′ r
+  pub step-kept : (l out out′ : List ℕ) (pos i end r : ℕ) → i ≡ cell c k → (getD l i 0 ≡ 0 → ⊥) → end ≡ at + 2 + size (editTree Z) → PutBefore text at end out pos out′ r → (rules : ℕ) → Prefixed rules Z l out pos out′ r
   step-kept l out out′ pos i end r j n e w rules =
-      let f : length (q .head) ≡ end - at = omega (arith, q .head-long, e) in
+      let f : length (stepCode Z) ≡ end - at = omega (arith, size-is (editTree Z), e) in
       record {
         text = λ M h tail p.
-            w .put-is ∙ (λ t. head-of text at (q .head) (q .tail) (end - at) (q .split) f t ++ p t) ∙ sym (append-assoc (q .head) (editCode (pruned rules (behindStep Z) M)) tail)
-            ∙ sym ((λ t. q .prunes rules M t ++ tail) ∙ (λ t. cond (ne-eqb (back rules (behindStep Z) M .counts (q .c) (q .k)) 0 (λ z. n (counted l i j (back rules (behindStep Z) M) h ∙ ap capped z)) t) (editCode (pruned rules (behindStep Z) M)) (q .head ++ editCode (pruned rules (behindStep Z) M)) ++ tail));
+            w .put-is ∙ (λ t. head-of text at (stepCode Z) (q .tail) (end - at) (q .split) f t ++ p t) ∙ sym (append-assoc (stepCode Z) (editCode (pruned rules (behindStep Z) M)) tail)
+            ∙ sym ((λ t. pruned-step Z (q .no-end) (q .no-choice) rules M t ++ tail) ∙ (λ t. cond (ne-eqb (back rules (behindStep Z) M .counts c k) 0 (λ z. n (counted l i j (back rules (behindStep Z) M) h ∙ ap capped z)) t) (editCode (pruned rules (behindStep Z) M)) (stepCode Z ++ editCode (pruned rules (behindStep Z) M)) ++ tail));
         room = omega (arith, q .long, w .start, e);
         low = omega (arith, w .start);
       }
 
   -- no number is too large
-  pub step-fits : (l₀ : List ℕ) (i w : ℕ) → Held l₀ → i ≡ cell (q .c) (q .k) → w ≡ getD l₀ i 0 → w ≤ 16385
-  step-fits l₀ i w h j e = omega (arith, e ∙ ap (λ (u : ℕ). getD l₀ u 0) j ∙ h .holds .count-at (q .c) (q .k) (q .named))
+  pub step-fits : (l₀ : List ℕ) (i w : ℕ) → Held l₀ → i ≡ cell c k → w ≡ getD l₀ i 0 → w ≤ 16385
+  step-fits l₀ i w h j e = omega (arith, e ∙ ap (λ (u : ℕ). getD l₀ u 0) j ∙ h .holds .count-at c k (q .named))
 
   pub step-product : (w m n : ℕ) → w ≤ 16385 → m ≤ 2 → n ≤ 4096 → w * (m + n) ≤ 16385 * 4098
   step-product w m n a b c = mul-le-mul a (let e : m + n ≤ 4098 = omega arith in e)

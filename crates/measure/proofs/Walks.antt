@@ -6,22 +6,24 @@ use native.Mathlib.Omega.{arith}
 use native.Mathlib.Nat.{add-zero}
 use native.Mathlib.Decide.{decLt}
 use lib.ListN.{length, getD, set, drop, length-set}
-use lib.Seq.{getD-set-same, getD-set-other}
+use lib.Seq.{getD-set-same}
 use Rattle.logic.specs.Syntax.{Edit, finish}
-use Rattle.text.specs.Code.{editCode}
-use Rattle.tree.specs.Tree.{Tree, size}
+use Rattle.text.specs.Code.{code, editCode}
+use Rattle.tree.specs.Tree.{Tree, tree, size}
 use Rattle.tree.specs.Sizes.{Measure, back}
 use Rattle.ends.specs.Shapes.{At}
+use Rattle.ends.specs.Edits.{EditAt, SomeEdit, behindStep, behindSteps, NextAt}
+use Rattle.ends.specs.Kept.{Kept}
+use Rattle.ends.proofs.Kept.{elsewhere}
+use Rattle.ends.proofs.Behind.{size-code}
+use Rattle.ends.proofs.Steps.{as-finish, as-choose, four}
 use Rattle.measure.specs.State.{Holds}
 use Rattle.measure.specs.Pruned.{pruned}
-use Rattle.measure.specs.Edits.{EditAt, SomeEdit, EditRoom, StepRoom, Held, behindStep, behindSteps, Pushed, NextAt, Kept, Joined, StepMeasured, Prefixed, Backed, PutBefore, EndBefore}
+use Rattle.measure.specs.Edits.{EditRoom, StepRoom, Held, Pushed, Joined, StepMeasured, Prefixed, Backed, PutBefore, EndBefore}
 use Rattle.measure.proofs.Held.{holds-is}
-use Rattle.measure.proofs.Steps.{as-finish, as-choose, four}
+use Rattle.measure.proofs.Firsts.{back-choose, pruned-choose}
 use Rattle.measure.proofs.Puts.{head-of, end-tail}
 use Rattle.measure.proofs.Loops.{kept-holds}
-
-other : (l : List ℕ) (i j x : ℕ) → (i ≡ j → ⊥) → getD (set l i x) j 0 ≡ getD l j 0
-other l i j x n = getD-set-other l i j x 0 (λ e. n (sym e))
 
 -- steps put on the stack so far
 pub record Going (text : List ℕ) (at : ℕ) (stack₀ stack : List ℕ) (top p n : ℕ) : Type 0 where
@@ -69,7 +71,7 @@ going-more text at stack₀ stack top p n next l m g f =
       ap = omega (arith, g .ap, s .on);
       room = length-set stack n p ∙ g .room;
       some = record { what = behindStep (g .some .what); stands = s .stands };
-      kept = record { same = λ i r. other stack n i p (λ e. omega (arith, g .is)) ∙ g .kept .same i r };
+      kept = record { same = λ i r. elsewhere stack n i p (λ e. omega (arith, g .is)) ∙ g .kept .same i r };
       reached = λ Z h. f (behindSteps (g .steps) Z) (g .reached Z h) .stands;
       end = λ Z h. f (behindSteps (g .steps) Z) (g .reached Z h) .ends ∙ g .end Z h;
       reach = λ Z h i r. reach i r Z h (decLt i (g .steps));
@@ -79,7 +81,7 @@ going-more text at stack₀ stack top p n next l m g f =
     }
   where
     old : (i : ℕ) → i < g .steps → getD (set stack n p) (top + i) 0 ≡ getD stack (top + i) 0
-    old i r = other stack n (top + i) p (λ e. omega (arith, g .is))
+    old i r = elsewhere stack n (top + i) p (λ e. omega (arith, g .is))
 
     new : (i : ℕ) → i ≡ g .steps → getD (set stack n p) (top + i) 0 ≡ p
     new i e = ap′ (omega (arith, g .is)) ∙ getD-set-same stack n p 0 l
@@ -236,25 +238,25 @@ module _ (text : List ℕ) (at rules : ℕ) (m : getD text at 0 ≡ 0x35) (first
   pub choice-stepped : (state₃ : List ℕ) → ((K : Tree) → At text (at + 1) K → Joined rules K other₂ state₂ state₃) → (Z : Edit) → EditAt text at Z → StepMeasured rules Z state state₃
   choice-stepped state₃ j Z h =
       let c = as-choose text at Z h m in
-      let a = f (c .K) (c .what) in
-      let b : second ≡ at + 1 + size (c .K) + length (editCode (c .P)) = g (c .P) (c .first first a) ∙ (λ t. a t + length (editCode (c .P))) in
+      let a = f (tree (c .K)) (c .what) in
+      let b : second ≡ at + 1 + size (tree (c .K)) + length (editCode (c .P)) = g (c .P) (c .first first a) ∙ (λ t. a t + length (editCode (c .P))) in
       record {
-        holds = λ M x. holds-is (sym (c .backs rules M)) (j (c .K) (c .what) .holds (back rules (c .P) (back rules (behindStep Z) M)) (back rules (c .Q) (back rules (behindStep Z) M))
+        holds = λ M x. holds-is (sym (back-choose c rules M)) (j (tree (c .K)) (c .what) .holds (back rules (c .P) (back rules (behindStep Z) M)) (back rules (c .Q) (back rules (behindStep Z) M))
             (b₁ (c .P) (c .first first a) .holds _ (kept-holds state other₁ _ k x)) (b₂ (c .Q) (c .second second b) .holds _ x));
       }
 
   pub choice-prefixed : (out₃ : List ℕ) (r : ℕ) → PutBefore text at first out₂ p out₃ r → (Z : Edit) → EditAt text at Z → Prefixed rules Z state out pos out₃ r
   choice-prefixed out₃ r w Z h =
       let c = as-choose text at Z h m in
-      let a = f (c .K) (c .what) in
-      let b : second ≡ at + 1 + size (c .K) + length (editCode (c .P)) = g (c .P) (c .first first a) ∙ (λ t. a t + length (editCode (c .P))) in
+      let a = f (tree (c .K)) (c .what) in
+      let b : second ≡ at + 1 + size (tree (c .K)) + length (editCode (c .P)) = g (c .P) (c .first first a) ∙ (λ t. a t + length (editCode (c .P))) in
       let bP = b₁ (c .P) (c .first first a) in
       let bQ = b₂ (c .Q) (c .second second b) in
-      let n : length (c .head) ≡ first - at = omega (arith, c .head-long, a) in
+      let n : length (0x35 ∷ code (c .K)) ≡ first - at = omega (arith, size-code (c .K), a) in
       record {
         text = λ M x tail e.
-            w .put-is ∙ (λ t. (head-of text at (c .head) (c .tail) (first - at) (c .split) n t) ++ (bP .text _ (kept-holds state other₁ _ k x) ∙ (λ u. editCode (pruned rules (c .P) (back rules (behindStep Z) M)) ++ (bQ .text _ x ∙ (λ v. editCode (pruned rules (c .Q) (back rules (behindStep Z) M)) ++ e v)) u)) t)
-            ∙ sym (four (c .head) _ _ _ tail) ∙ (λ t. sym (c .prunes rules M) t ++ tail);
+            w .put-is ∙ (λ t. (head-of text at (0x35 ∷ code (c .K)) (c .tail) (first - at) (c .split) n t) ++ (bP .text _ (kept-holds state other₁ _ k x) ∙ (λ u. editCode (pruned rules (c .P) (back rules (behindStep Z) M)) ++ (bQ .text _ x ∙ (λ v. editCode (pruned rules (c .Q) (back rules (behindStep Z) M)) ++ e v)) u)) t)
+            ∙ sym (four (0x35 ∷ code (c .K)) _ _ _ tail) ∙ (λ t. sym (pruned-choose c rules M) t ++ tail);
         room = omega (arith, w .start, bP .room, bQ .room, c .long, a);
         low = omega (arith, w .start, bP .low, bQ .low);
       }

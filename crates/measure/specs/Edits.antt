@@ -1,40 +1,17 @@
--- An edit in a text; the measure of a book carried through it, in numbers.
+-- The measure of a book carried through an edit that stands in a text, in numbers.
 use mathlib.Core.Path.{_≡_}
 use mathlib.Core.List.{List, _∷_, _++_}
-use Prim.Native.Nat.{ℕ, zero, suc, _+_, _-_, _<_, _≤_, max}
+use Prim.Native.Nat.{ℕ, _+_, _-_, _<_, _≤_, max}
 use Rattle.tree.specs.Tree.{Tree, under}
 use lib.ListN.{length, getD, take, drop}
-use Rattle.logic.specs.Syntax.{Edit, finish, addLabel, takeLabel, addArrow, takeArrow, choose}
-use Rattle.logic.specs.Limits.{Ranges}
-use Rattle.text.specs.Stands.{EditStands}
+use Rattle.logic.specs.Syntax.{Edit, finish}
 use Rattle.text.specs.Code.{editCode}
 use Rattle.tree.specs.Sizes.{Measure, measure, chosen, back, capped}
+use Rattle.ends.specs.Edits.{behindStep, behindSteps, EditAt}
 use Rattle.measure.specs.State.{Holds}
 use Rattle.measure.specs.Pruned.{pruned}
 
--- what follows the first step
-unfoldable pub behindStep : Edit → Edit
-behindStep finish = finish
-behindStep (addLabel k E Z) = Z
-behindStep (takeLabel k E Z) = Z
-behindStep (addArrow a R Z) = Z
-behindStep (takeArrow a R Z) = Z
-behindStep (choose K P Q Z) = Z
-
-unfoldable pub behindSteps : ℕ → Edit → Edit
-behindSteps zero Z = Z
-behindSteps (suc j) Z = behindStep (behindSteps j Z)
-
--- an edit whose numbers are in range stands in a text at a place, whatever the ranges
-pub record EditAt (text : List ℕ) (at : ℕ) (Z : Edit) : Type 0 where
-  pub limits : Ranges
-  pub place : EditStands limits text at Z
-
-pub record SomeEdit (text : List ℕ) (at : ℕ) : Type 0 where
-  pub what : Edit
-  pub stands : EditAt text at what
-
--- .. whose end, or whose first step's end, is not past `pos`
+-- some edit stands there, and its end, or its first step's end, is not past `pos`
 pub record EditRoom (text : List ℕ) (at pos : ℕ) : Type 0 where
   pub what : Edit
   pub stands : EditAt text at what
@@ -88,22 +65,12 @@ pub record EndBefore (out : List ℕ) (pos : ℕ) (out′ : List ℕ) (pos′ : 
   pub start : pos′ + 1 ≡ pos
   pub put-is : drop pos′ out′ ≡ 0x30 ∷ drop pos out
 
--- a place is behind an edit's first step, or behind the edit
-pub record NextAt (text : List ℕ) (at : ℕ) (Z : Edit) (next : ℕ) : Type 0 where
-  pub stands : EditAt text next (behindStep Z)
-  pub ends : next + length (editCode (behindStep Z)) ≡ at + length (editCode Z)
-  pub on : at < next
-
 -- the numbers t and l of a choice's two ways, two levels lower together
 pub record Merged (t l l′ : List ℕ) : Type 0 where
   pub count : (i : ℕ) → i < 64 → getD l′ i 0 ≡ capped (getD t i 0 + getD l i 0)
   pub deep : (i : ℕ) → i < 64 → getD l′ (64 + i) 0 ≡ capped (under (capped (under (max (getD t (64 + i) 0) (getD l (64 + i) 0)) 2)) 2)
   pub len : getD l′ 128 0 ≡ capped (getD t 128 0 + getD l 128 0)
   pub tall : getD l′ 129 0 ≡ capped (max (getD t 129 0) (getD l 129 0) + 2)
-
--- the same numbers below a place
-pub record Kept (top : ℕ) (l l′ : List ℕ) : Type 0 where
-  pub same : (i : ℕ) → i < top → getD l′ i 0 ≡ getD l i 0
 
 -- the numbers of a choice on K
 pub record Joined (rules : ℕ) (K : Tree) (t l l′ : List ℕ) : Type 0 where

@@ -2,7 +2,7 @@
 // how often each of the 64 names stands there (cells 0 to 63: labels, then arrows), its deepest level (64 to 127, 0 where it stands nowhere),
 // the length (128) and the levels (129). On the way the edit is written again without its idle steps.
 //
-// Stack: 1 kB of numbers (13 kB of arrays for one rule) and about 1.4 kB for each 35 inside a 35, of which there are at most 30: under 60 kB.
+// Stack: 1 kB of numbers and about 1.4 kB for each 35 inside a 35, of which there are at most 30: under 60 kB.
 ghost use mathlib.Core.Path.{_≡_};
 ghost use mathlib.Core.Bool.{cond};
 ghost use mathlib.Core.List.{List};
@@ -10,14 +10,15 @@ ghost use Prim.Native.Nat.{ℕ, _+_, _*_, _/_, _%_, _^_, _<_, _≤_, max};
 ghost use lib.Dec.{eqb};
 ghost use lib.ListN.{length, getD, set, replicate};
 ghost use Rattle.logic.specs.Syntax.{Edit, Expr, rule};
-ghost use Rattle.text.specs.Code.{editCode};
-ghost use Rattle.tree.specs.Tree.{Tree, under, size};
+ghost use Rattle.tree.specs.Tree.{Tree, under};
 ghost use Rattle.tree.specs.Sizes.{capped};
-ghost use Rattle.tree.specs.Stack.{touched};
-ghost use Rattle.ends.specs.Shapes.{cell, At, Some};
+ghost use Rattle.ends.specs.Shapes.{At, Some};
+ghost use Rattle.ends.specs.Edits.{EditAt, SomeEdit};
+ghost use Rattle.ends.specs.Books.{RuleAt, SomeRule, BookIs, SomeBook};
+ghost use Rattle.ends.specs.Kept.{Kept};
 ghost use Rattle.measure.specs.State.{Scanned};
-ghost use Rattle.measure.specs.Edits.{EditAt, SomeEdit, EditRoom, StepRoom, Held, StepMeasured, Prefixed, Backed, PutBefore, EndBefore, NextAt, Pushed, Merged, Kept, Joined};
-ghost use Rattle.measure.specs.Book.{RuleAt, SomeRule, BookIs, SomeBook, RuleAdded, BookAdded, RuleSized, BookSized, BookKept};
+ghost use Rattle.measure.specs.Edits.{EditRoom, StepRoom, Held, StepMeasured, Prefixed, Backed, PutBefore, EndBefore, Pushed, Merged, Joined};
+ghost use Rattle.measure.specs.Book.{RuleAdded, BookAdded, BookSized, BookKept};
 
 // The larger number.
 fn larger(a: usize, b: usize) -> usize
@@ -47,13 +48,6 @@ fn deeper(v: usize) -> usize
         return 0;
     }
     if v < 16385 { v + 1 } else { 16385 }
-}
-
-// The cell of a name: 03 k at k, 11 a at 48 + a.
-pub fn cell_of(code: u8, number: u8) -> usize
-    ensures { λ r. ⌜ r ≡ cell code number ⌝ }
-{
-    code as usize / 16 * 48 + number as usize
 }
 
 // A code on level `v`.
@@ -87,7 +81,7 @@ fn scan(text: &[u8], at: usize, w: usize, v: usize, state: &mut [usize]) -> usiz
     let s = ends::shape(c);
     rise(state, v);
     if s >= 16 {
-        touch(state, cell_of(c, text[at + 1]), w, v);
+        touch(state, ends::cell_of(c, text[at + 1]), w, v);
         return at + 2;
     }
     let first = at + s % 4;
@@ -100,13 +94,6 @@ fn scan(text: &[u8], at: usize, w: usize, v: usize, state: &mut [usize]) -> usiz
         return second;
     }
     scan(text, second, w, below, state)
-}
-
-// The code of the names that a step touches.
-pub fn name_code(op: u8) -> u8
-    ensures { λ r. ⌜ r ≡ touched op ⌝ }
-{
-    if op < 0x33 { 0x03 } else { 0x11 }
 }
 
 // How many codes a step puts above its expression: 32 puts 06 and 05.
@@ -130,40 +117,12 @@ fn step_back(text: &[u8], at: usize, state: &mut [usize])
     ensures { λ r. ⌜ ((Z : Edit) → EditAt (now (text .entry)) at Z → (rules : ℕ) → StepMeasured rules Z (now (state .entry)) (now (state .exit))) ⌝ }
 {
     let op = text[at];
-    let i = cell_of(name_code(op), text[at + 1]);
+    let i = ends::cell_of(ends::name_code(op), text[at + 1]);
     let w = state[i];
     let d = deeper(state[64 + i]);
     state[64 + i] = d;
     let next = scan(text, at + 2, w, lower(op, d), state);
     state[128] = sum(state[128], w * (extra(op) + (next - (at + 2))));
-}
-
-// The place behind the first step of the edit at `at`.
-// Inner: the text was read before.
-fn next_step(text: &[u8], at: usize) -> usize
-    requires { ⌜ SomeEdit (now text) at × (getD (now text) at 0 ≡ 0x30 → ⊥) ⌝ }
-    ensures { λ r. ⌜ ((Z : Edit) → EditAt (now (text .entry)) at Z → NextAt (now (text .entry)) at Z r) ⌝ }
-{
-    let c = text[at];
-    if c != 0x35 {
-        return ends::past(text, at + 2);
-    }
-    let p = ends::past(text, at + 1);
-    let q = end_of(text, p);
-    end_of(text, q)
-}
-
-// The place behind the edit at `at`.
-// Inner: the text was read before.
-pub fn end_of(text: &[u8], at: usize) -> usize
-    requires { ⌜ SomeEdit (now text) at ⌝ }
-    ensures { λ r. ⌜ ((Z : Edit) → EditAt (now (text .entry)) at Z → r ≡ at + length (editCode Z)) ⌝ }
-{
-    let mut p = at;
-    while text[p] != 0x30 {
-        p = next_step(text, p);
-    }
-    p + 1
 }
 
 // The places of an edit's steps, put on a stack; answers its new top. A step takes a byte at least, so a stack as long as the text suffices.
@@ -177,7 +136,7 @@ fn push(text: &[u8], at: usize, stack: &mut [u16], top: usize) -> usize
     while text[p] != 0x30 {
         stack[n] = p as u16;
         n += 1;
-        p = next_step(text, p);
+        p = ends::next_step(text, p);
     }
     n
 }
@@ -267,7 +226,7 @@ fn keep_step(text: &[u8], at: usize, state: &[usize], out: &mut [u8], pos: usize
     requires { ⌜ StepRoom (now text) at pos × (getD (now text) at 0 ≡ 0x30 → ⊥) × (getD (now text) at 0 ≡ 0x35 → ⊥) × Held (now state) × (length (now text) ≤ 4096) × (pos ≤ length (now out)) ⌝ }
     ensures { λ r. ⌜ ((Z : Edit) → EditAt (now (text .entry)) at Z → (rules : ℕ) → Prefixed rules Z (now (state .entry)) (now (out .entry)) pos (now (out .exit)) r) ⌝ }
 {
-    let i = cell_of(name_code(text[at]), text[at + 1]);
+    let i = ends::cell_of(ends::name_code(text[at]), text[at + 1]);
     if state[i] == 0 {
         return pos;
     }
@@ -296,7 +255,7 @@ fn one_back(
         return start;
     }
     let first = ends::past(text, at + 1);
-    let second = end_of(text, first);
+    let second = ends::end_of(text, first);
     let mut other = [0usize; 130];
     copy(state, &mut other);
     let q = back(text, second, rules, stack, top, state, out, pos);
@@ -356,30 +315,7 @@ fn add_book(book: &[u8], state: &mut [usize]) -> usize
     n
 }
 
-// A length in bytes and a number of levels, each 16,385 where it is more than 16,384.
-pub struct Size {
-    pub len: usize,
-    pub levels: usize,
-}
-
-// The size of the rule at `at` carried through the edit at `from`.
-// Inner: both texts were read before.
-pub fn size_of_rule(book: &[u8], at: usize, edit: &[u8], from: usize) -> Size
-    requires { ⌜ SomeRule (now book) at × SomeEdit (now edit) from × (length (now edit) ≤ 4096) ⌝ }
-    ensures { λ r. ⌜ ((K : Expr rule) (Z : Edit) → RuleAt (now (book .entry)) at K → EditAt (now (edit .entry)) from Z → RuleSized Z K (r .len) (r .levels)) ⌝ }
-{
-    let mut state = [0usize; 130];
-    add_rule(book, at, &mut state);
-    let mut stack = [0u16; 4096];
-    let mut kept = [0u8; 4096];
-    back(edit, from, 1, &mut stack, 0, &mut state, &mut kept, 4096);
-    Size {
-        len: state[128],
-        levels: state[129],
-    }
-}
-
-// The size of a carried book, and where the edit without its idle steps starts.
+// The length in bytes and the levels of a carried book, each 16,385 where it is more than 16,384, and where the edit without its idle steps starts.
 pub struct BookSize {
     pub len: usize,
     pub levels: usize,

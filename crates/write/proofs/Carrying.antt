@@ -9,15 +9,16 @@ use Rattle.logic.specs.Syntax.{Edit}
 use Rattle.tree.specs.Tree.{Tree, tree, treeCode, graft}
 use Rattle.tree.specs.Stack.{Step, env, written}
 use Rattle.ends.specs.Shapes.{At}
-use Rattle.measure.specs.Edits.{EditAt}
-use Rattle.measure.proofs.Steps.{edit-inside}
-use Rattle.measure.proofs.Rules.{rule-at}
+use Rattle.ends.specs.Edits.{EditAt}
+use Rattle.ends.proofs.Steps.{edit-inside}
+use Rattle.ends.proofs.Kept.{kept-more}
+use Rattle.ends.proofs.Rules.{rule-at}
 use Rattle.write.specs.Laid.{Wrote}
 use Rattle.write.specs.Offsets.{StackIs}
 use Rattle.write.specs.Writing.{SomeShown}
 use Rattle.write.specs.Ways.{followed, Walked, Chosen, SomeCarried, WayWritten}
 use Rattle.write.proofs.Laying.{wrote-more, wrote-as}
-use Rattle.write.proofs.Walking.{steps-kept, kept-more}
+use Rattle.write.proofs.Walking.{steps-kept}
 use Rattle.write.proofs.Choosing.{end-written, choice-written, choice-length, first-way, second-way}
 
 -- where the walk rests

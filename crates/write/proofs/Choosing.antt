@@ -5,93 +5,56 @@ use Prim.Native.Nat.{ℕ, _+_, _≤_, _<_}
 use native.Mathlib.Omega.{arith}
 use lib.ListN.{length, getD, set, length-append}
 use lib.Seq.{getD-set-same}
-use Rattle.logic.specs.Syntax.{rule, Expr, Edit, finish, addLabel, takeLabel, addArrow, takeArrow, choose}
-use Rattle.logic.specs.Limits.{EditInRange}
+use Rattle.logic.specs.Syntax.{rule, Expr, Edit, finish, choose}
 use Rattle.logic.specs.Carry.{followedBy}
-use Rattle.text.specs.Code.{code, editCode}
+use Rattle.text.specs.Code.{editCode}
 use Rattle.tree.specs.Tree.{Tree, tree, size, treeCode, graft}
 use Rattle.tree.specs.Stack.{Step, env, written, shown}
-use Rattle.tree.proofs.Trees.{code-tree}
 use Rattle.tree.proofs.Written.{written-finish, written-choose}
 use Rattle.ends.specs.Shapes.{At, Some}
-use Rattle.measure.specs.Edits.{EditAt, SomeEdit, Kept}
+use Rattle.ends.specs.Edits.{EditAt, SomeEdit, behindStep}
+use Rattle.ends.specs.Kept.{Kept}
 use Rattle.ends.proofs.Places.{inside, size-pos}
-use Rattle.ends.proofs.Formed.{formed-tree}
-use Rattle.measure.proofs.Steps.{tag-edit, as-finish, cK, cP, cQ, cZ, size-K}
+use Rattle.ends.proofs.Steps.{as-choose, as-finish}
+use Rattle.ends.proofs.Kept.{kept-set}
 use Rattle.write.specs.Ways.{followed, BehindIs, Way, Chosen}
-use Rattle.write.proofs.Walking.{steps-kept, behind-kept, kept-set, followed-through}
+use Rattle.write.proofs.Walking.{steps-kept, behind-kept, followed-through}
 
--- the parts of a 35 in a text
-record Parts (edit : List ℕ) (at : ℕ) (Z : Edit) : Type 0 where
-  test : Expr rule
-  P : Edit
-  Q : Edit
-  W : Edit
-  is : Z ≡ choose test P Q W
-  test-at : At edit (at + 1) (tree test)
-  first : (p : ℕ) → p ≡ at + 1 + size (tree test) → EditAt edit p P
-  second : (p : ℕ) → p ≡ at + 1 + size (tree test) + length (editCode P) → EditAt edit p Q
-  next : (p : ℕ) → p ≡ at + 1 + size (tree test) + length (editCode P) + length (editCode Q) → EditAt edit p W
-  long : length (editCode Z) ≡ 1 + size (tree test) + length (editCode P) + length (editCode Q) + length (editCode W)
-
-parts : (edit : List ℕ) (at : ℕ) (Z : Edit) → EditAt edit at Z → getD edit at 0 ≡ 0x35 → Parts edit at Z
-unfolding editCode EditInRange
-parts edit at finish h m = absurd (omega (arith, tag-edit edit at finish h))
-parts edit at (addLabel k E Z) h m = absurd (omega (arith, tag-edit edit at (addLabel k E Z) h))
-parts edit at (takeLabel k E Z) h m = absurd (omega (arith, tag-edit edit at (takeLabel k E Z) h))
-parts edit at (addArrow a R Z) h m = absurd (omega (arith, tag-edit edit at (addArrow a R Z) h))
-parts edit at (takeArrow a R Z) h m = absurd (omega (arith, tag-edit edit at (takeArrow a R Z) h))
-parts edit at (choose K P Q Z) h m =
-    let rest = h .place .rest in
-    let e = h .place .here in
-    record {
-      test = K;
-      P = P;
-      Q = Q;
-      W = Z;
-      is = refl;
-      test-at = record { rest = editCode P ++ (editCode Q ++ (editCode Z ++ rest)); here = cK edit at K P Q Z rest e ∙ ap (λ (l : List ℕ). l ++ (editCode P ++ (editCode Q ++ (editCode Z ++ rest)))) (sym (code-tree K)); formed = formed-tree (h .limits) K (h .place .range .0) };
-      first = λ p q. record { limits = h .limits; place = record { rest = editCode Q ++ (editCode Z ++ rest); here = cP edit at K P Q Z rest e p q; range = h .place .range .1 } };
-      second = λ p q. record { limits = h .limits; place = record { rest = editCode Z ++ rest; here = cQ edit at K P Q Z rest e p q; range = h .place .range .2 } };
-      next = λ p q. record { limits = h .limits; place = record { rest = rest; here = cZ edit at K P Q Z rest e p q; range = h .place .range .3 } };
-      long = omega (arith, length-append ((0x35 ∷ code K) ++ editCode P ++ editCode Q) (editCode Z), length-append ((0x35 ∷ code K) ++ editCode P) (editCode Q), length-append (0x35 ∷ code K) (editCode P), size-K edit at K P Q Z rest e);
-    }
-
--- where they stand, as `past` and `end_of` say
+-- where the parts of a 35 stand, as `past` and `end_of` say
 module _ (edit : List ℕ) (at : ℕ) (m : getD edit at 0 ≡ 0x35) where
   pub test-some : SomeEdit edit at → (at + 1 < length edit) × Some edit (at + 1)
-  test-some s = let q = parts edit at (s .what) (s .stands) m in (inside edit (at + 1) (tree (q .test)) (q .test-at), record { what = tree (q .test); stands = q .test-at })
+  test-some s = let q = as-choose edit at (s .what) (s .stands) m in (inside edit (at + 1) (tree (q .K)) (q .what), record { what = tree (q .K); stands = q .what })
 
   module _ (first : ℕ) (f : (t : Tree) → At edit (at + 1) t → first ≡ at + 1 + size t) where
     pub first-edit : SomeEdit edit at → SomeEdit edit first
-    first-edit s = let q = parts edit at (s .what) (s .stands) m in record { what = q .P; stands = q .first first (f (tree (q .test)) (q .test-at)) }
+    first-edit s = let q = as-choose edit at (s .what) (s .stands) m in record { what = q .P; stands = q .first first (f (tree (q .K)) (q .what)) }
 
     module _ (second : ℕ) (g : (Y : Edit) → EditAt edit first Y → second ≡ first + length (editCode Y)) where
       pub second-edit : SomeEdit edit at → SomeEdit edit second
       second-edit s =
-          let q = parts edit at (s .what) (s .stands) m in
-          let a = f (tree (q .test)) (q .test-at) in
+          let q = as-choose edit at (s .what) (s .stands) m in
+          let a = f (tree (q .K)) (q .what) in
           record { what = q .Q; stands = q .second second (g (q .P) (q .first first a) ∙ ap (λ (n : ℕ). n + length (editCode (q .P))) a) }
 
       pub chosen : (next : ℕ) → ((Y : Edit) → EditAt edit second Y → next ≡ second + length (editCode Y)) → (Z : Edit) → EditAt edit at Z → Chosen edit at first second next Z
       chosen next k Z h =
-          let q = parts edit at Z h m in
-          let a = f (tree (q .test)) (q .test-at) in
+          let q = as-choose edit at Z h m in
+          let a = f (tree (q .K)) (q .what) in
           let b′ = g (q .P) (q .first first a) in
-          let b : second ≡ at + 1 + size (tree (q .test)) + length (editCode (q .P)) = b′ ∙ ap (λ (n : ℕ). n + length (editCode (q .P))) a in
+          let b : second ≡ at + 1 + size (tree (q .K)) + length (editCode (q .P)) = b′ ∙ ap (λ (n : ℕ). n + length (editCode (q .P))) a in
           let c′ = k (q .Q) (q .second second b) in
-          let c : next ≡ at + 1 + size (tree (q .test)) + length (editCode (q .P)) + length (editCode (q .Q)) = c′ ∙ ap (λ (n : ℕ). n + length (editCode (q .Q))) b in
+          let c : next ≡ at + 1 + size (tree (q .K)) + length (editCode (q .P)) + length (editCode (q .Q)) = c′ ∙ ap (λ (n : ℕ). n + length (editCode (q .Q))) b in
           record {
-            test = q .test;
+            test = q .K;
             P = q .P;
             Q = q .Q;
-            W = q .W;
+            W = behindStep Z;
             is = q .is;
-            test-at = q .test-at;
+            test-at = q .what;
             first-at = q .first first a;
             second-at = q .second second b;
             next-at = q .next next c;
-            on = omega (arith, a, size-pos (tree (q .test)) (q .test-at .formed));
+            on = omega (arith, a, size-pos (tree (q .K)) (q .what .formed));
             between = sym b′;
             behind = sym c′;
             ends = omega (arith, c, q .long);

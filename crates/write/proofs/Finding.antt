@@ -14,9 +14,9 @@ use Rattle.tree.specs.Tree.{name, graft, same}
 use Rattle.tree.specs.Stack.{Step, env, becomes, touched}
 use Rattle.tree.proofs.Written.{env-hit, env-miss}
 use Rattle.ends.specs.Shapes.{Named, cell}
-use Rattle.measure.specs.Edits.{Kept}
-use Rattle.measure.proofs.Held.{named-lt, apart, alike}
-use Rattle.write.proofs.Walking.{kept-set, kept-more}
+use Rattle.ends.specs.Kept.{Kept}
+use Rattle.ends.proofs.Names.{named-lt, apart, alike}
+use Rattle.ends.proofs.Kept.{kept-set, kept-more}
 use Rattle.write.specs.Offsets.{StepAt, StackIs}
 use Rattle.write.specs.Links.{codeAt, numberAt, lastIn, Linked, SomeLinks, Link, Relinked}
 

@@ -13,10 +13,11 @@ use Rattle.tree.specs.Tree.{Tree, tree, size}
 use Rattle.tree.specs.Stack.{written}
 use Rattle.tree.proofs.Written.{written-code}
 use Rattle.ends.specs.Shapes.{At, Some}
-use Rattle.measure.specs.Edits.{EditAt}
-use Rattle.measure.specs.Book.{RuleAt, BookIs}
+use Rattle.ends.specs.Edits.{EditAt}
+use Rattle.ends.specs.Books.{RuleAt, BookIs}
 use Rattle.text.proofs.Standing.{behind}
-use Rattle.measure.proofs.Rules.{rule-at, rule-size, rule-fits}
+use Rattle.ends.proofs.Rules.{rule-at, rule-fits}
+use Rattle.ends.proofs.Behind.{size-code}
 use Rattle.write.specs.Laid.{Wrote}
 use Rattle.write.specs.Offsets.{StackIs}
 use Rattle.write.specs.Ways.{followed, BehindIs, Way, SomeCarried, WayWritten}
@@ -45,7 +46,7 @@ start-some {text} {edit} {at} {from} stack behind w = record {
 pub rule-written : {text edit stack behind stack′ behind′ o o′ : List ℕ} {at from pos pos′ next : ℕ} → ((t : Tree) → At text at t → next ≡ at + size t) → WayWritten text at edit stack behind from 0 0 o pos pos′ stack′ behind′ o′
     → (K : Expr rule) (Z : Edit) → RuleAt text at K → EditAt edit from Z → RuleWritten Z K at o pos next pos′ o′
 rule-written {text} {edit} {stack} {behind} {stack′} {behind′} {o} {o′} {at} {from} f c K Z r h = record {
-  read = f (tree K) (rule-at text at K r) ∙ ap (λ (n : ℕ). at + n) (rule-size K);
+  read = f (tree K) (rule-at text at K r) ∙ ap (λ (n : ℕ). at + n) (size-code K);
   wrote = wrote-as (start-written Z K) (c .wrote [] Z [] (start edit stack behind from Z h) K r);
 }
 

@@ -1,25 +1,24 @@
 -- Passing a step and an end on a way through an edit.
 use mathlib.Core.Path.{_≡_, refl, sym, ap, _∙_, subst}
 use mathlib.Core.Bool.{Bool, true, false}
-use mathlib.Core.List.{List, [], _∷_, _++_}
+use mathlib.Core.List.{List, [], _∷_}
 use Prim.Native.Nat.{ℕ, _+_, _*_, _-_, _≤_, _<_}
 use native.Mathlib.Omega.{arith}
 use lib.Dec.{eqb}
 use lib.ListN.{length, getD, set}
-use lib.Seq.{getD-set-same, getD-set-other}
+use lib.Seq.{getD-set-same}
 use borrow.Author.Tests.{eqb-true, eqb-false, eq-eqb, ne-eqb}
-use Rattle.logic.specs.Syntax.{Sort, rule, Expr, Edit, finish, addLabel, takeLabel, addArrow, takeArrow, choose}
-use Rattle.logic.specs.Limits.{InRange, EditInRange}
+use Rattle.logic.specs.Syntax.{rule, Expr, Edit, finish, addLabel, takeLabel, addArrow, takeArrow, choose}
 use Rattle.logic.specs.Carry.{followedBy}
-use Rattle.text.specs.Code.{code, editCode}
-use Rattle.tree.specs.Tree.{Tree, tree, size}
+use Rattle.text.specs.Code.{editCode}
+use Rattle.tree.specs.Tree.{Tree, size}
 use Rattle.tree.specs.Stack.{Step, touched, written}
 use Rattle.tree.proofs.Written.{written-addLabel, written-takeLabel, written-addArrow, written-takeArrow}
 use Rattle.ends.specs.Shapes.{At, Some, Named}
-use Rattle.measure.specs.Edits.{EditAt, Kept}
-use Rattle.ends.proofs.Places.{inside}
-use Rattle.text.proofs.Standing.{byte-at}
-use Rattle.measure.proofs.Steps.{tag-edit, as-finish, as-step, edit-inside, step-what, step-next, step-len, step-k, step-room}
+use Rattle.ends.specs.Edits.{EditAt, behindStep}
+use Rattle.ends.specs.Kept.{Kept}
+use Rattle.ends.proofs.Steps.{editTag, editTree, stepOf, IsStep, as-step, as-finish, edit-inside}
+use Rattle.ends.proofs.Kept.{kept-set, kept-more}
 use Rattle.write.specs.Offsets.{StepAt, StackIs}
 use Rattle.write.specs.Ways.{followed, BehindIs, Way, SomeWay, SameWay, resting, Passed, Walked}
 
@@ -36,67 +35,40 @@ behind-kept edit from {behind} {behind′} {top} (W ∷ Ws) l k i =
     let e = sym (k .same (length Ws) (omega arith)) in
     (subst (λ (o : ℕ). from ≤ o) e (i .0), subst (λ (o : ℕ). EditAt edit o W) e (i .1), subst (λ (o : ℕ). BehindIs edit behind′ (o + length (editCode W)) Ws) e (behind-kept edit (getD behind (length Ws) 0 + length (editCode W)) Ws (omega arith) k (i .2)))
 
-pub kept-set : (l : List ℕ) (top x : ℕ) → Kept top l (set l top x)
-kept-set l top x = record { same = λ i h. getD-set-other l top i x 0 (λ e. absurd (omega (arith, e, h))) }
-
-pub kept-more : {m n : ℕ} {l l′ l″ : List ℕ} → m ≤ n → Kept m l l′ → Kept n l′ l″ → Kept m l l″
-kept-more {m} {n} {l} {l′} {l″} h k k′ = record { same = λ i r. k′ .same i (omega arith) ∙ k .same i r }
-
--- a step of the edit as the stack holds it
-record Stepping (edit : List ℕ) (at : ℕ) (Z : Edit) : Type 0 where
-  s : Step
-  s-at : StepAt edit at s
-  rest : Edit
-  rest-at : (p : ℕ) → p ≡ at + 2 + size (s .what) → EditAt edit p rest
-  long : length (editCode Z) ≡ 2 + size (s .what) + length (editCode rest)
-  same : (σ : List Step) (Ws : List Edit) (K : Expr rule) → written σ (followed Z Ws) K ≡ written (s ∷ σ) (followed rest Ws) K
-
 pub followed-through : (f : Edit → Edit) → ((P Z : Edit) → followedBy (f P) Z ≡ f (followedBy P Z)) → (Z : Edit) (Ws : List Edit) → followed (f Z) Ws ≡ f (followed Z Ws)
 unfolding followed
 followed-through f g Z [] = refl
 followed-through f g Z (W ∷ Ws) = g Z (followed W Ws)
 
--- the step of each sort: `put` is its constructor with number and expression
-module _ (edit : List ℕ) (at op k : ℕ) {s : Sort} (E : Expr s) (put : Edit → Edit) (codes : (Z : Edit) → editCode (put Z) ≡ op ∷ k ∷ code E ++ editCode Z) (through : (P Z : Edit) → followedBy (put P) Z ≡ put (followedBy P Z))
-    (writes : (σ : List Step) (Z : Edit) (K : Expr rule) → written σ (put Z) K ≡ written (record { op = op; number = k; what = tree E } ∷ σ) Z K) where
-  stepping-by : (Z : Edit) (h : EditAt edit at (put Z)) → InRange (h .limits) E → EditInRange (h .limits) Z → Stepping edit at (put Z)
-  stepping-by Z h r r′ =
-      let rest = h .place .rest in
-      let e = h .place .here ∙ ap (λ (l : List ℕ). l ++ rest) (codes Z) in
-      record {
-        s = record { op = op; number = k; what = tree E };
-        s-at = record { op-is = byte-at edit at op _ e; number-is = step-k edit at op k E Z rest e; room = omega (arith, step-room edit at op k E Z rest e (h .limits) r′); what-at = step-what edit at op k E Z rest e (h .limits) r };
-        rest = Z;
-        rest-at = step-next edit at op k E Z rest e (h .limits) r′;
-        long = ap length (codes Z) ∙ step-len edit at op k E Z rest e;
-        same = λ σ Ws K. ap (λ (Y : Edit). written σ Y K) (followed-through put through Z Ws) ∙ writes σ (followed Z Ws) K;
-      }
+-- a step of the edit as the stack holds it
+step-holds : {edit : List ℕ} {at : ℕ} (Z : Edit) → IsStep edit at Z → StepAt edit at (stepOf Z)
+step-holds Z q = record { op-is = q .reads-op; number-is = q .reads-k; room = omega (arith, q .room); what-at = q .what }
 
-stepping : (edit : List ℕ) (at : ℕ) (Z : Edit) → EditAt edit at Z → (getD edit at 0 ≡ 0x30 → ⊥) → (getD edit at 0 ≡ 0x35 → ⊥) → Stepping edit at Z
-unfolding editCode EditInRange followedBy
-stepping edit at finish h n m = absurd (n (tag-edit edit at finish h))
-stepping edit at (addLabel k E Z) h n m = stepping-by edit at 0x31 k E (addLabel k E) (λ Y. refl) (λ P Y. refl) (λ σ Y K. written-addLabel σ k E Y K) Z h (h .place .range .1) (h .place .range .2)
-stepping edit at (takeLabel k E Z) h n m = stepping-by edit at 0x32 k E (takeLabel k E) (λ Y. refl) (λ P Y. refl) (λ σ Y K. written-takeLabel σ k E Y K) Z h (h .place .range .1) (h .place .range .2)
-stepping edit at (addArrow a R Z) h n m = stepping-by edit at 0x33 a R (addArrow a R) (λ Y. refl) (λ P Y. refl) (λ σ Y K. written-addArrow σ a R Y K) Z h (h .place .range .1) (h .place .range .2)
-stepping edit at (takeArrow a R Z) h n m = stepping-by edit at 0x34 a R (takeArrow a R) (λ Y. refl) (λ P Y. refl) (λ σ Y K. written-takeArrow σ a R Y K) Z h (h .place .range .1) (h .place .range .2)
-stepping edit at (choose K P Q Z) h n m = absurd (m (tag-edit edit at (choose K P Q Z) h))
+written-step : (Z : Edit) → (editTag Z ≡ 0x30 → ⊥) → (editTag Z ≡ 0x35 → ⊥) → (σ : List Step) (Ws : List Edit) (K : Expr rule) → written σ (followed Z Ws) K ≡ written (stepOf Z ∷ σ) (followed (behindStep Z) Ws) K
+unfolding followedBy behindStep
+written-step finish n m σ Ws K = absurd (n refl)
+written-step (addLabel k E Z) n m σ Ws K = ap (λ (Y : Edit). written σ Y K) (followed-through (addLabel k E) (λ P Y. refl) Z Ws) ∙ written-addLabel σ k E (followed Z Ws) K
+written-step (takeLabel k E Z) n m σ Ws K = ap (λ (Y : Edit). written σ Y K) (followed-through (takeLabel k E) (λ P Y. refl) Z Ws) ∙ written-takeLabel σ k E (followed Z Ws) K
+written-step (addArrow a R Z) n m σ Ws K = ap (λ (Y : Edit). written σ Y K) (followed-through (addArrow a R) (λ P Y. refl) Z Ws) ∙ written-addArrow σ a R (followed Z Ws) K
+written-step (takeArrow a R Z) n m σ Ws K = ap (λ (Y : Edit). written σ Y K) (followed-through (takeArrow a R) (λ P Y. refl) Z Ws) ∙ written-takeArrow σ a R (followed Z Ws) K
+written-step (choose K P Q Z) n m σ Ws L = absurd (m refl)
 
 module _ {edit stack behind : List ℕ} {at h d : ℕ} where
   -- past a step
   pub step-some : SomeWay edit stack behind at h d → (getD edit at 0 ≡ 0x30 → ⊥) → (getD edit at 0 ≡ 0x35 → ⊥) → (at + 2 < length edit) × Some edit (at + 2)
-  step-some w n m = let q = stepping edit at (w .what) (w .way .here) n m in (inside edit (at + 2) (q .s .what) (q .s-at .what-at), record { what = q .s .what; stands = q .s-at .what-at })
+  step-some w n m = let q = as-step edit at (w .what) (w .way .here) n m in (q .room, record { what = editTree (w .what); stands = q .what })
 
   pub step-named : SomeWay edit stack behind at h d → (getD edit at 0 ≡ 0x30 → ⊥) → (getD edit at 0 ≡ 0x35 → ⊥) → Named (touched (getD edit at 0)) (getD edit (at + 1) 0)
-  step-named w n m = let q = as-step edit at (w .what) (w .way .here) n m in subst (λ (c : ℕ). Named c (getD edit (at + 1) 0)) (q .is-c) (subst (Named (q .c)) (sym (q .reads-k)) (q .named))
+  step-named w n m = let q = as-step edit at (w .what) (w .way .here) n m in subst (λ (b : ℕ). Named (touched b) (getD edit (at + 1) 0)) (sym (q .reads-op)) (subst (Named (touched (editTag (w .what)))) (sym (q .reads-k)) (q .named))
 
   pub step-passed : SomeWay edit stack behind at h d → (getD edit at 0 ≡ 0x30 → ⊥) → (getD edit at 0 ≡ 0x35 → ⊥) → h < length stack → (next : ℕ) → ((t : Tree) → At edit (at + 2) t → next ≡ at + 2 + size t)
       → Passed edit stack behind at h d (set stack h at) next (h + 1) d
   unfolding StackIs
   step-passed w n m room next f =
-      let p = stepping edit at (w .what) (w .way .here) n m in
-      let l = f (p .s .what) (p .s-at .what-at) in
+      let p = as-step edit at (w .what) (w .way .here) n m in
+      let l = f (editTree (w .what)) (p .what) in
       record {
-        each = λ σ Z Ws y. let q = stepping edit at Z (y .here) n m in go σ Z Ws y q (f (q .s .what) (q .s-at .what-at));
+        each = λ σ Z Ws y. let q = as-step edit at Z (y .here) n m in go σ Z Ws y q (f (editTree Z) (q .what));
         kept = kept-set stack h at;
         on = omega (arith, l);
         up = omega arith;
@@ -104,19 +76,19 @@ module _ {edit stack behind : List ℕ} {at h d : ℕ} where
         low-behind = omega (arith, l, w .low-behind);
       }
     where
-      go : (σ : List Step) (Z : Edit) (Ws : List Edit) → Way edit stack behind at h d σ Z Ws → (q : Stepping edit at Z) → next ≡ at + 2 + size (q .s .what) → SameWay edit (set stack h at) behind next (h + 1) d σ Z Ws
+      go : (σ : List Step) (Z : Edit) (Ws : List Edit) → Way edit stack behind at h d σ Z Ws → (q : IsStep edit at Z) → next ≡ at + 2 + size (editTree Z) → SameWay edit (set stack h at) behind next (h + 1) d σ Z Ws
       go σ Z Ws y q e =
           let here : getD (set stack h at) (length σ) 0 ≡ at = ap (λ (i : ℕ). getD (set stack h at) i 0) (sym (y .steps-passed)) ∙ getD-set-same stack h at 0 room in
-          let from : at + length (editCode Z) ≡ next + length (editCode (q .rest)) = omega (arith, e, q .long) in
+          let from : at + length (editCode Z) ≡ next + length (editCode (behindStep Z)) = omega (arith, e, q .long) in
           record {
-            steps = q .s ∷ σ;
-            what = q .rest;
+            steps = stepOf Z ∷ σ;
+            what = behindStep Z;
             later = Ws;
-            same = q .same σ Ws;
+            same = written-step Z (q .no-end) (q .no-choice) σ Ws;
             way = record {
               steps-passed = omega (arith, y .steps-passed);
-              steps = (subst (λ (o : ℕ). StepAt edit o (q .s)) (sym here) (q .s-at), steps-kept edit σ (omega (arith, y .steps-passed)) (kept-set stack h at) (y .steps));
-              here = q .rest-at next e;
+              steps = (subst (λ (o : ℕ). StepAt edit o (stepOf Z)) (sym here) (step-holds Z q), steps-kept edit σ (omega (arith, y .steps-passed)) (kept-set stack h at) (y .steps));
+              here = q .next next e;
               around = y .around;
               rest = subst (λ (x : ℕ). BehindIs edit behind x Ws) from (y .rest);
             };

@@ -7,7 +7,7 @@ use lib.ListN.{length, getD, set}
 use Rattle.tree.specs.Tree.{same}
 use Rattle.tree.specs.Stack.{touched}
 use Rattle.ends.specs.Shapes.{Named, cell}
-use Rattle.measure.specs.Edits.{Kept}
+use Rattle.ends.specs.Kept.{Kept}
 
 -- the code and the number of the name that the step at a place touches
 abbrev pub codeAt : (edit : List ℕ) → ℕ → ℕ

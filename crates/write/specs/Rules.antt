@@ -6,8 +6,8 @@ use lib.ListN.{length}
 use Rattle.logic.specs.Syntax.{rule, Expr, Edit}
 use Rattle.logic.specs.Carry.{carry, carriedBook}
 use Rattle.text.specs.Code.{code, bookCode}
-use Rattle.measure.specs.Edits.{EditAt}
-use Rattle.measure.specs.Book.{RuleAt, BookIs}
+use Rattle.ends.specs.Edits.{EditAt}
+use Rattle.ends.specs.Books.{RuleAt, BookIs}
 use Rattle.write.specs.Laid.{Wrote}
 
 -- some rule and some edit stand in their texts, and the carried rule fits a buffer of `room` bytes from `pos` on

@@ -11,8 +11,9 @@ use Rattle.text.specs.Code.{editCode}
 use Rattle.tree.specs.Tree.{tree}
 use Rattle.tree.specs.Stack.{Step, written}
 use Rattle.ends.specs.Shapes.{At}
-use Rattle.measure.specs.Edits.{EditAt, Kept}
-use Rattle.measure.specs.Book.{RuleAt}
+use Rattle.ends.specs.Edits.{EditAt}
+use Rattle.ends.specs.Kept.{Kept}
+use Rattle.ends.specs.Books.{RuleAt}
 use Rattle.write.specs.Laid.{Wrote}
 use Rattle.write.specs.Offsets.{StackIs}
 

@@ -8,8 +8,9 @@ ghost use Rattle.tree.specs.Tree.{Tree, treeCode, graft};
 ghost use Rattle.tree.specs.Stack.{Step, touched, env, lead, inner};
 ghost use Rattle.logic.specs.Syntax.{rule, Expr, Edit};
 ghost use Rattle.ends.specs.Shapes.{At, Named};
-ghost use Rattle.measure.specs.Edits.{EditAt, SomeEdit, Kept};
-ghost use Rattle.measure.specs.Book.{RuleAt, BookIs};
+ghost use Rattle.ends.specs.Edits.{EditAt, SomeEdit};
+ghost use Rattle.ends.specs.Books.{RuleAt, BookIs};
+ghost use Rattle.ends.specs.Kept.{Kept};
 ghost use Rattle.write.specs.Laid.{Wrote};
 ghost use Rattle.write.specs.Rules.{SomeRuleFits, RuleWritten, SomeBookFits, BookWritten};
 ghost use Rattle.write.specs.Offsets.{StackIs};
@@ -29,7 +30,7 @@ fn find(edit: &[u8], stack: &[u16], links: &[u16], last: &[u16], h: usize, c: u8
     requires { ⌜ SomeLinks (now edit) (now stack) (now links) (now last) h × Named c k ⌝ }
     ensures { λ r. ⌜ (r ≡ lastIn (now (edit .entry)) (now (stack .entry)) h c k) × (r ≤ h) ⌝ }
 {
-    let i = measure::cell_of(c, k);
+    let i = ends::cell_of(c, k);
     let mut j = last[i] as usize;
     while j > h {
         j = links[j - 1] as usize;
@@ -184,7 +185,7 @@ fn link(edit: &[u8], at: usize, links: &mut [u16], last: &mut [u16], h: usize)
     requires { ⌜ (at + 1 < length (now edit)) × (h < length (now links)) × (h < 4096) × (length (now last) ≡ 64) × Named (touched (getD (now edit) at 0)) (getD (now edit) (at + 1) 0) ⌝ }
     ensures { λ r. ⌜ Link (now (edit .entry)) at (now (links .entry)) (now (last .entry)) h (now (links .exit)) (now (last .exit)) ⌝ }
 {
-    let i = measure::cell_of(measure::name_code(edit[at]), edit[at + 1]);
+    let i = ends::cell_of(ends::name_code(edit[at]), edit[at + 1]);
     links[h] = last[i];
     last[i] = (h + 1) as u16;
 }
@@ -263,8 +264,8 @@ fn ways_at(edit: &[u8], at: usize) -> Ways
     ensures { λ r. ⌜ ((Z : Edit) → EditAt (now (edit .entry)) at Z → Chosen (now (edit .entry)) at (r .first) (r .second) (r .next) Z) ⌝ }
 {
     let first = ends::past(edit, at + 1);
-    let second = measure::end_of(edit, first);
-    let next = measure::end_of(edit, second);
+    let second = ends::end_of(edit, first);
+    let next = ends::end_of(edit, second);
     Ways {
         first,
         second,

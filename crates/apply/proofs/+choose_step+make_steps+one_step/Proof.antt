@@ -18,7 +18,7 @@ use Rattle.apply.proofs.one_step.Reads as one-step
 use Rattle.apply.proofs.one_step.Kinds as one-step-kinds
 use Rattle.apply.proofs.+choose_step+make_steps+one_step.Lts-one_step as one-step-lts
 use Rattle.apply.proofs.arrow_step.Reads as arrow-step-reads
-use Rattle.measure.proofs.end_of.Reads as end-of-reads
+use Rattle.ends.proofs.end_of.Reads as end-of-reads
 use Rattle.eval.proofs.eval_rule.Reads as eval-rule-reads
 use Rattle.apply.proofs.label_step.Reads as label-step-reads
 use Rattle.apply.proofs.+choose_step+make_steps+one_step.{statement}

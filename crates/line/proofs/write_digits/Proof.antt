@@ -8,8 +8,6 @@ use Rattle.line.specs.Line.{digits}
 use Rattle.line.proofs.LineLaws.{none-written, one-written, all-written}
 use Rattle.line.proofs.write_digits.Statement.{statement}
 use Rattle.line.proofs.write_digits.Tie as tie
-use Rattle.line.proofs.write_digits.Reads as reads
-use Rattle.line.proofs.write_digits.Lts as lts
 
 abbrev Inv-loop : tie.InvT-loop
 Inv-loop out₀ n at₀ rest₀ out at rest =

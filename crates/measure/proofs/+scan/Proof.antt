@@ -15,7 +15,7 @@ use Rattle.measure.proofs.scan.Reads as scan
 use Rattle.measure.proofs.scan.Kinds as scan-kinds
 use Rattle.measure.proofs.+scan.Lts-scan as scan-lts
 use Rattle.measure.proofs.deeper.Reads as deeper-reads
-use Rattle.measure.proofs.cell_of.Reads as cell-of-reads
+use Rattle.ends.proofs.cell_of.Reads as cell-of-reads
 use Rattle.measure.proofs.rise.Reads as rise-reads
 use Rattle.ends.proofs.shape.Reads as shape-reads
 use Rattle.measure.proofs.touch.Reads as touch-reads

@@ -2,7 +2,8 @@ use native.Mathlib.Omega.{arith}
 use mathlib.Core.Path.{_∙_, ap}
 use Prim.Native.Nat.{_-_}
 use lib.ListN.{length}
-use Rattle.measure.proofs.Rules.{Adding, adding-first, first-left, adding-more, adding-end, rule-fits}
+use Rattle.ends.proofs.Rules.{rule-fits}
+use Rattle.measure.proofs.Rules.{Adding, adding-first, first-left, adding-more, adding-end}
 use Rattle.measure.proofs.add_book.Statement.{statement}
 use Rattle.measure.proofs.add_book.Tie as tie
 

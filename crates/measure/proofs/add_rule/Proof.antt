@@ -3,7 +3,8 @@ use borrow.Author.Needs.{needs}
 use mathlib.Core.Path.{refl, _∙_}
 use lib.ListN.{length-set}
 use Rattle.tree.specs.Tree.{tree}
-use Rattle.measure.proofs.Rules.{rule-at, rule-added}
+use Rattle.ends.proofs.Rules.{rule-at}
+use Rattle.measure.proofs.Rules.{rule-added}
 use Rattle.measure.proofs.add_rule.Statement.{statement}
 use Rattle.measure.proofs.add_rule.Tie as tie
 

@@ -1,7 +1,7 @@
 use native.Mathlib.Omega.{arith}
 use Prim.Native.Nat.{_-_}
 use lib.ListN.{length}
-use Rattle.measure.proofs.Steps.{edit-inside}
+use Rattle.ends.proofs.Steps.{edit-inside}
 use Rattle.measure.proofs.Walks.{Going, going-first, going-more, going-end}
 use Rattle.measure.proofs.push.Statement.{statement}
 use Rattle.measure.proofs.push.Tie as tie

@@ -4,9 +4,10 @@ use mathlib.Core.Path.{refl, _∙_, ap}
 use Prim.Native.Nat.{ℕ, _<_, _-_}
 use native.Mathlib.Omega.{arith}
 use borrow.Author.Needs.{needs}
-use Rattle.measure.proofs.Steps.{edit-inside}
+use Rattle.ends.proofs.Steps.{edit-inside}
+use Rattle.ends.proofs.Kept.{kept-more}
 use Rattle.write.proofs.Finding.{some-links, linked-kept, kept-all}
-use Rattle.write.proofs.Walking.{at-end, at-choice, kept-more}
+use Rattle.write.proofs.Walking.{at-end, at-choice}
 use Rattle.write.proofs.Carrying.{rested, place-inside, end-some, end-carried, choice-room, first-shown, first-further, second-shown, second-further, choice-carried}
 use borrow.Fn.Kinds.{In}
 use borrow.Fn.PlainCycle.{Measures, is, falls, and}

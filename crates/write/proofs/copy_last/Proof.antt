@@ -3,8 +3,8 @@ use borrow.Author.Needs.{needs}
 use mathlib.Core.Path.{_≡_, _∙_}
 use Prim.Native.Nat.{_≤_, _-_}
 use lib.ListN.{length, length-set}
-use Rattle.measure.specs.Edits.{Kept}
-use Rattle.measure.proofs.Loops.{copy-more, copy-none}
+use Rattle.ends.specs.Kept.{Kept}
+use Rattle.ends.proofs.Kept.{copy-more, copy-none}
 use Rattle.write.proofs.copy_last.Statement.{statement}
 use Rattle.write.proofs.copy_last.Tie as tie
 

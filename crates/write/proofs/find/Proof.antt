@@ -1,7 +1,7 @@
 use native.Mathlib.Omega.{arith}
 use borrow.Author.Needs.{needs}
 use Prim.Native.Nat.{_-_}
-use Rattle.measure.proofs.Held.{named-lt}
+use Rattle.ends.proofs.Names.{named-lt}
 use Rattle.write.proofs.Finding.{Following, following-first, following-low, following-more, following-less, following-end}
 use Rattle.write.proofs.find.Statement.{statement}
 use Rattle.write.proofs.find.Tie as tie

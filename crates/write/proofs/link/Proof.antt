@@ -5,7 +5,7 @@ use Prim.Native.Nat.{ℕ, _+_}
 use denote.Ref.{now}
 use lib.ListN.{getD, set, length-set}
 use Rattle.ends.specs.Shapes.{cell}
-use Rattle.measure.proofs.Held.{named-lt}
+use Rattle.ends.proofs.Names.{named-lt}
 use Rattle.write.specs.Links.{numberAt}
 use Rattle.write.proofs.link.Statement.{statement}
 use Rattle.write.proofs.link.Tie as tie

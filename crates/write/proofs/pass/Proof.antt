@@ -2,7 +2,7 @@ use native.Mathlib.Omega.{arith}
 use Prim.Native.Nat.{_-_}
 use lib.ListN.{length-set}
 use denote.Ref.{now}
-use Rattle.measure.proofs.Steps.{edit-inside}
+use Rattle.ends.proofs.Steps.{edit-inside}
 use Rattle.write.proofs.Finding.{linked-more}
 use mathlib.Core.Path.{refl}
 use Rattle.write.proofs.Walking.{step-named, step-some, step-passed, end-room, end-passed, not-choice, not-end}

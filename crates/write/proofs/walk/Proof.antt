@@ -5,7 +5,7 @@ use Rattle.write.specs.Links.{Relinked}
 use Rattle.write.proofs.Finding.{relinked-more}
 use Prim.Native.Nat.{_-_}
 use lib.ListN.{length}
-use Rattle.measure.proofs.Steps.{edit-inside}
+use Rattle.ends.proofs.Steps.{edit-inside}
 use Rattle.write.proofs.Walking.{Walking, walking-first, walking-more, walked}
 use Rattle.write.proofs.walk.Statement.{statement}
 use Rattle.write.proofs.walk.Tie as tie
