@@ -7,6 +7,10 @@ ghost use Rattle.logic.specs.Limits.{maxNodes, arrowCount, labelCount};
 ghost use Rattle.sheet.specs.Sheet.{graphOf};
 ghost use Rattle.sheet.specs.Questions.{Sound};
 ghost use Rattle.pages.specs.Page.{lineBytes, rowLines, labelLines};
+ghost use Rattle.pages.specs.Print.{askPrintArrow, askPrintLabels};
+use answer::Answer;
+use answer::Refusal;
+use answer::Written;
 use crate::lines::put_head;
 use crate::lines::put_line;
 use logic::Arrow;
@@ -50,4 +54,45 @@ fn put_labels(sheet: &[u8], n: usize, out: &mut [u8])
         );
         k += 1;
     }
+}
+
+// Prints the page of an arrow kind at the output's start: 1 to 4 of the sheet, 7, 33. Answers its length.
+pub fn print_arrow(sheet: &[u8], arrow: usize, out: &mut [u8]) -> Written
+    ensures { λ r. ⌜ writtenAsked r ≡ writtenLength (askPrintArrow (now (sheet .entry)) arrow (length (now (out .entry)))) ⌝ }
+    ensures { λ _. ⌜ now (out .exit) ≡ writtenOutput (askPrintArrow (now (sheet .entry)) arrow (length (now (out .entry)))) (now (out .entry)) ⌝ }
+{
+    let answer = Sheet::check(sheet);
+    if let Answer::Refused(r) = answer {
+        return Written::Refused(r);
+    }
+    if arrow >= Sheet::ARROWS {
+        return Written::Refused(Refusal::BitRange { place: 0 });
+    }
+    let n = Sheet::node_count(sheet);
+    let size = 64 * n + 64;
+    if out.len() < size {
+        return Written::Refused(Refusal::OutputLength { place: size });
+    }
+    put_head(&mut out[0..64], b'A', arrow);
+    put_rows(sheet, n, Arrow(arrow as u8), &mut out[64..]);
+    Written::Length(size)
+}
+
+// Prints the label page likewise: 1 to 4 of the sheet, 33.
+pub fn print_labels(sheet: &[u8], out: &mut [u8]) -> Written
+    ensures { λ r. ⌜ writtenAsked r ≡ writtenLength (askPrintLabels (now (sheet .entry)) (length (now (out .entry)))) ⌝ }
+    ensures { λ _. ⌜ now (out .exit) ≡ writtenOutput (askPrintLabels (now (sheet .entry)) (length (now (out .entry)))) (now (out .entry)) ⌝ }
+{
+    let answer = Sheet::check(sheet);
+    if let Answer::Refused(r) = answer {
+        return Written::Refused(r);
+    }
+    let size = 64 * Sheet::LABELS + 64;
+    if out.len() < size {
+        return Written::Refused(Refusal::OutputLength { place: size });
+    }
+    let n = Sheet::node_count(sheet);
+    put_head(&mut out[0..64], b'L', n);
+    put_labels(sheet, n, &mut out[64..]);
+    Written::Length(size)
 }
