@@ -1,3 +1,4 @@
 pub mod LineLaws
 pub mod PageLaws
 pub mod PrintLaws
+pub mod TypeLaws

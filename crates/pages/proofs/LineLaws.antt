@@ -84,18 +84,16 @@ module _ (n x row : ℕ) where
   pub squares-first : (line d : List ℕ) → length line ≡ 64 → d ≡ digits 2 x → Squares 0 (set (d ++ drop 2 line) 2 0x20)
   unfolding chunks
   squares-first line d h e =
-      let k : length d ≡ 2 = ap length e ∙ digits-length 2 x in
-      (
+      let k : length d ≡ 2 = ap length e ∙ digits-length 2 x in (
         length-set (d ++ drop 2 line) 2 0x20 ∙ length-append d (drop 2 line) ∙ omega (arith, length-drop 2 line),
         digits-blank d (drop 2 line) 0x20 k (omega (arith, length-drop 2 line)) ∙ ap (_++ (0x20 ∷ [])) e ∙ sym (append-nil _),
       )
 
   pub squares-next : (j : ℕ) (line : List ℕ) (b : ℕ) → j < 60 → Squares j line → b ≡ square n (member row) j → Squares (j + 1) (set line (3 + j) b)
-  squares-next j line b h s e =
-      (
-        length-set line (3 + j) b ∙ s .0,
-        front-more line _ j b (omega (arith, s .0)) (s .1) ∙ squares-more (digits 2 x ++ (0x20 ∷ [])) (square n (member row)) j b e,
-      )
+  squares-next j line b h s e = (
+    length-set line (3 + j) b ∙ s .0,
+    front-more line _ j b (omega (arith, s .0)) (s .1) ∙ squares-more (digits 2 x ++ (0x20 ∷ [])) (square n (member row)) j b e,
+  )
 
   pub squares-last : (j : ℕ) (line : List ℕ) → j ≤ 60 → 60 ≤ j → Squares j line → set line 63 0x0A ≡ setLine n x (member row)
   unfolding setLine
@@ -113,18 +111,16 @@ module _ (letter x : ℕ) where
   pub blanks-first : (line d rest : List ℕ) → length line ≡ 64 → d ≡ digits 2 x → length rest ≡ 61 → Blanks 0 (take 1 (set line 0 letter) ++ (d ++ rest))
   blanks-first line d rest h e r =
       let k : length d ≡ 2 = ap length e ∙ digits-length 2 x in
-      let s : length (set line 0 letter) ≡ 64 = length-set line 0 letter ∙ h in
-      (
+      let s : length (set line 0 letter) ≡ 64 = length-set line 0 letter ∙ h in (
         length-append (take 1 (set line 0 letter)) _ ∙ omega (arith, length-take-le 1 (set line 0 letter) (omega arith), length-append d rest),
         letter-digits line d rest letter k h ∙ ap (letter ∷_) e ∙ sym (append-nil _),
       )
 
   pub blanks-next : (j : ℕ) (line : List ℕ) → j < 60 → Blanks j line → Blanks (j + 1) (set line (3 + j) 0x20)
-  blanks-next j line h s =
-      (
-        length-set line (3 + j) 0x20 ∙ s .0,
-        front-more line _ j 0x20 (omega (arith, s .0)) (s .1) ∙ blanks-more (letter ∷ digits 2 x) j 0x20,
-      )
+  blanks-next j line h s = (
+    length-set line (3 + j) 0x20 ∙ s .0,
+    front-more line _ j 0x20 (omega (arith, s .0)) (s .1) ∙ blanks-more (letter ∷ digits 2 x) j 0x20,
+  )
 
   pub blanks-last : (j : ℕ) (line : List ℕ) → j ≤ 60 → 60 ≤ j → Blanks j line → set line 63 0x0A ≡ headLine letter x
   unfolding headLine

@@ -2,17 +2,19 @@
 -- length or its head, else the first such line, from 0.
 use mathlib.Core.Bool.{Bool, _&&_, cond}
 use mathlib.Core.List.{List}
-use Prim.Native.Nat.{ℕ, zero, suc, _+_, _-_, _*_}
+use Prim.Native.Nat.{ℕ, zero, suc, _+_, _*_, _%_}
 use lib.Dec.{eqb, ltb}
 use lib.ListN.{length, getD, take, drop}
 use Rattle.answer.specs.Asked.{Asked, passed, refused, _>>=_, _>>_, is, after}
-use Rattle.logic.specs.Graph.{Graph, Nodes}
+use Rattle.logic.specs.Graph.{Graph, Nodes, isNode}
 use Rattle.logic.specs.Limits.{labelCount, arrowCount}
 use Rattle.logic.specs.Steps.{rejoin}
 use Rattle.seal.specs.Seal.{sameBytes}
-use Rattle.sheet.specs.Sheet.{store, graphOf}
+use Rattle.sheet.specs.Sheet.{store, graphOf, relabelAll}
 use Rattle.sheet.specs.Questions.{askSheet}
 use Rattle.pages.specs.Page.{lineBytes, headLine, setLine}
+use Rattle.pages.specs.declared.typed.Head.{Head}
+use Rattle.pages.specs.declared.typed.Head.the-variants.{Arrows, Labels, Wrong}
 
 -- Line l of a page; a line's marks.
 abbrev pub lineOf : List ℕ → ℕ → List ℕ
@@ -35,18 +37,18 @@ abbrev pub linesOf : ℕ → Block → ℕ
 linesOf n (arrows a) = n
 linesOf n labels = labelCount
 
--- The number in a head's two digits.
-abbrev pub headNumber : List ℕ → ℕ
-headNumber page = 10 * (getD page 1 0 - 48) + (getD page 2 0 - 48)
+-- Whether the head is this one, and the page has so many lines behind it.
+unfoldable pub headIs : List ℕ → (letter x lines : ℕ) → Bool
+headIs page letter x lines = eqb (length page) (lineBytes * lines + lineBytes) && sameBytes (lineOf page 0) (headLine letter x)
 
--- Whether the head is this one, and the page as long as it says.
-unfoldable pub headIs : (n : ℕ) → List ℕ → (letter x : ℕ) → Block → Bool
-headIs n page letter x b = sameBytes (lineOf page 0) (headLine letter x) && eqb (length page) (lineBytes * suc (linesOf n b))
+-- The number that a head's two digits say. The low half of a digit's byte is the digit; that they are digits is for `headIs` to ask.
+abbrev pub headNumber : List ℕ → ℕ
+headNumber page = 10 * (getD page 1 0 % 16) + getD page 2 0 % 16
 
 unfoldable pub askHead : ℕ → List ℕ → Asked Block
 askHead n page =
-    cond (ltb (headNumber page) arrowCount && headIs n page 0x41 (headNumber page) (arrows (headNumber page))) (passed (arrows (headNumber page)))
-    (cond (headIs n page 0x4C n labels) (passed labels) (refused 51 0))
+    cond (headIs page 0x4C n labelCount) (passed labels)
+    (cond (ltb (headNumber page) arrowCount && headIs page 0x41 (headNumber page) n) (passed (arrows (headNumber page))) (refused 51 0))
 
 -- The m lines from number x on, each one line further down.
 unfoldable pub askLines : (n : ℕ) → List ℕ → (m x : ℕ) → Asked (Unit {0})
@@ -60,10 +62,14 @@ askPage n page = do
   askLines n page (linesOf n b) 0
   passed b
 
+-- The set of nodes that a line marks.
+abbrev pub marked : Graph → List ℕ → ℕ → Nodes
+marked g page x j = isNode g j && marks (lineOf page (suc x)) j
+
 -- The graph with the page's marks for those arrows, or for the labels.
 unfoldable pub typed : Graph → List ℕ → Block → Graph
-typed g page (arrows a) = rejoin g a (λ i j. ltb i (g .n) && marks (lineOf page (suc i)) j)
-typed g page labels = record { n = g .n; labelled = λ k i. ltb k labelCount && marks (lineOf page (suc k)) i; joined = g .joined }
+typed g page (arrows a) = rejoin g a (λ i j. isNode g i && marked g page i j)
+typed g page labels = relabelAll g (λ k i. ltb k labelCount && marked g page k i)
 
 unfoldable pub askType : (sheet page : List ℕ) → Asked Block
 askType sheet page = do
@@ -73,3 +79,9 @@ askType sheet page = do
 -- The sheet after it.
 unfoldable pub typedSheet : (sheet page : List ℕ) → List ℕ
 typedSheet sheet page = after (askType sheet page) (λ b. store (typed (graphOf sheet) page b)) sheet
+
+-- What the code says of a head.
+abbrev pub headAsked : Head → Asked Block
+headAsked (Arrows a) = passed (arrows a)
+headAsked Labels = passed labels
+headAsked Wrong = refused 51 0

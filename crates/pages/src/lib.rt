@@ -1,3 +1,4 @@
 // The squared sheet on paper (document 02, item 1).
 mod lines;
-mod print;
+pub mod print;
+pub mod typed;

@@ -80,12 +80,12 @@ pub fn same(a: &[u8], b: &[u8]) -> bool
     true
 }
 
-// Whether the line is what printing could give as that of number x: the line of its own marks.
-pub fn line_right(line: &[u8], n: usize, x: usize) -> bool
-    requires { ⌜ (length (now line) ≡ lineBytes) × (n ≤ maxNodes) ⌝ }
+// Whether the line is what printing could give as that of number x: the line of its own marks, whose set is given.
+pub fn line_is(line: &[u8], n: usize, x: usize, set: u64) -> bool
+    requires { ⌜ (length (now line) ≡ lineBytes) × (set ≡ setOf n (marks (now line))) ⌝ }
     ensures { λ r. ⌜ r ≡ lineRight n x (now (line .entry)) ⌝ }
 {
     let mut wanted = [0u8; 64];
-    put_line(&mut wanted, n, x, marks_of(line, n));
+    put_line(&mut wanted, n, x, set);
     same(line, &wanted)
 }

@@ -20,13 +20,12 @@ abbrev μ-loop : tie.MeasureT-loop
 loop-again : tie.Need-loop-again Inv-loop μ-loop
 loop-again c =
     let l = c .before .before .before .loop in
-    let line = now (c .before .before .before .before .args .line) in
-    (
+    let line = now (c .before .before .before .before .args .line) in (
       search needs,
       ⊎-elim
-      (λ x. x .1 ∙ setOf-more (l .j) (marks line) _ 1 (omega arith) (l .inv .1) (ap digit (sym (eq-eqb _ _ (x .0 .taken)))))
-      (λ x. x .1 ∙ setOf-same (l .j) (marks line) _ (l .inv .1) (ne-eqb _ _ (x .0 .left)))
-      (c .if1 .came),
+          (λ x. x .1 ∙ setOf-more (l .j) (marks line) _ 1 (omega arith) (l .inv .1) (ap digit (sym (eq-eqb _ _ (x .0 .taken)))))
+          (λ x. x .1 ∙ setOf-same (l .j) (marks line) _ (l .inv .1) (ne-eqb _ _ (x .0 .left)))
+          (c .if1 .came),
     )
 
 pub marks-of-spec : {M : Type 1} → statement M

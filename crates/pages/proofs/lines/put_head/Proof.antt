@@ -27,12 +27,11 @@ length-part line a h = length-take-le 2 (drop 1 (set line 0 a)) (omega (arith, l
 loop-holds : tie.Need-loop-holds Inv-loop μ-loop
 loop-holds c =
     let s = c .before .before .before .before .before in
-    let l = set (s .args .line .now) 0 (s .args .letter) in
-    (
+    let l = set (s .args .line .now) 0 (s .args .letter) in (
       search needs,
       blanks-first _ (s .args .x) (s .args .line .now) _ _ (s .pre)
-      (c .before .before .write-digits .ensures ∙ ap (λ k. digits k (s .args .x)) (length-part (s .args .line .now) (s .args .letter) (s .pre)))
-      (ap length (post-is 1 3 l (omega arith)) ∙ length-drop 3 l ∙ omega (arith, length-set (s .args .line .now) 0 (s .args .letter), s .pre)),
+          (c .before .before .write-digits .ensures ∙ ap (λ k. digits k (s .args .x)) (length-part (s .args .line .now) (s .args .letter) (s .pre)))
+          (ap length (post-is 1 3 l (omega arith)) ∙ length-drop 3 l ∙ omega (arith, length-set (s .args .line .now) 0 (s .args .letter), s .pre)),
     )
 
 loop-again : tie.Need-loop-again Inv-loop μ-loop

@@ -51,8 +51,7 @@ put-rows-requires c κs =
     let n = c .before .before .before .before .before .before .node-count in
     let head = c .before .before .before .put-head in
     let whole : length (head .last .0) ≡ 64 = ap length (head .ensures) ∙ length-headLine 0x41 (s .arrow) in
-    let room : 64 * n .result + 64 ≤ length (now (s .out)) = c .before .before .before .before .before .if2 .left in
-    (
+    let room : 64 * n .result + 64 ≤ length (now (s .out)) = c .before .before .before .before .before .if2 .left in (
       done-sound _ (a .result) (a .ensures) (c .before .before .before .before .before .before .before .before .enum-told .given .1),
       n .ensures .0,
       n .ensures .2,
@@ -71,12 +70,11 @@ returns-4 c =
     let whole : length (head .last .0) ≡ 64 = ap length (head .ensures) ∙ length-headLine 0x41 (s .arrow) in
     let room : 64 * n .result + 64 ≤ length (now (s .out)) = c .before .before .before .before .before .before .before .before .if2 .left in
     let w = is-written (askPrintArrow (now (s .sheet)) (s .arrow) (length (now (s .out)))) (now (s .out)) (arrowPage g (s .arrow)) (64 * n .result + 64)
-        (enough-arrow (now (s .sheet)) (a .result) (a .ensures) _ (c .before .before .before .before .before .before .before .before .before .before .before .enum-told .given .1) (n .result) (n .ensures .0) (s .arrow) (c .before .before .before .before .before .before .before .before .before .before .if1 .left) room)
-        (omega (arith, length-arrowPage g (s .arrow), n .ensures .0)) in
-    (
+    (enough-arrow (now (s .sheet)) (a .result) (a .ensures) _ (c .before .before .before .before .before .before .before .before .before .before .before .enum-told .given .1) (n .result) (n .ensures .0) (s .arrow) (c .before .before .before .before .before .before .before .before .before .before .if1 .left) room)
+    (omega (arith, length-arrowPage g (s .arrow), n .ensures .0)) in (
       w .0,
       page-put (now (s .out)) (head .last .0) whole (omega arith) (rowLines g (s .arrow)) _ (c .before .before .put-rows .ensures)
-      ∙ ap (λ h. writtenAtStart (h ++ rowLines g (s .arrow)) (now (s .out))) (head .ensures) ∙ w .1,
+          ∙ ap (λ h. writtenAtStart (h ++ rowLines g (s .arrow)) (now (s .out))) (head .ensures) ∙ w .1,
     )
 
 pub print-arrow-spec : {M : Type 1} → statement M

@@ -42,8 +42,7 @@ put-labels-requires c κs =
     let n = c .before .before .before .before .before .node-count in
     let head = c .before .before .before .put-head in
     let whole : length (head .last .0) ≡ 64 = ap length (head .ensures) ∙ length-headLine 0x4C (n .result) in
-    let room : 3136 ≤ length (now (s .out)) = c .before .before .before .before .before .before .if1 .left in
-    (
+    let room : 3136 ≤ length (now (s .out)) = c .before .before .before .before .before .before .if1 .left in (
       done-sound _ (a .result) (a .ensures) (c .before .before .before .before .before .before .before .enum-told .given .1),
       n .ensures .0,
       n .ensures .2,
@@ -61,12 +60,11 @@ returns-3 c =
     let whole : length (head .last .0) ≡ 64 = ap length (head .ensures) ∙ length-headLine 0x4C (n .result) in
     let room : 3136 ≤ length (now (s .out)) = c .before .before .before .before .before .before .before .before .before .if1 .left in
     let w = is-written (askPrintLabels (now (s .sheet)) (length (now (s .out)))) (now (s .out)) (labelPage g) 3136
-        (enough-labels (now (s .sheet)) (a .result) (a .ensures) _ (c .before .before .before .before .before .before .before .before .before .before .enum-told .given .1) room)
-        (omega (arith, length-labelPage g)) in
-    (
+    (enough-labels (now (s .sheet)) (a .result) (a .ensures) _ (c .before .before .before .before .before .before .before .before .before .before .enum-told .given .1) room)
+    (omega (arith, length-labelPage g)) in (
       w .0,
       page-put (now (s .out)) (head .last .0) whole (omega arith) (labelLines g) _ (c .before .before .put-labels .ensures)
-      ∙ ap (λ h. writtenAtStart (h ++ labelLines g) (now (s .out))) (head .ensures ∙ ap (headLine 0x4C) (n .ensures .0)) ∙ w .1,
+          ∙ ap (λ h. writtenAtStart (h ++ labelLines g) (now (s .out))) (head .ensures ∙ ap (headLine 0x4C) (n .ensures .0)) ∙ w .1,
     )
 
 pub print-labels-spec : {M : Type 1} → statement M
