@@ -35,8 +35,8 @@ pub fn carry_into(book: &[u8], edit: &[u8], out: &mut [u8]) -> Carried
         return Carried::Length(0);
     }
     let mut kept = [0u8; 4096];
-    let mut stack = [0u16; 4096];
-    let size = measure::size_of_book(book, edit, &mut stack, &mut kept);
+    let mut work = [0u16; write::WORK];
+    let size = measure::size_of_book(book, edit, &mut work, &mut kept);
     let len = size.len;
     if len > LONGEST_CARRIED {
         return Carried::Refused(Refusal::CarriedLength { place: 0 });
@@ -47,17 +47,7 @@ pub fn carry_into(book: &[u8], edit: &[u8], out: &mut [u8]) -> Carried
     if len > out.len() {
         return Carried::Refused(Refusal::OutputLength { place: len });
     }
-    let mut links = [0u16; 4096];
-    let mut behind = [0u16; 2048];
-    let written = write::write_book(
-        book,
-        &kept,
-        size.start,
-        &mut stack,
-        &mut links,
-        &mut behind,
-        out,
-    );
+    let written = write::write_book(book, &kept, size.start, &mut work, out);
     Carried::Length(written)
 }
 
