@@ -1,16 +1,27 @@
-# make demo       proves and builds what the C functions need, and runs the example station through them
-# make test       the gate: proves every crate from nothing, tries the must-fail edits, runs all tests
-# make bench      times against plain Rust on the same inputs, and instruction counts (valgrind)
-# make install    archive, header and pkg-config file, under PREFIX
-PREFIX ?= /usr/local
+# Station sheets. `make help` lists what can be made.
+prefix ?= /usr/local
+PREFIX ?= $(prefix)
 CC = gcc
 CFLAGS = -std=c11 -Wall -Wextra -O2
 
 sources := crates.txt $(shell find crates -type f)
 archive := target/staticlib/libsuite.a
+header := include/zamiathen.h
+installed := $(DESTDIR)$(PREFIX)/lib/libzamiathen.a $(DESTDIR)$(PREFIX)/include/zamiathen.h $(DESTDIR)$(PREFIX)/lib/pkgconfig/zamiathen.pc
+# the header alone says the version
+version := $(shell sed -n 's/^\#define ZAMIATHEN_VERSION_FIRST \([0-9]*\)$$/\1/p' $(header)).$(shell sed -n 's/^\#define ZAMIATHEN_VERSION_SECOND \([0-9]*\)$$/\1/p' $(header))
 
-.PHONY: all demo test bench install clean
+.PHONY: all help demo test bench install uninstall clean
 all: $(archive)
+
+help:
+	@echo "make             proves and builds the archive with the C functions, $(archive)"
+	@echo "make demo        the same, and runs the example station through them"
+	@echo "make test        the gate: proves every crate from nothing, tries the must-fail edits, runs all tests"
+	@echo "make bench       times and instructions of each call beside those of plain Rust on the same inputs (needs valgrind)"
+	@echo "make install     archive, header and pkg-config file, under PREFIX or prefix ($(PREFIX)); DESTDIR is put before it"
+	@echo "make uninstall   removes these three"
+	@echo "make clean       removes target/"
 
 target/staticlib/lib%.a: $(sources)
 	@mkdir -p target
@@ -19,7 +30,7 @@ target/staticlib/lib%.a: $(sources)
 	@tail -n 1 target/$*.log
 	@touch $@
 
-target/demo: examples/demo.c include/zamiathen.h $(archive)
+target/demo: examples/demo.c $(header) $(archive)
 	@$(CC) $(CFLAGS) -Iinclude examples/demo.c $(archive) -o $@
 
 demo: target/demo
@@ -28,15 +39,17 @@ demo: target/demo
 test:
 	.ci/run
 
-bench: $(archive) target/staticlib/libprobe.a
+bench: $(archive)
 	bench/run
-	bench/callgrind.sh
 
 install: $(archive)
 	install -d $(DESTDIR)$(PREFIX)/lib/pkgconfig $(DESTDIR)$(PREFIX)/include
 	install -m 644 $(archive) $(DESTDIR)$(PREFIX)/lib/libzamiathen.a
-	install -m 644 include/zamiathen.h $(DESTDIR)$(PREFIX)/include/zamiathen.h
-	sed 's|@PREFIX@|$(PREFIX)|' zamiathen.pc.in > $(DESTDIR)$(PREFIX)/lib/pkgconfig/zamiathen.pc
+	install -m 644 $(header) $(DESTDIR)$(PREFIX)/include/zamiathen.h
+	sed 's|@PREFIX@|$(PREFIX)|; s|@VERSION@|$(version)|' zamiathen.pc.in > $(DESTDIR)$(PREFIX)/lib/pkgconfig/zamiathen.pc
+
+uninstall:
+	rm -f $(installed)
 
 clean:
 	rm -rf target

@@ -1,4 +1,4 @@
-//! The proved library's calls: those of `include/zamiathen.h`, and two of `probe`.
+//! The proved library's calls, as in `include/zamiathen.h`.
 
 #[repr(C)]
 pub struct CAnswer {
@@ -42,10 +42,5 @@ extern "C" {
         scratch: *mut u8,
         scratch_len: usize,
     ) -> CAnswer;
-}
-
-#[link(name = "probe", kind = "static")]
-extern "C" {
-    pub fn probe_sheet_check(sheet: *const u8, sheet_len: usize) -> CAnswer;
-    pub fn probe_apply(sheet: *mut u8, sheet_len: usize, edit: *const u8, edit_len: usize) -> CAnswer;
+    pub fn zamiathen_apply(sheet: *mut u8, sheet_len: usize, edit: *const u8, edit_len: usize) -> CAnswer;
 }

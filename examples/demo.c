@@ -1,4 +1,4 @@
-/* The example station through the three functions of zamiathen.h, as a planning suite would call them.
+/* The example station through the calls of zamiathen.h, as a planning suite would make them.
  *
  *   demo DIRECTORY      the directory with station.txt, book.hex, sheet.bin, clash.bin and the edits
  */
@@ -8,7 +8,7 @@
 #include <stdlib.h>
 #include <string.h>
 
-enum { NODES = 60, LABELS = 48, ARROWS = 16, LINES = 64, LINE = 256 };
+enum { LINES = 64, LINE = 256 };
 
 /* A text with the line, behind its #, that explains each part of it. */
 struct text {
@@ -23,10 +23,11 @@ struct text {
 };
 
 static const char *directory;
-static char labels[LABELS][LINE], arrows[ARROWS][LINE], nodes[NODES][LINE];
+static char labels[ZAMIATHEN_LABELS][LINE], arrows[ZAMIATHEN_ARROWS][LINE], nodes[ZAMIATHEN_MAX_NODES][LINE];
 static size_t node_count;
 static struct text book;
 static uint8_t sheet[ZAMIATHEN_SHEET_BYTES], before[ZAMIATHEN_SHEET_BYTES], scratch[ZAMIATHEN_CARRIED_BYTES];
+static int column_changed[ZAMIATHEN_ARROWS][ZAMIATHEN_MAX_NODES];
 
 static FILE *open_file(const char *name) {
     char path[1024];
@@ -55,11 +56,11 @@ static void load_names(void) {
     while (fgets(line, sizeof line, file) != NULL) {
         if (sscanf(line, "%s %u %s", kind, &number, name) != 3)
             continue;
-        if (strcmp(kind, "label") == 0 && number < LABELS)
+        if (strcmp(kind, "label") == 0 && number < ZAMIATHEN_LABELS)
             strcpy(labels[number], name);
-        if (strcmp(kind, "arrow") == 0 && number < ARROWS)
+        if (strcmp(kind, "arrow") == 0 && number < ZAMIATHEN_ARROWS)
             strcpy(arrows[number], name);
-        if (strcmp(kind, "node") == 0 && number < NODES) {
+        if (strcmp(kind, "node") == 0 && number < ZAMIATHEN_MAX_NODES) {
             strcpy(nodes[number], name);
             node_count = number + 1;
         }
@@ -115,50 +116,50 @@ static void print_text(const struct text *text) {
     printf("\n");
 }
 
-/* Row i of a block: of block 0 the nodes with label i, of block a + 1 the nodes to which arrow a goes from node i. */
-static int bit(const uint8_t *bytes, size_t block, size_t i, size_t j) {
-    return bytes[512 * block + 16 + 8 * i + j / 8] >> j % 8 & 1;
+static int has_label(const uint8_t *bytes, size_t k, size_t i) {
+    return (int)zamiathen_label_bit(bytes, ZAMIATHEN_SHEET_BYTES, (uint8_t)k, (uint8_t)i).bit;
+}
+
+static int has_arrow(const uint8_t *bytes, size_t a, size_t i, size_t j) {
+    return (int)zamiathen_arrow_bit(bytes, ZAMIATHEN_SHEET_BYTES, (uint8_t)a, (uint8_t)i, (uint8_t)j).bit;
 }
 
 static void print_changed_labels(void) {
-    for (size_t k = 0; k < LABELS; k++)
+    for (size_t k = 0; k < ZAMIATHEN_LABELS; k++)
         for (size_t i = 0; i < node_count; i++)
-            if (bit(before, 0, k, i) != bit(sheet, 0, k, i))
-                printf("      %c %s: %s\n", bit(sheet, 0, k, i) ? '+' : '-', labels[k], nodes[i]);
+            if (has_label(before, k, i) != has_label(sheet, k, i))
+                printf("      %c %s: %s\n", has_label(sheet, k, i) ? '+' : '-', labels[k], nodes[i]);
 }
 
+/* Prints the arrows that are new or gone, and marks the nodes to which they go. */
 static void print_changed_arrows(size_t a) {
+    memset(column_changed[a], 0, sizeof column_changed[a]);
     for (size_t i = 0; i < node_count; i++)
         for (size_t j = 0; j < node_count; j++)
-            if (bit(before, a + 1, i, j) != bit(sheet, a + 1, i, j))
-                printf("      %c %s %s %s\n", bit(sheet, a + 1, i, j) ? '+' : '-', nodes[i], arrows[a], nodes[j]);
-}
-
-static int column_changed(size_t a, size_t j) {
-    for (size_t i = 0; i < node_count; i++)
-        if (bit(before, a + 1, i, j) != bit(sheet, a + 1, i, j))
-            return 1;
-    return 0;
+            if (has_arrow(before, a, i, j) != has_arrow(sheet, a, i, j)) {
+                printf("      %c %s %s %s\n", has_arrow(sheet, a, i, j) ? '+' : '-', nodes[i], arrows[a], nodes[j]);
+                column_changed[a][j] = 1;
+            }
 }
 
 /* Does arrow a go from node i into a changed column, before or after? */
 static int row_shown(size_t a, size_t i) {
     for (size_t j = 0; j < node_count; j++)
-        if (column_changed(a, j) && (bit(before, a + 1, i, j) || bit(sheet, a + 1, i, j)))
+        if (column_changed[a][j] && (has_arrow(before, a, i, j) || has_arrow(sheet, a, i, j)))
             return 1;
     return 0;
 }
 
 static void print_heads(size_t a) {
     for (size_t j = 0; j < node_count; j++)
-        if (column_changed(a, j))
+        if (column_changed[a][j])
             printf("  %6s", nodes[j]);
 }
 
 static void print_squares(const uint8_t *bytes, size_t a, size_t i) {
     for (size_t j = 0; j < node_count; j++)
-        if (column_changed(a, j))
-            printf("       %s", bit(bytes, a + 1, i, j) ? "■" : "□");
+        if (column_changed[a][j])
+            printf("       %s", has_arrow(bytes, a, i, j) ? "■" : "□");
 }
 
 /* Arrow a before and after, cut to the columns that changed and the rows that have an arrow there. */
@@ -182,34 +183,75 @@ static void print_picture(size_t a) {
 
 static void print_changes(void) {
     print_changed_labels();
-    for (size_t a = 0; a < ARROWS; a++)
+    for (size_t a = 0; a < ZAMIATHEN_ARROWS; a++)
         print_changed_arrows(a);
-    for (size_t a = 0; a < ARROWS; a++)
+    for (size_t a = 0; a < ZAMIATHEN_ARROWS; a++)
         for (size_t j = 0; j < node_count; j++)
-            if (column_changed(a, j)) {
+            if (column_changed[a][j]) {
                 print_picture(a);
                 break;
             }
 }
 
 static void print_rule(size_t place) {
+    size_t start = zamiathen_rule_start(book.bytes, book.length, node_count, place);
+    size_t end = zamiathen_rule_start(book.bytes, book.length, node_count, place + 1);
     printf("      rule %zu   ", place);
-    print_bytes(book.bytes + book.parts[place].start, book.parts[place].length);
+    print_bytes(book.bytes + start, end - start);
     printf("\n               \"%s\"\n", book.parts[place].why);
 }
 
-/* What the broken rule asks of the sheet as it is: the carried book stands in the scratch and can be judged like any other. */
+/* Who breaks a rule on a sheet? Of 21 E F it is each node i for which 23 i 07 05 E F does not hold, of 22 R S each pair
+ * for which 24 i j 15 R S does, and of 25 K L who breaks K or L. A rule of more than 30 levels cannot be asked so: then
+ * nobody is shown. */
+static void print_breakers(const uint8_t *bytes, const uint8_t *rule, size_t length) {
+    uint8_t asked[ZAMIATHEN_TEXT_BYTES + 3];
+    if (rule[0] == 0x25) {
+        size_t first = zamiathen_first_rule(rule + 1, length - 1).length;
+        print_breakers(bytes, rule + 1, first);
+        print_breakers(bytes, rule + 1 + first, length - 1 - first);
+    }
+    if (rule[0] != 0x21 && rule[0] != 0x22)
+        return;
+    memcpy(asked + 4, rule + 1, length - 1);
+    for (uint8_t i = 0; i < node_count; i++) {
+        memcpy(asked, (uint8_t[]){0x23, i, 0x07, 0x05}, 4);
+        if (rule[0] == 0x21 && zamiathen_judge(bytes, sizeof sheet, asked, length + 3).number == ZAMIATHEN_RULE_BROKEN)
+            printf("               broken by %s\n", nodes[i]);
+        for (uint8_t j = 0; j < node_count && rule[0] == 0x22; j++) {
+            memcpy(asked, (uint8_t[]){0x24, i, j, 0x15}, 4);
+            if (zamiathen_judge(bytes, sizeof sheet, asked, length + 3).number == ZAMIATHEN_DONE)
+                printf("               broken by the pair %s, %s\n", nodes[i], nodes[j]);
+        }
+    }
+}
+
+/* Who would break a rule of the book after an edit: the edit is carried out on a copy of the sheet. */
+static void print_breakers_after(const struct text *edit, size_t place) {
+    uint8_t after[ZAMIATHEN_SHEET_BYTES];
+    size_t start = zamiathen_rule_start(book.bytes, book.length, node_count, place);
+    size_t end = zamiathen_rule_start(book.bytes, book.length, node_count, place + 1);
+    memcpy(after, sheet, sizeof after);
+    if (zamiathen_apply(after, sizeof after, edit->bytes, edit->length).number == ZAMIATHEN_DONE)
+        print_breakers(after, book.bytes + start, end - start);
+}
+
+/* What the broken rule asks of the sheet as it is. The carried book stands in the scratch. Where it keeps the limits of a
+ * book it can be judged like one; it may pass them, having up to 16,384 bytes and 255 levels. */
 static void print_condition(const struct text *edit) {
     uint8_t carried[ZAMIATHEN_CARRIED_BYTES];
-    zamiathen_carried c =
+    zamiathen_length c =
         zamiathen_carry_back(book.bytes, book.length, edit->bytes, edit->length, carried, sizeof carried);
     zamiathen_judged j = zamiathen_judge(sheet, sizeof sheet, scratch, c.length);
-    if (j.number != ZAMIATHEN_RULE_BROKEN)
-        return;
-    printf("      Carried back through the edit it is a condition on the sheet as it is, which does not hold:\n");
-    printf("               ");
-    print_bytes(scratch + j.start, j.length);
-    printf("\n");
+    printf("      Carried back through the edit it is a condition on the sheet as it is, which does not hold");
+    if (j.number == ZAMIATHEN_RULE_BROKEN) {
+        printf(":\n               ");
+        print_bytes(scratch + j.start, j.length);
+        printf("\n");
+    } else {
+        printf(".\n      The %zu bytes of carried rules pass the limits of a book: judged as one they are answered %02zu %05zu.\n",
+               c.length, j.number, j.place);
+    }
 }
 
 static void judge_sheet(void) {
@@ -220,6 +262,7 @@ static void judge_sheet(void) {
     } else if (j.number == ZAMIATHEN_RULE_BROKEN) {
         printf("the sheet breaks\n");
         print_rule(j.place);
+        print_breakers(sheet, book.bytes + j.start, j.length);
     } else {
         printf("refused.\n");
     }
@@ -236,6 +279,7 @@ static void enter_edit(const struct text *edit) {
     } else if (answer.number == ZAMIATHEN_RULE_BROKEN) {
         printf("refused. The sheet after it would break\n");
         print_rule(answer.place);
+        print_breakers_after(edit, answer.place);
         print_condition(edit);
         if (memcmp(before, sheet, sizeof sheet) == 0)
             printf("   The sheet is as it was, to the byte.\n");
@@ -290,5 +334,7 @@ int main(int count, char **words) {
     printf("\n");
     show_edit("repair.hex");
     judge_sheet();
+    printf("\n5. A rule of pairs, and the pair that would break it (one_way.hex)\n\n");
+    show_edit("one_way.hex");
     return 0;
 }

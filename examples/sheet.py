@@ -1,56 +1,99 @@
 #!/usr/bin/env python3
 """Makes a sheet from plain words, out of one file or several, one behind the other:
 
-    label NUMBER NAME             names a label
-    arrow NUMBER NAME             names an arrow
-    node NUMBER NAME LABEL...     names a node and puts labels on it
+    label NUMBER NAME             names a label, 0 to 47
+    arrow NUMBER NAME             names an arrow, 0 to 15
+    node NUMBER NAME LABEL...     names a node, 0 to 59, and puts labels on it
     NODE LABEL                    puts one more label on a node
     FROM ARROW TO                 an arrow from one node to another
 
-What stands behind a # is left out. Nodes are numbered from 0, without gaps.
+What stands behind a # is left out. A name is given once, above the lines that use it, and is none of the words label,
+arrow and node. Nodes are numbered from 0, without gaps, in any order.
 
     python3 examples/sheet.py examples/station/station.txt > sheet.bin
 """
-import fileinput
+import re
 import sys
 
-BLOCK = 512
-names = {"label": {}, "arrow": {}, "node": {}}
-sheet = bytearray(17 * BLOCK)
+import layout
+from source import fault, lines, write
+
+KINDS = {"label": layout.LABELS, "arrow": layout.ARROWS, "node": layout.NODES}
+FORMS = {"label": "label NUMBER NAME", "arrow": "arrow NUMBER NAME", "node": "node NUMBER NAME LABEL..."}
 
 
-def put(block, row, bit):
-    sheet[BLOCK * block + 16 + 8 * row + bit // 8] |= 1 << bit % 8
+class Station:
+    """A sheet in the making, and what its names stand for."""
+
+    def __init__(self):
+        self.sheet = bytearray(layout.SHEET)
+        self.numbers = {kind: {} for kind in KINDS}  # of a name of this kind
+        self.numbered = {kind: {} for kind in KINDS}  # the line that names this number
+        self.named = {}  # the line that gives this name
+
+    def read(self, line):
+        words = line.code.split()
+        if not words:
+            return
+        if words[0] in KINDS:
+            self.name(line, words)
+        elif len(words) == 2:
+            self.put_label(line, words[1], words[0])
+        elif len(words) == 3:
+            self.put_arrow(line, *words)
+        else:
+            fault(line.where, "this is no line of label, arrow or node, and not NODE LABEL or FROM ARROW TO")
+
+    def name(self, line, words):
+        kind = words[0]
+        if len(words) < 3 or len(words) > 3 and kind != "node":
+            fault(line.where, f"the form of this line is {FORMS[kind]}")
+        number, name = words[1:3]
+        if not re.fullmatch("[0-9]{1,4}", number) or int(number) >= KINDS[kind]:
+            fault(line.where, f"{number} is not a number from 0 to {KINDS[kind] - 1}")
+        number = int(number)
+        if number in self.numbered[kind]:
+            fault(line.where, f"{kind} {number} is already named at {self.numbered[kind][number].where}")
+        if name in KINDS:
+            fault(line.where, f"{name} cannot be a name")
+        if name in self.named:
+            fault(line.where, f"{name} is already a name at {self.named[name].where}")
+        self.numbers[kind][name] = number
+        self.numbered[kind][number] = self.named[name] = line
+        for label in words[3:]:
+            self.put_label(line, label, name)
+
+    def number(self, line, kind, name):
+        if name not in self.numbers[kind]:
+            fault(line.where, f"no {kind} above has the name {name}")
+        return self.numbers[kind][name]
+
+    def put_label(self, line, label, node):
+        node = self.number(line, "node", node)
+        layout.put(self.sheet, layout.LABEL_BLOCK, self.number(line, "label", label), node)
+
+    def put_arrow(self, line, start, arrow, end):
+        start = self.number(line, "node", start)
+        block = layout.arrow_block(self.number(line, "arrow", arrow))
+        layout.put(self.sheet, block, start, self.number(line, "node", end))
+
+    def close(self, last):
+        nodes = self.numbered["node"]
+        if not nodes:
+            fault(last.where, "the sheet has no node")
+        for node in sorted(nodes):
+            if node > 0 and node - 1 not in nodes:
+                fault(nodes[node].where, f"node {node} is there and node {node - 1} is not")
+        layout.close(self.sheet, len(nodes))
+        return self.sheet
 
 
-def read(words):
-    kind = words[0]
-    if kind in names:
-        names[kind][words[2]] = int(words[1])
-        if kind == "node":
-            for label in words[3:]:
-                put(0, names["label"][label], int(words[1]))
-    elif len(words) == 3:
-        put(1 + names["arrow"][words[1]], names["node"][words[0]], names["node"][words[2]])
-    else:
-        put(0, names["label"][words[1]], names["node"][words[0]])
+def read(files):
+    station = Station()
+    for line in lines(files):
+        station.read(line)
+    return station, station.close(line)
 
 
-def seal(block):
-    """Document 01's check bytes, two sums modulo 255."""
-    s = t = 0
-    for byte in block[:510]:
-        s = (s + byte) % 255
-        t = (t + s) % 255
-    return bytes(block[:510]) + bytes([s, t])
-
-
-for line in fileinput.input(encoding="utf-8"):
-    words = line.split("#")[0].split()
-    if words:
-        read(words)
-for block in range(17):
-    start = BLOCK * block
-    sheet[start : start + 3] = bytes([1 if block == 0 else 2, block, len(names["node"]) if block == 0 else 0])
-    sheet[start : start + BLOCK] = seal(sheet[start : start + BLOCK])
-sys.stdout.buffer.write(sheet)
+if __name__ == "__main__":
+    write(read(sys.argv[1:])[1])

@@ -1,16 +1,20 @@
-/* Station sheets: judge a rule book on a sheet, carry a book back through an edit, enter an edit.
+/* Station sheets: make a blank sheet, read its bits, judge a rule book on it, carry a book back through an edit, and
+ * change the sheet by an edit, with a book or without one.
  *
  * Link with libzamiathen.a:  cc program.c $(pkg-config --cflags --libs zamiathen)
  *
  * Buffers. Each buffer is a pointer and its length in bytes. A call reads no byte outside its buffers and writes only
- * where this header says so. The buffers of one call must not overlap where one of them is written: the sheet and the
- * scratch of zamiathen_enter, and the output of zamiathen_carry_back, share no byte with any other buffer of the call.
- * A pointer may be NULL only when its length is 0. There is no other demand: any bytes and any length get an answer.
+ * where this header says so. The buffers of one call must not overlap where one of them is written: the sheet of
+ * zamiathen_blank, zamiathen_apply and zamiathen_enter, the scratch of zamiathen_enter and the output of
+ * zamiathen_carry_back share no byte with any other buffer of the call. A pointer may be NULL only when its length is
+ * 0. There is no other demand: any bytes, any length and any number get an answer.
  *
  * Threads. The library keeps no state, allocates nothing and takes no lock. Calls may run at the same time in any
  * number of threads as long as no buffer that one call writes is read or written by another.
  *
- * Stack. Every call needs at most ZAMIATHEN_STACK_BYTES bytes of stack in its thread.
+ * Stack. Every call needs at most ZAMIATHEN_STACK_BYTES bytes of stack below the frame that makes it. A thread made for
+ * such calls needs its own frames, and what its C library keeps on the stack, besides: ZAMIATHEN_THREAD_BYTES leaves
+ * 128 KiB for them.
  */
 #ifndef ZAMIATHEN_H
 #define ZAMIATHEN_H
@@ -22,13 +26,27 @@
 extern "C" {
 #endif
 
+/* The version. The first number moves when the form of sheets or an answer of a call changes, the second when a call is
+ * added: a card written under another first number may be answered otherwise. As one number: 1000 * first + second. */
+#define ZAMIATHEN_VERSION_FIRST 1
+#define ZAMIATHEN_VERSION_SECOND 1
+#define ZAMIATHEN_VERSION (1000 * ZAMIATHEN_VERSION_FIRST + ZAMIATHEN_VERSION_SECOND)
+
 /* Sizes. */
 #define ZAMIATHEN_SHEET_BYTES 8704    /* a sheet has just this length */
 #define ZAMIATHEN_TEXT_BYTES 4096     /* the longest book and the longest edit */
 #define ZAMIATHEN_CARRIED_BYTES 16384 /* the longest carried book: an output or scratch of this length suffices */
-#define ZAMIATHEN_STACK_BYTES 262144  /* measured: 180,288 at 255 levels, the deepest carried rule */
+#define ZAMIATHEN_STACK_BYTES 262144  /* measured: 196,544 at 255 levels, the deepest carried rule */
+#define ZAMIATHEN_THREAD_BYTES 393216 /* a thread's whole stack */
 
-/* Answer numbers. A call answers the number of the first question, in this order, whose answer is no. */
+/* Limits. A sheet has n nodes, n from 1 to ZAMIATHEN_MAX_NODES; n is its byte 2. Numbers count from 0. */
+#define ZAMIATHEN_MAX_NODES 60
+#define ZAMIATHEN_LABELS 48    /* labels of every sheet */
+#define ZAMIATHEN_ARROWS 16    /* kinds of arrows of every sheet */
+#define ZAMIATHEN_MAX_RULES 32 /* of a book */
+
+/* Answer numbers. A call answers the number of the first question, in this order, whose answer is no; but 5 is asked
+ * before 1. */
 enum zamiathen_number {
     ZAMIATHEN_DONE = 0, /* place 0 */
 
@@ -37,6 +55,10 @@ enum zamiathen_number {
     ZAMIATHEN_SHEET_SUMS = 2,   /* the check bytes of a block are wrong */
     ZAMIATHEN_SHEET_HEAD = 3,   /* bytes 0 to 2 of a block are wrong, or n is not from 1 to 60 */
     ZAMIATHEN_SHEET_ZEROS = 4,  /* a byte or bit of a block that must be zero is not */
+
+    /* Numbers passed to a call. Place 0. */
+    ZAMIATHEN_NODE_COUNT = 5,   /* n of a blank sheet is not from 1 to 60 */
+    ZAMIATHEN_OUT_OF_RANGE = 7, /* the sheet has no label, arrow or node of this number */
 
     /* The book. Place: the byte in the book, but 0 for the length and the book's length where it ends early. */
     ZAMIATHEN_BOOK_LENGTH = 11, /* more than 4,096 bytes */
@@ -68,28 +90,73 @@ typedef struct {
     size_t number, place;
 } zamiathen_answer;
 
+/* An answer with a bit, 0 or 1: 0 after every number but done. */
+typedef struct {
+    size_t number, place, bit;
+} zamiathen_bit;
+
+/* An answer with a length in bytes: 0 after every number but done. */
+typedef struct {
+    size_t number, place, length;
+} zamiathen_length;
+
 /* Judge's answer. After 41 the broken rule is book[start] to book[start + length - 1]; else start and length are 0. */
 typedef struct {
     size_t number, place, start, length;
 } zamiathen_judged;
 
-/* Carry back's answer. After done, length is that of the carried book; else it is 0. */
-typedef struct {
-    size_t number, place, length;
-} zamiathen_carried;
+/*
+ * Sheets
+ */
+
+/* Makes the sheet's buffer a sound sheet of n nodes, without labels and arrows. Its bytes before do not matter.
+ * Answers 0, 5 or 1. Every answer but done leaves the buffer as it was. */
+zamiathen_answer zamiathen_blank(uint8_t *sheet, size_t sheet_length, size_t n);
+
+/* Has a node this label? The bit is 1 if so. Answers 0, 1 to 4, or 7 unless the label is below 48 and the node below n.
+ * Writes nothing. Each call asks the whole sheet. */
+zamiathen_bit zamiathen_label_bit(const uint8_t *sheet, size_t sheet_length, uint8_t label, uint8_t node);
+
+/* Does an arrow of this kind go from one node to the other? The bit is 1 if so. Answers 0, 1 to 4, or 7 unless the
+ * arrow is below 16 and both nodes are below n. Writes nothing. Each call asks the whole sheet. */
+zamiathen_bit zamiathen_arrow_bit(const uint8_t *sheet, size_t sheet_length, uint8_t arrow, uint8_t from, uint8_t to);
+
+/*
+ * Rules
+ */
+
+/* Where does the first rule of a text end? After done it is text[0] to text[length - 1]. Node numbers up to 59 are in
+ * range. Answers 0 or 11 to 15: 11 is asked of the whole text, 12 to 15 of the first rule, and what stands behind it is
+ * not looked at. An empty text has no first rule: 12. Writes nothing. */
+zamiathen_length zamiathen_first_rule(const uint8_t *text, size_t text_length);
+
+/* Where a rule of a book starts, the rules counted from 0. A 41 gives the number of the broken rule, and its bytes go
+ * from its start up to that of the next, zamiathen_rule_start(book, book_length, n, rule + 1). n is the sheet's. No
+ * question is asked: the answer is a place, and book_length where the book has no such rule or one of those before it
+ * cannot be read with node numbers below n. Writes nothing. */
+size_t zamiathen_rule_start(const uint8_t *book, size_t book_length, size_t n, size_t rule);
 
 /* Does each rule of the book hold on the sheet? Answers 0, 1 to 4, 11 to 16 or 41. Writes nothing. */
 zamiathen_judged zamiathen_judge(const uint8_t *sheet, size_t sheet_length, const uint8_t *book, size_t book_length);
 
+/*
+ * Edits
+ */
+
+/* Carries out an edit without a book: makes its steps on the sheet, one after the other. Answers 0, 1 to 4 or 21 to 26.
+ * Only done changes the sheet, its check bytes too. */
+zamiathen_answer zamiathen_apply(uint8_t *sheet, size_t sheet_length, const uint8_t *edit, size_t edit_length);
+
 /* Carries a book back through an edit: the conditions on a sheet before the edit for the book to hold after it.
  * Node numbers up to 59 are in range. Answers 0, 11 to 16, 21 to 26 or 31 to 33. Done writes the carried book at the
  * start of the output and leaves the rest of it; every other answer leaves the output as it was. */
-zamiathen_carried zamiathen_carry_back(const uint8_t *book, size_t book_length, const uint8_t *edit,
-                                       size_t edit_length, uint8_t *output, size_t output_length);
+zamiathen_length zamiathen_carry_back(const uint8_t *book, size_t book_length, const uint8_t *edit,
+                                      size_t edit_length, uint8_t *output, size_t output_length);
 
 /* Enters an edit, whole or not at all: done if each rule of the book holds on the sheet that the edit's steps leave.
- * Answers 0, 1 to 4, 11 to 16, 21 to 26, 31 to 33 or 41. Only done changes the sheet. Done and 41 leave the carried
- * book at the start of the scratch and the rest of it as it was; every other answer leaves the whole scratch. */
+ * Answers 0, 1 to 4, 11 to 16, 21 to 26, 31 to 33 or 41. Only done changes the sheet, its check bytes too. Done and 41
+ * leave the carried book at the start of the scratch and the rest of it as it was; every other answer leaves the whole
+ * scratch. */
 zamiathen_answer zamiathen_enter(uint8_t *sheet, size_t sheet_length, const uint8_t *book, size_t book_length,
                                  const uint8_t *edit, size_t edit_length, uint8_t *scratch, size_t scratch_length);
 

@@ -1,246 +1,322 @@
-//! Evaluation on the bytes of a text and of a sound sheet.
+//! The values of expressions and the truth of rules, from the bytes of a text that was read before.
+//!
+//! A node expression is asked about candidates only: its value is the candidates that it has. 12 is not made but passed
+//! down to the arrows of the sheet, and a count over a reversed arrow counts columns.
 
-use crate::sheet::{all_nodes, word, BLOCK};
-
-type Rows = [u64; 64];
+use crate::reader::past;
+use crate::rows::{columns_at_least, join, join_pair, rows_at_least, Join, Reversed, Rows};
+use crate::sheet::{all_nodes, all_rows, word, Block, Blocks, MOST_NODES};
 
 pub struct Eval<'e> {
-    pub sheet: &'e [u8],
-    pub text: &'e [u8],
-    n: usize,
+    sheet: &'e Blocks,
+    text: &'e [u8],
     all: u64,
+    reversed: &'e mut Reversed,
 }
 
-/// Number bytes and operands of each code.
-const fn signature(code: u8) -> (usize, usize) {
-    match code {
-        0x01 | 0x02 => (0, 0),
-        0x03 | 0x04 | 0x11 => (1, 0),
-        0x17 => (2, 0),
-        0x05 | 0x12 | 0x27 => (0, 1),
-        0x0A | 0x0B => (1, 2),
-        0x23 => (1, 1),
-        0x24 => (2, 1),
-        _ => (0, 2),
+/// The first rule of a text that doesn't hold: its number, start and end.
+pub fn first_broken(sheet: &Blocks, n: usize, text: &[u8]) -> Option<(usize, usize, usize)> {
+    let mut reversed = Reversed::new();
+    let mut eval = Eval::new(sheet, all_nodes(n), text, &mut reversed);
+    let (mut at, mut number) = (0, 0);
+    while at < text.len() {
+        let start = at;
+        if !eval.rule(&mut at) {
+            return Some((number, start, past(text, start)));
+        }
+        number += 1;
     }
+    None
 }
 
-const SIGNATURES: [(usize, usize); 64] = {
-    let mut table = [(0, 0); 64];
-    let mut code = 0;
-    while code < 64 {
-        table[code] = signature(code as u8);
-        code += 1;
-    }
-    table
-};
-
-/// The end of the term that begins at a place of a sound text.
-pub fn skip(text: &[u8], mut at: usize) -> usize {
-    let mut wanted = 1;
-    while wanted > 0 {
-        let (numbers, operands) = SIGNATURES[usize::from(text[at] & 63)];
-        at += 1 + numbers;
-        wanted += operands;
-        wanted -= 1;
-    }
-    at
-}
-
+/// In each function `at` is where the term begins, and is left at its end.
 impl<'e> Eval<'e> {
-    pub fn new(sheet: &'e [u8], text: &'e [u8]) -> Eval<'e> {
-        let n = usize::from(sheet[2]);
-        Eval { sheet, text, n, all: all_nodes(n) }
-    }
-
-    fn row(&self, arrow: u8, i: usize) -> u64 {
-        word(self.sheet, (usize::from(arrow) + 1) * BLOCK + 16 + 8 * i)
-    }
-
-    /// The nodes of the expression at a place, and its end.
-    pub fn node(&self, at: usize) -> (u64, usize) {
-        let text = self.text;
-        match text[at] {
-            0x01 => (self.all, at + 1),
-            0x02 => (0, at + 1),
-            0x03 => (word(self.sheet, 16 + 8 * usize::from(text[at + 1])), at + 2),
-            0x04 => (1 << text[at + 1], at + 2),
-            0x05 => {
-                let (e, end) = self.node(at + 1);
-                (self.all & !e, end)
-            }
-            0x06 => {
-                let (e, second) = self.node(at + 1);
-                let (f, end) = self.node(second);
-                (e & f, end)
-            }
-            0x07 => {
-                let (e, second) = self.node(at + 1);
-                let (f, end) = self.node(second);
-                (e | f, end)
-            }
-            0x08 => self.select(at + 1, |row, ends| row & ends != 0),
-            0x09 => self.select(at + 1, |row, ends| row & !ends == 0),
-            0x0A => {
-                let m = u32::from(text[at + 1]);
-                self.select(at + 2, |row, ends| (row & ends).count_ones() >= m)
-            }
-            _ => {
-                let m = u32::from(text[at + 1]);
-                self.select(at + 2, |row, ends| (row & ends).count_ones() <= m)
-            }
-        }
-    }
-
-    /// The nodes whose row passes a test, for the R and E at a place. A plain arrow is read from the sheet.
-    #[inline(always)]
-    fn select(&self, at: usize, test: impl Fn(u64, u64) -> bool) -> (u64, usize) {
-        let mut found = 0;
-        if self.text[at] == 0x11 {
-            let arrow = self.text[at + 1];
-            let (ends, end) = self.node(at + 2);
-            for i in 0..self.n {
-                found |= u64::from(test(self.row(arrow, i), ends)) << i;
-            }
-            return (found, end);
-        }
-        let mut rows = [0; 64];
-        let second = self.arrow(at, &mut rows);
-        let (ends, end) = self.node(second);
-        for (i, row) in rows[..self.n].iter().enumerate() {
-            found |= u64::from(test(*row, ends)) << i;
-        }
-        (found, end)
-    }
-
-    /// The rows of the expression at a place, and its end. Rows from n on are zero.
-    pub fn arrow(&self, at: usize, rows: &mut Rows) -> usize {
-        let text = self.text;
-        match text[at] {
-            0x11 => {
-                for i in 0..self.n {
-                    rows[i] = self.row(text[at + 1], i);
-                }
-                at + 2
-            }
-            0x12 => {
-                let end = self.arrow(at + 1, rows);
-                transpose(rows);
-                end
-            }
-            0x13 => self.join(at + 1, rows, |r, s| r | s),
-            0x14 => self.join(at + 1, rows, |r, s| r & s),
-            0x15 => self.join(at + 1, rows, |r, s| r & !s),
-            0x16 => {
-                let second = self.arrow(at + 1, rows);
-                let (ends, end) = self.node(second);
-                rows[..self.n].iter_mut().for_each(|row| *row &= ends);
-                end
-            }
-            _ => {
-                rows[..self.n].fill(0);
-                rows[usize::from(text[at + 1])] = 1 << text[at + 2];
-                at + 3
-            }
-        }
+    pub fn new(sheet: &'e Blocks, all: u64, text: &'e [u8], reversed: &'e mut Reversed) -> Self {
+        Eval { sheet, text, all, reversed }
     }
 
     #[inline(always)]
-    fn join(&self, at: usize, rows: &mut Rows, both: impl Fn(u64, u64) -> u64) -> usize {
-        let second = self.arrow(at, rows);
-        match self.text[second] {
-            0x11 => {
-                for i in 0..self.n {
-                    rows[i] = both(rows[i], self.row(self.text[second + 1], i));
-                }
-                second + 2
-            }
-            0x17 => {
-                let from = usize::from(self.text[second + 1]);
-                for i in 0..self.n {
-                    let pair = if i == from { 1 << self.text[second + 2] } else { 0 };
-                    rows[i] = both(rows[i], pair);
-                }
-                second + 3
-            }
-            _ => {
-                let mut others = [0; 64];
-                let end = self.arrow(second, &mut others);
-                for i in 0..self.n {
-                    rows[i] = both(rows[i], others[i]);
-                }
-                end
-            }
-        }
+    fn byte(&self, at: &mut usize) -> u8 {
+        let byte = self.text[*at];
+        *at += 1;
+        byte
     }
 
-    /// Whether the rule at a place holds, and its end. A second operand that doesn't matter is passed over.
-    pub fn rule(&self, at: usize) -> (bool, usize) {
-        let text = self.text;
-        match text[at] {
+    #[inline(always)]
+    fn pass(&self, at: &mut usize) {
+        *at = past(self.text, *at);
+    }
+
+    #[inline(always)]
+    fn block(&self, a: u8) -> &'e Block {
+        &self.sheet[usize::from(a & 15) + 1]
+    }
+
+    pub fn rule(&mut self, at: &mut usize) -> bool {
+        match self.byte(at) {
             0x21 => {
-                let (e, second) = self.node(at + 1);
-                let (f, end) = self.node(second);
-                (e & !f == 0, end)
+                let e = self.node(at, self.all);
+                self.node(at, e) == e
             }
-            0x22 => {
-                let (mut first, mut other) = ([0; 64], [0; 64]);
-                let second = self.arrow(at + 1, &mut first);
-                let end = self.arrow(second, &mut other);
-                ((0..self.n).all(|i| first[i] & !other[i] == 0), end)
-            }
+            0x22 => self.arrows_in(at),
             0x23 => {
-                let (e, end) = self.node(at + 2);
-                (e >> text[at + 1] & 1 == 1, end)
+                let i = self.byte(at);
+                self.node(at, 1 << (i & 63)) != 0
             }
             0x24 => {
-                let mut rows = [0; 64];
-                let end = self.arrow(at + 3, &mut rows);
-                (rows[usize::from(text[at + 1])] >> text[at + 2] & 1 == 1, end)
+                let (i, j) = (self.byte(at), self.byte(at));
+                self.pair(at, i, j)
             }
-            0x25 => match self.rule(at + 1) {
-                (false, second) => (false, skip(text, second)),
-                (true, second) => self.rule(second),
-            },
-            0x26 => match self.rule(at + 1) {
-                (true, second) => (true, skip(text, second)),
-                (false, second) => self.rule(second),
-            },
-            _ => {
-                let (holds, end) = self.rule(at + 1);
-                (!holds, end)
+            0x25 => {
+                if self.rule(at) {
+                    return self.rule(at);
+                }
+                self.pass(at);
+                false
             }
+            0x26 => {
+                if !self.rule(at) {
+                    return self.rule(at);
+                }
+                self.pass(at);
+                true
+            }
+            0x27 => !self.rule(at),
+            code => unreachable!("rule code {code:02X}"),
         }
     }
 
-    /// The first broken rule of a text of rules: its number, start and length.
-    pub fn first_broken(&self) -> Option<(usize, usize, usize)> {
-        let (mut at, mut number) = (0, 0);
-        while at < self.text.len() {
-            let (holds, end) = self.rule(at);
-            if !holds {
-                return Some((number, at, end - at));
-            }
-            number += 1;
-            at = end;
+    /// Passes over 12s; true when their number is odd.
+    #[inline(always)]
+    fn odd_reversals(&self, at: &mut usize) -> bool {
+        let mut odd = false;
+        while self.text[*at] == 0x12 {
+            *at += 1;
+            odd = !odd;
         }
-        None
+        odd
+    }
+
+    /// 22 R S. R reversed is in S just when R is in S reversed.
+    fn arrows_in(&mut self, at: &mut usize) -> bool {
+        let reversed = self.odd_reversals(at);
+        if self.text[*at] == 0x17 {
+            let (i, j) = (self.text[*at + 1], self.text[*at + 2]);
+            *at += 3;
+            return if reversed { self.pair(at, j, i) } else { self.pair(at, i, j) };
+        }
+        let mut rows = [0; MOST_NODES];
+        self.arrow(at, false, Join::Set, &mut rows);
+        self.arrow(at, reversed, Join::Minus, &mut rows);
+        rows.iter().fold(0, |left, row| left | row) == 0
+    }
+
+    /// The candidates that a node expression has.
+    pub fn node(&mut self, at: &mut usize, candidates: u64) -> u64 {
+        if candidates == 0 {
+            self.pass(at);
+            return 0;
+        }
+        match self.byte(at) {
+            0x01 => candidates,
+            0x02 => 0,
+            0x03 => word(&self.sheet[0], usize::from(self.byte(at))) & candidates,
+            0x04 => 1 << (self.byte(at) & 63) & candidates,
+            0x05 => candidates & !self.node(at, candidates),
+            0x06 => {
+                let e = self.node(at, candidates);
+                self.node(at, e)
+            }
+            0x07 => {
+                let e = self.node(at, candidates);
+                e | self.node(at, candidates & !e)
+            }
+            0x08 => self.at_least(at, candidates, 1, false),
+            0x09 => candidates & !self.at_least(at, candidates, 1, true),
+            0x0A => {
+                let m = u32::from(self.byte(at));
+                self.at_least(at, candidates, m, false)
+            }
+            0x0B => {
+                let m = u32::from(self.byte(at));
+                candidates & !self.at_least(at, candidates, m + 1, false)
+            }
+            code => unreachable!("node code {code:02X}"),
+        }
+    }
+
+    /// The candidates with arrows of R to at least m nodes of E, or of those outside E.
+    fn at_least(&mut self, at: &mut usize, candidates: u64, m: u32, outside: bool) -> u64 {
+        if m == 0 || m > MOST_NODES as u32 {
+            self.pass(at);
+            self.pass(at);
+            return if m == 0 { candidates } else { 0 };
+        }
+        if candidates & (candidates - 1) == 0 {
+            // One candidate: its row alone is wanted.
+            let ends = self.row(at, candidates.trailing_zeros() as u8, false);
+            let e = self.node(at, ends);
+            let e = if outside { ends & !e } else { e };
+            return if e.count_ones() >= m { candidates } else { 0 };
+        }
+        let reversed = self.odd_reversals(at);
+        if self.text[*at] == 0x11 {
+            let block = self.block(self.text[*at + 1]);
+            *at += 2;
+            return self.select(at, candidates, m, outside, reversed, |i| word(block, i));
+        }
+        let mut rows = [0; MOST_NODES];
+        self.arrow(at, false, Join::Set, &mut rows);
+        self.select(at, candidates, m, outside, reversed, |i| rows[i])
+    }
+
+    /// The same with the rows of R known, and `at` where E begins.
+    #[inline(always)]
+    fn select(
+        &mut self,
+        at: &mut usize,
+        candidates: u64,
+        m: u32,
+        outside: bool,
+        reversed: bool,
+        row: impl Fn(usize) -> u64,
+    ) -> u64 {
+        let e = self.node(at, self.all) ^ if outside { self.all } else { 0 };
+        match reversed {
+            _ if e == 0 => 0,
+            true => columns_at_least(m, candidates, e, row),
+            false => rows_at_least(m, candidates, e, row),
+        }
+    }
+
+    /// Whether R has the pair (i, j). Both operands are evaluated always, for `at` to come to their end.
+    fn pair(&mut self, at: &mut usize, i: u8, j: u8) -> bool {
+        match self.byte(at) {
+            0x11 => {
+                let a = self.byte(at);
+                word(self.block(a), usize::from(i)) >> (j & 63) & 1 == 1
+            }
+            0x12 => self.pair(at, j, i),
+            0x13 => self.pair(at, i, j) | self.pair(at, i, j),
+            0x14 => self.pair(at, i, j) & self.pair(at, i, j),
+            0x15 => self.pair(at, i, j) & !self.pair(at, i, j),
+            0x16 => {
+                let end = u64::from(self.pair(at, i, j)) << (j & 63);
+                self.node(at, end) != 0
+            }
+            0x17 => (self.byte(at), self.byte(at)) == (i, j),
+            code => unreachable!("arrow code {code:02X}"),
+        }
+    }
+
+    /// Row i of R, or of R reversed. Both operands are evaluated always, as in `pair`.
+    fn row(&mut self, at: &mut usize, i: u8, reversed: bool) -> u64 {
+        match self.byte(at) {
+            0x11 => {
+                let block = self.block(self.byte(at));
+                if reversed {
+                    (0..MOST_NODES).fold(0, |row, k| row | (word(block, k) >> (i & 63) & 1) << k)
+                } else {
+                    word(block, usize::from(i))
+                }
+            }
+            0x12 => self.row(at, i, !reversed),
+            0x13 => self.row(at, i, reversed) | self.row(at, i, reversed),
+            0x14 => self.row(at, i, reversed) & self.row(at, i, reversed),
+            0x15 => self.row(at, i, reversed) & !self.row(at, i, reversed),
+            0x16 => {
+                let ends = self.row(at, i, reversed);
+                if !reversed {
+                    return self.node(at, ends);
+                }
+                let start = u64::from(ends != 0) << (i & 63);
+                if self.node(at, start) != 0 {
+                    ends
+                } else {
+                    0
+                }
+            }
+            0x17 => {
+                let (x, y) = (self.byte(at), self.byte(at));
+                let (x, y) = if reversed { (y, x) } else { (x, y) };
+                u64::from(x == i) << (y & 63)
+            }
+            code => unreachable!("arrow code {code:02X}"),
+        }
+    }
+
+    /// Joins R, or R reversed, to rows.
+    pub fn arrow(&mut self, at: &mut usize, reversed: bool, how: Join, out: &mut Rows) {
+        match self.byte(at) {
+            0x11 => {
+                let a = self.byte(at);
+                let block = self.block(a);
+                if reversed {
+                    join(how, out, self.reversed.rows(a, block).iter().copied());
+                } else {
+                    join(how, out, all_rows(block));
+                }
+            }
+            0x12 => self.arrow(at, !reversed, how, out),
+            0x13 => self.two_arrows(at, reversed, how, second_join(0x13, how), out),
+            0x14 => self.two_arrows(at, reversed, how, second_join(0x14, how), out),
+            0x15 => self.two_arrows(at, reversed, how, second_join(0x15, how), out),
+            0x16 => match how {
+                Join::Set | Join::And => {
+                    self.arrow(at, reversed, how, out);
+                    self.ending_in(at, reversed, out);
+                }
+                Join::Or | Join::Minus => self.apart(at, reversed, how, out),
+            },
+            0x17 => {
+                let (i, j) = (self.byte(at), self.byte(at));
+                let (i, j) = if reversed { (j, i) } else { (i, j) };
+                join_pair(how, out, i, j);
+            }
+            code => unreachable!("arrow code {code:02X}"),
+        }
+    }
+
+    #[inline(always)]
+    fn two_arrows(&mut self, at: &mut usize, reversed: bool, first: Join, second: Option<Join>, out: &mut Rows) {
+        match second {
+            Some(second) => {
+                self.arrow(at, reversed, first, out);
+                self.arrow(at, reversed, second, out);
+            }
+            None => self.apart(at, reversed, first, out),
+        }
+    }
+
+    /// 16: of rows that are not reversed the ends are in E, of reversed ones the starts.
+    #[inline(always)]
+    fn ending_in(&mut self, at: &mut usize, reversed: bool, out: &mut Rows) {
+        let e = self.node(at, self.all);
+        if reversed {
+            out.iter_mut().enumerate().for_each(|(i, row)| *row &= (e >> i & 1).wrapping_neg());
+        } else {
+            out.iter_mut().for_each(|row| *row &= e);
+        }
+    }
+
+    /// Evaluates the term whose code is before `at` on its own, then joins it.
+    #[inline(never)]
+    fn apart(&mut self, at: &mut usize, reversed: bool, how: Join, out: &mut Rows) {
+        *at -= 1;
+        let mut rows = [0; MOST_NODES];
+        self.arrow(at, reversed, Join::Set, &mut rows);
+        join(how, out, rows.iter().copied());
     }
 }
 
-/// Transposition of 64 words by exchange of halves.
-fn transpose(rows: &mut Rows) {
-    let mut width = 32;
-    let mut mask = 0x0000_0000_FFFF_FFFFu64;
-    while width > 0 {
-        let mut i = 0;
-        while i < 64 {
-            let moved = (rows[i] >> width ^ rows[i + width]) & mask;
-            rows[i] ^= moved << width;
-            rows[i + width] ^= moved;
-            i = (i + width + 1) & !width;
-        }
-        width >>= 1;
-        mask ^= mask << width;
+/// When joining 13 R S, 14 R S or 15 R S is joining R in the same way and then S: how S is joined.
+#[inline(always)]
+fn second_join(code: u8, how: Join) -> Option<Join> {
+    match (code, how) {
+        (0x13, Join::Set | Join::Or) => Some(Join::Or),
+        (0x13, Join::Minus) => Some(Join::Minus),
+        (0x14, Join::Set | Join::And) => Some(Join::And),
+        (0x15, Join::Set | Join::And) => Some(Join::Minus),
+        _ => None,
     }
 }

@@ -1,15 +1,33 @@
-//! Document 01 written for speed in plain Rust, to measure the proved library against. It shares nothing with the
-//! reference of the tests: sets of nodes are words, expressions are evaluated on their bytes, and nothing is allocated
-//! by a call; what a call needs besides its buffers is lent to it as a `Workspace`.
+//! Document 01 in plain Rust with SSE2, written for speed alone: the fastest that we know, to measure the proved
+//! library against. It shares nothing with the library or with the reference of the tests. A call allocates nothing.
+//!
+//! Where it saves: the sums take a block's bytes by vectors, each once; an expression is evaluated only for the nodes
+//! that still matter; reading a book or an edit leaves an index, so that carrying back looks for no end and no name
+//! again.
 
-pub mod calls;
-mod carry;
+mod calls;
 mod eval;
+mod fixed;
+mod index;
 mod measure;
+mod reader;
+mod rows;
 mod sheet;
-mod text;
+mod steps;
+mod write;
 
-pub use calls::{apply, carry_back, enter, judge, sheet_check, Workspace};
+pub use calls::{apply, carry_back, enter, judge};
 
-/// Number and place; done is 0, 0.
-pub type Answer = (usize, usize);
+/// Done is number 0, place 0; every other number is a refusal.
+#[derive(Clone, Copy)]
+pub struct Answer {
+    pub number: u8,
+    pub place: u32,
+}
+
+const DONE: Answer = Answer { number: 0, place: 0 };
+
+#[inline(always)]
+fn refused(number: u8, place: usize) -> Answer {
+    Answer { number, place: place as u32 }
+}

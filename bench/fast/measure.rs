@@ -1,176 +1,131 @@
 //! The length and the levels of a carried book, from the last step to the first, without writing it.
 //!
-//! The state is that of the whole book: its length, its levels, and for each label and arrow at how many places it
-//! stands and at which level it stands deepest. Lengths only grow, so the work ends when one passes 16,384.
+//! Of the carried text only its size is kept, and for each name how often it stands there, on which deepest level, and
+//! in which rules. A step changes these by sums, products and maxima, and 35 adds up what its two ways give, so each
+//! step is looked at once however long the carried text is. Lengths and counts are cut above the limit, so that none
+//! passes a word: sums and products of cut numbers, cut again, are those of the numbers themselves.
 
-use crate::text::Notes;
-use crate::Answer;
+use crate::index::{BookIndex, EditIndex, Step, NO_STEP};
+use crate::reader::{Occurrence, NAMES};
+use crate::{refused, Answer};
 
-pub const CARRIED_BYTES: usize = 16384;
-pub const NAMES: usize = 64;
+const CARRIED_BYTES: u32 = 16384;
+const CARRIED_LEVELS: u32 = 255;
+const CUT: u32 = CARRIED_BYTES + 1;
 
 #[derive(Clone)]
-struct State {
-    length: usize,
-    levels: usize,
-    places: [u32; NAMES],
+struct Size {
+    length: u32,
+    levels: u32,
+    /// Cut where it is used: the occurrences of an edit are too few for a count to pass a word before that.
+    count: [u32; NAMES],
+    /// 0 for a name that does not stand in the text.
     deepest: [u32; NAMES],
+    /// A bit for each rule in which the name stands.
+    in_rules: [u32; NAMES],
 }
 
-/// The steps of an edit that change the book, linked so that a walk can pass over the others.
-pub struct Walk {
-    /// For each step: the next step of its list that matters, or the 30.
-    pub next: [u16; 4096],
-    steps: [u16; 4096],
-}
-
-impl Walk {
-    pub fn new() -> Walk {
-        Walk { next: [0; 4096], steps: [0; 4096] }
+/// Questions 31 to 33; answers the length. In the index it is noted which steps are shown.
+pub fn measure(book: &[u8], book_index: &BookIndex, edit_index: &mut EditIndex, room: usize) -> Result<usize, Answer> {
+    // An empty book is carried to nothing, whatever the steps are.
+    if book_index.rules == 0 {
+        return Ok(0);
     }
-}
-
-struct Measure<'m> {
-    edit: &'m [u8],
-    notes: &'m Notes,
-    walk: &'m mut Walk,
-    rules: usize,
-}
-
-/// The label or arrow that stands at a code, as one of 64 names.
-pub fn name_at(text: &[u8], at: usize) -> Option<usize> {
-    match text[at] {
-        0x03 => Some(usize::from(text[at + 1])),
-        0x11 => Some(48 + usize::from(text[at + 1])),
-        _ => None,
+    let mut size = size_of_book(book, book_index);
+    let last = edit_index.last;
+    back(edit_index, last, book_index.rules as u32, &mut size);
+    if size.length > CARRIED_BYTES {
+        return Err(refused(31, 0));
     }
+    if size.levels > CARRIED_LEVELS {
+        return Err(refused(32, 0));
+    }
+    let length = size.length as usize;
+    if length > room {
+        return Err(refused(33, length));
+    }
+    link_shown(edit_index);
+    Ok(length)
 }
 
-/// The name that a step changes.
-pub fn name_of_step(edit: &[u8], at: usize) -> usize {
-    let number = usize::from(edit[at + 1]);
-    if edit[at] <= 0x32 {
-        number
-    } else {
-        48 + number
+#[inline(always)]
+fn size_of_book(book: &[u8], index: &BookIndex) -> Size {
+    let none = [0; NAMES];
+    let mut size = Size { length: book.len() as u32, levels: index.levels, count: none, deepest: none, in_rules: none };
+    for r in 0..index.rules {
+        let occurrences = &index.occurrences[usize::from(index.names[r])..usize::from(index.names[r + 1])];
+        size.add(occurrences, 1, 0, 1 << r);
     }
+    size
 }
 
-/// 31 and 32; else the length. The walk is left with its links, and the first step that matters.
-pub fn measure(
-    book: &[u8],
-    book_notes: &Notes,
-    edit: &[u8],
-    edit_notes: &Notes,
-    walk: &mut Walk,
-) -> Result<(usize, usize), Answer> {
-    let mut state = State { length: book.len(), levels: 0, places: [0; NAMES], deepest: [0; NAMES] };
-    add_text(&mut state, book, book_notes, 0..book.len(), 1, 0);
-    let mut measure = Measure { edit, notes: edit_notes, walk, rules: book_notes.count };
-    if book.is_empty() {
-        return Ok((0, 0));
-    }
-    let first = measure.list(0, 0, &mut state).ok_or((31, 0))?;
-    if state.levels > 255 {
-        return Err((32, 0));
-    }
-    Ok((state.length, first))
-}
-
-/// Adds the names of a part of a text to a state, each `times` times and `deeper` than in the text.
-fn add_text(state: &mut State, text: &[u8], notes: &Notes, part: std::ops::Range<usize>, times: u32, deeper: i32) {
-    for at in part {
-        let level = notes.level[at];
-        if level == 0 {
-            continue;
-        }
-        let level = (i32::from(level) + deeper) as u32;
-        state.levels = state.levels.max(level as usize);
-        if let Some(name) = name_at(text, at) {
-            state.places[name] += times;
-            state.deepest[name] = state.deepest[name].max(level);
+impl Size {
+    /// Adds occurrences, each `times` times and `deeper` levels below where it stands in its own term, in some rules.
+    #[inline(always)]
+    fn add(&mut self, occurrences: &[Occurrence], times: u32, deeper: u32, in_rules: u32) {
+        for occurrence in occurrences {
+            let name = usize::from(occurrence.name & 63);
+            self.count[name] += times;
+            self.deepest[name] = self.deepest[name].max(deeper + u32::from(occurrence.level));
+            self.in_rules[name] |= in_rules;
         }
     }
-}
 
-impl Measure<'_> {
-    /// Carries the state through a list, last step first; gives the first step that matters.
-    fn list(&mut self, mut at: usize, base: usize, state: &mut State) -> Option<usize> {
-        let mut top = base;
-        while self.edit[at] != 0x30 {
-            self.walk.steps[top] = at as u16;
-            top += 1;
-            at = usize::from(self.notes.end[at]);
-        }
-        let mut next = at;
-        for index in (base..top).rev() {
-            let step = usize::from(self.walk.steps[index]);
-            let matters = match self.edit[step] {
-                0x35 => {
-                    self.branch(step, top, state)?;
-                    true
-                }
-                _ => self.substitute(step, state)?,
-            };
-            self.walk.next[step] = next as u16;
-            if matters {
-                next = step;
-            }
-        }
-        Some(next)
+    /// A step that changes a name: 07 03 k E, 06 03 k 05 E, 13 11 a R or 15 11 a R wherever the name stands.
+    #[inline(always)]
+    fn substitute(&mut self, step: &Step, occurrences: &[Occurrence]) {
+        let name = usize::from(step.name & 63);
+        let (count, deepest) = (self.count[name].min(CUT), self.deepest[name]);
+        let not = u32::from(step.op == 0x32);
+        self.length = (self.length + count * (1 + not + u32::from(step.end - step.start))).min(CUT);
+        self.levels = self.levels.max(deepest + not + u32::from(step.levels)).max(deepest + 1);
+        self.deepest[name] = deepest + 1;
+        self.add(occurrences, count, deepest + not, self.in_rules[name]);
     }
 
-    fn substitute(&mut self, step: usize, state: &mut State) -> Option<bool> {
-        let name = name_of_step(self.edit, step);
-        let times = state.places[name];
-        if times == 0 {
-            return Some(false);
-        }
-        let operand = step + 2..usize::from(self.notes.end[step]);
-        let not = usize::from(self.edit[step] == 0x32);
-        state.length += times as usize * (operand.len() + 1 + not);
-        if state.length > CARRIED_BYTES {
-            return None;
-        }
-        let deepest = state.deepest[name] as i32;
-        state.deepest[name] += 1;
-        state.levels = state.levels.max(state.deepest[name] as usize + not);
-        let first = i32::from(self.notes.level[operand.start]);
-        add_text(state, self.edit, self.notes, operand, times, deepest + 1 + not as i32 - first);
-        Some(true)
-    }
-
-    /// 25 26 27 K T 26 K U for each rule.
-    fn branch(&mut self, step: usize, base: usize, state: &mut State) -> Option<()> {
-        let (p, q) = (usize::from(self.notes.end[step + 1]), usize::from(self.notes.second[step]));
-        let mut other = state.clone();
-        let first = self.list(p, base, state)?;
-        self.walk.next[p_link(p)] = first as u16;
-        let first = self.list(q, base, &mut other)?;
-        self.walk.next[p_link(q)] = first as u16;
-        state.length += other.length + self.rules * (4 + 2 * (p - step - 1));
-        if state.length > CARRIED_BYTES {
-            return None;
-        }
-        state.levels = state.levels.max(other.levels) + 2;
+    /// 25 26 27 K1 T 26 K1 U for each rule: T and U are two levels deeper, and K1 at most three.
+    #[inline(always)]
+    fn choose(&mut self, other: &Size, step: &Step, occurrences: &[Occurrence], rules: u32) {
+        self.length = (self.length + other.length + rules * (4 + 2 * u32::from(step.end - step.start))).min(CUT);
+        self.levels = (self.levels.max(other.levels) + 2).max(3 + u32::from(step.levels));
         for name in 0..NAMES {
-            state.places[name] += other.places[name];
-            if state.places[name] > 0 {
-                state.deepest[name] = state.deepest[name].max(other.deepest[name]) + 2;
-            }
+            self.count[name] = (self.count[name] + other.count[name]).min(CUT);
+            let deepest = self.deepest[name].max(other.deepest[name]);
+            self.deepest[name] = if deepest == 0 { 0 } else { deepest + 2 };
+            self.in_rules[name] |= other.in_rules[name];
         }
-        let first = i32::from(self.notes.level[step + 1]);
-        add_text(state, self.edit, self.notes, step + 1..p, 2 * self.rules as u32, 4 - first);
-        Some(())
+        self.add(occurrences, 2 * rules, 3, every(rules));
     }
 }
 
-/// The link to the first step that matters in a list is kept at the byte before the list, which no step begins at.
-fn p_link(list: usize) -> usize {
-    list - 1
+fn every(rules: u32) -> u32 {
+    !0 >> (32 - rules)
 }
 
-/// The first step that matters in P or Q.
-pub fn first_in(walk: &Walk, list: usize) -> usize {
-    usize::from(walk.next[p_link(list)])
+/// Carries the size back through a list, and notes in which rules its steps are shown.
+fn back(index: &mut EditIndex, last: u16, rules: u32, size: &mut Size) {
+    let mut s = last;
+    while s != NO_STEP {
+        let step = index.steps[usize::from(s)];
+        if step.op == 0x35 {
+            let mut other = size.clone();
+            back(index, step.p_last, rules, &mut other);
+            back(index, step.q_last, rules, size);
+            let occurrences = &index.occurrences[usize::from(step.names)..usize::from(step.names_end)];
+            size.choose(&other, &step, occurrences, rules);
+            index.steps[usize::from(s)].shown_in = every(rules);
+        } else if size.count[usize::from(step.name & 63)] != 0 {
+            index.steps[usize::from(s)].shown_in = size.in_rules[usize::from(step.name & 63)];
+            let occurrences = &index.occurrences[usize::from(step.names)..usize::from(step.names_end)];
+            size.substitute(&step, occurrences);
+        }
+        s = step.previous;
+    }
+}
+
+/// What is made after a step stands behind it, so one pass from the end is enough.
+fn link_shown(index: &mut EditIndex) {
+    for s in (0..index.steps.len()).rev() {
+        index.steps[s].next_shown = index.first_shown(index.steps[s].then);
+    }
 }

@@ -1,9 +1,36 @@
-/* The three functions as a C program calls them: through the header and libsuite.a alone. */
+/* Every call of the header as a C program makes it, through the header and libsuite.a alone: each answer that it can
+ * give, and the buffers that it is lent, with a guard on each side, after it. */
 #include "zamiathen.h"
 
 #include <stdio.h>
 #include <string.h>
 
+enum { GUARD = 64, GUARD_BYTE = 0xA7, FILL = 0xEE };
+
+struct text {
+    uint8_t bytes[ZAMIATHEN_TEXT_BYTES + 1];
+    size_t length;
+};
+
+/* A text that is refused: `times` times the middle between head and tail, in hexadecimal. */
+struct fault {
+    size_t number, place;
+    const char *head;
+    size_t times;
+    const char *middle, *tail;
+};
+
+static struct {
+    uint8_t before[GUARD], bytes[ZAMIATHEN_SHEET_BYTES], after[GUARD];
+} lent_sheet;
+static struct {
+    uint8_t before[GUARD], bytes[ZAMIATHEN_CARRIED_BYTES], after[GUARD];
+} lent_scratch;
+static uint8_t *const sheet = lent_sheet.bytes, *const scratch = lent_scratch.bytes;
+static const size_t whole = ZAMIATHEN_SHEET_BYTES, room = ZAMIATHEN_CARRIED_BYTES;
+
+/* What the sheet should hold. */
+static uint8_t kept[ZAMIATHEN_SHEET_BYTES];
 static int passed, failed;
 
 static void same(const char *what, int equal) {
@@ -21,10 +48,44 @@ static void answered(const char *what, zamiathen_answer found, size_t number, si
     same(what, found.number == number && found.place == place);
 }
 
+static void bit_read(const char *what, zamiathen_bit found, size_t number, size_t place, size_t bit) {
+    answered(what, (zamiathen_answer){found.number, found.place}, number, place);
+    same(what, found.bit == bit);
+}
+
+static void measured(const char *what, zamiathen_length found, size_t number, size_t place, size_t length) {
+    answered(what, (zamiathen_answer){found.number, found.place}, number, place);
+    same(what, found.length == length);
+}
+
+static void judged(const char *what, zamiathen_judged found, zamiathen_judged wanted) {
+    answered(what, (zamiathen_answer){found.number, found.place}, wanted.number, wanted.place);
+    same(what, found.start == wanted.start && found.length == wanted.length);
+}
+
+static int all(const uint8_t *bytes, size_t length, uint8_t byte) {
+    for (size_t i = 0; i < length; i++)
+        if (bytes[i] != byte)
+            return 0;
+    return 1;
+}
+
+static int guarded(const uint8_t *before, const uint8_t *after) {
+    return all(before, GUARD, GUARD_BYTE) && all(after, GUARD, GUARD_BYTE);
+}
+
+/* The sheet is as it should be, the carried text stands at the scratch's start, and all the rest is as it was. */
+static void left(const char *what, const uint8_t *carried, size_t length) {
+    same(what, memcmp(sheet, kept, whole) == 0);
+    same(what, (length == 0 || memcmp(scratch, carried, length) == 0) && all(scratch + length, room - length, FILL));
+    same(what, guarded(lent_sheet.before, lent_sheet.after) && guarded(lent_scratch.before, lent_scratch.after));
+}
+
+static void left_alone(const char *what) { left(what, NULL, 0); }
+
 /* Check bytes of each block. */
-static void seal(uint8_t *sheet) {
-    for (size_t block = 0; block < 17; block++) {
-        uint8_t *bytes = sheet + 512 * block;
+static void seal(uint8_t *bytes) {
+    for (size_t block = 0; block < 17; block++, bytes += 512) {
         unsigned s = 0, t = 0;
         for (size_t i = 0; i < 510; i++) {
             s = (s + bytes[i]) % 255;
@@ -36,19 +97,42 @@ static void seal(uint8_t *sheet) {
 }
 
 /* Sheet T: n = 3, label 0 = nodes 0, 1; label 1 = node 2; arrow 0 = 0 to 2, 1 to 2. */
-static void sheet_t(uint8_t *sheet) {
-    memset(sheet, 0, ZAMIATHEN_SHEET_BYTES);
-    sheet[0] = 1;
-    sheet[2] = 3;
+static void sheet_t(uint8_t *bytes) {
+    memset(bytes, 0, whole);
+    bytes[0] = 1;
+    bytes[2] = 3;
     for (uint8_t block = 1; block < 17; block++) {
-        sheet[512 * block] = 2;
-        sheet[512 * block + 1] = block;
+        bytes[512 * block] = 2;
+        bytes[512 * block + 1] = block;
     }
-    sheet[16] = 3;
-    sheet[24] = 4;
-    sheet[512 + 16] = 4;
-    sheet[512 + 24] = 4;
-    seal(sheet);
+    bytes[16] = 3;
+    bytes[24] = 4;
+    bytes[512 + 16] = 4;
+    bytes[512 + 24] = 4;
+    seal(bytes);
+}
+
+static void start(void) {
+    memset(&lent_sheet, GUARD_BYTE, sizeof lent_sheet);
+    memset(&lent_scratch, GUARD_BYTE, sizeof lent_scratch);
+    sheet_t(sheet);
+    memcpy(kept, sheet, whole);
+    memset(scratch, FILL, room);
+}
+
+static void put(struct text *text, const char *hex) {
+    for (unsigned byte; sscanf(hex, "%2x", &byte) == 1; hex += strlen(hex) > 2 ? 3 : 2)
+        text->bytes[text->length++] = (uint8_t)byte;
+}
+
+static const struct text *text_of(const struct fault *fault) {
+    static struct text text;
+    text.length = 0;
+    put(&text, fault->head);
+    for (size_t i = 0; i < fault->times; i++)
+        put(&text, fault->middle);
+    put(&text, fault->tail);
+    return &text;
 }
 
 static const uint8_t B[] = {0x21, 0x03, 0x00, 0x08, 0x11, 0x00, 0x03, 0x01};
@@ -63,129 +147,269 @@ static const uint8_t EDIT_10[] = {0x35, 0x23, 0x00, 0x03, 0x01, 0x31, 0x00, 0x04
 static const uint8_t CARRIED_10[] = {0x25, 0x26, 0x27, 0x23, 0x00, 0x03, 0x01, 0x21, 0x03, 0x01, 0x07, 0x03, 0x00,
                                      0x04, 0x02, 0x26, 0x23, 0x00, 0x03, 0x01, 0x21, 0x03, 0x01, 0x03, 0x00};
 
-static uint8_t sheet[ZAMIATHEN_SHEET_BYTES], before[ZAMIATHEN_SHEET_BYTES];
-static uint8_t scratch[ZAMIATHEN_CARRIED_BYTES];
+/* Three rules, of which the second does not hold on T. */
+static const uint8_t BROKEN[] = {0x21, 0x01, 0x01, 0x23, 0x02, 0x03, 0x00, 0x21, 0x01, 0x02};
 
-/* The carried text at the start of the scratch, and 0xEE in all the rest. */
-static int scratch_is(const uint8_t *text, size_t length) {
-    for (size_t i = length; i < sizeof scratch; i++)
-        if (scratch[i] != 0xEE)
-            return 0;
-    return length == 0 || memcmp(scratch, text, length) == 0;
-}
+static const struct fault book_faults[] = {
+    {ZAMIATHEN_BOOK_LENGTH, 0, "", ZAMIATHEN_TEXT_BYTES + 1, "21", ""},
+    {ZAMIATHEN_BOOK_ENDS, 2, "21 01", 0, "", ""},
+    {ZAMIATHEN_BOOK_CODE, 0, "30", 0, "", ""},
+    {ZAMIATHEN_BOOK_LEVEL, 32, "", 32, "27", "21 01 01"},
+    {ZAMIATHEN_BOOK_NUMBER, 1, "23 3C 01", 0, "", ""},
+    {ZAMIATHEN_BOOK_RULES, 96, "", ZAMIATHEN_MAX_RULES + 1, "21 01 01", ""},
+};
 
-static void start(void) {
-    sheet_t(sheet);
-    memcpy(before, sheet, sizeof sheet);
-    memset(scratch, 0xEE, sizeof scratch);
-}
+static const struct fault edit_faults[] = {
+    {ZAMIATHEN_EDIT_LENGTH, 0, "", ZAMIATHEN_TEXT_BYTES + 1, "30", ""},
+    {ZAMIATHEN_EDIT_ENDS, 4, "32 01 04 02", 0, "", ""},
+    {ZAMIATHEN_EDIT_CODE, 0, "21 01 01", 0, "", ""},
+    {ZAMIATHEN_EDIT_LEVEL, 33, "31 00", 31, "05", "01 30"},
+    {ZAMIATHEN_EDIT_NUMBER, 1, "31 30 01 30", 0, "", ""},
+    {ZAMIATHEN_EDIT_MORE, 1, "30 30", 0, "", ""},
+};
 
-static int sheet_kept(void) { return memcmp(sheet, before, sizeof sheet) == 0; }
+/* Edits through which 21 03 00 01 grows too long or too deep. */
+static const struct fault carried_faults[] = {
+    {ZAMIATHEN_CARRIED_LENGTH, 0, "", 9, "31 00 07 03 00 03 00", "30"},
+    {ZAMIATHEN_CARRIED_LEVELS, 0, "", 254, "31 00 02", "30"},
+};
+static const uint8_t GROWS[] = {0x21, 0x03, 0x00, 0x01};
 
-static void judged(const char *what, zamiathen_judged found, zamiathen_judged wanted) {
-    same(what, found.number == wanted.number && found.place == wanted.place && found.start == wanted.start &&
-                   found.length == wanted.length);
-}
-
-static void carried(const char *what, zamiathen_carried found, size_t number, size_t place, size_t length) {
-    same(what, found.number == number && found.place == place && found.length == length);
+static zamiathen_answer enter(size_t sheet_length, const uint8_t *book, size_t book_length, const uint8_t *edit,
+                              size_t edit_length) {
+    return zamiathen_enter(sheet, sheet_length, book, book_length, edit, edit_length, scratch, room);
 }
 
 /* Examples 7 to 10 of document 01. */
 static void examples(void) {
     start();
-    judged("example 7", zamiathen_judge(sheet, sizeof sheet, B, sizeof B), (zamiathen_judged){0, 0, 0, 0});
-
-    answered("example 8", zamiathen_enter(sheet, sizeof sheet, B, sizeof B, TAKE, sizeof TAKE, scratch, sizeof scratch),
-             ZAMIATHEN_RULE_BROKEN, 0);
-    same("example 8, sheet", sheet_kept());
-    same("example 8, scratch", scratch_is(CARRIED_8, sizeof CARRIED_8));
+    judged("example 7", zamiathen_judge(sheet, whole, B, sizeof B), (zamiathen_judged){0, 0, 0, 0});
+    answered("example 8", enter(whole, B, sizeof B, TAKE, sizeof TAKE), ZAMIATHEN_RULE_BROKEN, 0);
+    left("example 8", CARRIED_8, sizeof CARRIED_8);
 
     start();
-    answered("example 9",
-             zamiathen_enter(sheet, sizeof sheet, B, sizeof B, TAKE_AND_ADD, sizeof TAKE_AND_ADD, scratch,
-                             sizeof scratch),
-             ZAMIATHEN_DONE, 0);
-    same("example 9, sheet", sheet_kept());
-    same("example 9, scratch", scratch_is(CARRIED_9, sizeof CARRIED_9));
+    answered("example 9", enter(whole, B, sizeof B, TAKE_AND_ADD, sizeof TAKE_AND_ADD), ZAMIATHEN_DONE, 0);
+    left("example 9", CARRIED_9, sizeof CARRIED_9);
 
     start();
-    carried("example 10",
-            zamiathen_carry_back(BOOK_10, sizeof BOOK_10, EDIT_10, sizeof EDIT_10, scratch, sizeof scratch),
-            ZAMIATHEN_DONE, 0, sizeof CARRIED_10);
-    same("example 10, text", scratch_is(CARRIED_10, sizeof CARRIED_10));
+    measured("example 10", zamiathen_carry_back(BOOK_10, sizeof BOOK_10, EDIT_10, sizeof EDIT_10, scratch, room),
+             ZAMIATHEN_DONE, 0, sizeof CARRIED_10);
+    left("example 10", CARRIED_10, sizeof CARRIED_10);
 }
 
-/* An edit that changes the sheet: label 1 on node 0, check bytes too. */
-static void changed(void) {
+/* Edits that change the sheet, check bytes too: label 1 given to node 0, with a book and without one, and taken from
+ * node 2, which B would not allow. */
+static void changes(void) {
     static const uint8_t add[] = {0x31, 0x01, 0x04, 0x00, 0x30};
+    static const uint8_t carried[] = {0x21, 0x03, 0x00, 0x08, 0x11, 0x00, 0x07, 0x03, 0x01, 0x04, 0x00};
     start();
-    answered("add", zamiathen_enter(sheet, sizeof sheet, B, sizeof B, add, sizeof add, scratch, sizeof scratch), 0, 0);
-    before[24] = 5;
-    seal(before);
-    same("add, sheet", sheet_kept());
+    kept[24] = 5;
+    seal(kept);
+    answered("enter that adds", enter(whole, B, sizeof B, add, sizeof add), ZAMIATHEN_DONE, 0);
+    left("enter that adds", carried, sizeof carried);
+    start();
+    kept[24] = 5;
+    seal(kept);
+    answered("apply that adds", zamiathen_apply(sheet, whole, add, sizeof add), ZAMIATHEN_DONE, 0);
+    left_alone("apply that adds");
+    kept[24] = 1;
+    seal(kept);
+    answered("apply that takes", zamiathen_apply(sheet, whole, TAKE, sizeof TAKE), ZAMIATHEN_DONE, 0);
+    left_alone("apply that takes");
 }
 
-/* The broken rule is a part of the book. */
-static void broken_part(void) {
-    static const uint8_t book[] = {0x21, 0x01, 0x01, 0x23, 0x02, 0x03, 0x00, 0x21, 0x01, 0x02};
+static void blanks(void) {
+    static const size_t no_count[] = {0, ZAMIATHEN_MAX_NODES + 1, 256 + 3, SIZE_MAX};
     start();
-    judged("second rule broken", zamiathen_judge(sheet, sizeof sheet, book, sizeof book),
+    for (size_t i = 0; i < sizeof no_count / sizeof *no_count; i++)
+        answered("no such n", zamiathen_blank(sheet, whole - 1, no_count[i]), ZAMIATHEN_NODE_COUNT, 0);
+    answered("short blank", zamiathen_blank(sheet, whole - 1, 3), ZAMIATHEN_SHEET_LENGTH, 0);
+    left_alone("refused blanks");
+    for (size_t n = 1; n <= ZAMIATHEN_MAX_NODES; n++) {
+        memset(sheet, FILL, whole);
+        answered("blank", zamiathen_blank(sheet, whole, n), ZAMIATHEN_DONE, 0);
+        sheet_t(kept);
+        kept[2] = (uint8_t)n;
+        kept[16] = kept[24] = kept[512 + 16] = kept[512 + 24] = 0;
+        seal(kept);
+        left_alone("blank");
+    }
+}
+
+static zamiathen_bit label_bit(uint8_t label, uint8_t node) {
+    return zamiathen_label_bit(sheet, whole, label, node);
+}
+
+static zamiathen_bit arrow_bit(uint8_t arrow, uint8_t from, uint8_t to) {
+    return zamiathen_arrow_bit(sheet, whole, arrow, from, to);
+}
+
+/* All bits of T, and numbers that T does not have. */
+static void bits(void) {
+    start();
+    for (uint8_t i = 0; i < 3; i++) {
+        for (uint8_t k = 0; k < ZAMIATHEN_LABELS; k++)
+            bit_read("label bit", label_bit(k, i), ZAMIATHEN_DONE, 0, k == 0 ? i < 2 : k == 1 && i == 2);
+        for (uint8_t j = 0; j < 3; j++)
+            for (uint8_t a = 0; a < ZAMIATHEN_ARROWS; a++)
+                bit_read("arrow bit", arrow_bit(a, i, j), ZAMIATHEN_DONE, 0, a == 0 && i < 2 && j == 2);
+    }
+    bit_read("label 48", label_bit(ZAMIATHEN_LABELS, 0), ZAMIATHEN_OUT_OF_RANGE, 0, 0);
+    bit_read("label bit of node 3", label_bit(0, 3), ZAMIATHEN_OUT_OF_RANGE, 0, 0);
+    bit_read("arrow 16", arrow_bit(ZAMIATHEN_ARROWS, 0, 2), ZAMIATHEN_OUT_OF_RANGE, 0, 0);
+    bit_read("arrow from node 3", arrow_bit(0, 3, 2), ZAMIATHEN_OUT_OF_RANGE, 0, 0);
+    bit_read("arrow to node 255", arrow_bit(0, 0, 255), ZAMIATHEN_OUT_OF_RANGE, 0, 0);
+    left_alone("bit reads");
+}
+
+/* The rules of a book by their ends and by their starts, and the broken one. */
+static void rules(void) {
+    static const size_t starts[] = {0, 3, 7, sizeof BROKEN, sizeof BROKEN};
+    start();
+    for (size_t i = 0; i + 1 < sizeof starts / sizeof *starts; i++) {
+        same("rule start", zamiathen_rule_start(BROKEN, sizeof BROKEN, 3, i) == starts[i]);
+        if (starts[i] < sizeof BROKEN)
+            measured("rule end", zamiathen_first_rule(BROKEN + starts[i], sizeof BROKEN - starts[i]), ZAMIATHEN_DONE, 0,
+                     starts[i + 1] - starts[i]);
+    }
+    same("no such rule", zamiathen_rule_start(BROKEN, sizeof BROKEN, 3, SIZE_MAX) == sizeof BROKEN);
+    same("rule start with n = 2", zamiathen_rule_start(BROKEN, sizeof BROKEN, 2, 1) == 3);
+    same("rule behind node 2 with n = 2", zamiathen_rule_start(BROKEN, sizeof BROKEN, 2, 2) == sizeof BROKEN);
+    judged("second rule broken", zamiathen_judge(sheet, whole, BROKEN, sizeof BROKEN),
            (zamiathen_judged){ZAMIATHEN_RULE_BROKEN, 1, 3, 4});
+    answered("second rule broken", enter(whole, BROKEN, sizeof BROKEN, END, 1), ZAMIATHEN_RULE_BROKEN, 1);
+    left("second rule broken", BROKEN, sizeof BROKEN);
 }
 
-static zamiathen_answer enter(size_t sheet_length, const uint8_t *book, size_t book_length, const uint8_t *edit,
-                              size_t edit_length, size_t scratch_length) {
-    return zamiathen_enter(sheet, sheet_length, book, book_length, edit, edit_length, scratch, scratch_length);
+/* Each call that is lent a sheet of this length. */
+static void refused_sheet(const char *what, size_t length, size_t number, size_t place) {
+    judged(what, zamiathen_judge(sheet, length, B, sizeof B), (zamiathen_judged){number, place, 0, 0});
+    bit_read(what, zamiathen_label_bit(sheet, length, 0, 0), number, place, 0);
+    bit_read(what, zamiathen_arrow_bit(sheet, length, 0, 0, 2), number, place, 0);
+    answered(what, zamiathen_apply(sheet, length, TAKE, sizeof TAKE), number, place);
+    answered(what, enter(length, B, sizeof B, TAKE, sizeof TAKE), number, place);
+    left_alone(what);
 }
 
-static void left_alone(const char *what) { same(what, sheet_kept() && scratch_is(NULL, 0)); }
-
-/* A refusal of each part: sheet, book, edit, scratch. None changes a byte. */
-static void refusals(void) {
-    static const uint8_t node[] = {0x23, 0x03, 0x01}, short_book[] = {0x21, 0x01}, extra[] = {0x30, 0x30};
-    static uint8_t long_book[ZAMIATHEN_TEXT_BYTES + 1];
-    const size_t whole = sizeof sheet, room = sizeof scratch;
+static void refused_sheets(void) {
     start();
-    answered("sheet length", enter(whole - 1, B, sizeof B, TAKE, sizeof TAKE, room), ZAMIATHEN_SHEET_LENGTH, 0);
-    answered("book length", enter(whole, long_book, sizeof long_book, END, 1, room), ZAMIATHEN_BOOK_LENGTH, 0);
-    answered("book ends", enter(whole, short_book, sizeof short_book, END, 1, room), ZAMIATHEN_BOOK_ENDS, 2);
-    answered("book code", enter(whole, END, 1, END, 1, room), ZAMIATHEN_BOOK_CODE, 0);
-    answered("node 3 of 3", enter(whole, node, sizeof node, END, 1, room), ZAMIATHEN_BOOK_NUMBER, 1);
-    answered("edit code", enter(whole, B, sizeof B, B, sizeof B, room), ZAMIATHEN_EDIT_CODE, 0);
-    answered("edit ends", enter(whole, B, sizeof B, TAKE, sizeof TAKE - 1, room), ZAMIATHEN_EDIT_ENDS, 4);
-    answered("more behind", enter(whole, B, sizeof B, extra, sizeof extra, room), ZAMIATHEN_EDIT_MORE, 1);
-    answered("scratch", enter(whole, B, sizeof B, TAKE, sizeof TAKE, sizeof CARRIED_8 - 1), ZAMIATHEN_ROOM,
-             sizeof CARRIED_8);
-    left_alone("refused calls");
-    carried("output", zamiathen_carry_back(B, sizeof B, TAKE, sizeof TAKE, scratch, 11), ZAMIATHEN_ROOM, 12, 0);
-    left_alone("refused carry back");
-    judged("judge's sheet", zamiathen_judge(sheet, 0, B, sizeof B),
-           (zamiathen_judged){ZAMIATHEN_SHEET_LENGTH, 0, 0, 0});
+    refused_sheet("short sheet", whole - 1, ZAMIATHEN_SHEET_LENGTH, 0);
+    refused_sheet("no sheet", 0, ZAMIATHEN_SHEET_LENGTH, 0);
     sheet[600] ^= 1;
-    memcpy(before, sheet, sizeof sheet);
-    answered("check bytes", enter(whole, B, sizeof B, TAKE, sizeof TAKE, room), ZAMIATHEN_SHEET_SUMS, 1);
-    left_alone("unsound sheet");
+    memcpy(kept, sheet, whole);
+    refused_sheet("check bytes of block 1", whole, ZAMIATHEN_SHEET_SUMS, 1);
+    start();
+    sheet[512 * 3 + 1] = 4;
+    seal(sheet);
+    memcpy(kept, sheet, whole);
+    refused_sheet("head of block 3", whole, ZAMIATHEN_SHEET_HEAD, 3);
+    start();
+    sheet[512 * 16 + 16 + 8 * 3] = 1;
+    seal(sheet);
+    memcpy(kept, sheet, whole);
+    refused_sheet("row 3 of 3 in block 16", whole, ZAMIATHEN_SHEET_ZEROS, 16);
+}
+
+/* Each call that is lent a book. A text of 33 rules has a first one. */
+static void refused_books(void) {
+    start();
+    for (size_t i = 0; i < sizeof book_faults / sizeof *book_faults; i++) {
+        const struct fault *fault = &book_faults[i];
+        const struct text *book = text_of(fault);
+        judged("refused book", zamiathen_judge(sheet, whole, book->bytes, book->length),
+               (zamiathen_judged){fault->number, fault->place, 0, 0});
+        measured("refused book", zamiathen_carry_back(book->bytes, book->length, END, 1, scratch, room), fault->number,
+                 fault->place, 0);
+        answered("refused book", enter(whole, book->bytes, book->length, TAKE, sizeof TAKE), fault->number,
+                 fault->place);
+        if (fault->number == ZAMIATHEN_BOOK_RULES)
+            measured("first of 33", zamiathen_first_rule(book->bytes, book->length), ZAMIATHEN_DONE, 0, 3);
+        else
+            measured("refused text", zamiathen_first_rule(book->bytes, book->length), fault->number, fault->place, 0);
+    }
+    left_alone("refused books");
+}
+
+/* Each call that is lent an edit. */
+static void refused_edits(void) {
+    start();
+    for (size_t i = 0; i < sizeof edit_faults / sizeof *edit_faults; i++) {
+        const struct fault *fault = &edit_faults[i];
+        const struct text *edit = text_of(fault);
+        answered("refused edit", zamiathen_apply(sheet, whole, edit->bytes, edit->length), fault->number, fault->place);
+        measured("refused edit", zamiathen_carry_back(B, sizeof B, edit->bytes, edit->length, scratch, room),
+                 fault->number, fault->place, 0);
+        answered("refused edit", enter(whole, B, sizeof B, edit->bytes, edit->length), fault->number, fault->place);
+    }
+    left_alone("refused edits");
+}
+
+/* Carried books that pass a limit, or the room that there is. */
+static void refused_sizes(void) {
+    start();
+    for (size_t i = 0; i < sizeof carried_faults / sizeof *carried_faults; i++) {
+        const struct fault *fault = &carried_faults[i];
+        const struct text *edit = text_of(fault);
+        measured("carried size", zamiathen_carry_back(GROWS, sizeof GROWS, edit->bytes, edit->length, scratch, room),
+                 fault->number, fault->place, 0);
+        answered("carried size", enter(whole, GROWS, sizeof GROWS, edit->bytes, edit->length), fault->number,
+                 fault->place);
+    }
+    measured("short output", zamiathen_carry_back(B, sizeof B, TAKE, sizeof TAKE, scratch, sizeof CARRIED_8 - 1),
+             ZAMIATHEN_ROOM, sizeof CARRIED_8, 0);
+    answered("short scratch",
+             zamiathen_enter(sheet, whole, B, sizeof B, TAKE, sizeof TAKE, scratch, sizeof CARRIED_8 - 1),
+             ZAMIATHEN_ROOM, sizeof CARRIED_8);
+    left_alone("refused sizes");
+    measured("output of the length needed",
+             zamiathen_carry_back(B, sizeof B, TAKE, sizeof TAKE, scratch, sizeof CARRIED_8), ZAMIATHEN_DONE, 0,
+             sizeof CARRIED_8);
+    left("output of the length needed", CARRIED_8, sizeof CARRIED_8);
+}
+
+/* Node 3 is none of T's, and is one of the 60 that a text without a sheet may name. */
+static void node_3(void) {
+    static const uint8_t book[] = {0x23, 0x03, 0x01};
+    start();
+    judged("node 3 of T", zamiathen_judge(sheet, whole, book, sizeof book),
+           (zamiathen_judged){ZAMIATHEN_BOOK_NUMBER, 1, 0, 0});
+    measured("node 3 in a text", zamiathen_first_rule(book, sizeof book), ZAMIATHEN_DONE, 0, sizeof book);
+    measured("node 3 carried back", zamiathen_carry_back(book, sizeof book, END, 1, scratch, room), ZAMIATHEN_DONE, 0,
+             sizeof book);
+    left("node 3", book, sizeof book);
 }
 
 /* NULL with length 0 in each place. */
 static void empty_buffers(void) {
     start();
+    answered("no buffer for a blank sheet", zamiathen_blank(NULL, 0, 3), ZAMIATHEN_SHEET_LENGTH, 0);
+    bit_read("no sheet", zamiathen_label_bit(NULL, 0, 0, 0), ZAMIATHEN_SHEET_LENGTH, 0, 0);
+    bit_read("no sheet", zamiathen_arrow_bit(NULL, 0, 0, 0, 0), ZAMIATHEN_SHEET_LENGTH, 0, 0);
+    measured("no text", zamiathen_first_rule(NULL, 0), ZAMIATHEN_BOOK_ENDS, 0, 0);
+    same("no book", zamiathen_rule_start(NULL, 0, 3, 0) == 0 && zamiathen_rule_start(NULL, 0, 3, 1) == 0);
     judged("no sheet", zamiathen_judge(NULL, 0, NULL, 0), (zamiathen_judged){ZAMIATHEN_SHEET_LENGTH, 0, 0, 0});
-    judged("no book", zamiathen_judge(sheet, sizeof sheet, NULL, 0), (zamiathen_judged){0, 0, 0, 0});
-    carried("no edit", zamiathen_carry_back(NULL, 0, NULL, 0, NULL, 0), ZAMIATHEN_EDIT_ENDS, 0, 0);
-    carried("nothing to carry", zamiathen_carry_back(NULL, 0, END, 1, NULL, 0), ZAMIATHEN_DONE, 0, 0);
-    carried("no output", zamiathen_carry_back(B, sizeof B, END, 1, NULL, 0), ZAMIATHEN_ROOM, sizeof B, 0);
+    judged("no book", zamiathen_judge(sheet, whole, NULL, 0), (zamiathen_judged){0, 0, 0, 0});
+    answered("no sheet, no edit", zamiathen_apply(NULL, 0, NULL, 0), ZAMIATHEN_SHEET_LENGTH, 0);
+    answered("no edit", zamiathen_apply(sheet, whole, NULL, 0), ZAMIATHEN_EDIT_ENDS, 0);
+    measured("no edit", zamiathen_carry_back(NULL, 0, NULL, 0, NULL, 0), ZAMIATHEN_EDIT_ENDS, 0, 0);
+    measured("nothing to carry", zamiathen_carry_back(NULL, 0, END, 1, NULL, 0), ZAMIATHEN_DONE, 0, 0);
+    measured("no output", zamiathen_carry_back(B, sizeof B, END, 1, NULL, 0), ZAMIATHEN_ROOM, sizeof B, 0);
     answered("nothing at all", zamiathen_enter(NULL, 0, NULL, 0, NULL, 0, NULL, 0), ZAMIATHEN_SHEET_LENGTH, 0);
-    answered("no book, no scratch", zamiathen_enter(sheet, sizeof sheet, NULL, 0, END, 1, NULL, 0), ZAMIATHEN_DONE, 0);
+    answered("no book, no scratch", zamiathen_enter(sheet, whole, NULL, 0, END, 1, NULL, 0), ZAMIATHEN_DONE, 0);
     left_alone("empty buffers");
 }
 
 int main(void) {
     examples();
-    changed();
-    broken_part();
-    refusals();
+    changes();
+    blanks();
+    bits();
+    rules();
+    refused_sheets();
+    refused_books();
+    refused_edits();
+    refused_sizes();
+    node_3();
     empty_buffers();
     printf("%d passed, %d failed\n", passed, failed);
     return failed != 0;

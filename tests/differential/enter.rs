@@ -1,6 +1,7 @@
 //! Enter, carry back and apply of the library, compared with the reference: answers and all bytes of all buffers.
 
-use common::compare::{CAnswer, CThree, Lent, Outcome, Tally};
+use common::compare::{Lent, Outcome, Tally};
+use common::library::{zamiathen_apply, zamiathen_carry_back, zamiathen_enter};
 use common::random::Random;
 use common::terms::{self, Names};
 use common::{carried, damage, graphs, limits, texts};
@@ -12,33 +13,6 @@ use reference::graph::Graph;
 use reference::meaning::{first_broken, holds};
 use reference::syntax::{Coded, Node, Rule};
 use reference::{reader, sheet};
-
-#[link(name = "suite", kind = "static")]
-extern "C" {
-    fn zamiathen_carry_back(
-        book: *const u8,
-        book_length: usize,
-        edit: *const u8,
-        edit_length: usize,
-        out: *mut u8,
-        out_length: usize,
-    ) -> CThree;
-    fn zamiathen_enter(
-        sheet: *mut u8,
-        sheet_length: usize,
-        book: *const u8,
-        book_length: usize,
-        edit: *const u8,
-        edit_length: usize,
-        scratch: *mut u8,
-        scratch_length: usize,
-    ) -> CAnswer;
-}
-
-#[link(name = "probe", kind = "static")]
-extern "C" {
-    fn probe_apply(sheet: *mut u8, sheet_length: usize, edit: *const u8, edit_length: usize) -> CAnswer;
-}
 
 /// What a call of enter is lent.
 struct Call<'c> {
@@ -95,7 +69,7 @@ fn carry_back(tally: &mut Tally, book: &[u8], edit: &[u8], out: &[u8]) -> usize 
             lent.len(),
         )
     };
-    let found = Outcome::new(&[found.number, found.place, found.third], vec![lent_book, lent_edit, lent]);
+    let found = Outcome::new(&[found.number, found.place, found.length], vec![lent_book, lent_edit, lent]);
     let mut buffer = out.to_vec();
     let carried = calls::carry_back(book, edit, &mut buffer);
     let numbers = [carried.answer.number, carried.answer.place, carried.length];
@@ -106,7 +80,7 @@ fn carry_back(tally: &mut Tally, book: &[u8], edit: &[u8], out: &[u8]) -> usize 
 
 fn apply(tally: &mut Tally, bytes: &[u8], edit: &[u8]) {
     let (mut lent, lent_edit) = (Lent::of(bytes), Lent::of(edit));
-    let found = unsafe { probe_apply(lent.mut_ptr(), lent.len(), lent_edit.ptr(), lent_edit.len()) };
+    let found = unsafe { zamiathen_apply(lent.mut_ptr(), lent.len(), lent_edit.ptr(), lent_edit.len()) };
     let found = Outcome::new(&[found.number, found.place], vec![lent, lent_edit]);
     let mut buffer = bytes.to_vec();
     let answer = calls::apply(&mut buffer, edit);

@@ -1,6 +1,7 @@
 //! Judge of the library compared with the reference: number, place and the part of the book.
 
-use common::compare::{CFour, Lent, Outcome, Tally};
+use common::compare::{Lent, Outcome, Tally};
+use common::library::zamiathen_judge;
 use common::random::Random;
 use common::terms::{self, Names};
 use common::{damage, graphs, limits, texts};
@@ -10,15 +11,10 @@ use reference::meaning::holds;
 use reference::sheet;
 use reference::syntax::Rule;
 
-#[link(name = "suite", kind = "static")]
-extern "C" {
-    fn zamiathen_judge(sheet: *const u8, sheet_length: usize, book: *const u8, book_length: usize) -> CFour;
-}
-
 fn judge(tally: &mut Tally, bytes: &[u8], book: &[u8]) {
     let (lent, lent_book) = (Lent::of(bytes), Lent::of(book));
     let found = unsafe { zamiathen_judge(lent.ptr(), lent.len(), lent_book.ptr(), lent_book.len()) };
-    let found = Outcome::new(&[found.number, found.place, found.third, found.fourth], vec![lent, lent_book]);
+    let found = Outcome::new(&[found.number, found.place, found.start, found.length], vec![lent, lent_book]);
     let judged = calls::judge(bytes, book);
     let numbers = [judged.answer.number, judged.answer.place, judged.start, judged.length];
     let wanted = Outcome::new(&numbers, vec![Lent::of(bytes), Lent::of(book)]);

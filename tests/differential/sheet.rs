@@ -1,6 +1,7 @@
 //! Sheet questions, blank sheets and bit reads of the library, compared with the reference.
 
-use common::compare::{CAnswer, CThree, Lent, Outcome, Tally};
+use common::compare::{Lent, Outcome, Tally};
+use common::library::{zamiathen_arrow_bit, zamiathen_blank, zamiathen_judge, zamiathen_label_bit};
 use common::random::Random;
 use common::terms::Names;
 use common::{damage, graphs};
@@ -8,33 +9,30 @@ use reference::answer::{answer_of, Asked};
 use reference::graph::Graph;
 use reference::sheet::{self, SHEET};
 
-#[link(name = "probe", kind = "static")]
-extern "C" {
-    fn probe_sheet_check(sheet: *const u8, length: usize) -> CAnswer;
-    fn probe_blank(buffer: *mut u8, length: usize, n: usize) -> CAnswer;
-    fn probe_label_bit(sheet: *const u8, length: usize, label: u8, node: u8) -> CThree;
-    fn probe_arrow_bit(sheet: *const u8, length: usize, arrow: u8, from: u8, to: u8) -> CThree;
+/// The sheet's questions are all that judge asks when the book is empty.
+fn asked(bytes: *const u8, length: usize) -> [usize; 4] {
+    let found = unsafe { zamiathen_judge(bytes, length, std::ptr::null(), 0) };
+    [found.number, found.place, found.start, found.length]
 }
 
 fn check(tally: &mut Tally, bytes: &[u8]) {
     let lent = Lent::of(bytes);
-    let found = unsafe { probe_sheet_check(lent.ptr(), lent.len()) };
-    let found = Outcome::new(&[found.number, found.place], vec![lent]);
-    let wanted = Outcome::of_answer(sheet::check(bytes), vec![Lent::of(bytes)]);
-    tally.compare("sheet check", &found, &wanted, &[("sheet", bytes)]);
+    let found = asked(lent.ptr(), lent.len());
+    let answer = sheet::check(bytes);
+    let wanted = Outcome::new(&[answer.number, answer.place, 0, 0], vec![Lent::of(bytes)]);
+    tally.compare("sheet check", &Outcome::new(&found, vec![lent]), &wanted, &[("sheet", bytes)]);
 }
 
 /// The same against an answer known without the reference.
 fn check_known(tally: &mut Tally, bytes: &[u8], number: usize, place: usize) {
-    let found = unsafe { probe_sheet_check(bytes.as_ptr(), bytes.len()) };
-    let found = Outcome::new(&[found.number, found.place], vec![]);
-    let wanted = Outcome::new(&[number, place], vec![]);
+    let found = Outcome::new(&asked(bytes.as_ptr(), bytes.len()), vec![]);
+    let wanted = Outcome::new(&[number, place, 0, 0], vec![]);
     tally.compare("sheet check, known answer", &found, &wanted, &[("sheet", bytes)]);
 }
 
 fn blank(tally: &mut Tally, bytes: &[u8], n: usize) {
     let mut lent = Lent::of(bytes);
-    let found = unsafe { probe_blank(lent.mut_ptr(), lent.len(), n) };
+    let found = unsafe { zamiathen_blank(lent.mut_ptr(), lent.len(), n) };
     let found = Outcome::new(&[found.number, found.place], vec![lent]);
     let mut buffer = bytes.to_vec();
     let answer = sheet::blank(&mut buffer, n);
@@ -49,16 +47,16 @@ fn bit_outcome(asked: Asked<bool>, bytes: &[u8]) -> Outcome {
 
 fn label_bit(tally: &mut Tally, bytes: &[u8], label: u8, node: u8) {
     let lent = Lent::of(bytes);
-    let found = unsafe { probe_label_bit(lent.ptr(), lent.len(), label, node) };
-    let found = Outcome::new(&[found.number, found.place, found.third], vec![lent]);
+    let found = unsafe { zamiathen_label_bit(lent.ptr(), lent.len(), label, node) };
+    let found = Outcome::new(&[found.number, found.place, found.bit], vec![lent]);
     let wanted = bit_outcome(sheet::label_bit(bytes, label, node), bytes);
     tally.compare("label bit", &found, &wanted, &[("sheet", bytes), ("label, node", &[label, node])]);
 }
 
 fn arrow_bit(tally: &mut Tally, bytes: &[u8], arrow: u8, from: u8, to: u8) {
     let lent = Lent::of(bytes);
-    let found = unsafe { probe_arrow_bit(lent.ptr(), lent.len(), arrow, from, to) };
-    let found = Outcome::new(&[found.number, found.place, found.third], vec![lent]);
+    let found = unsafe { zamiathen_arrow_bit(lent.ptr(), lent.len(), arrow, from, to) };
+    let found = Outcome::new(&[found.number, found.place, found.bit], vec![lent]);
     let wanted = bit_outcome(sheet::arrow_bit(bytes, arrow, from, to), bytes);
     tally.compare("arrow bit", &found, &wanted, &[("sheet", bytes), ("arrow, from, to", &[arrow, from, to])]);
 }

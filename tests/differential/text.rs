@@ -1,60 +1,82 @@
 //! Questions of books and edits, rule ends and rule starts of the library, compared with the reference.
 
-use common::compare::{CAnswer, CThree, Lent, Outcome, Tally};
+use common::compare::{Lent, Outcome, Tally};
+use common::library::{zamiathen_apply, zamiathen_first_rule, zamiathen_judge, zamiathen_rule_start};
 use common::random::Random;
 use common::{limits, texts};
 use reference::answer::answer_of;
-use reference::reader;
+use reference::graph::{Graph, MOST_NODES};
+use reference::{calls, reader, sheet};
+use std::sync::OnceLock;
 
-#[link(name = "probe", kind = "static")]
-extern "C" {
-    fn probe_book(book: *const u8, length: usize, n: usize) -> CAnswer;
-    fn probe_edit(edit: *const u8, length: usize, n: usize) -> CAnswer;
-    fn probe_first_rule(text: *const u8, length: usize) -> CThree;
-    fn probe_rule_start(book: *const u8, length: usize, n: usize, i: usize) -> usize;
+/// The blank sheet of n, on which a text is asked as a book and as an edit.
+struct Blank {
+    graph: Graph,
+    bytes: Vec<u8>,
 }
 
-fn book(tally: &mut Tally, text: &[u8], n: usize) {
-    let lent = Lent::of(text);
-    let found = unsafe { probe_book(lent.ptr(), lent.len(), n) };
-    let found = Outcome::new(&[found.number, found.place], vec![lent]);
-    let wanted = Outcome::of_answer(answer_of(&reader::book(text, n)), vec![Lent::of(text)]);
-    tally.compare("book", &found, &wanted, &[("book", text), ("n", &[n as u8])]);
+impl Blank {
+    fn of(n: usize) -> Blank {
+        let graph = Graph::blank(n);
+        Blank { bytes: sheet::store(&graph), graph }
+    }
+
+    /// The questions of a book, and whether its rules hold on the blank sheet.
+    fn book(&self, tally: &mut Tally, text: &[u8]) {
+        let (lent, lent_text) = (Lent::of(&self.bytes), Lent::of(text));
+        let found = unsafe { zamiathen_judge(lent.ptr(), lent.len(), lent_text.ptr(), lent_text.len()) };
+        let found = Outcome::new(&[found.number, found.place, found.start, found.length], vec![lent, lent_text]);
+        let judged = calls::judge_on(&self.graph, text);
+        let numbers = [judged.answer.number, judged.answer.place, judged.start, judged.length];
+        let wanted = Outcome::new(&numbers, vec![Lent::of(&self.bytes), Lent::of(text)]);
+        tally.compare("book", &found, &wanted, &[("book", text), ("n", &self.bytes[2..3])]);
+    }
+
+    /// The questions of an edit, and what its steps leave of the blank sheet.
+    fn edit(&self, tally: &mut Tally, text: &[u8]) {
+        let (mut lent, lent_text) = (Lent::of(&self.bytes), Lent::of(text));
+        let found = unsafe { zamiathen_apply(lent.mut_ptr(), lent.len(), lent_text.ptr(), lent_text.len()) };
+        let found = Outcome::new(&[found.number, found.place], vec![lent, lent_text]);
+        let asked = calls::apply_on(&self.graph, text);
+        let answer = answer_of(&asked);
+        let after = asked.map_or_else(|_| Lent::of(&self.bytes), |graph| Lent::of(&sheet::store(&graph)));
+        let wanted = Outcome::of_answer(answer, vec![after, Lent::of(text)]);
+        tally.compare("edit", &found, &wanted, &[("edit", text), ("n", &self.bytes[2..3])]);
+    }
 }
 
-fn edit(tally: &mut Tally, text: &[u8], n: usize) {
-    let lent = Lent::of(text);
-    let found = unsafe { probe_edit(lent.ptr(), lent.len(), n) };
-    let found = Outcome::new(&[found.number, found.place], vec![lent]);
-    let wanted = Outcome::of_answer(answer_of(&reader::edit(text, n)), vec![Lent::of(text)]);
-    tally.compare("edit", &found, &wanted, &[("edit", text), ("n", &[n as u8])]);
+/// The blank sheet of n, from 1 to 60, made once.
+fn blank(n: usize) -> &'static Blank {
+    static BLANKS: OnceLock<Vec<Blank>> = OnceLock::new();
+    &BLANKS.get_or_init(|| (1..=MOST_NODES).map(Blank::of).collect())[n - 1]
 }
 
 fn first_rule(tally: &mut Tally, text: &[u8]) {
     let lent = Lent::of(text);
-    let found = unsafe { probe_first_rule(lent.ptr(), lent.len()) };
-    let found = Outcome::new(&[found.number, found.place, found.third], vec![lent]);
+    let found = unsafe { zamiathen_first_rule(lent.ptr(), lent.len()) };
+    let found = Outcome::new(&[found.number, found.place, found.length], vec![lent]);
     let asked = reader::first_rule(text);
     let answer = answer_of(&asked);
     let wanted = Outcome::new(&[answer.number, answer.place, asked.unwrap_or(0)], vec![Lent::of(text)]);
     tally.compare("first rule", &found, &wanted, &[("text", text)]);
 }
 
-/// Where rules 0 to 34 start, and one that no text has.
+/// Where rules 0 to 34 start, and one that no text has. This is asked with any n.
 fn rule_starts(tally: &mut Tally, text: &[u8], n: usize) {
     let asked: Vec<usize> = (0..=34).chain([usize::MAX]).collect();
     let lent = Lent::of(text);
-    let found: Vec<usize> = asked.iter().map(|i| unsafe { probe_rule_start(lent.ptr(), lent.len(), n, *i) }).collect();
+    let start = |rule: &usize| unsafe { zamiathen_rule_start(lent.ptr(), lent.len(), n, *rule) };
+    let found: Vec<usize> = asked.iter().map(start).collect();
     let found = Outcome::new(&found, vec![lent]);
     let starts = reader::rule_starts(text, n);
     let wanted: Vec<usize> = asked.iter().map(|i| starts.get(*i).copied().unwrap_or(text.len())).collect();
     let wanted = Outcome::new(&wanted, vec![Lent::of(text)]);
-    tally.compare_numbers("rule starts", &found, &wanted, &[("book", text), ("n", &[n as u8])]);
+    tally.compare_numbers("rule starts", &found, &wanted, &[("book", text), ("n", &n.to_le_bytes())]);
 }
 
 fn all(tally: &mut Tally, text: &[u8], n: usize) {
-    book(tally, text, n);
-    edit(tally, text, n);
+    blank(n).book(tally, text);
+    blank(n).edit(tally, text);
     first_rule(tally, text);
     rule_starts(tally, text, n);
 }
@@ -87,9 +109,15 @@ fn limit_texts(tally: &mut Tally) {
             }
         }
     }
-    for n in 0..=60usize {
-        for number in [0, n.wrapping_sub(1), n, n + 1, 15, 16, 47, 48, 59, 60, 255] {
+    for n in 1..=60 {
+        for number in [0, n - 1, n, n + 1, 15, 16, 47, 48, 59, 60, 61, 255] {
             limits::numbers(number as u8).iter().for_each(|text| all(tally, text, n));
+        }
+    }
+    // A rule's start is asked with any n, also one that no sheet has.
+    for n in [0, 61, 255, 256, 257, 1 << 32, usize::MAX] {
+        for number in [0, 1, 59, 60, 61, 254, 255] {
+            limits::numbers(number).iter().for_each(|text| rule_starts(tally, text, n));
         }
     }
 }
@@ -114,7 +142,7 @@ fn changed_bytes(tally: &mut Tally) {
 fn random_texts(tally: &mut Tally, rounds: usize) {
     let mut random = Random::new(12);
     for _ in 0..rounds {
-        let n = random.below(61);
+        let n = 1 + random.below(60);
         let text = texts::any(&mut random, n);
         all(tally, &text, n);
     }
@@ -126,5 +154,5 @@ fn main() {
     limit_texts(&mut tally);
     changed_bytes(&mut tally);
     random_texts(&mut tally, 220_000);
-    tally.finish(&[0, 11, 12, 13, 14, 15, 16, 21, 22, 23, 24, 25, 26]);
+    tally.finish(&[0, 11, 12, 13, 14, 15, 16, 21, 22, 23, 24, 25, 26, 41]);
 }

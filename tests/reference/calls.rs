@@ -3,7 +3,7 @@
 use crate::answer::{answer_of, refuse, Answer, Asked, DONE};
 use crate::carry::carry;
 use crate::clerk::Clerk;
-use crate::graph::MOST_NODES;
+use crate::graph::{Graph, MOST_NODES};
 use crate::meaning::first_broken;
 use crate::{reader, sheet, steps};
 
@@ -24,13 +24,18 @@ pub struct Lengthy {
 
 /// Judge a book on a sheet.
 pub fn judge(bytes: &[u8], book: &[u8]) -> Judged {
-    judged(bytes, book).unwrap_or_else(|answer| Judged { answer, start: 0, length: 0 })
+    let judged = sheet::ask(bytes).map(|_| judge_on(&sheet::read(bytes), book));
+    judged.unwrap_or_else(|answer| Judged { answer, start: 0, length: 0 })
 }
 
-fn judged(bytes: &[u8], book: &[u8]) -> Asked<Judged> {
-    let n = sheet::ask(bytes)?;
-    let rules = reader::book(book, n)?;
-    Ok(match first_broken(&sheet::read(bytes), rules.iter().map(|placed| &placed.rule)) {
+/// The same on the graph of a sound sheet.
+pub fn judge_on(graph: &Graph, book: &[u8]) -> Judged {
+    judged(graph, book).unwrap_or_else(|answer| Judged { answer, start: 0, length: 0 })
+}
+
+fn judged(graph: &Graph, book: &[u8]) -> Asked<Judged> {
+    let rules = reader::book(book, graph.n)?;
+    Ok(match first_broken(graph, rules.iter().map(|placed| &placed.rule)) {
         None => Judged { answer: DONE, start: 0, length: 0 },
         Some(place) => {
             let part = rules[place].part.clone();
@@ -49,9 +54,14 @@ pub fn apply(bytes: &mut [u8], edit: &[u8]) -> Answer {
 }
 
 fn applied(bytes: &[u8], edit: &[u8]) -> Asked<Vec<u8>> {
-    let n = sheet::ask(bytes)?;
-    let steps = reader::edit(edit, n)?;
-    Ok(sheet::store(&steps::carried_out(&sheet::read(bytes), &steps)))
+    sheet::ask(bytes)?;
+    Ok(sheet::store(&apply_on(&sheet::read(bytes), edit)?))
+}
+
+/// The same on the graph of a sound sheet: the graph that the steps leave.
+pub fn apply_on(graph: &Graph, edit: &[u8]) -> Asked<Graph> {
+    let steps = reader::edit(edit, graph.n)?;
+    Ok(steps::carried_out(graph, &steps))
 }
 
 /// Carry a book back into an output.

@@ -9,16 +9,15 @@ use Rattle.answer.specs.Asked.{Asked, passed, refused, _>>_, after, outcome}
 use Rattle.answer.specs.Answers.{asked, refusalNumber, refusalPlace}
 use Rattle.answer.proofs.AnswerLaws.{Learned, learned, not-learned}
 use Rattle.logic.specs.Syntax.{Edit}
-use Rattle.logic.specs.Steps.{run}
 use Rattle.logic.specs.Limits.{ranges, EditInRange}
-use Rattle.sheet.specs.Sheet.{store, graphOf}
+use Rattle.sheet.specs.Sheet.{graphOf}
 use Rattle.sheet.specs.Questions.{askSheet, Sound}
 use Rattle.text.specs.Code.{editCode}
 use Rattle.text.specs.Reading.{textLimits}
 use Rattle.text.specs.Questions.{askEdit}
 use Rattle.text.specs.Stands.{EditStands, SomeEditStands}
 use Rattle.text.proofs.Books.{edit-is-spelled}
-use Rattle.apply.specs.Apply.{askApply, appliedSheet}
+use Rattle.apply.specs.Apply.{afterSteps, askApply, appliedSheet}
 use Rattle.apply.specs.Made.{Made}
 
 -- Answer and sheet are as the contract says.
@@ -33,7 +32,7 @@ module _ (sheet edit : List ℕ) where
   -- a refusal leaves the sheet
   stays : (a : Answer) (r : Refusal) → a ≡ Refused r → askApply sheet edit ≡ refused (refusalNumber r) (refusalPlace r) → Applied sheet edit a sheet
   unfolding outcome appliedSheet after
-  stays a r e q = record { answer = ap asked e ∙ ap outcome (sym q); sheet-is = ap (λ (x : Asked Edit). after x (λ Z. store (run Z (graphOf sheet))) sheet) (sym q) }
+  stays a r e q = record { answer = ap asked e ∙ ap outcome (sym q); sheet-is = ap (λ (x : Asked Edit). after x (λ Z. afterSteps Z sheet) sheet) (sym q) }
 
   pub sheet-refused : (a : Answer) (r : Refusal) → asked a ≡ askSheet sheet → a ≡ Refused r → Applied sheet edit a sheet
   unfolding askApply _>>_
@@ -68,4 +67,4 @@ module _ (sheet edit : List ℕ) where
       edit-made next now f =
           let q = reads b s e in
           let a : askApply sheet edit ≡ passed (q .what) = asks-edit ∙ q .is in
-          record { answer = ap outcome (sym a); sheet-is = f (q .what) (stands q) .sheet-is ∙ ap (λ (x : Asked Edit). after x (λ Z. store (run Z (graphOf sheet))) sheet) (sym a) }
+          record { answer = ap outcome (sym a); sheet-is = f (q .what) (stands q) .sheet-is ∙ ap (λ (x : Asked Edit). after x (λ Z. afterSteps Z sheet) sheet) (sym a) }

@@ -25,6 +25,7 @@ use Rattle.text.specs.Code.{code, editCode}
 use Rattle.text.specs.Stands.{Stands, EditStands, SomeEditStands}
 use Rattle.eval.specs.Evaluated.{Opened, IsSet, IsRelation, IsTruth}
 use Rattle.ends.specs.Edits.{behindStep}
+use Rattle.apply.specs.Apply.{afterSteps}
 use Rattle.apply.specs.Made.{labelOperation, arrowCode, Ready, StepMade, Made}
 use Rattle.apply.proofs.Cases.{labelMade, arrowMade, IsStep, IsChoose, is-finish}
 
@@ -125,7 +126,7 @@ module _ (t : List ℕ) (n all : ℕ) (r : Ready t n all) where
 
     -- A step 35 made: Y is the way taken.
     way-made : (q : IsChoose (ranges n) edit at Z) (Y : Edit) (next : ℕ) (t′ : List ℕ) → EditInRange (ranges n) Y → cond (value (graphOf t) (q .K)) (run (q .P) (graphOf t)) (run (q .Q) (graphOf t)) ≡ run Y (graphOf t)
-        → t′ ≡ store (run Y (graphOf t)) → next ≡ at + 1 + length (code (q .K)) + length (editCode (q .P)) + length (editCode (q .Q)) → StepMade n edit at Z next t t′
+        → t′ ≡ afterSteps Y t → next ≡ at + 1 + length (code (q .K)) + length (editCode (q .P)) + length (editCode (q .Q)) → StepMade n edit at Z next t t′
     way-made q Y next t′ range c e a =
         record {
           stands = q .next next a;

@@ -1,4 +1,4 @@
--- Carrying out an edit without a book: the sheet's questions, 1 to 4, then the edit's, 21 to 26. What is learned is the edit.
+-- Carrying out an edit: the sheet that its steps leave; and the call for it, without a book.
 use mathlib.Core.List.{List}
 use Prim.Native.Nat.{ℕ}
 use Rattle.answer.specs.Asked.{Asked, _>>_, after}
@@ -9,11 +9,16 @@ use Rattle.sheet.specs.Questions.{askSheet}
 use Rattle.text.specs.Reading.{textLimits}
 use Rattle.text.specs.Questions.{askEdit}
 
+-- The sheet that the steps of an edit leave: the one that stores the graph that they leave.
+abbrev pub afterSteps : Edit → List ℕ → List ℕ
+afterSteps Z sheet = store (run Z (graphOf sheet))
+
+-- The sheet's questions, 1 to 4, then the edit's, 21 to 26. What is learned is the edit.
 unfoldable pub askApply : List ℕ → List ℕ → Asked Edit
 askApply sheet edit = do
   askSheet sheet
   askEdit (textLimits (graphOf sheet .n)) edit
 
--- The sheet afterwards: the one that stores the graph that the steps leave, or as it was.
+-- The sheet afterwards: the one that the steps leave, or as it was.
 unfoldable pub appliedSheet : List ℕ → List ℕ → List ℕ
-appliedSheet sheet edit = after (askApply sheet edit) (λ Z. store (run Z (graphOf sheet))) sheet
+appliedSheet sheet edit = after (askApply sheet edit) (λ Z. afterSteps Z sheet) sheet

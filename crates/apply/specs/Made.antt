@@ -14,6 +14,7 @@ use Rattle.sheet.specs.Sheet.{store, graphOf}
 use Rattle.text.specs.Code.{editCode}
 use Rattle.text.specs.Stands.{EditStands}
 use Rattle.ends.specs.Edits.{behindStep}
+use Rattle.apply.specs.Apply.{afterSteps}
 
 -- 31 adds to a label, 32 takes from it: whether a node has the label after the step, from whether it had it and is in E.
 abbrev pub labelOperation : ℕ → Bool → Bool → Bool
@@ -39,5 +40,5 @@ pub record StepMade (n : ℕ) (edit : List ℕ) (at : ℕ) (Z : Edit) (next : �
 
 -- All steps of Z were made, and `next` is behind it.
 pub record Made (at : ℕ) (Z : Edit) (next : ℕ) (before now : List ℕ) : Type 0 where
-  pub sheet-is : now ≡ store (run Z (graphOf before))
+  pub sheet-is : now ≡ afterSteps Z before
   pub ends : next ≡ at + length (editCode Z)

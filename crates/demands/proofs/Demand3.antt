@@ -17,9 +17,10 @@ use Rattle.sheet.proofs.ReadBack.{read-back}
 use Rattle.sheet.proofs.Opening.{Opened, opening}
 use Rattle.text.specs.Reading.{textLimits}
 use Rattle.text.specs.Questions.{askBook}
-use Rattle.eval.specs.Judge.{askSheetAndBook}
+use Rattle.judge.specs.Questions.{askSheetAndBook}
 use Rattle.carry.specs.Carrying.{askSize}
-use Rattle.demands.specs.Enter.{afterSteps, askEnter, enterAnswer, enterSheet}
+use Rattle.apply.specs.Apply.{afterSteps}
+use Rattle.demands.specs.Enter.{askEnter, enterAnswer, enterSheet}
 use Rattle.demands.specs.Clerk.{Fed, rulesOf, clerkLog, clerk}
 use Rattle.demands.specs.Run.{Hold, Keeps, Call, fed, log, enteredAfterEach, madeInOrder, Bytes, Given}
 use Rattle.demands.specs.Demand3.{Each, RunRight, Demand3}

@@ -23,7 +23,7 @@ use Rattle.text.specs.Reading.{textLimits, codes, choice, follow}
 use Rattle.text.specs.Reading as reading
 use Rattle.text.specs.Questions.{whole, readRules, askBook, askEdit}
 use Rattle.text.specs.Marked.{sheetT, B}
-use Rattle.eval.specs.Judge.{askRules}
+use Rattle.judge.specs.Questions.{askRules}
 use Rattle.carry.specs.Carrying.{askSize, writtenAtStart}
 use Rattle.demands.specs.Enter.{EditAndRules, askCarried, askEnter, enterSheet, enterScratch}
 use Rattle.demands.specs.Examples.{Result, scratchOf, enteredOnT, calls, results}

@@ -8,7 +8,7 @@ use Rattle.sheet.specs.Sheet.{graphOf}
 use Rattle.sheet.specs.Questions.{askSheet}
 use Rattle.text.specs.Reading.{textLimits}
 use Rattle.text.specs.Questions.{askBook}
-use Rattle.eval.specs.Judge.{askSheetAndBook, askRules, askJudge}
+use Rattle.judge.specs.Questions.{askSheetAndBook, askRules, askJudge}
 use Rattle.demands.specs.Run.{Keeps}
 use Rattle.demands.proofs.Passing.{bind-passed, then-passed, hold-asked, asked-hold}
 

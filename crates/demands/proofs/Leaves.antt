@@ -12,9 +12,10 @@ use Rattle.logic.specs.Graph.{Graph}
 use Rattle.logic.specs.Meaning.{value}
 use Rattle.sheet.specs.Sheet.{graphOf}
 use Rattle.text.specs.Code.{bookCode}
-use Rattle.eval.specs.Judge.{askSheetAndBook, askRules}
+use Rattle.judge.specs.Questions.{askSheetAndBook, askRules}
 use Rattle.carry.specs.Carrying.{writtenAtStart}
-use Rattle.demands.specs.Enter.{afterSteps, EditAndRules, askCarried, askEnter, enterAnswer, enterSheet, enterScratch}
+use Rattle.apply.specs.Apply.{afterSteps}
+use Rattle.demands.specs.Enter.{EditAndRules, askCarried, askEnter, enterAnswer, enterSheet, enterScratch}
 use Rattle.demands.specs.Run.{Call, log}
 use Rattle.demands.specs.Demand3.{Each}
 use Rattle.demands.specs.Leaves.{Written, Leaves}

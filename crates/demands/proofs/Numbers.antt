@@ -10,7 +10,7 @@ use Rattle.sheet.specs.Sheet.{graphOf}
 use Rattle.sheet.specs.Questions.{askBlock, askBlocks, askSheet}
 use Rattle.text.specs.Reading.{Limits, textLimits, expr, Fault, missing, wrongSort, tooDeep, outOfRange, Read, got, fault, readAs}
 use Rattle.text.specs.Questions.{faultNumber, mostRules, whole, readRules, askBook, askEdit}
-use Rattle.eval.specs.Judge.{askSheetAndBook}
+use Rattle.judge.specs.Questions.{askSheetAndBook}
 use Rattle.carry.specs.Carrying.{askSize}
 use Rattle.demands.specs.Enter.{askCarried}
 

@@ -12,7 +12,7 @@ use Rattle.logic.specs.Meaning.{value}
 use Rattle.logic.specs.Steps.{run}
 use Rattle.logic.specs.Carry.{carriedBook}
 use Rattle.logic.proofs.Theorem.{carried}
-use Rattle.eval.specs.Judge.{askRules}
+use Rattle.judge.specs.Questions.{askRules}
 use Rattle.demands.specs.Run.{Hold}
 
 -- All of two lists of questions have passed when each has.

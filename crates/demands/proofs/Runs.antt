@@ -2,20 +2,21 @@
 use mathlib.Core.Path.{_≡_, refl, sym, _∙_, ap, ap₂, subst}
 use mathlib.Core.List.{List, [], _∷_, _++_, map}
 use Prim.Native.Nat.{ℕ}
-use Rattle.answer.specs.Asked.{Asked, passed, refused, _>>=_, after, outcome}
+use Rattle.answer.specs.Asked.{Asked, passed, refused, _>>=_, _>>_, after, outcome}
 use Rattle.logic.specs.Syntax.{Expr, rule, Edit}
 use Rattle.logic.specs.Graph.{Graph}
 use Rattle.logic.specs.Steps.{run}
 use Rattle.logic.specs.Limits.{Within, ranges}
 use Rattle.logic.proofs.Inside.{run-n, run-within}
-use Rattle.sheet.specs.Sheet.{store}
+use Rattle.sheet.specs.Sheet.{store, graphOf}
 use Rattle.sheet.proofs.Passes.{stored-passes}
 use Rattle.sheet.proofs.ReadBack.{read-back}
 use Rattle.text.specs.Reading.{textLimits}
 use Rattle.text.specs.Questions.{askBook, askEdit}
 use Rattle.text.proofs.Books.{edit-is-spelled}
+use Rattle.apply.specs.Apply.{afterSteps, askApply, appliedSheet}
 use Rattle.demands.specs.Clerk.{Fed, clerkGraph, clerkLine, clerkLog}
-use Rattle.demands.specs.Run.{Hold, Keeps, Call, fed, log, entered, enteredAfterEach, made, madeInOrder}
+use Rattle.demands.specs.Run.{Hold, Keeps, Call, fed, log, entered, enteredAfterEach, madeInOrder}
 use Rattle.demands.specs.Demand3.{Each}
 use Rattle.demands.proofs.OneCall.{askSteps, Entered, when-passed, clerk-asks, clerk-line, enter-line}
 
@@ -23,10 +24,18 @@ use Rattle.demands.proofs.OneCall.{askSteps, Entered, when-passed, cler
 pub steps-within : (g : Graph) (edit : List ℕ) (Z : Edit) → Within g → askEdit (textLimits (g .n)) edit ≡ passed Z → Within (run Z g)
 steps-within g edit Z w e = run-within (ranges (g .n)) Z (edit-is-spelled (textLimits (g .n)) edit Z e .within .numbers-fit) g w
 
-made-last : (sheet : List ℕ) (edits : List (List ℕ)) (edit : List ℕ) → madeInOrder sheet (edits ++ (edit ∷ [])) ≡ made edit (madeInOrder sheet edits)
+made-last : (sheet : List ℕ) (edits : List (List ℕ)) (edit : List ℕ) → madeInOrder sheet (edits ++ (edit ∷ [])) ≡ appliedSheet (madeInOrder sheet edits) edit
 unfolding madeInOrder
 made-last sheet [] edit = refl
-made-last sheet (e ∷ edits) edit = made-last (made e sheet) edits edit
+made-last sheet (e ∷ edits) edit = made-last (appliedSheet sheet e) edits edit
+
+-- An edit carried out on the sheet that stores a graph.
+applied-stored : (g : Graph) (edit : List ℕ) (Z : Edit) → Within g → askEdit (textLimits (g .n)) edit ≡ passed Z → appliedSheet (store g) edit ≡ store (run Z g)
+unfolding appliedSheet askApply _>>_ after
+applied-stored g edit Z w e =
+    ap (λ q. after (q >> askEdit (textLimits (graphOf (store g) .n)) edit) (λ Y. afterSteps Y (store g)) (store g)) (stored-passes g w)
+    ∙ ap (λ h. after (askEdit (textLimits (h .n)) edit) (λ Y. store (run Y h)) (store g)) (read-back g w)
+    ∙ ap (λ q. after q (λ Y. store (run Y g)) (store g)) e
 
 module _ (book : List ℕ) (rules : List (Expr rule)) where
   -- A graph whose sheet keeps the book.
@@ -89,9 +98,8 @@ module _ (book : List ℕ) (rules : List (Expr rule)) where
       go : (q : Asked Edit) → askSteps rules g c ≡ q → madeInOrder opening (after (outcome q) (λ u. edits ++ (c .edit ∷ [])) edits) ≡ store (after q (λ Z. run Z g) g)
       go (passed Z) f =
           made-last opening edits (c .edit)
-          ∙ ap (made (c .edit)) e
-          ∙ ap (λ h. after (askEdit (textLimits (h .n)) (c .edit)) (λ Y. store (run Y h)) (store g)) (read-back g (k .within))
-          ∙ ap (λ q. after q (λ Y. store (run Y g)) (store g)) (when-passed rules g c Z f .edit-read)
+          ∙ ap (λ s. appliedSheet s (c .edit)) e
+          ∙ applied-stored g (c .edit) Z (k .within) (when-passed rules g c Z f .edit-read)
       go (refused n p) f = e
 
   pub alone-each : (opening : List ℕ) (edits : List (List ℕ)) (g : Graph) (calls : List Fed) → Kept g → madeInOrder opening edits ≡ store g → map (λ l. l .sheet) (clerkLog rules g calls) ≡ map (madeInOrder opening) (enteredAfterEach edits (clerkLog rules g calls))

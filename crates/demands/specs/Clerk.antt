@@ -10,7 +10,7 @@ use Rattle.logic.specs.Carry.{carriedBook}
 use Rattle.sheet.specs.Sheet.{store, graphOf}
 use Rattle.text.specs.Reading.{textLimits}
 use Rattle.text.specs.Questions.{askBook, askEdit}
-use Rattle.eval.specs.Judge.{askRules}
+use Rattle.judge.specs.Questions.{askRules}
 use Rattle.carry.specs.Carrying.{askSize}
 
 -- What he is fed for a call.

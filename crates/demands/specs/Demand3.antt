@@ -10,7 +10,8 @@ use Rattle.logic.specs.Meaning.{value}
 use Rattle.logic.specs.Carry.{carry, carriedBook}
 use Rattle.sheet.specs.Sheet.{graphOf}
 use Rattle.carry.specs.Carrying.{askSize}
-use Rattle.demands.specs.Enter.{afterSteps, enterAnswer, enterSheet}
+use Rattle.apply.specs.Apply.{afterSteps}
+use Rattle.demands.specs.Enter.{enterAnswer, enterSheet}
 use Rattle.demands.specs.Clerk.{Line, clerk}
 use Rattle.demands.specs.Run.{Hold, Keeps, Call, fed, log, enteredAfterEach, madeInOrder, Bytes, Given, Condition, Ensures}
 

@@ -4,18 +4,14 @@ use Prim.Native.Nat.{ℕ}
 use lib.ListN.{length}
 use Rattle.answer.specs.Asked.{Asked, passed, _>>=_, _>>_, after, outcome}
 use Rattle.logic.specs.Syntax.{Expr, rule, Edit}
-use Rattle.logic.specs.Steps.{run}
 use Rattle.logic.specs.Carry.{carriedBook}
-use Rattle.sheet.specs.Sheet.{store, graphOf}
+use Rattle.sheet.specs.Sheet.{graphOf}
 use Rattle.text.specs.Code.{bookCode}
 use Rattle.text.specs.Reading.{textLimits}
 use Rattle.text.specs.Questions.{askEdit}
-use Rattle.eval.specs.Judge.{askSheetAndBook, askRules}
+use Rattle.judge.specs.Questions.{askSheetAndBook, askRules}
 use Rattle.carry.specs.Carrying.{askSize, writtenAtStart}
-
--- The sheet that the steps of an edit leave.
-abbrev pub afterSteps : Edit → List ℕ → List ℕ
-afterSteps Z sheet = store (run Z (graphOf sheet))
+use Rattle.apply.specs.Apply.{afterSteps}
 
 -- The edit, and the rules of the book carried back through it.
 pub record EditAndRules : Type 0 where

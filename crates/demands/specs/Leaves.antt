@@ -7,7 +7,7 @@ use Prim.Native.Nat.{ℕ}
 use lib.ListN.{length}
 use Rattle.answer.specs.Asked.{passed, refused}
 use Rattle.text.specs.Code.{bookCode}
-use Rattle.eval.specs.Judge.{askSheetAndBook}
+use Rattle.judge.specs.Questions.{askSheetAndBook}
 use Rattle.carry.specs.Carrying.{writtenAtStart}
 use Rattle.demands.specs.Enter.{EditAndRules, askCarried, enterAnswer, enterSheet, enterScratch}
 use Rattle.demands.specs.Run.{Call, log}

@@ -12,7 +12,8 @@ use Rattle.sheet.specs.Sheet.{graphOf}
 use Rattle.sheet.specs.Questions.{Sound}
 use Rattle.text.specs.Reading.{textLimits}
 use Rattle.text.specs.Questions.{askBook, askEdit}
-use Rattle.demands.specs.Enter.{afterSteps, enterAnswer, enterSheet}
+use Rattle.apply.specs.Apply.{afterSteps, appliedSheet}
+use Rattle.demands.specs.Enter.{enterAnswer, enterSheet}
 use Rattle.demands.specs.Clerk.{Fed, Line}
 
 -- Each rule holds on the graph.
@@ -59,13 +60,10 @@ unfoldable pub enteredAfterEach : List (List ℕ) → List Line → List (List (
 enteredAfterEach edits [] = []
 enteredAfterEach edits (l ∷ ls) = entered edits l ∷ enteredAfterEach (entered edits l) ls
 
--- The sheet that the steps of an edit, given by its text, leave; then those of several, made in their order.
-abbrev pub made : List ℕ → List ℕ → List ℕ
-made edit sheet = after (askEdit (textLimits (graphOf sheet .n)) edit) (λ Z. afterSteps Z sheet) sheet
-
+-- What edits leave when their steps are made in their order, each carried out alone.
 unfoldable pub madeInOrder : List ℕ → List (List ℕ) → List ℕ
 madeInOrder sheet [] = sheet
-madeInOrder sheet (edit ∷ edits) = madeInOrder (made edit sheet) edits
+madeInOrder sheet (edit ∷ edits) = madeInOrder (appliedSheet sheet edit) edits
 
 -- The contents of a buffer of bytes.
 abbrev pub Bytes : List ℕ → Type 0

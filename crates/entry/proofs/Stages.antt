@@ -20,7 +20,7 @@ use Rattle.text.specs.Questions.{askBook, askEdit}
 use Rattle.text.specs.Stands.{EditStands, RulesInRange}
 use Rattle.text.proofs.Books.{EachAllowed, book-is-spelled, edit-is-spelled}
 use Rattle.text.proofs.Carried.{carry-in}
-use Rattle.eval.specs.Judge.{askRules, askSheetAndBook}
+use Rattle.judge.specs.Questions.{askRules, askSheetAndBook}
 use Rattle.judge.specs.Judging.{RulesStand}
 use Rattle.carry.specs.Carrying.{askSize, writtenAtStart}
 use Rattle.carry.specs.Written.{Into}
@@ -28,7 +28,8 @@ use Rattle.carry.specs.Answers.{carriedAsked}
 use Rattle.carry.specs.declared.Carried as into
 use Rattle.carry.specs.declared.Carried.the-variants as into-case
 use Rattle.answer.proofs.AnswerLaws.{not-learned}
-use Rattle.demands.specs.Enter.{EditAndRules, afterSteps, askCarried, askEnter, enterAnswer, enterSheet, enterScratch}
+use Rattle.apply.specs.Apply.{afterSteps}
+use Rattle.demands.specs.Enter.{EditAndRules, askCarried, askEnter, enterAnswer, enterSheet, enterScratch}
 use Rattle.entry.specs.Settled.{Settled}
 
 module _ {rules : List (Expr rule)} (Z : Edit) {sheet : List ℕ} (a : Answer) (e : asked a ≡ askRules (graphOf sheet) rules 0) where

@@ -7,8 +7,8 @@ use Rattle.answer.specs.Answers.{asked}
 use Rattle.answer.specs.declared.Answer.{Answer}
 use Rattle.logic.specs.Syntax.{Expr, rule, Edit}
 use Rattle.sheet.specs.Sheet.{graphOf}
-use Rattle.eval.specs.Judge.{askRules}
-use Rattle.demands.specs.Enter.{afterSteps}
+use Rattle.judge.specs.Questions.{askRules}
+use Rattle.apply.specs.Apply.{afterSteps}
 
 pub record Settled (rules : List (Expr rule)) (Z : Edit) (answer : Answer) (sheet sheet′ : List ℕ) : Type 0 where
   pub answer-is : asked answer ≡ askRules (graphOf sheet) rules 0

@@ -11,17 +11,16 @@ use Rattle.logic.specs.Syntax.{node, arrow, Expr, all, none, label, nominal, co
 use Rattle.logic.specs.Graph.{Graph, Nodes, Pairs, isNode}
 use Rattle.logic.specs.Meaning.{value}
 use Rattle.logic.specs.Limits.{ranges, InRange}
+use Rattle.logic.proofs.Below.{count-cong}
 use Rattle.words.specs.Words.{setOf, member, combined}
-use Rattle.words.proofs.SetLaws.{setOf-cong, setOf-none, setOf-member-lt, member-setOf, combined-sets}
-use Rattle.words.proofs.MemberLaws.{count-cong}
+use Rattle.words.proofs.SetLaws.{setOf-cong, setOf-none, member-zero, setOf-member-lt, member-setOf, combined-sets}
 use Rattle.sheet.specs.Sheet.{graphOf, Rows}
 use Rattle.text.specs.Code.{code}
 use Rattle.text.specs.Stands.{Stands}
 use Rattle.rows.specs.Operations.{quantified, quantifiedNodes, answered, least, looked, turn}
-use Rattle.rows.proofs.Walks.{member-zero}
 use Rattle.rows.proofs.Quantifiers.{quantified-is, set-small}
 use Rattle.eval.specs.Evaluated.{Opened, IsSet, IsPart, IsRelation, IsTurned}
-use Rattle.eval.proofs.ArrowCases.{IsKind, as-kind}
+use Rattle.eval.proofs.ArrowCases.{as-kind}
 use Rattle.eval.proofs.Places.{first-number, code-at, inside-at, Operand, Operands, operand-at, operands-at}
 
 -- below n there is a node

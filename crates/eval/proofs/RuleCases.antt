@@ -2,7 +2,7 @@
 use mathlib.Core.Path.{_≡_, refl, sym, ap, ap₂, _∙_}
 use mathlib.Core.Bool.{Bool, true, false, not, _&&_, _||_, cond}
 use mathlib.Core.List.{List, [], _∷_}
-use Prim.Native.Nat.{ℕ, zero, suc, _+_, _≤_, _<_}
+use Prim.Native.Nat.{ℕ, _+_, _≤_, _<_}
 use native.Mathlib.Omega.{arith}
 use lib.Dec.{eqb, ltb→lt}
 use borrow.Author.Tests.{eq-eqb}
@@ -11,6 +11,7 @@ use Rattle.logic.specs.Syntax.{node, arrow, rule, Expr, subNodes, subArrows, no
 use Rattle.logic.specs.Graph.{Graph, Nodes, Pairs, isNode, allBelow, implies}
 use Rattle.logic.specs.Meaning.{value}
 use Rattle.logic.specs.Limits.{ranges, InRange}
+use Rattle.logic.proofs.Below.{all-cong}
 use Rattle.words.specs.Words.{setOf, member}
 use Rattle.words.proofs.SetLaws.{member-setOf}
 use Rattle.sheet.specs.Sheet.{graphOf, Rows}
@@ -19,11 +20,6 @@ use Rattle.text.specs.Stands.{Stands}
 use Rattle.eval.specs.Evaluated.{Opened, IsPart, IsRelation, IsTruth, ruleOperation, decided}
 use Rattle.eval.proofs.NodeCases.{node-there, part-whole}
 use Rattle.eval.proofs.Places.{first-number, second-number, code-at, Operand, Operands, operand-at, operands-at}
-
-all-cong : (n : ℕ) (p q : Nodes) → ((i : ℕ) → i < n → p i ≡ q i) → allBelow n p ≡ allBelow n q
-unfolding allBelow
-all-cong zero p q h = refl
-all-cong (suc n) p q h = ap₂ _&&_ (all-cong n p q (λ i l. h i (omega arith))) (h n (omega arith))
 
 module _ (n : ℕ) (text : List ℕ) (at : ℕ) where
   -- 21

@@ -18,27 +18,24 @@ use Rattle.text.specs.Code.{bookCode}
 use Rattle.text.specs.Reading.{textLimits}
 use Rattle.text.specs.Questions.{askBook}
 use Rattle.text.proofs.Books.{rules-in-range, book-is-spelled}
-use Rattle.eval.specs.Judge.{Part, noPart, askRules, brokenPart, askSheetAndBook, askJudge, judgedPart}
-use Rattle.judge.specs.Judging.{RulesStand}
+use Rattle.judge.specs.Questions.{askRules, askSheetAndBook, askJudge}
+use Rattle.judge.specs.Judging.{Part, noPart, brokenPart, judgedPart, RulesStand}
 
 module _ (sheet book : List ℕ) where
   -- What judge says: the answer and the part.
-  pub record Says (x : Asked (Unit {0})) (start size : ℕ) : Type 0 where
+  pub record Says (x : Asked (Unit {0})) (p : Part) : Type 0 where
     pub answer : x ≡ askJudge sheet book
-    pub starts : start ≡ judgedPart sheet book .start
-    pub sized : size ≡ judgedPart sheet book .size
+    pub part : p ≡ judgedPart sheet book
 
-  refused-both : (q p : ℕ) → askSheetAndBook sheet book ≡ refused q p → Says (refused q p) 0 0
+  refused-both : (q p : ℕ) → askSheetAndBook sheet book ≡ refused q p → Says (refused q p) noPart
   unfolding askJudge judgedPart _>>=_ after
   refused-both q p e =
-      let f : judgedPart sheet book ≡ noPart = ap (λ (x : Asked (List (Expr rule))). after x (λ rules. brokenPart (graphOf sheet) rules 0) noPart) e in
       record {
         answer = sym (ap (λ (x : Asked (List (Expr rule))). x >>= (λ rules. askRules (graphOf sheet) rules 0)) e);
-        starts = sym (ap (λ (s : Part). s .start) f);
-        sized = sym (ap (λ (s : Part). s .size) f);
+        part = sym (ap (λ (x : Asked (List (Expr rule))). after x (λ rules. brokenPart (graphOf sheet) rules 0) noPart) e);
       }
 
-  pub sheet-refused : (a : Answer) (r : Refusal) → asked a ≡ askSheet sheet → a ≡ Refused r → Says (asked a) 0 0
+  pub sheet-refused : (a : Answer) (r : Refusal) → asked a ≡ askSheet sheet → a ≡ Refused r → Says (asked a) noPart
   unfolding askSheetAndBook _>>_
   sheet-refused a r h e =
       rw e (refused-both (refusalNumber r) (refusalPlace r) (ap (_>> askBook (textLimits (graphOf sheet .n)) book) (sym h ∙ ap asked e)))
@@ -48,7 +45,7 @@ module _ (sheet book : List ℕ) where
     unfolding askSheetAndBook _>>_
     sheet-then-book = ap (_>> askBook (textLimits (graphOf sheet .n)) book) (sym sound ∙ ap asked d) ∙ ap (λ (m : ℕ). askBook (textLimits m) book) (sym count)
 
-    pub book-refused : (r : Refusal) → b ≡ Refused r → Says (asked b) 0 0
+    pub book-refused : (r : Refusal) → b ≡ Refused r → Says (asked b) noPart
     book-refused r e =
         rw e (refused-both (refusalNumber r) (refusalPlace r) (sheet-then-book ∙ not-learned (askBook (textLimits n) book) (refusalNumber r) (refusalPlace r) (sym (ap asked e) ∙ h)))
 
@@ -66,13 +63,10 @@ module _ (sheet book : List ℕ) where
             range = rules-in-range (textLimits n) (rules-read .what) (s .rules);
           })
 
-      pub judged : (x : Asked (Unit {0})) (start size : ℕ) → x ≡ askRules (graphOf sheet) (rules-read .what) 0
-          → start ≡ brokenPart (graphOf sheet) (rules-read .what) 0 .start → size ≡ brokenPart (graphOf sheet) (rules-read .what) 0 .size → Says x start size
+      pub judged : (x : Asked (Unit {0})) (p : Part) → x ≡ askRules (graphOf sheet) (rules-read .what) 0 → p ≡ brokenPart (graphOf sheet) (rules-read .what) 0 → Says x p
       unfolding askJudge judgedPart _>>=_ after
-      judged x start size p q r =
-          let f : judgedPart sheet book ≡ brokenPart (graphOf sheet) (rules-read .what) 0 = ap (λ (x : Asked (List (Expr rule))). after x (λ rules. brokenPart (graphOf sheet) rules 0) noPart) (sheet-then-book ∙ rules-read .is) in
+      judged x p a b =
           record {
-            answer = p ∙ sym (ap (λ (x : Asked (List (Expr rule))). x >>= (λ rules. askRules (graphOf sheet) rules 0)) (sheet-then-book ∙ rules-read .is));
-            starts = q ∙ sym (ap (λ (s : Part). s .start) f);
-            sized = r ∙ sym (ap (λ (s : Part). s .size) f);
+            answer = a ∙ sym (ap (λ (x : Asked (List (Expr rule))). x >>= (λ rules. askRules (graphOf sheet) rules 0)) (sheet-then-book ∙ rules-read .is));
+            part = b ∙ sym (ap (λ (x : Asked (List (Expr rule))). after x (λ rules. brokenPart (graphOf sheet) rules 0) noPart) (sheet-then-book ∙ rules-read .is));
           }

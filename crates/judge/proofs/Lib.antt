@@ -1,3 +1,3 @@
-mod Cutting
+mod Parts
 mod Rules
 mod Deciding

@@ -17,10 +17,10 @@ use Rattle.sheet.specs.Questions.{Sound}
 use Rattle.text.specs.Code.{code, bookCode}
 use Rattle.text.specs.Stands.{Stands, RulesInRange}
 use Rattle.eval.specs.Evaluated.{Opened, IsTruth}
-use Rattle.eval.specs.Judge.{noPart, askRules, brokenPart}
 use Rattle.eval.proofs.Places.{filled}
 use Rattle.text.proofs.Standing.{behind, within}
-use Rattle.judge.specs.Judging.{RulesStand}
+use Rattle.judge.specs.Questions.{askRules}
+use Rattle.judge.specs.Judging.{RulesStand, noPart, brokenPart}
 
 -- What the evaluators ask of the sheet.
 pub opened : (sheet : List ℕ) (n all : ℕ) → Sound sheet → n ≡ graphOf sheet .n → n ≤ maxNodes → all ≡ setOf (graphOf sheet .n) (isNode (graphOf sheet)) → Opened sheet n all

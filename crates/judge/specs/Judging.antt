@@ -1,21 +1,47 @@
 -- The first broken rule as a part of the book itself; and rules that stand one behind the other in a text.
 use mathlib.Core.Path.{_≡_}
-use mathlib.Core.List.{List, _++_}
+use mathlib.Core.Bool.{true, false}
+use mathlib.Core.List.{List, [], _∷_, _++_}
 use Prim.Native.Nat.{ℕ, _+_}
 use lib.ListN.{length, take, drop}
+use denote.Ref.{RefT, now}
+use Rattle.answer.specs.Asked.{after}
 use Rattle.logic.specs.Syntax.{Expr, rule}
+use Rattle.logic.specs.Graph.{Graph}
+use Rattle.logic.specs.Meaning.{value}
 use Rattle.logic.specs.Limits.{Ranges}
-use Rattle.text.specs.Code.{bookCode}
+use Rattle.sheet.specs.Sheet.{graphOf}
+use Rattle.text.specs.Code.{code, bookCode}
 use Rattle.text.specs.Stands.{RulesInRange}
-use Rattle.eval.specs.Judge.{Part, judgedPart}
+use Rattle.judge.specs.Questions.{askSheetAndBook}
+use Rattle.judge.specs.declared.Verdict.{Verdict}
 
--- The bytes of a part.
-abbrev pub partBytes : List ℕ → Part → List ℕ
-partBytes book p = take (p .size) (drop (p .start) book)
+-- A part of the book: where it starts and how long it is.
+pub record Part : Type 0 where
+  pub start : ℕ
+  pub size : ℕ
 
--- What judge hands back: the first broken rule, cut from the book; empty in every other outcome.
-unfoldable pub judgedRule : List ℕ → List ℕ → List ℕ
-judgedRule sheet book = partBytes book (judgedPart sheet book)
+abbrev pub noPart : Part
+noPart = record { start = 0; size = 0 }
+
+-- The first broken rule at its own place, where the rules start at a place; no part when all hold.
+unfoldable pub brokenPart : Graph → List (Expr rule) → ℕ → Part
+brokenPart g [] at = noPart
+brokenPart g (K ∷ book) at = elim (value g K) [ true ↦ brokenPart g book (at + length (code K)) | false ↦ record { start = at; size = length (code K) } ]
+
+-- What judge hands back: the first broken rule as a part of the book; no part in every other outcome.
+unfoldable pub judgedPart : List ℕ → List ℕ → Part
+judgedPart sheet book = after (askSheetAndBook sheet book) (λ rules. brokenPart (graphOf sheet) rules 0) noPart
+
+-- The part that a verdict names.
+abbrev pub partNamed : Verdict → Part
+partNamed v = record { start = v .start; size = v .size }
+
+-- A slice is that part of the book itself, and no equal text elsewhere: it lies in the book's memory, behind its first `start` bytes.
+pub record PartOf (book : RefT (List ℕ)) (p : Part) (slice : RefT (List ℕ)) : Type 0 where
+  pub block : slice .ptr .0 ≡ book .ptr .0
+  pub place : slice .ptr .1 ≡ book .ptr .1 + p .start
+  pub bytes : now slice ≡ take (p .size) (drop (p .start) (now book))
 
 -- Rules that stand from a place to an end. An inner function asks for some and speaks of all such.
 pub record RulesStand (r : Ranges) (text : List ℕ) (at end : ℕ) (rules : List (Expr rule)) : Type 0 where

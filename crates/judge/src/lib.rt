@@ -1,15 +1,15 @@
 // Judging a book on a sheet ("The calls" of document 01).
 ghost use mathlib.Core.Path.{_≡_};
-ghost use Prim.Native.Nat.{ℕ, _<_, _≤_};
+ghost use Prim.Native.Nat.{_+_, _≤_};
 ghost use mathlib.Core.List.{List};
-ghost use lib.ListN.{take, drop};
+ghost use lib.ListN.{length};
 ghost use Rattle.answer.specs.Answers.{asked};
 ghost use Rattle.logic.specs.Syntax.{Expr, rule};
 ghost use Rattle.logic.specs.Limits.{ranges};
 ghost use Rattle.sheet.specs.Sheet.{graphOf};
 ghost use Rattle.sheet.specs.Questions.{Sound};
-ghost use Rattle.eval.specs.Judge.{askRules, brokenPart, askJudge, judgedPart};
-ghost use Rattle.judge.specs.Judging.{RulesStand, SomeRulesStand, judgedRule};
+ghost use Rattle.judge.specs.Questions.{askRules, askJudge};
+ghost use Rattle.judge.specs.Judging.{RulesStand, SomeRulesStand, brokenPart, judgedPart, partNamed, PartOf};
 use answer::Answer;
 use answer::Refusal;
 use sheet::Sheet;
@@ -27,8 +27,7 @@ pub fn judge_rules(sheet: &[u8], text: &[u8], end: usize) -> Verdict
     requires { ⌜ Sound (now sheet) × SomeRulesStand (ranges (graphOf (now sheet) .n)) (now text) 0 end ⌝ }
     ensures { λ r. ⌜ ((rules : List (Expr rule)) → RulesStand (ranges (graphOf (now (sheet .entry)) .n)) (now (text .entry)) 0 end rules
         → (asked (r .answer) ≡ askRules (graphOf (now (sheet .entry))) rules 0)
-        × (r .start ≡ brokenPart (graphOf (now (sheet .entry))) rules 0 .start)
-        × (r .size ≡ brokenPart (graphOf (now (sheet .entry))) rules 0 .size)) ⌝ }
+        × (partNamed r ≡ brokenPart (graphOf (now (sheet .entry))) rules 0)) ⌝ }
 {
     let n = Sheet::node_count(sheet);
     let all = Sheet::all_nodes(sheet);
@@ -56,8 +55,7 @@ pub fn judge_rules(sheet: &[u8], text: &[u8], end: usize) -> Verdict
 // Judges a book: for callers that want no reference inside a struct.
 pub fn decide(sheet: &[u8], book: &[u8]) -> Verdict
     ensures { λ r. ⌜ (asked (r .answer) ≡ askJudge (now (sheet .entry)) (now (book .entry)))
-        × (r .start ≡ judgedPart (now (sheet .entry)) (now (book .entry)) .start)
-        × (r .size ≡ judgedPart (now (sheet .entry)) (now (book .entry)) .size) ⌝ }
+        × (partNamed r ≡ judgedPart (now (sheet .entry)) (now (book .entry))) ⌝ }
 {
     let first = Sheet::check(sheet);
     let Answer::Done = first else {
@@ -78,20 +76,14 @@ pub fn decide(sheet: &[u8], book: &[u8]) -> Verdict
     judge_rules(sheet, book, book.len())
 }
 
-// The smaller of two numbers.
-fn at_most(x: usize, most: usize) -> usize
-    ensures { λ r. ⌜ (r ≤ most) × (x ≤ most → r ≡ x) × (most < x → r ≡ most) ⌝ }
+// The part of a book that a verdict names. Inner: it lies in the book.
+fn part_of<'b>(book: &'b [u8], v: Verdict) -> &'b [u8]
+    requires { ⌜ v .start + v .size ≤ length (now book) ⌝ }
+    ensures { λ r. ⌜ PartOf (book .entry) (partNamed v) r ⌝ }
 {
-    if x <= most { x } else { most }
-}
-
-// The part of a book that a verdict names, cut off where the book ends.
-pub fn part_of<'b>(book: &'b [u8], v: Verdict) -> &'b [u8]
-    ensures { λ r. ⌜ now r ≡ take (v .size) (drop (v .start) (now (book .entry))) ⌝ }
-{
-    let start = at_most(v.start, book.len());
-    let size = at_most(v.size, book.len() - start);
-    &book[start..start + size]
+    let start = v.start;
+    let end = start + v.size;
+    &book[start..end]
 }
 
 // What judge answers: the first broken rule as a part of the book itself, empty in every other outcome.
@@ -113,7 +105,7 @@ fn joined<'b>(v: Verdict, rule: &'b [u8]) -> Judged<'b>
 // Judge: sheet and book are lent apart, the result is a part of the book only.
 pub fn judge<'s, 'b>(sheet: &'s [u8], book: &'b [u8]) -> Judged<'b>
     ensures { λ r. ⌜ (asked (r .answer) ≡ askJudge (now (sheet .entry)) (now (book .entry)))
-        × (now (r .rule) ≡ judgedRule (now (sheet .entry)) (now (book .entry))) ⌝ }
+        × PartOf (book .entry) (judgedPart (now (sheet .entry)) (now (book .entry))) (r .rule) ⌝ }
 {
     let v = decide(sheet, book);
     let rule = part_of(book, v);

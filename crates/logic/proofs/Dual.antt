@@ -1,28 +1,21 @@
--- The dualities of the quantifiers and the counts, which hold of no other meaning of 09, 0A and 0B.
-use mathlib.Core.Path.{_≡_, refl, sym, _∙_, ap, ap₂, fun-ext}
-use mathlib.Core.Bool.{Bool, true, false, not, _&&_, _||_, cond, or-true, or-false}
+-- The laws of the quantifiers and the counts, which hold of no other meaning of 09, 0A and 0B: 09 is given by 08, 0B by 0A, and 0A by what
+-- it is at 0 and how it goes on from m to m + 1 (`at-least-only`).
+use mathlib.Core.Path.{_≡_, refl, sym, _∙_, ap, fun-ext}
+use mathlib.Core.Bool.{Bool, true, false, not, _&&_, and-true, and-false}
 use Prim.Native.Nat.{ℕ, zero, suc, _<_}
 use native.Mathlib.Omega.{arith}
-use lib.Dec.{leb}
-use borrow.Author.Tests.{lt-ltb, le-leb, lt-leb, leb-true, leb-false}
-use Rattle.logic.specs.Syntax.{node, arrow, Expr, complement, some, every, atLeast, atMost}
-use Rattle.logic.specs.Graph.{Graph, Nodes, isNode, allBelow, anyBelow, countBelow, implies}
+use lib.Dec.{leb, eqb, leb·zero, leb·suc-suc}
+use borrow.Author.Tests.{lt-ltb, le-leb, lt-leb, leb-true, leb-false, eq-eqb}
+use Rattle.logic.specs.Syntax.{node, arrow, Expr, all, complement, some, every, atLeast, atMost, minus, pair}
+use Rattle.logic.specs.Graph.{Graph, Nodes, isNode, anyBelow, countBelow, implies}
 use Rattle.logic.specs.Meaning.{value}
 use Rattle.logic.specs.Limits.{Within}
+use Rattle.logic.proofs.Below.{any-cong, all-not-any, any-and, count-cong, one-or-more, leave, count-leave}
 use Rattle.logic.proofs.Inside.{value-in}
 
 node-below : (g : Graph) (i : ℕ) → i < g .n → isNode g i ≡ true
 unfolding isNode
 node-below g i h = lt-ltb i (g .n) h
-
-all-not-any : (n : ℕ) (v u : Nodes) → ((j : ℕ) → j < n → v j ≡ not (u j)) → allBelow n v ≡ not (anyBelow n u)
-unfolding allBelow anyBelow
-all-not-any zero v u h = refl
-all-not-any (suc n) v u h = ap₂ _&&_ (all-not-any n v u (λ j l. h j (omega arith))) (h n (omega arith)) ∙ neither (anyBelow n u) (u n)
-  where
-    neither : (a b : Bool) → (not a && not b) ≡ not (a || b)
-    neither true b = refl
-    neither false b = refl
 
 -- 09 R E is 05 08 R 05 E: a node with no arrow of R is in it.
 pub every-is-no-other : (g : Graph) (R : Expr arrow) (E : Expr node) → value g (every R E) ≡ value g (complement (some R (complement E)))
@@ -36,27 +29,18 @@ every-is-no-other g R E =
     within true false b h = rw h
     within false e b h = refl
 
--- 0A m + 1 R E is 05 0B m R E.
-pub at-least-is-not-at-most : (g : Graph) (m : ℕ) (R : Expr arrow) (E : Expr node) → value g (atLeast (suc m) R E) ≡ value g (complement (atMost m R E))
+-- 0B m R E is 05 0A m + 1 R E.
+pub at-most-is-not-at-least : (g : Graph) (m : ℕ) (R : Expr arrow) (E : Expr node) → value g (atMost m R E) ≡ value g (complement (atLeast (suc m) R E))
 unfolding value
-at-least-is-not-at-most g m R E = fun-ext (λ i. go (isNode g i) (countBelow (g .n) (λ j. value g R i j && value g E j)))
+at-most-is-not-at-least g m R E = fun-ext (λ i. go (isNode g i) (countBelow (g .n) (λ j. value g R i j && value g E j)))
   where
-    more : (c : ℕ) (b : Bool) → leb c m ≡ b → leb (suc m) c ≡ not b
-    more c true e = lt-leb (suc m) c (omega (arith, leb-true c m e))
-    more c false e = le-leb (suc m) c (omega (arith, leb-false c m e))
+    more : (c : ℕ) (b : Bool) → leb c m ≡ b → b ≡ not (leb (suc m) c)
+    more c true e = ap not (sym (lt-leb (suc m) c (omega (arith, leb-true c m e))))
+    more c false e = ap not (sym (le-leb (suc m) c (omega (arith, leb-false c m e))))
 
-    go : (b : Bool) (c : ℕ) → (b && leb (suc m) c) ≡ (b && not (b && leb c m))
+    go : (b : Bool) (c : ℕ) → (b && leb c m) ≡ (b && not (b && leb (suc m) c))
     go true c = more c (leb c m) refl
     go false c = refl
-
-one-or-more : (n : ℕ) (v : Nodes) → leb 1 (countBelow n v) ≡ anyBelow n v
-unfolding countBelow anyBelow
-one-or-more zero v = refl
-one-or-more (suc n) v = go (v n) (one-or-more n v)
-  where
-    go : (b : Bool) → leb 1 (countBelow n v) ≡ anyBelow n v → leb 1 (cond b (suc (countBelow n v)) (countBelow n v)) ≡ (anyBelow n v || b)
-    go true h = le-leb 1 (suc (countBelow n v)) (omega arith) ∙ sym (or-true (anyBelow n v))
-    go false h = h ∙ sym (or-false (anyBelow n v))
 
 -- Within the limits 0A 1 R E is 08 R E.
 pub at-least-one-is-some : (g : Graph) → Within g → (R : Expr arrow) (E : Expr node) → value g (atLeast 1 R E) ≡ value g (some R E)
@@ -66,3 +50,57 @@ at-least-one-is-some g w R E = fun-ext (λ i. ap (isNode g i &&_) (one-or-more (
     go : (b v : Bool) → (b ≡ false → v ≡ false) → (b && v) ≡ v
     go true v h = refl
     go false v h = sym (h refl)
+
+-- 0A 0 R E is 01,
+pub at-least-none : (g : Graph) (R : Expr arrow) (E : Expr node) → value g (atLeast 0 R E) ≡ value g all
+unfolding value
+at-least-none g R E = fun-ext (λ i. ap (isNode g i &&_) (leb·zero (countBelow (g .n) (λ j. value g R i j && value g E j))) ∙ and-true (isNode g i))
+
+-- and 0A m + 1 R E has node i when R has an arrow from i to some node of E, and without that arrow 0A m has i.
+pub at-least-one-more : (g : Graph) (m : ℕ) (R : Expr arrow) (E : Expr node) (i : ℕ)
+    → value g (atLeast (suc m) R E) i ≡ anyBelow (g .n) (λ j. (value g R i j && value g E j) && value g (atLeast m (minus R (pair i j)) E) i)
+unfolding value
+at-least-one-more g m R E i = sym (any-cong (g .n) _ (λ j. v j && enough) (λ j l. each j l (v j) refl) ∙ any-and (g .n) v enough ∙ some-is (isNode g i))
+  where
+    v : Nodes
+    v j = value g R i j && value g E j
+
+    enough : Bool
+    enough = isNode g i && leb (suc m) (countBelow (g .n) v)
+
+    -- without the arrow to j, of the nodes that were counted j is left out
+    left-out : (j k : ℕ) → k < g .n → isNode g i ≡ true → ((value g R i k && not ((isNode g i && eqb i i) && (isNode g k && eqb k j))) && value g E k) ≡ leave v j k
+    left-out j k l n = rw (n, node-below g k l, eq-eqb i i refl) (go (value g R i k) (value g E k) (eqb k j))
+      where
+        go : (r e b : Bool) → ((r && not b) && e) ≡ ((r && e) && not b)
+        go true true b = and-true (not b)
+        go true false b = and-false (not b)
+        go false e b = refl
+
+    each : (j : ℕ) → j < g .n → (b : Bool) → v j ≡ b → (b && value g (atLeast m (minus R (pair i j)) E) i) ≡ (b && enough)
+    each j l false e = refl
+    each j l true e = go (isNode g i) refl
+      where
+        go : (b : Bool) → isNode g i ≡ b → value g (atLeast m (minus R (pair i j)) E) i ≡ enough
+        go false n = rw n
+        go true n = ap (isNode g i &&_) (ap (leb m) (count-cong (g .n) (λ k. value g (minus R (pair i j)) i k && value g E k) (leave v j) (λ k s. left-out j k s n)) ∙ sym (leb·suc-suc m (countBelow (g .n) (leave v j))) ∙ ap (leb (suc m)) (sym (count-leave (g .n) j v l e)))
+
+    some-is : (b : Bool) → (anyBelow (g .n) v && (b && leb (suc m) (countBelow (g .n) v))) ≡ (b && leb (suc m) (countBelow (g .n) v))
+    some-is b = ap (_&& (b && leb (suc m) c)) (sym (one-or-more (g .n) v)) ∙ go (leb (suc m) c) refl
+      where
+        c : ℕ
+        c = countBelow (g .n) v
+
+        go : (d : Bool) → leb (suc m) c ≡ d → (leb 1 c && (b && d)) ≡ (b && d)
+        go true e = ap (_&& (b && true)) (le-leb 1 c (omega (arith, leb-true (suc m) c e)))
+        go false e = rw (and-false b, and-false (leb 1 c))
+
+-- Nothing else does both: what is 01 at 0 and goes on like this is 0A.
+pub at-least-only : (g : Graph) (A : ℕ → Expr arrow → Expr node → Nodes) → ((R : Expr arrow) (E : Expr node) → A 0 R E ≡ value g all)
+    → ((m : ℕ) (R : Expr arrow) (E : Expr node) (i : ℕ) → A (suc m) R E i ≡ anyBelow (g .n) (λ j. (value g R i j && value g E j) && A m (minus R (pair i j)) E i))
+    → (m : ℕ) (R : Expr arrow) (E : Expr node) → A m R E ≡ value g (atLeast m R E)
+at-least-only g A none more zero R E = none R E ∙ sym (at-least-none g R E)
+at-least-only g A none more (suc m) R E =
+    fun-ext (λ i. more m R E i
+    ∙ ap (anyBelow (g .n)) (fun-ext (λ j. ap (λ (v : Nodes). (value g R i j && value g E j) && v i) (at-least-only g A none more m (minus R (pair i j)) E)))
+    ∙ sym (at-least-one-more g m R E i))

@@ -2,15 +2,16 @@
 -- and an edit leaves a graph within the limits.
 use mathlib.Core.Path.{_≡_, refl, _∙_, ap, fun-ext}
 use mathlib.Core.Bool.{Bool, true, false, not, _&&_, _||_, cond, and-false}
-use Prim.Native.Nat.{ℕ, zero, suc, _≤_, _<_}
+use Prim.Native.Nat.{ℕ, _≤_, _<_}
 use native.Mathlib.Omega.{arith}
 use lib.Dec.{T, ltb, eqb, ltb→lt, eqb→eq}
 use borrow.Author.Tests.{le-ltb}
 use Rattle.logic.specs.Syntax.{Sort, node, arrow, rule, Expr, all, none, label, nominal, complement, and, or, some, every, atLeast, atMost, arrowKind, reversed, union, common, minus, endingIn, pair, subNodes, subArrows, nodeIn, pairIn, both, either, notRule, Edit, finish, addLabel, takeLabel, addArrow, takeArrow, choose}
-use Rattle.logic.specs.Graph.{Graph, Nodes, Pairs, isNode, anyBelow}
+use Rattle.logic.specs.Graph.{Graph, Nodes, Pairs, isNode}
 use Rattle.logic.specs.Meaning.{Value, value}
 use Rattle.logic.specs.Steps.{update, relabel, rejoin, run}
 use Rattle.logic.specs.Limits.{NodesIn, PairsIn, Within, Ranges, EditInRange, labelCount, arrowCount}
+use Rattle.logic.proofs.Below.{any-none}
 
 -- what is no node of the graph is in no value of any sort
 abbrev pub Inside : (s : Sort) (g : Graph) → Value s → Type 0
@@ -23,11 +24,6 @@ pub no-node : (g : Graph) (i : ℕ) → g .n ≤ i → isNode g i ≡ false
 unfolding isNode
 no-node g i h = le-ltb i (g .n) h
 
-any-none : (n : ℕ) (v : Nodes) → ((j : ℕ) → v j ≡ false) → anyBelow n v ≡ false
-unfolding anyBelow
-any-none zero v h = refl
-any-none (suc n) v h = rw (any-none n v h, h n)
-
 module _ (g : Graph) (w : Within g) where
   pub value-in : {s : Sort} (e : Expr s) → Inside s g (value g e)
   unfolding value
@@ -38,7 +34,7 @@ module _ (g : Graph) (w : Within g) where
   value-in (complement E) = λ i h. rw h
   value-in (and E F) = λ i h. ap (_&& value g F i) (value-in E i h)
   value-in (or E F) = λ i h. ap (_|| value g F i) (value-in E i h) ∙ value-in F i h
-  value-in (some R E) = λ i h. any-none (g .n) (λ j. value g R i j && value g E j) (λ j. ap (_&& value g E j) (value-in R .starts i j h))
+  value-in (some R E) = λ i h. any-none (g .n) (λ j. value g R i j && value g E j) (λ j l. ap (_&& value g E j) (value-in R .starts i j h))
   value-in (every R E) = λ i h. rw h
   value-in (atLeast m R E) = λ i h. rw h
   value-in (atMost m R E) = λ i h. rw h

@@ -1,3 +1,4 @@
 pub mod Theorem
+pub mod Below
 pub mod Dual
 pub mod Inside

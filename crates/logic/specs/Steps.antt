@@ -17,7 +17,7 @@ relabel g k v = record { n = g .n; labelled = update (g .labelled) k v; joined =
 abbrev pub rejoin : Graph → ℕ → Pairs → Graph
 rejoin g a v = record { n = g .n; labelled = g .labelled; joined = update (g .joined) a v }
 
--- The graph that the steps leave. What 32 takes away is, within the limits, the difference (proofs/Within, `taken-label`).
+-- The graph that the steps leave. What 32 takes away is, within the limits, the difference (proofs/Inside, `taken-label`).
 unfoldable pub run : Edit → Graph → Graph
 run finish g = g
 run (addLabel k E Z) g = run Z (relabel g k (λ i. g .labelled k i || value g E i))

@@ -1,17 +1,18 @@
 -- The operations on words and on rows of words are those on the sets and relations that they stand for.
 use mathlib.Core.Path.{_≡_, refl, sym, ap, ap₂, _∙_}
-use mathlib.Core.Bool.{Bool, true, false, not, _&&_, _||_, cond, and-true, and-false, or-false}
+use mathlib.Core.Bool.{Bool, true, false, not, _&&_, _||_, cond, and-true, and-false, or-false, Bool·not-not}
 use mathlib.Core.List.{List}
 use mathlib.Core.Logic.{⊎-elim}
 use Prim.Native.Nat.{ℕ, zero, suc, _+_, _<_, _≤_}
 use native.Mathlib.Nat.{eq-or-lt-of-le, le-of-suc-le-suc}
 use native.Mathlib.Numerals.{add-one}
 use native.Mathlib.Omega.{arith}
-use lib.Dec.{eqb, ltb, leb}
+use lib.Dec.{eqb, ltb}
 use lib.ListN.{length, getD, set, replicate}
 use lib.Seq.{getD-set-same, getD-set-other}
-use borrow.Author.Tests.{eq-eqb, ne-eqb, eqb-true, eqb-false}
+use borrow.Author.Tests.{ne-eqb, eqb-true, eqb-false}
 use Rattle.logic.specs.Graph.{Nodes, Pairs, anyBelow, allBelow, countBelow, implies}
+use Rattle.logic.proofs.Below.{none-outside}
 use Rattle.words.specs.Words.{setOf, member, combined}
 use Rattle.words.proofs.SetLaws.{setOf-cong, setOf-empty, setOf-none, setOf-wide, member-of, member-setOf, combined-sets, common-sets}
 use Rattle.sheet.specs.Sheet.{Rows}
@@ -42,18 +43,6 @@ zeros-at zero k = refl
 zeros-at (suc n) zero = refl
 zeros-at (suc n) (suc k) = zeros-at n k
 
--- Not one outside: all inside.
-pub none-outside : (n : ℕ) (v w : Nodes) → not (anyBelow n (λ i. v i && not (w i))) ≡ allBelow n (λ i. implies (v i) (w i))
-unfolding anyBelow allBelow
-none-outside zero v w = refl
-none-outside (suc n) v w = go (anyBelow n (λ i. v i && not (w i))) (v n) (w n) ∙ ap (_&& implies (v n) (w n)) (none-outside n v w)
-  where
-    go : (a x y : Bool) → not (a || (x && not y)) ≡ (not a && implies x y)
-    go true x y = refl
-    go false true true = refl
-    go false true false = refl
-    go false false y = refl
-
 pub minus-empty : (n : ℕ) (v w : Nodes) → n ≤ 64 → eqb (combined (λ a b. a && not b) (setOf n v) (setOf n w)) 0 ≡ allBelow n (λ i. implies (v i) (w i))
 minus-empty n v w h = ap (λ (x : ℕ). eqb x 0) (combined-sets (λ a b. a && not b) refl n v w h) ∙ setOf-empty n (λ i. v i && not (w i)) ∙ none-outside n v w
 
@@ -70,16 +59,12 @@ pub not-is : (a b : Bool) → not a ≡ b → a ≡ not b
 not-is true b e = ap not e
 not-is false b e = ap not e
 
-not-not : (b : Bool) → not (not b) ≡ b
-not-not true = refl
-not-not false = refl
-
 module _ (n : ℕ) (v w : Nodes) (row e : ℕ) (h : n ≤ 64) (p : row ≡ setOf n v) (q : e ≡ setOf n w) where
   -- a common member
   pub some-common : (x : ℕ) → x ≡ combined _&&_ row e → not (eqb x 0) ≡ anyBelow n (λ j. v j && w j)
   some-common x s =
       ap (λ (y : ℕ). not (eqb y 0)) (s ∙ ap₂ (combined _&&_) p q ∙ combined-sets _&&_ refl n v w h)
-      ∙ ap not (setOf-empty n (λ j. v j && w j)) ∙ not-not (anyBelow n (λ j. v j && w j))
+      ∙ ap not (setOf-empty n (λ j. v j && w j)) ∙ Bool·not-not (anyBelow n (λ j. v j && w j))
 
   -- how many
   pub count-common : (x : ℕ) → x ≡ countBelow 64 (λ i. member row i && member e i) → x ≡ countBelow n (λ j. v j && w j)
@@ -145,26 +130,6 @@ rows-pair n nodes out i j k x o e h f = record { row = λ s l. ap (λ (y : List 
     go s l false d =
         getD-set-other (replicate 64 0) k s x 0 (λ z. eqb-false s i d (z ∙ e)) ∙ zeros-at 64 s ∙ sym (setOf-none n)
         ∙ setOf-cong n _ _ (λ t z. ap (_&& (nodes t && eqb t j)) (sym (ap (nodes s &&_) d ∙ and-false (nodes s))))
-
--- 22
-pub all-below-none : (p : Nodes) → allBelow 0 p ≡ true
-unfolding allBelow
-all-below-none p = refl
-
-pub all-below-more : (i : ℕ) (p : Nodes) → allBelow i p ≡ true → p i ≡ true → allBelow (i + 1) p ≡ true
-unfolding allBelow
-all-below-more i p e f = ap (λ (k : ℕ). allBelow k p) (add-one i) ∙ ap₂ _&&_ e f
-
-pub all-below-end : (n i : ℕ) (p : Nodes) → i ≤ n → n ≤ i → allBelow i p ≡ true → true ≡ allBelow n p
-all-below-end n i p h l e = let q : n ≡ i = omega arith in sym (ap (λ (k : ℕ). allBelow k p) q ∙ e)
-
-pub all-below-broken : (n : ℕ) (p : Nodes) (i : ℕ) → i < n → p i ≡ false → allBelow n p ≡ false
-unfolding allBelow
-all-below-broken zero p i h e = absurd (omega arith)
-all-below-broken (suc n) p i h e = ⊎-elim
-    (λ (q : i ≡ n). ap (allBelow n p &&_) (ap p (sym q) ∙ e) ∙ and-false (allBelow n p))
-    (λ (l : i < n). ap (_&& p n) (all-below-broken n p i l e))
-    (eq-or-lt-of-le (le-of-suc-le-suc h))
 
 -- 13, 14, 15 with an arrow of the sheet
 pub rows-combined-kind : {n m k : ℕ} {v : Pairs} {a r : List ℕ} (w : Pairs) (c : ℕ) → n ≡ m → n ≤ 64 → n ≤ k → Rows n v a → Changed k a r (λ i. combined (arrowOperation c) (getD a i 0) (setOf m (w i))) → Rows n (λ i j. arrowOperation c (v i j) (w i j)) r

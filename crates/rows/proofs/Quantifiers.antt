@@ -1,6 +1,6 @@
 -- The four quantifiers are one question, whether there are so many ends or more.
 use mathlib.Core.Path.{_≡_, refl, sym, ap, ap₂, subst, _∙_}
-use mathlib.Core.Bool.{Bool, true, false, not, _&&_, _||_, cond, and-true, or-true, or-false}
+use mathlib.Core.Bool.{Bool, true, false, not, _&&_, _||_, cond, and-true, Bool·not-not}
 use Prim.Native.Nat.{ℕ, zero, suc, _+_, _^_, _<_, _≤_}
 use native.Mathlib.Nat.{lt-of-lt-of-le}
 use native.Mathlib.Numerals.{add-one}
@@ -8,22 +8,12 @@ use native.Mathlib.Omega.{arith}
 use lib.Count.{ones}
 use lib.Dec.{eqb, leb}
 use lib.Pow.{pow-mono}
-use borrow.Author.Tests.{leb-true, leb-false, le-leb, lt-leb, eq-eqb, ne-eqb}
+use borrow.Author.Tests.{leb-true, leb-false, le-leb, lt-leb}
 use Rattle.logic.specs.Graph.{Nodes, Pairs, anyBelow, allBelow, countBelow, implies}
+use Rattle.logic.proofs.Below.{none-outside, count-cong, one-or-more, leave, count-leave}
 use Rattle.words.specs.Words.{setOf, member, combined}
 use Rattle.words.proofs.SetLaws.{setOf-lt, setOf-cong, setOf-member-lt, setOf-empty, setOf-none, ones-setOf, member-setOf, combined-sets}
-use Rattle.words.proofs.MemberLaws.{leave, count-cong, count-leave}
-use Rattle.rows.specs.Operations.{quantified, enough, least, looked, answered, turn}
-use Rattle.rows.proofs.Laws.{none-outside}
-
-pub one-or-more : (n : ℕ) (v : Nodes) → leb 1 (countBelow n v) ≡ anyBelow n v
-unfolding countBelow anyBelow
-one-or-more zero v = refl
-one-or-more (suc n) v = go (v n) (one-or-more n v)
-  where
-    go : (b : Bool) → leb 1 (countBelow n v) ≡ anyBelow n v → leb 1 (cond b (suc (countBelow n v)) (countBelow n v)) ≡ (anyBelow n v || b)
-    go true h = le-leb 1 (suc (countBelow n v)) (omega arith) ∙ sym (or-true (anyBelow n v))
-    go false h = h ∙ sym (or-false (anyBelow n v))
+use Rattle.rows.specs.Operations.{quantified, enough, least, looked, answered}
 
 pub quantified-is : (c m n : ℕ) (v w : Nodes) → quantified c m n v w ≡ answered c (enough (least c m) n v (λ j. looked c (w j)))
 unfolding quantified
@@ -55,13 +45,9 @@ count-members n p h = sym (ones-setOf 64 (member (setOf n p))) ∙ ap ones (setO
 module _ (x i y : ℕ) (l : i < 64) (m : member x i ≡ true) (e : y ≡ setOf 64 (leave (member x) i)) where
   pub several-is : not (eqb y 0) ≡ leb 2 (countBelow 64 (member x))
   several-is =
-      ap (λ (z : ℕ). not (eqb z 0)) e ∙ ap not (setOf-empty 64 (leave (member x) i)) ∙ not-not (anyBelow 64 (leave (member x) i))
+      ap (λ (z : ℕ). not (eqb z 0)) e ∙ ap not (setOf-empty 64 (leave (member x) i)) ∙ Bool·not-not (anyBelow 64 (leave (member x) i))
       ∙ sym (one-or-more 64 (leave (member x) i)) ∙ up (countBelow 64 (leave (member x) i)) ∙ ap (leb 2) (sym (count-leave 64 i (member x) l m))
     where
-      not-not : (b : Bool) → not (not b) ≡ b
-      not-not true = refl
-      not-not false = refl
-
       up : (k : ℕ) → leb 1 k ≡ leb 2 (suc k)
       up zero = refl
       up (suc k) = le-leb 1 (suc k) (omega arith) ∙ sym (le-leb 2 (suc (suc k)) (omega arith))

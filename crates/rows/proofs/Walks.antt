@@ -1,14 +1,14 @@
 -- Loops over the members of a set, lowest first: what is done of those that have gone, and what is done when none is left.
 use mathlib.Core.Path.{_≡_, refl, sym, ap, ap₂, _∙_}
-use mathlib.Core.Bool.{Bool, true, false, not, _&&_, _||_, cond, and-true, and-false, or-true, or-false}
-use Prim.Native.Nat.{ℕ, zero, suc, _+_, _^_, _<_, _≤_}
+use mathlib.Core.Bool.{Bool, true, false, not, _&&_, _||_, cond, and-eq-true-iff, and-true, and-false, or-true, or-false}
+use Prim.Native.Nat.{ℕ, zero, suc, _<_, _≤_}
 use native.Mathlib.Omega.{arith}
 use lib.Dec.{eqb, ltb, leb}
 use borrow.Author.Tests.{eqb-true, eq-eqb, lt-ltb, le-leb, lt-leb}
 use Rattle.logic.specs.Graph.{Nodes, Pairs, countBelow}
+use Rattle.logic.proofs.Below.{count-cong, leave, count-leave}
 use Rattle.words.specs.Words.{setOf, member, combined}
-use Rattle.words.proofs.SetLaws.{setOf-cong, setOf-none, setOf-only, member-of, member-setOf, combined-sets}
-use Rattle.words.proofs.MemberLaws.{leave, count-cong, count-leave}
+use Rattle.words.proofs.SetLaws.{setOf-cong, setOf-none, setOf-only, member-zero, member-of, combined-sets}
 use Rattle.rows.specs.Operations.{enough}
 
 -- what is left is of the set
@@ -19,26 +19,12 @@ Inside left x = (k : ℕ) → member left k ≡ true → member x k ≡ true
 abbrev pub gone : ℕ → ℕ → Nodes
 gone x left k = member x k && not (member left k)
 
-and-left : (a b : Bool) → (a && b) ≡ true → a ≡ true
-and-left true b e = refl
-and-left false b e = e
-
-and-right : (a b : Bool) → (a && b) ≡ true → b ≡ true
-and-right true b e = e
-and-right false b e = absurd (no e)
-  where
-    no : false ≡ true → ⊥
-    no e = omega (arith, ap {B = ℕ} (λ (z : Bool). cond z 1 0) e)
-
 gone-all : (x k : ℕ) → gone x x k ≡ false
 gone-all x k = go (member x k)
   where
     go : (b : Bool) → (b && not b) ≡ false
     go true = refl
     go false = refl
-
-pub member-zero : (k : ℕ) → member 0 k ≡ false
-member-zero k = ap (λ (x : ℕ). member x k) (sym (setOf-none 64)) ∙ member-of 64 (λ i. false) k ∙ and-false (ltb k 64)
 
 pub gone-end : (x left k : ℕ) → left ≤ 0 → gone x left k ≡ member x k
 gone-end x left k h = let e : left ≡ 0 = omega arith in ap (λ (b : Bool). member x k && not b) (ap (λ (y : ℕ). member y k) e ∙ member-zero k) ∙ and-true (member x k)
@@ -49,7 +35,7 @@ module _ (x left i next : ℕ) (n : next ≡ setOf 64 (leave (member left) i)) (
   left-now k = ap (λ (y : ℕ). member y k) n ∙ member-of 64 (leave (member left) i) k
 
   pub inside-less : Inside next x
-  inside-less k e = inside k (and-left (member left k) (not (eqb k i)) (and-right (ltb k 64) (leave (member left) i k) (sym (left-now k) ∙ e)))
+  inside-less k e = inside k (and-eq-true-iff (member left k) (not (eqb k i)) .0 (and-eq-true-iff (ltb k 64) (leave (member left) i k) .0 (sym (left-now k) ∙ e) .1) .0)
 
   pub gone-more : member left i ≡ true → (k : ℕ) → k < 64 → gone x next k ≡ (gone x left k || eqb k i)
   gone-more m k l = ap (λ (b : Bool). member x k && not b) (left-now k ∙ ap (_&& leave (member left) i k) (lt-ltb k 64 l)) ∙ go (eqb k i) refl

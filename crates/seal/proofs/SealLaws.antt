@@ -1,6 +1,6 @@
 -- The check bytes behind a body: their test and their store, as the code does them.
 use mathlib.Core.Path.{_≡_, refl, sym, ap, ap₂, _∙_}
-use mathlib.Core.Bool.{Bool, true, false, _&&_, and-true}
+use mathlib.Core.Bool.{Bool, true, _&&_, and-true, and-eq-true-iff}
 use mathlib.Core.List.{List, [], _∷_, _++_}
 use Prim.Native.Nat.{ℕ, suc, _+_, _-_, _*_, _%_, _≤_, _<_}
 use native.Mathlib.Omega.{arith}
@@ -12,22 +12,22 @@ use Rattle.seal.specs.Seal.{blockBytes, bodyBytes, sums, seal, sealed, s
 use Rattle.seal.proofs.TotalLaws.{s-moves, t-moves}
 
 -- the last two bytes of a block
-last-two : (k : List ℕ) → length k ≡ blockBytes → drop bodyBytes k ≡ getD k 510 0 ∷ getD k 511 0 ∷ []
-last-two k h = drop-cons k 510 0 (omega arith) ∙ ap (getD k 510 0 ∷_) (drop-cons k 511 0 (omega arith) ∙ ap (getD k 511 0 ∷_) (drop-of-length-le k {i = 512} (omega arith)))
+last-two : (k : List ℕ) → length k ≡ blockBytes → drop bodyBytes k ≡ getD k bodyBytes 0 ∷ getD k (bodyBytes + 1) 0 ∷ []
+last-two k h = drop-cons k bodyBytes 0 (omega arith) ∙ ap (getD k bodyBytes 0 ∷_) (drop-cons k (bodyBytes + 1) 0 (omega arith) ∙ ap (getD k (bodyBytes + 1) 0 ∷_) (drop-of-length-le k {i = blockBytes} (omega arith)))
 
-pub seal-test : (k : List ℕ) (s t : ℕ) → length k ≡ blockBytes → s ≡ sums (take bodyBytes k) .s → t ≡ sums (take bodyBytes k) .t → sealRight k ≡ (eqb (getD k 510 0) s && eqb (getD k 511 0) t)
+pub seal-test : (k : List ℕ) (s t : ℕ) → length k ≡ blockBytes → s ≡ sums (take bodyBytes k) .s → t ≡ sums (take bodyBytes k) .t → sealRight k ≡ (eqb (getD k bodyBytes 0) s && eqb (getD k (bodyBytes + 1) 0) t)
 unfolding sealRight sameBytes seal
 seal-test k s t h e f =
     ap₂ sameBytes (last-two k h) (ap₂ (λ x y. x ∷ y ∷ []) (sym e) (sym f))
-    ∙ ap (eqb (getD k 510 0) s &&_) (and-true (eqb (getD k 511 0) t))
+    ∙ ap (eqb (getD k bodyBytes 0) s &&_) (and-true (eqb (getD k (bodyBytes + 1) 0) t))
 
-pub seal-set : (k : List ℕ) (s t : ℕ) → length k ≡ blockBytes → s ≡ sums (take bodyBytes k) .s → t ≡ sums (take bodyBytes k) .t → set (set k 510 s) 511 t ≡ reseal k
+pub seal-set : (k : List ℕ) (s t : ℕ) → length k ≡ blockBytes → s ≡ sums (take bodyBytes k) .s → t ≡ sums (take bodyBytes k) .t → set (set k bodyBytes s) (bodyBytes + 1) t ≡ reseal k
 unfolding reseal sealed seal
 seal-set k s t h e f =
     let len : length (take bodyBytes k) ≡ bodyBytes = length-take-le bodyBytes k (omega arith) in
-    ap (λ y. set (set y 510 s) 511 t) (sym (take-append-drop bodyBytes k) ∙ ap (take bodyBytes k ++_) (last-two k h))
-    ∙ ap (λ y. set y 511 t) (set-at (take bodyBytes k) (getD k 510 0) (getD k 511 0 ∷ []) s 510 len ∙ sym (append-snoc (take bodyBytes k) s (getD k 511 0 ∷ [])))
-    ∙ set-at (take bodyBytes k ++ (s ∷ [])) (getD k 511 0) [] t 511 (length-append (take bodyBytes k) (s ∷ []) ∙ omega arith)
+    ap (λ y. set (set y bodyBytes s) (bodyBytes + 1) t) (sym (take-append-drop bodyBytes k) ∙ ap (take bodyBytes k ++_) (last-two k h))
+    ∙ ap (λ y. set y (bodyBytes + 1) t) (set-at (take bodyBytes k) (getD k bodyBytes 0) (getD k (bodyBytes + 1) 0 ∷ []) s bodyBytes len ∙ sym (append-snoc (take bodyBytes k) s (getD k (bodyBytes + 1) 0 ∷ [])))
+    ∙ set-at (take bodyBytes k ++ (s ∷ [])) (getD k (bodyBytes + 1) 0) [] t (bodyBytes + 1) (length-append (take bodyBytes k) (s ∷ []) ∙ omega arith)
     ∙ append-snoc (take bodyBytes k) s (t ∷ []) ∙ ap (take bodyBytes k ++_) (ap₂ (λ x y. x ∷ y ∷ []) e f)
 
 -- a body with its check bytes is a block,
@@ -48,16 +48,12 @@ unfolding sameBytes
 same-refl [] = refl
 same-refl (x ∷ k) = ap₂ _&&_ (so (eqb x x) (eqb-refl x)) (same-refl k)
 
-and-yes : (a b : Bool) → (a && b) ≡ true → (a ≡ true) × (b ≡ true)
-and-yes true b e = (refl, e)
-and-yes false b e = let z : _≡_ {A = ℕ} 0 1 = cc in absurd (omega arith)
-
 same-is : (a b : List ℕ) → sameBytes a b ≡ true → a ≡ b
 unfolding sameBytes
 same-is [] [] e = refl
 same-is [] (y ∷ b) e = let z : _≡_ {A = ℕ} 0 1 = cc in absurd (omega arith)
 same-is (x ∷ a) [] e = let z : _≡_ {A = ℕ} 0 1 = cc in absurd (omega arith)
-same-is (x ∷ a) (y ∷ b) e = ap₂ _∷_ (eqb→eq x y (rw (and-yes (eqb x y) (sameBytes a b) e .0) tt)) (same-is a b (and-yes (eqb x y) (sameBytes a b) e .1))
+same-is (x ∷ a) (y ∷ b) e = ap₂ _∷_ (eqb→eq x y (rw (and-eq-true-iff (eqb x y) (sameBytes a b) .0 e .0) tt)) (same-is a b (and-eq-true-iff (eqb x y) (sameBytes a b) .0 e .1))
 
 -- and passes its question;
 pub sealed-right : (body : List ℕ) → length body ≡ bodyBytes → sealRight (sealed body) ≡ true
@@ -84,15 +80,15 @@ length-reseal k h = length-sealed (take bodyBytes k) (length-take-le bodyBytes k
 
 -- The check bytes of a block that is right, and of that block with byte p of its body changed to x, as the code makes them.
 module _ (k : List ℕ) (h : length k ≡ blockBytes) (right : sealRight k ≡ true) where
-  check-bytes : (getD k 510 0 ≡ sums (take bodyBytes k) .s) × (getD k 511 0 ≡ sums (take bodyBytes k) .t)
+  check-bytes : (getD k bodyBytes 0 ≡ sums (take bodyBytes k) .s) × (getD k (bodyBytes + 1) 0 ≡ sums (take bodyBytes k) .t)
   check-bytes =
       let s : ℕ = sums (take bodyBytes k) .s in
       let t : ℕ = sums (take bodyBytes k) .t in
-      let both : (eqb (getD k 510 0) s ≡ true) × (eqb (getD k 511 0) t ≡ true) = and-yes _ _ (sym (seal-test k s t h refl refl) ∙ right) in
+      let both : (eqb (getD k bodyBytes 0) s ≡ true) × (eqb (getD k (bodyBytes + 1) 0) t ≡ true) = and-eq-true-iff _ _ .0 (sym (seal-test k s t h refl refl) ∙ right) in
       (eqb-true _ _ (both .0), eqb-true _ _ (both .1))
 
-  pub byte-put : (p x d s t : ℕ) → p < bodyBytes → d + getD k p 0 ≡ x + 255 → s ≡ getD k 510 0 → t ≡ getD k 511 0
-      → set (set (set k p x) 510 ((s + d) % 255)) 511 ((t + (bodyBytes - p) * d) % 255) ≡ reseal (set k p x)
+  pub byte-put : (p x d s t : ℕ) → p < bodyBytes → d + getD k p 0 ≡ x + 255 → s ≡ getD k bodyBytes 0 → t ≡ getD k (bodyBytes + 1) 0
+      → set (set (set k p x) bodyBytes ((s + d) % 255)) (bodyBytes + 1) ((t + (bodyBytes - p) * d) % 255) ≡ reseal (set k p x)
   byte-put p x d s t l f s-is t-is =
       let n : length (take bodyBytes k) ≡ bodyBytes = length-take-le bodyBytes k (omega arith) in
       let e : d + getD (take bodyBytes k) p 0 ≡ x + 255 = ap (d +_) (getD-take bodyBytes k p 0 l) ∙ f in

@@ -5,6 +5,16 @@ ghost use Prim.Native.Nat.{_<_, _≤_};
 ghost use lib.ListN.{length, take, set};
 ghost use Rattle.seal.specs.Seal.{blockBytes, bodyBytes, sums, sealRight, reseal};
 
+// A block's bytes, and those of its body: the check bytes fill what is left.
+pub const BLOCK: usize = 512;
+
+pub const BODY: usize = 510;
+
+// Where s and t stand in a block.
+const S: usize = BODY;
+
+const T: usize = BODY + 1;
+
 // The sums s and t of document 01, each below 255.
 pub struct Sums {
     pub s: u32,
@@ -27,7 +37,7 @@ pub fn sums_of(block: &[u8]) -> Sums
     let mut s = 0;
     let mut t = 0;
     let mut i = 0;
-    while i < 510 {
+    while i < BODY {
         s += wide(block[i]);
         t += s;
         i += 1;
@@ -44,8 +54,8 @@ pub fn seal_right(block: &[u8]) -> bool
     ensures { λ r. ⌜ r ≡ sealRight (now (block .entry)) ⌝ }
 {
     let c = sums_of(block);
-    if wide(block[510]) == c.s {
-        return wide(block[511]) == c.t;
+    if wide(block[S]) == c.s {
+        return wide(block[T]) == c.t;
     }
     false
 }
@@ -56,8 +66,8 @@ pub fn seal(block: &mut [u8])
     ensures { λ _. ⌜ now (block .exit) ≡ reseal (now (block .entry)) ⌝ }
 {
     let c = sums_of(block);
-    block[510] = c.s as u8;
-    block[511] = c.t as u8;
+    block[S] = c.s as u8;
+    block[T] = c.t as u8;
 }
 
 // Puts x at place p of a block's body and keeps its check bytes right, from what they were: no other byte is read.
@@ -67,9 +77,9 @@ pub fn put_byte(block: &mut [u8], p: usize, x: u8)
     ensures { λ _. ⌜ now (block .exit) ≡ reseal (set (now (block .entry)) p x) ⌝ }
 {
     let d = wide(x) + 255 - wide(block[p]);
-    let s = (wide(block[510]) + d) % 255;
-    let t = (wide(block[511]) + (510 - p as u32) * d) % 255;
+    let s = (wide(block[S]) + d) % 255;
+    let t = (wide(block[T]) + (BODY - p) as u32 * d) % 255;
     block[p] = x;
-    block[510] = s as u8;
-    block[511] = t as u8;
+    block[S] = s as u8;
+    block[T] = t as u8;
 }

@@ -14,8 +14,8 @@ use Rattle.answer.specs.declared.Answer.the-variants.{Done, Refused}
 use Rattle.answer.specs.Answers.{asked}
 use Rattle.answer.specs.Asked.{passed, refused, _>>_, is}
 use Rattle.logic.specs.Limits.{maxNodes}
-use Rattle.seal.specs.Seal.{sealRight}
-use Rattle.sheet.specs.Sheet.{sheetBytes}
+use Rattle.seal.specs.Seal.{sealRight, blockBytes}
+use Rattle.sheet.specs.Sheet.{sheetBytes, blockCount}
 use Rattle.sheet.specs.Questions.{blockOf, nodeCountRight, headRight, zeroRight, askBlock, askBlocks, askSheet}
 use Rattle.sheet.proofs.Opening.{n-range, block-ok}
 
@@ -53,35 +53,35 @@ module _ (t : List ℕ) where
   unfolding askSheet is _>>_
   wrong-length h = sym (rw (ne-eqb _ _ h))
 
-  pub right-length : length t ≡ sheetBytes → askSheet t ≡ askBlocks t 17 0
+  pub right-length : length t ≡ sheetBytes → askSheet t ≡ askBlocks t blockCount 0
   unfolding askSheet is _>>_
   right-length h = rw (eq-eqb _ _ h)
 
   -- the blocks in turn
   module _ (n : ℕ) (n-is : n ≡ getD t 2 0) where
-    block-cons : (b : ℕ) → b < 17 → askBlocks t (17 - b) b ≡ (askBlock n b (blockOf t b) >> askBlocks t (17 - (b + 1)) (b + 1))
+    block-cons : (b : ℕ) → b < blockCount → askBlocks t (blockCount - b) b ≡ (askBlock n b (blockOf t b) >> askBlocks t (blockCount - (b + 1)) (b + 1))
     unfolding askBlocks
     block-cons b h =
-        let m : 17 - b ≡ suc (17 - (b + 1)) = omega arith in
+        let m : blockCount - b ≡ suc (blockCount - (b + 1)) = omega arith in
         let j : suc b ≡ b + 1 = omega arith in
-        ap (λ x. askBlocks t x b) m ∙ ap₂ (λ y x. askBlock y b (blockOf t b) >> askBlocks t (17 - (b + 1)) x) (sym n-is) j
+        ap (λ x. askBlocks t x b) m ∙ ap₂ (λ y x. askBlock y b (blockOf t b) >> askBlocks t (blockCount - (b + 1)) x) (sym n-is) j
 
-    pub block-next : (b : ℕ) (a : Answer) → b < 17 → asked a ≡ askBlock n b (blockOf t b) → a ≡ Done → askBlocks t (17 - b) b ≡ askBlocks t (17 - (b + 1)) (b + 1)
+    pub block-next : (b : ℕ) (a : Answer) → b < blockCount → asked a ≡ askBlock n b (blockOf t b) → a ≡ Done → askBlocks t (blockCount - b) b ≡ askBlocks t (blockCount - (b + 1)) (b + 1)
     unfolding _>>_
-    block-next b a h e d = block-cons b h ∙ ap (_>> askBlocks t (17 - (b + 1)) (b + 1)) (sym e ∙ ap asked d)
+    block-next b a h e d = block-cons b h ∙ ap (_>> askBlocks t (blockCount - (b + 1)) (b + 1)) (sym e ∙ ap asked d)
 
-    pub block-stop : (b : ℕ) (a : Answer) (r : Refusal) → b < 17 → asked a ≡ askBlock n b (blockOf t b) → a ≡ Refused r → asked a ≡ askBlocks t (17 - b) b
+    pub block-stop : (b : ℕ) (a : Answer) (r : Refusal) → b < blockCount → asked a ≡ askBlock n b (blockOf t b) → a ≡ Refused r → asked a ≡ askBlocks t (blockCount - b) b
     unfolding _>>_
-    block-stop b a r h e d = ap asked d ∙ sym (block-cons b h ∙ ap (_>> askBlocks t (17 - (b + 1)) (b + 1)) (sym e ∙ ap asked d))
+    block-stop b a r h e d = ap asked d ∙ sym (block-cons b h ∙ ap (_>> askBlocks t (blockCount - (b + 1)) (b + 1)) (sym e ∙ ap asked d))
 
     -- n is in range once block 0 has its head
     pub few : (b : ℕ) → (0 < b → n ≤ maxNodes) → headRight b (blockOf t b) ≡ true → n ≤ maxNodes
-    few zero h e = let l : getD (blockOf t 0) 2 0 ≤ 60 = n-range (blockOf t 0) e .1 in omega (arith, n-is, getD-take 512 t 2 0 (omega arith))
+    few zero h e = let l : getD (blockOf t 0) 2 0 ≤ maxNodes = n-range (blockOf t 0) e .1 in omega (arith, n-is, getD-take blockBytes t 2 0 (omega arith))
     few (suc b) h e = h (omega arith)
 
     pub few-after : (b : ℕ) (a : Answer) → (0 < b → n ≤ maxNodes) → asked a ≡ askBlock n b (blockOf t b) → a ≡ Done → n ≤ maxNodes
     few-after b a h e d = few b h (block-ok n b (blockOf t b) (sym e ∙ ap asked d) .heads)
 
-  pub blocks-end : (b : ℕ) → 17 ≤ b → askBlocks t (17 - b) b ≡ passed tt
+  pub blocks-end : (b : ℕ) → blockCount ≤ b → askBlocks t (blockCount - b) b ≡ passed tt
   unfolding askBlocks
-  blocks-end b h = let m : 17 - b ≡ 0 = omega arith in ap (λ x. askBlocks t x b) m
+  blocks-end b h = let m : blockCount - b ≡ 0 = omega arith in ap (λ x. askBlocks t x b) m

@@ -2,21 +2,21 @@
 use mathlib.Core.Path.{_≡_, refl, sym, ap, ap₂, _∙_}
 use mathlib.Core.Bool.{false, and-false}
 use mathlib.Core.List.{List, [], _∷_, _++_, append-assoc, append-nil}
-use Prim.Native.Nat.{ℕ, zero, suc, _+_, _*_, _≤_, _<_}
+use Prim.Native.Nat.{ℕ, zero, suc, _+_, _-_, _*_, _≤_, _<_}
 use native.Mathlib.Numerals.{add-one}
 use native.Mathlib.Omega.{arith}
 use borrow.Author.Tests.{eq-eqb, ne-eqb, le-leb, lt-leb}
 use lib.ListN.{length, take, drop, set, replicate, length-append, length-drop}
 use lib.Seq.{take-at, take-suc-set, take-all, length-take-le}
 use Rattle.answer.specs.Asked.{passed, refused, _>>_, is}
-use Rattle.logic.specs.Limits.{maxNodes}
+use Rattle.logic.specs.Limits.{maxNodes, labelCount, arrowCount}
 use Rattle.words.specs.Words.{setOf, bytes}
 use Rattle.words.proofs.SetLaws.{setOf-none}
-use Rattle.seal.specs.Seal.{bodyBytes, sumsFrom, seal, sealed, reseal}
-use Rattle.sheet.specs.Sheet.{sheetBytes, labelPad, arrowPad, chunks, labelBlock, arrowBlock, store, blank}
+use Rattle.seal.specs.Seal.{bodyBytes, sumsFrom, seal, sealed, reseal, blockBytes}
+use Rattle.sheet.specs.Sheet.{sheetBytes, chunks, labelBlock, arrowBlock, store, blank}
 use Rattle.sheet.specs.Questions.{askBlank}
 use Rattle.sheet.specs.Writes.{bareBlock}
-use Rattle.sheet.proofs.Blocks.{labelHead, arrowHead, length-arrowBlock, length-labelBlock}
+use Rattle.sheet.proofs.Blocks.{labelHead, arrowHead, length-arrowBlock, length-labelBlock, labels-fit, rows-fit}
 use Rattle.sheet.proofs.Writes.{raw, seal-raw, chunks-more}
 
 zeros-more : (n : ℕ) → _++_ {A = ℕ} (replicate n 0) (0 ∷ []) ≡ replicate (suc n) 0
@@ -30,53 +30,56 @@ wiped l i h e = ap (λ x. take x (set l i 0)) (add-one i) ∙ take-suc-set l i 0
 pub wiped-all : (l : List ℕ) (i m : ℕ) → length l ≤ i → i ≤ length l → length l ≡ m → take i l ≡ replicate i 0 → l ≡ replicate m 0
 wiped-all l i m h h′ q e = let s : i ≡ m = omega arith in sym (take-all i l h) ∙ e ∙ ap (λ x. replicate x 0) s
 
-pub heads : (l : List ℕ) (m x y z : ℕ) → l ≡ replicate m 0 → m ≡ 512 → set (set (set l 0 x) 1 y) 2 z ≡ bareBlock x y z
+pub heads : (l : List ℕ) (m x y z : ℕ) → l ≡ replicate m 0 → m ≡ blockBytes → set (set (set l 0 x) 1 y) 2 z ≡ bareBlock x y z
 unfolding bareBlock
 heads l m x y z e q = ap (λ k. set (set (set k 0 x) 1 y) 2 z) (e ∙ ap (λ k. replicate k 0) q)
 
--- an empty block is a bare one
+-- an empty block is a bare one, whose check bytes are zero
+abbrev unsealed : List ℕ
+unsealed = replicate (blockBytes - bodyBytes) 0
+
 blank-labels : (n : ℕ) → reseal (bareBlock 1 0 n) ≡ labelBlock (blank n)
 unfolding labelBlock chunks bytes bareBlock
 blank-labels n =
-    ap reseal (sym (ap (λ w. raw (labelHead (blank n)) 48 (λ k. w) labelPad (0 ∷ 0 ∷ [])) (setOf-none n)))
-    ∙ seal-raw (labelHead (blank n)) refl 48 labelPad (0 ∷ 0 ∷ []) (λ k. setOf n (λ i. false)) refl
+    ap reseal (sym (ap (λ w. raw (labelHead (blank n)) labelCount (λ k. w) unsealed) (setOf-none n)))
+    ∙ seal-raw (labelHead (blank n)) refl labelCount unsealed (λ k. setOf n (λ i. false)) labels-fit
 
 blank-arrows : (n a : ℕ) → reseal (bareBlock 2 (a + 1) 0) ≡ arrowBlock (blank n) a
 unfolding arrowBlock chunks bytes bareBlock
 blank-arrows n a =
     ap (λ x. reseal (bareBlock 2 x 0)) (add-one a)
-    ∙ ap reseal (sym (ap (λ w. raw (arrowHead a) 60 (λ k. w) arrowPad (0 ∷ 0 ∷ [])) (setOf-none n)))
-    ∙ seal-raw (arrowHead a) refl 60 arrowPad (0 ∷ 0 ∷ []) (λ i. setOf n (λ i. false)) refl
+    ∙ ap reseal (sym (ap (λ w. raw (arrowHead a) maxNodes (λ k. w) unsealed) (setOf-none n)))
+    ∙ seal-raw (arrowHead a) refl maxNodes unsealed (λ i. setOf n (λ i. false)) rows-fit
 
 -- the buffer is blank up to the block of arrow a
 abbrev pub Begun : ℕ → ℕ → List ℕ → Type 0
-Begun n a t = take (512 * a + 512) t ≡ labelBlock (blank n) ++ chunks a 0 (arrowBlock (blank n))
+Begun n a t = take (blockBytes * a + blockBytes) t ≡ labelBlock (blank n) ++ chunks a 0 (arrowBlock (blank n))
 
 pub begun-first : (n : ℕ) (k t : List ℕ) → k ≡ reseal (bareBlock 1 0 n) → Begun n 0 (k ++ t)
 unfolding chunks
 begun-first n k t e =
     let q : k ≡ labelBlock (blank n) = e ∙ blank-labels n in
-    take-at k t 512 (ap length q ∙ length-labelBlock (blank n)) ∙ q ∙ sym (append-nil (labelBlock (blank n)))
+    take-at k t blockBytes (ap length q ∙ length-labelBlock (blank n)) ∙ q ∙ sym (append-nil (labelBlock (blank n)))
 
-pub begun-more : (n a : ℕ) (k t r : List ℕ) → k ≡ reseal (bareBlock 2 (a + 1) 0) → Begun n a t → 512 * a + 512 ≤ length t → Begun n (a + 1) (take (512 * a + 512) t ++ (k ++ r))
+pub begun-more : (n a : ℕ) (k t r : List ℕ) → k ≡ reseal (bareBlock 2 (a + 1) 0) → Begun n a t → blockBytes * a + blockBytes ≤ length t → Begun n (a + 1) (take (blockBytes * a + blockBytes) t ++ (k ++ r))
 begun-more n a k t r e h l =
     let q : k ≡ arrowBlock (blank n) a = e ∙ blank-arrows n a in
-    ap (take (512 * (a + 1) + 512)) (sym (append-assoc (take (512 * a + 512) t) k r))
-    ∙ take-at (take (512 * a + 512) t ++ k) r (512 * (a + 1) + 512) (length-append (take (512 * a + 512) t) k ∙ omega (arith, length-take-le (512 * a + 512) t l, ap length q, length-arrowBlock (blank n) a))
+    ap (take (blockBytes * (a + 1) + blockBytes)) (sym (append-assoc (take (blockBytes * a + blockBytes) t) k r))
+    ∙ take-at (take (blockBytes * a + blockBytes) t ++ k) r (blockBytes * (a + 1) + blockBytes) (length-append (take (blockBytes * a + blockBytes) t) k ∙ omega (arith, length-take-le (blockBytes * a + blockBytes) t l, ap length q, length-arrowBlock (blank n) a))
     ∙ ap₂ _++_ h q ∙ append-assoc (labelBlock (blank n)) (chunks a 0 (arrowBlock (blank n))) (arrowBlock (blank n) a)
     ∙ ap (labelBlock (blank n) ++_) (sym (chunks-more a (arrowBlock (blank n))))
 
-pub first-length : (n : ℕ) (k t : List ℕ) → k ≡ reseal (bareBlock 1 0 n) → length t ≡ sheetBytes → length (k ++ drop 512 t) ≡ sheetBytes
-first-length n k t e h = length-append k (drop 512 t) ∙ omega (arith, ap length (e ∙ blank-labels n), length-labelBlock (blank n), length-drop 512 t)
+pub first-length : (n : ℕ) (k t : List ℕ) → k ≡ reseal (bareBlock 1 0 n) → length t ≡ sheetBytes → length (k ++ drop blockBytes t) ≡ sheetBytes
+first-length n k t e h = length-append k (drop blockBytes t) ∙ omega (arith, ap length (e ∙ blank-labels n), length-labelBlock (blank n), length-drop blockBytes t)
 
-pub more-length : (n a : ℕ) (k t : List ℕ) (y : ℕ) → k ≡ reseal (bareBlock 2 (a + 1) 0) → a < 16 → y ≡ 512 → length t ≡ sheetBytes → length (take (512 * a + 512) t ++ (k ++ drop y (drop (512 * a + 512) t))) ≡ sheetBytes
+pub more-length : (n a : ℕ) (k t : List ℕ) (y : ℕ) → k ≡ reseal (bareBlock 2 (a + 1) 0) → a < arrowCount → y ≡ blockBytes → length t ≡ sheetBytes → length (take (blockBytes * a + blockBytes) t ++ (k ++ drop y (drop (blockBytes * a + blockBytes) t))) ≡ sheetBytes
 more-length n a k t y e l q h =
-    length-append (take (512 * a + 512) t) (k ++ drop y (drop (512 * a + 512) t))
-    ∙ omega (arith, length-take-le (512 * a + 512) t (omega arith), length-append k (drop y (drop (512 * a + 512) t)), ap length (e ∙ blank-arrows n a), length-arrowBlock (blank n) a, length-drop y (drop (512 * a + 512) t), length-drop (512 * a + 512) t)
+    length-append (take (blockBytes * a + blockBytes) t) (k ++ drop y (drop (blockBytes * a + blockBytes) t))
+    ∙ omega (arith, length-take-le (blockBytes * a + blockBytes) t (omega arith), length-append k (drop y (drop (blockBytes * a + blockBytes) t)), ap length (e ∙ blank-arrows n a), length-arrowBlock (blank n) a, length-drop y (drop (blockBytes * a + blockBytes) t), length-drop (blockBytes * a + blockBytes) t)
 
-pub begun-all : (n a : ℕ) (t : List ℕ) → a ≡ 16 → length t ≡ sheetBytes → Begun n a t → t ≡ store (blank n)
+pub begun-all : (n a : ℕ) (t : List ℕ) → a ≡ arrowCount → length t ≡ sheetBytes → Begun n a t → t ≡ store (blank n)
 unfolding store
-begun-all n a t q l h = sym (take-all (512 * a + 512) t (omega arith)) ∙ h ∙ ap (λ x. labelBlock (blank n) ++ chunks x 0 (arrowBlock (blank n))) q
+begun-all n a t q l h = sym (take-all (blockBytes * a + blockBytes) t (omega arith)) ∙ h ∙ ap (λ x. labelBlock (blank n) ++ chunks x 0 (arrowBlock (blank n))) q
 
 -- 5, then 1
 module _ (n len : ℕ) where
@@ -86,16 +89,16 @@ module _ (n len : ℕ) where
 
   pub many-nodes : maxNodes < n → askBlank n len ≡ refused 5 0
   unfolding askBlank is _>>_
-  many-nodes h = rw (lt-leb n 60 h, and-false)
+  many-nodes h = rw (lt-leb n maxNodes h, and-false)
 
   module _ (l : 1 ≤ n) (u : n ≤ maxNodes) where
     pub no-room : (len ≡ sheetBytes → ⊥) → askBlank n len ≡ refused 1 0
     unfolding askBlank is _>>_
-    no-room h = rw (le-leb 1 n l, le-leb n 60 u, ne-eqb _ _ h)
+    no-room h = rw (le-leb 1 n l, le-leb n maxNodes u, ne-eqb _ _ h)
 
     pub room : len ≡ sheetBytes → askBlank n len ≡ passed tt
     unfolding askBlank is _>>_
-    room h = rw (le-leb 1 n l, le-leb n 60 u, eq-eqb _ _ h)
+    room h = rw (le-leb 1 n l, le-leb n maxNodes u, eq-eqb _ _ h)
 
 -- Block 1 without arrows has 3 and 254.
 pub block-1-without-arrows : (n : ℕ) → drop bodyBytes (arrowBlock (blank n) 0) ≡ 3 ∷ 254 ∷ []

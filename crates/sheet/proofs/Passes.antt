@@ -2,30 +2,25 @@
 use mathlib.Core.Path.{_≡_, refl, _∙_, ap, ap₂}
 use mathlib.Core.Bool.{Bool, true, false, _&&_, or-true}
 use mathlib.Core.List.{List, _++_}
-use Prim.Native.Nat.{ℕ, zero, suc, _+_, _-_, _*_, _/_, _%_, _^_, _≤_, _<_}
-use native.Mathlib.Nat.{mul-zero, mul-suc, zero-div}
+use Prim.Native.Nat.{ℕ, zero, suc, _+_, _-_, _*_, _/_, _%_, _≤_, _<_}
+use native.Mathlib.Nat.{mul-zero, mul-suc}
 use native.Mathlib.Omega.{arith}
 use native.Mathlib.Decide.{decLt}
 use borrow.Author.Tests.{eq-eqb, lt-ltb, le-leb}
-use lib.Dec.{eqb}
 use lib.ListN.{length, getD, take, drop}
 use lib.Seq.{drop-append-add, take-at}
 use Rattle.answer.specs.Asked.{passed, _>>_, is}
-use Rattle.logic.specs.Graph.{Graph, Nodes, allBelow, implies}
-use Rattle.logic.specs.Limits.{Within}
+use Rattle.logic.specs.Graph.{Graph, implies}
+use Rattle.logic.specs.Limits.{Within, maxNodes, labelCount, arrowCount}
 use Rattle.logic.proofs.Inside.{no-node}
+use Rattle.logic.proofs.Below.{all-true}
 use Rattle.words.specs.Words.{member}
-use Rattle.words.proofs.SetLaws.{member-setOf, member-beyond}
+use Rattle.words.proofs.SetLaws.{member-zero, member-setOf, member-beyond}
 use Rattle.seal.specs.Seal.{blockBytes, bodyBytes, sealRight}
 use Rattle.seal.proofs.SealLaws.{sealed-right}
-use Rattle.sheet.specs.Sheet.{labelPad, arrowPad, chunks, block, labelBlock, arrowBlock, store}
+use Rattle.sheet.specs.Sheet.{chunks, block, labelBlock, arrowBlock, store}
 use Rattle.sheet.specs.Questions.{blockOf, headRight, free, zeroRight, askBlock, askBlocks, askSheet, Sound}
-use Rattle.sheet.proofs.Blocks.{wordsOf, bodyOf, length-body, head-at, front-zero, pad-zero, word-bit, labelHead, labelWord, arrowHead, rowWord, length-labelBlock, length-arrowBlock, length-store, n-is}
-
-pub all-true : (n : ℕ) (f : Nodes) → ((i : ℕ) → i < n → f i ≡ true) → allBelow n f ≡ true
-unfolding allBelow
-all-true zero f h = refl
-all-true (suc n) f h = ap₂ _&&_ (all-true n f (λ i l. h i (omega arith))) (h n (omega arith))
+use Rattle.sheet.proofs.Blocks.{bodyOf, length-body, head-at, front-zero, pad-zero, word-bit, labelHead, labelWord, arrowHead, rowWord, length-labelBlock, length-arrowBlock, length-store, n-is, labels-fit, rows-fit}
 
 pub if-clear : (b c : Bool) → b ≡ false → implies b c ≡ true
 if-clear b c e = rw e
@@ -33,27 +28,23 @@ if-clear b c e = rw e
 pub if-free : (b c : Bool) → c ≡ true → implies b c ≡ true
 if-free b c e = rw (e, or-true)
 
-pub no-bit : (i : ℕ) → member 0 i ≡ false
-unfolding member
-no-bit i = ap (λ x. eqb (x % 2) 1) (zero-div (2 ^ i))
-
 -- a block of m words, each a set of nodes below n, has nothing where nothing may be
-module _ (head : List ℕ) (m : ℕ) (f : ℕ → ℕ) (pad : ℕ) (h : length head ≡ 3) (fits : 8 * m + pad ≡ 494) (n b : ℕ)
+module _ (head : List ℕ) (m : ℕ) (f : ℕ → ℕ) (h : length head ≡ 3) (fits : 16 + 8 * m ≤ bodyBytes) (n b : ℕ)
     (heads : (p i : ℕ) → p < 3 → free n b p i ≡ true)
     (inside : (p i : ℕ) → 16 ≤ p → p < 16 + 8 * m → i < 8 → implies (member (f ((p - 16) / 8)) (p % 8 * 8 + i)) (free n b p i) ≡ true) where
-  bit-right : (p i : ℕ) → p < bodyBytes → i < 8 → Dec (p < 3) → Dec (p < 16) → Dec (p < 16 + 8 * m) → implies (member (getD (block head (wordsOf m f) pad) p 0) i) (free n b p i) ≡ true
-  bit-right p i l s (yes x) d e = if-free (member (getD (block head (wordsOf m f) pad) p 0) i) _ (heads p i x)
-  bit-right p i l s (no x) (yes d) e = if-clear _ _ (ap (λ x. member x i) (front-zero head m f pad h fits p (omega arith) d) ∙ no-bit i)
-  bit-right p i l s (no x) (no d) (yes e) = ap (λ y. implies y (free n b p i)) (word-bit head m f pad h fits p i (omega arith) e s) ∙ inside p i (omega arith) e s
-  bit-right p i l s (no x) (no d) (no e) = if-clear _ _ (ap (λ x. member x i) (pad-zero head m f pad h fits p (omega arith) l) ∙ no-bit i)
+  bit-right : (p i : ℕ) → p < bodyBytes → i < 8 → Dec (p < 3) → Dec (p < 16) → Dec (p < 16 + 8 * m) → implies (member (getD (block head m f) p 0) i) (free n b p i) ≡ true
+  bit-right p i l s (yes x) d e = if-free (member (getD (block head m f) p 0) i) _ (heads p i x)
+  bit-right p i l s (no x) (yes d) e = if-clear _ _ (ap (λ x. member x i) (front-zero head m f h fits p (omega arith) d) ∙ member-zero i)
+  bit-right p i l s (no x) (no d) (yes e) = ap (λ y. implies y (free n b p i)) (word-bit head m f h fits p i (omega arith) e s) ∙ inside p i (omega arith) e s
+  bit-right p i l s (no x) (no d) (no e) = if-clear _ _ (ap (λ x. member x i) (pad-zero head m f h fits p (omega arith) l) ∙ member-zero i)
 
-  block-zeros : zeroRight n b (block head (wordsOf m f) pad) ≡ true
+  block-zeros : zeroRight n b (block head m f) ≡ true
   unfolding zeroRight
   block-zeros = all-true bodyBytes _ (λ p l. all-true 8 _ (λ i s. bit-right p i l s (decLt p 3) (decLt p 16) (decLt p (16 + 8 * m))))
 
-  block-sealed : sealRight (block head (wordsOf m f) pad) ≡ true
+  block-sealed : sealRight (block head m f) ≡ true
   unfolding block
-  block-sealed = sealed-right (bodyOf head (wordsOf m f) pad) (length-body head m f pad h fits)
+  block-sealed = sealed-right (bodyOf head m f) (length-body head m f h fits)
 
 -- the three questions of a block, answered
 block-right : (n b : ℕ) (k : List ℕ) → sealRight k ≡ true → headRight b k ≡ true → zeroRight n b k ≡ true → askBlock n b k ≡ passed tt
@@ -65,33 +56,33 @@ module _ (g : Graph) (w : Within g) where
   unfolding labelBlock headRight free
   labels-pass =
       block-right (g .n) 0 (labelBlock g)
-      (block-sealed (labelHead g) 48 (labelWord g) labelPad refl refl (g .n) 0 heads inside)
-      (rw (at 0 (omega arith), at 1 (omega arith), at 2 (omega arith)) (ap₂ _&&_ (le-leb 1 (g .n) (w .some-node)) (le-leb (g .n) 60 (w .few-nodes))))
-      (block-zeros (labelHead g) 48 (labelWord g) labelPad refl refl (g .n) 0 heads inside)
+      (block-sealed (labelHead g) labelCount (labelWord g) refl labels-fit (g .n) 0 heads inside)
+      (rw (at 0 (omega arith), at 1 (omega arith), at 2 (omega arith)) (ap₂ _&&_ (le-leb 1 (g .n) (w .some-node)) (le-leb (g .n) maxNodes (w .few-nodes))))
+      (block-zeros (labelHead g) labelCount (labelWord g) refl labels-fit (g .n) 0 heads inside)
     where
-      at : (p : ℕ) → p < 3 → getD (block (labelHead g) (wordsOf 48 (labelWord g)) labelPad) p 0 ≡ getD (labelHead g) p 0
-      at p l = head-at (labelHead g) 48 (labelWord g) labelPad refl refl p l
+      at : (p : ℕ) → p < 3 → getD (block (labelHead g) labelCount (labelWord g)) p 0 ≡ getD (labelHead g) p 0
+      at p l = head-at (labelHead g) labelCount (labelWord g) refl labels-fit p l
 
       heads : (p i : ℕ) → p < 3 → free (g .n) 0 p i ≡ true
       heads p i l = rw (lt-ltb p 3 l)
 
-      go : (p i : ℕ) → 16 ≤ p → p < 400 → Dec (p % 8 * 8 + i < g .n) → implies (member (labelWord g ((p - 16) / 8)) (p % 8 * 8 + i)) (free (g .n) 0 p i) ≡ true
-      go p i l u (yes s) = if-free (member (labelWord g ((p - 16) / 8)) (p % 8 * 8 + i)) _ (rw (le-leb 16 p l, lt-ltb p 400 u, lt-ltb (p % 8 * 8 + i) (g .n) s, or-true))
+      go : (p i : ℕ) → 16 ≤ p → p < 16 + 8 * labelCount → Dec (p % 8 * 8 + i < g .n) → implies (member (labelWord g ((p - 16) / 8)) (p % 8 * 8 + i)) (free (g .n) 0 p i) ≡ true
+      go p i l u (yes s) = if-free (member (labelWord g ((p - 16) / 8)) (p % 8 * 8 + i)) _ (rw (le-leb 16 p l, lt-ltb p (16 + 8 * labelCount) u, lt-ltb (p % 8 * 8 + i) (g .n) s, or-true))
       go p i l u (no s) = if-clear _ _ (member-beyond (g .n) (g .labelled ((p - 16) / 8)) (p % 8 * 8 + i) (omega arith))
 
-      inside : (p i : ℕ) → 16 ≤ p → p < 16 + 8 * 48 → i < 8 → implies (member (labelWord g ((p - 16) / 8)) (p % 8 * 8 + i)) (free (g .n) 0 p i) ≡ true
+      inside : (p i : ℕ) → 16 ≤ p → p < 16 + 8 * labelCount → i < 8 → implies (member (labelWord g ((p - 16) / 8)) (p % 8 * 8 + i)) (free (g .n) 0 p i) ≡ true
       inside p i l u s = go p i l (omega arith) (decLt (p % 8 * 8 + i) (g .n))
 
   arrows-pass : (a : ℕ) → askBlock (g .n) (suc a) (arrowBlock g a) ≡ passed tt
   unfolding arrowBlock headRight free
   arrows-pass a =
       block-right (g .n) (suc a) (arrowBlock g a)
-      (block-sealed (arrowHead a) 60 (rowWord g a) arrowPad refl refl (g .n) (suc a) heads inside)
+      (block-sealed (arrowHead a) maxNodes (rowWord g a) refl rows-fit (g .n) (suc a) heads inside)
       (rw (at 0 (omega arith), at 1 (omega arith), at 2 (omega arith)) (rw (eq-eqb (suc a) (suc a) refl)))
-      (block-zeros (arrowHead a) 60 (rowWord g a) arrowPad refl refl (g .n) (suc a) heads inside)
+      (block-zeros (arrowHead a) maxNodes (rowWord g a) refl rows-fit (g .n) (suc a) heads inside)
     where
-      at : (p : ℕ) → p < 3 → getD (block (arrowHead a) (wordsOf 60 (rowWord g a)) arrowPad) p 0 ≡ getD (arrowHead a) p 0
-      at p l = head-at (arrowHead a) 60 (rowWord g a) arrowPad refl refl p l
+      at : (p : ℕ) → p < 3 → getD (block (arrowHead a) maxNodes (rowWord g a)) p 0 ≡ getD (arrowHead a) p 0
+      at p l = head-at (arrowHead a) maxNodes (rowWord g a) refl rows-fit p l
 
       heads : (p i : ℕ) → p < 3 → free (g .n) (suc a) p i ≡ true
       heads p i l = rw (lt-ltb p 3 l)
@@ -100,14 +91,14 @@ module _ (g : Graph) (w : Within g) where
       row-clear r j l (yes s) = member-setOf (g .n) (g .joined a r) j s ∙ w .arrows-in a .starts r j (no-node g r l)
       row-clear r j l (no s) = member-beyond (g .n) (g .joined a r) j (omega arith)
 
-      go : (p i : ℕ) → 16 ≤ p → p < 496 → Dec ((p - 16) / 8 < g .n) → Dec (p % 8 * 8 + i < g .n) → implies (member (rowWord g a ((p - 16) / 8)) (p % 8 * 8 + i)) (free (g .n) (suc a) p i) ≡ true
+      go : (p i : ℕ) → 16 ≤ p → p < 16 + 8 * maxNodes → Dec ((p - 16) / 8 < g .n) → Dec (p % 8 * 8 + i < g .n) → implies (member (rowWord g a ((p - 16) / 8)) (p % 8 * 8 + i)) (free (g .n) (suc a) p i) ≡ true
       go p i l u (yes r) (yes s) =
           if-free (member (rowWord g a ((p - 16) / 8)) (p % 8 * 8 + i)) _
-          (rw (le-leb 16 p l, lt-ltb p 496 u, lt-ltb ((p - 16) / 8) (g .n) r, lt-ltb (p % 8 * 8 + i) (g .n) s, or-true))
+          (rw (le-leb 16 p l, lt-ltb p (16 + 8 * maxNodes) u, lt-ltb ((p - 16) / 8) (g .n) r, lt-ltb (p % 8 * 8 + i) (g .n) s, or-true))
       go p i l u (yes r) (no s) = if-clear _ _ (member-beyond (g .n) (g .joined a ((p - 16) / 8)) (p % 8 * 8 + i) (omega arith))
       go p i l u (no r) d = if-clear _ _ (row-clear ((p - 16) / 8) (p % 8 * 8 + i) (omega arith) d)
 
-      inside : (p i : ℕ) → 16 ≤ p → p < 16 + 8 * 60 → i < 8 → implies (member (rowWord g a ((p - 16) / 8)) (p % 8 * 8 + i)) (free (g .n) (suc a) p i) ≡ true
+      inside : (p i : ℕ) → 16 ≤ p → p < 16 + 8 * maxNodes → i < 8 → implies (member (rowWord g a ((p - 16) / 8)) (p % 8 * 8 + i)) (free (g .n) (suc a) p i) ≡ true
       inside p i l u s = go p i l (omega arith) (decLt ((p - 16) / 8) (g .n)) (decLt (p % 8 * 8 + i) (g .n))
 
 -- the blocks of the stored sheet
@@ -122,18 +113,18 @@ take-chunk w f len (suc m) i (suc k) h =
 
 first-block : (g : Graph) → blockOf (store g) 0 ≡ labelBlock g
 unfolding store
-first-block g = take-at (labelBlock g) (chunks 16 0 (arrowBlock g)) blockBytes (length-labelBlock g)
+first-block g = take-at (labelBlock g) (chunks arrowCount 0 (arrowBlock g)) blockBytes (length-labelBlock g)
 
-later-block : (g : Graph) (a : ℕ) → a < 16 → blockOf (store g) (suc a) ≡ arrowBlock g a
+later-block : (g : Graph) (a : ℕ) → a < arrowCount → blockOf (store g) (suc a) ≡ arrowBlock g a
 unfolding store
 later-block g a h =
-    let e : 512 * suc a ≡ length (labelBlock g) + 512 * a = omega (arith, length-labelBlock g) in
-    ap (λ p. take 512 (drop p (labelBlock g ++ chunks 16 0 (arrowBlock g)))) e
-    ∙ ap (take 512) (drop-append-add (labelBlock g) (chunks 16 0 (arrowBlock g)) (512 * a))
-    ∙ take-chunk 512 (arrowBlock g) (length-arrowBlock g) 16 0 a h ∙ ap (arrowBlock g) (omega arith)
+    let e : blockBytes * suc a ≡ length (labelBlock g) + blockBytes * a = omega (arith, length-labelBlock g) in
+    ap (λ p. take blockBytes (drop p (labelBlock g ++ chunks arrowCount 0 (arrowBlock g)))) e
+    ∙ ap (take blockBytes) (drop-append-add (labelBlock g) (chunks arrowCount 0 (arrowBlock g)) (blockBytes * a))
+    ∙ take-chunk blockBytes (arrowBlock g) (length-arrowBlock g) arrowCount 0 a h ∙ ap (arrowBlock g) (omega arith)
 
 module _ (g : Graph) (w : Within g) where
-  later-pass : (m a : ℕ) → a + m ≤ 16 → askBlocks (store g) m (suc a) ≡ passed tt
+  later-pass : (m a : ℕ) → a + m ≤ arrowCount → askBlocks (store g) m (suc a) ≡ passed tt
   unfolding askBlocks _>>_
   later-pass zero a h = refl
   later-pass (suc m) a h =
@@ -144,5 +135,5 @@ module _ (g : Graph) (w : Within g) where
   unfolding askSheet askBlocks is _>>_
   stored-passes =
       rw (length-store g)
-      (ap₂ (λ n k. askBlock n 0 k >> askBlocks (store g) 16 1) (n-is g) (first-block g)
-      ∙ ap (_>> askBlocks (store g) 16 1) (labels-pass g w) ∙ later-pass 16 0 (omega arith))
+      (ap₂ (λ n k. askBlock n 0 k >> askBlocks (store g) arrowCount 1) (n-is g) (first-block g)
+      ∙ ap (_>> askBlocks (store g) arrowCount 1) (labels-pass g w) ∙ later-pass arrowCount 0 (omega arith))

@@ -8,10 +8,11 @@ use native.Mathlib.Decide.{decLt}
 use lib.Dec.{T, ltb, ltb→lt, nltb→le}
 use lib.ListN.{getD}
 use Rattle.logic.specs.Graph.{Graph, Nodes}
-use Rattle.logic.specs.Limits.{NodesIn, Within}
+use Rattle.logic.specs.Limits.{NodesIn, Within, maxNodes, labelCount, arrowCount}
 use Rattle.logic.proofs.Inside.{no-node}
 use Rattle.words.specs.Words.{setOf, member}
 use Rattle.words.proofs.SetLaws.{member-setOf, member-beyond}
+use Rattle.seal.specs.Seal.{blockBytes}
 use Rattle.sheet.specs.Sheet.{store, bitIn, graphOf}
 use Rattle.sheet.proofs.Blocks.{byteOf, bit-of-byte, n-is, label-byte, arrow-byte}
 
@@ -32,13 +33,13 @@ module _ (g : Graph) (w : Within g) where
       go (yes l) = member-setOf (g .n) v i l
       go (no l) = member-beyond (g .n) v i (omega arith) ∙ sym (inside i (no-node g i (omega arith)))
 
-  labels-back : (λ k i. ltb k 48 && bitIn (store g) (16 + 8 * k) i) ≡ g .labelled
-  labels-back = fun-ext (λ k. fun-ext (λ i. guarded k 48 _ (g .labelled k i) (λ l. bits-back (store g) (16 + 8 * k) (g .labelled k) (w .labels-in k) (λ j. label-byte g k j l) i) (w .no-more-labels k i)))
+  labels-back : (λ k i. ltb k labelCount && bitIn (store g) (16 + 8 * k) i) ≡ g .labelled
+  labels-back = fun-ext (λ k. fun-ext (λ i. guarded k labelCount _ (g .labelled k i) (λ l. bits-back (store g) (16 + 8 * k) (g .labelled k) (w .labels-in k) (λ j. label-byte g k j l) i) (w .no-more-labels k i)))
 
-  arrows-back : (λ a i j. ltb a 16 && (ltb i 60 && bitIn (store g) (512 * (a + 1) + (16 + 8 * i)) j)) ≡ g .joined
+  arrows-back : (λ a i j. ltb a arrowCount && (ltb i maxNodes && bitIn (store g) (blockBytes * (a + 1) + (16 + 8 * i)) j)) ≡ g .joined
   arrows-back =
-      fun-ext (λ a. fun-ext (λ i. fun-ext (λ j. guarded a 16 _ (g .joined a i j)
-      (λ l. guarded i 60 _ (g .joined a i j) (λ l′. bits-back (store g) (512 * (a + 1) + (16 + 8 * i)) (g .joined a i) (w .arrows-in a .ends i) (λ j. arrow-byte g a i j l l′) j) (λ m. w .arrows-in a .starts i j (no-node g i (omega (arith, w .few-nodes)))))
+      fun-ext (λ a. fun-ext (λ i. fun-ext (λ j. guarded a arrowCount _ (g .joined a i j)
+      (λ l. guarded i maxNodes _ (g .joined a i j) (λ l′. bits-back (store g) (blockBytes * (a + 1) + (16 + 8 * i)) (g .joined a i) (w .arrows-in a .ends i) (λ j. arrow-byte g a i j l l′) j) (λ m. w .arrows-in a .starts i j (no-node g i (omega (arith, w .few-nodes)))))
       (w .no-more-arrows a i j))))
 
   pub read-back : graphOf (store g) ≡ g

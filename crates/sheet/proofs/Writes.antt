@@ -12,16 +12,16 @@ use lib.Dec.{ltb}
 use lib.ListN.{length, getD, take, drop, replicate, length-append, length-replicate}
 use lib.Seq.{take-at, drop-at}
 use Rattle.logic.specs.Graph.{Graph, Nodes, Pairs}
-use Rattle.logic.specs.Limits.{Within, PairsIn}
+use Rattle.logic.specs.Limits.{Within, PairsIn, maxNodes, labelCount, arrowCount}
 use Rattle.logic.specs.Steps.{update, relabel, rejoin}
 use Rattle.logic.proofs.Inside.{no-node}
 use Rattle.words.specs.Words.{setOf, bytes, putWord}
 use Rattle.words.proofs.SetLaws.{setOf-cong}
 use Rattle.words.proofs.WordLaws.{length-bytes}
-use Rattle.seal.specs.Seal.{bodyBytes, seal, sealed, reseal}
-use Rattle.sheet.specs.Sheet.{labelPad, arrowPad, chunks, block, labelBlock, arrowBlock, store, Rows}
+use Rattle.seal.specs.Seal.{bodyBytes, seal, sealed, reseal, blockBytes}
+use Rattle.sheet.specs.Sheet.{chunks, block, labelBlock, arrowBlock, store, Rows, padding}
 use Rattle.sheet.specs.Writes.{putRows}
-use Rattle.sheet.proofs.Blocks.{wordsOf, bodyOf, length-words, length-body, length-chunks, labelHead, labelWord, arrowHead, rowWord, length-labelBlock, length-arrowBlock}
+use Rattle.sheet.proofs.Blocks.{wordsOf, bodyOf, length-words, length-body, length-chunks, labelHead, labelWord, arrowHead, rowWord, length-labelBlock, length-arrowBlock, labels-fit, rows-fit}
 
 -- a word is put where 8 bytes stand
 put-mid : (A B D : List ℕ) (at x : ℕ) → length A ≡ at → length B ≡ 8 → putWord (A ++ (B ++ D)) at x ≡ A ++ (bytes 8 x ++ D)
@@ -53,39 +53,39 @@ around : (P X B Y Z C : List ℕ) → ((P ++ (X ++ (B ++ Y))) ++ Z) ++ C ≡ (P 
 around P X B Y Z C = simp append-assoc
 
 -- a block with any check bytes
-abbrev pub raw : List ℕ → ℕ → (ℕ → ℕ) → ℕ → List ℕ → List ℕ
-raw head m f pad c = bodyOf head (wordsOf m f) pad ++ c
+abbrev pub raw : List ℕ → (m : ℕ) → (ℕ → ℕ) → List ℕ → List ℕ
+raw head m f c = bodyOf head m f ++ c
 
-module _ (head : List ℕ) (h3 : length head ≡ 3) (m pad : ℕ) (c : List ℕ) where
+module _ (head : List ℕ) (h3 : length head ≡ 3) (m : ℕ) (c : List ℕ) where
   -- a word is put into a block
-  put-raw : (f h : ℕ → ℕ) (k x : ℕ) → k < m → h k ≡ x → ((j : ℕ) → j ≢ k → f j ≡ h j) → putWord (raw head m f pad c) (16 + 8 * k) x ≡ raw head m h pad c
+  put-raw : (f h : ℕ → ℕ) (k x : ℕ) → k < m → h k ≡ x → ((j : ℕ) → j ≢ k → f j ≡ h j) → putWord (raw head m f c) (16 + 8 * k) x ≡ raw head m h c
   put-raw f h k x l e same =
       let s : k + suc (m - suc k) ≡ m = omega arith in
       ap (λ y. putWord y (16 + 8 * k) x) (parts f s)
       ∙ put-mid ((head ++ replicate 13 0) ++ wordsOf k f) (bytes 8 (f (0 + k))) _ (16 + 8 * k) x
       (length-append (head ++ replicate 13 0) _ ∙ omega (arith, length-append head (replicate 13 0), length-replicate {A = ℕ} 13 0, length-words k f)) (length-bytes 8 (f (0 + k)))
-      ∙ ap₂ (λ y z. ((head ++ replicate 13 0) ++ y) ++ (bytes 8 x ++ ((z ++ replicate pad 0) ++ c)))
+      ∙ ap₂ (λ y z. ((head ++ replicate 13 0) ++ y) ++ (bytes 8 x ++ ((z ++ replicate (padding m) 0) ++ c)))
       (chunks-same k 0 _ _ (λ j a b. ap (bytes 8) (same j (λ q. omega arith)))) (chunks-same (m - suc k) (suc (0 + k)) _ _ (λ j a b. ap (bytes 8) (same j (λ q. omega arith))))
-      ∙ ap (λ y. ((head ++ replicate 13 0) ++ wordsOf k h) ++ (bytes 8 y ++ ((chunks (m - suc k) (suc (0 + k)) (λ x. bytes 8 (h x)) ++ replicate pad 0) ++ c))) (sym e ∙ ap h (sym (zero-add k)))
+      ∙ ap (λ y. ((head ++ replicate 13 0) ++ wordsOf k h) ++ (bytes 8 y ++ ((chunks (m - suc k) (suc (0 + k)) (λ x. bytes 8 (h x)) ++ replicate (padding m) 0) ++ c))) (sym e ∙ ap h (sym (zero-add k)))
       ∙ sym (parts h s)
     where
-      parts : (f : ℕ → ℕ) → k + suc (m - suc k) ≡ m → raw head m f pad c ≡ ((head ++ replicate 13 0) ++ wordsOf k f) ++ (bytes 8 (f (0 + k)) ++ ((chunks (m - suc k) (suc (0 + k)) (λ x. bytes 8 (f x)) ++ replicate pad 0) ++ c))
+      parts : (f : ℕ → ℕ) → k + suc (m - suc k) ≡ m → raw head m f c ≡ ((head ++ replicate 13 0) ++ wordsOf k f) ++ (bytes 8 (f (0 + k)) ++ ((chunks (m - suc k) (suc (0 + k)) (λ x. bytes 8 (f x)) ++ replicate (padding m) 0) ++ c))
       parts f s =
-          ap (λ y. raw head y f pad c) (sym s) ∙ ap (λ y. (head ++ replicate 13 0 ++ y ++ replicate pad 0) ++ c) (chunks-at k (m - suc k) 0 (λ x. bytes 8 (f x)))
-          ∙ around (head ++ replicate 13 0) (wordsOf k f) (bytes 8 (f (0 + k))) (chunks (m - suc k) (suc (0 + k)) (λ x. bytes 8 (f x))) (replicate pad 0) c
+          ap (λ y. (head ++ replicate 13 0 ++ wordsOf y f ++ replicate (padding m) 0) ++ c) (sym s) ∙ ap (λ y. (head ++ replicate 13 0 ++ y ++ replicate (padding m) 0) ++ c) (chunks-at k (m - suc k) 0 (λ x. bytes 8 (f x)))
+          ∙ around (head ++ replicate 13 0) (wordsOf k f) (bytes 8 (f (0 + k))) (chunks (m - suc k) (suc (0 + k)) (λ x. bytes 8 (f x))) (replicate (padding m) 0) c
 
   -- a sealed block
-  pub seal-raw : (f : ℕ → ℕ) → 8 * m + pad ≡ 494 → reseal (raw head m f pad c) ≡ block head (wordsOf m f) pad
+  pub seal-raw : (f : ℕ → ℕ) → 16 + 8 * m ≤ bodyBytes → reseal (raw head m f c) ≡ block head m f
   unfolding reseal block
-  seal-raw f fits = ap sealed (take-at (bodyOf head (wordsOf m f) pad) c bodyBytes (length-body head m f pad h3 fits))
+  seal-raw f fits = ap sealed (take-at (bodyOf head m f) c bodyBytes (length-body head m f h3 fits))
 
   -- rows i and up are the old ones
   mixed : ℕ → List ℕ → (ℕ → ℕ) → ℕ → ℕ
   mixed i rows f j = cond (ltb j i) (getD rows j 0) (f j)
 
-  put-rows-raw : (f : ℕ → ℕ) (rows : List ℕ) (i : ℕ) → i ≤ m → putRows i rows (raw head m f pad c) ≡ raw head m (mixed i rows f) pad c
+  put-rows-raw : (f : ℕ → ℕ) (rows : List ℕ) (i : ℕ) → i ≤ m → putRows i rows (raw head m f c) ≡ raw head m (mixed i rows f) c
   unfolding putRows mixed
-  put-rows-raw f rows zero l = sym (ap (λ w. bodyOf head w pad ++ c) (chunks-same m 0 _ _ (λ j a b. ap (λ d. bytes 8 (cond d (getD rows j 0) (f j))) (le-ltb j 0 (omega arith)))))
+  put-rows-raw f rows zero l = sym (ap (λ w. (head ++ replicate 13 0 ++ w ++ replicate (padding m) 0) ++ c) (chunks-same m 0 _ _ (λ j a b. ap (λ d. bytes 8 (cond d (getD rows j 0) (f j))) (le-ltb j 0 (omega arith)))))
   put-rows-raw f rows (suc i) l =
       ap (λ y. putWord y (16 + 8 * i) (getD rows i 0)) (put-rows-raw f rows i (omega arith))
       ∙ put-raw (mixed i rows f) (mixed (suc i) rows f) i (getD rows i 0) (omega arith) (ap (λ b. cond b (getD rows i 0) (f i)) (lt-ltb i (suc i) (omega arith))) (λ j q. go j q (decLt j i))
@@ -95,12 +95,12 @@ module _ (head : List ℕ) (h3 : length head ≡ 3) (m pad : ℕ) (c : List ℕ)
       go j q (no a) = ap (λ b. cond b (getD rows j 0) (f j)) (le-ltb j i (omega arith) ∙ sym (le-ltb j (suc i) (omega (arith, q))))
 
   -- a block with its first n rows replaced, and sealed
-  put-rows-block : (f h : ℕ → ℕ) (rows : List ℕ) (n : ℕ) → n ≤ m → 8 * m + pad ≡ 494 → ((i : ℕ) → i < n → getD rows i 0 ≡ h i) → ((i : ℕ) → n ≤ i → f i ≡ h i)
-      → reseal (putRows n rows (raw head m f pad c)) ≡ block head (wordsOf m h) pad
-  unfolding mixed
+  put-rows-block : (f h : ℕ → ℕ) (rows : List ℕ) (n : ℕ) → n ≤ m → 16 + 8 * m ≤ bodyBytes → ((i : ℕ) → i < n → getD rows i 0 ≡ h i) → ((i : ℕ) → n ≤ i → f i ≡ h i)
+      → reseal (putRows n rows (raw head m f c)) ≡ block head m h
+  unfolding mixed block
   put-rows-block f h rows n l fits new old =
       ap reseal (put-rows-raw f rows n l) ∙ seal-raw (mixed n rows f) fits
-      ∙ ap (λ w. block head w pad) (chunks-same m 0 _ _ (λ j a b. ap (bytes 8) (go j (decLt j n))))
+      ∙ ap (λ w. sealed (head ++ replicate 13 0 ++ w ++ replicate (padding m) 0)) (chunks-same m 0 _ _ (λ j a b. ap (bytes 8) (go j (decLt j n))))
     where
       go : (j : ℕ) → Dec (j < n) → cond (ltb j n) (getD rows j 0) (f j) ≡ h j
       go j (yes a) = ap (λ b. cond b (getD rows j 0) (f j)) (lt-ltb j n a) ∙ new j a
@@ -108,22 +108,22 @@ module _ (head : List ℕ) (h3 : length head ≡ 3) (m pad : ℕ) (c : List ℕ)
 
 -- what stands before, in and behind the block of arrow a
 module _ (g : Graph) where
-  store-at : (a : ℕ) → a < 16 → store g ≡ (labelBlock g ++ chunks a 0 (arrowBlock g)) ++ (arrowBlock g a ++ chunks (15 - a) (suc a) (arrowBlock g))
+  store-at : (a : ℕ) → a < arrowCount → store g ≡ (labelBlock g ++ chunks a 0 (arrowBlock g)) ++ (arrowBlock g a ++ chunks (arrowCount - suc a) (suc a) (arrowBlock g))
   unfolding store
   store-at a h =
-      let s : 16 ≡ a + suc (15 - a) = omega arith in
+      let s : arrowCount ≡ a + suc (arrowCount - suc a) = omega arith in
       ap (λ x. labelBlock g ++ chunks x 0 (arrowBlock g)) s
-      ∙ ap (labelBlock g ++_) (chunks-at a (15 - a) 0 (arrowBlock g) ∙ ap (λ x. chunks a 0 (arrowBlock g) ++ (arrowBlock g x ++ chunks (15 - a) (suc x) (arrowBlock g))) (zero-add a))
+      ∙ ap (labelBlock g ++_) (chunks-at a (arrowCount - suc a) 0 (arrowBlock g) ∙ ap (λ x. chunks a 0 (arrowBlock g) ++ (arrowBlock g x ++ chunks (arrowCount - suc a) (suc x) (arrowBlock g))) (zero-add a))
       ∙ sym (append-assoc (labelBlock g) (chunks a 0 (arrowBlock g)) _)
 
-  length-before : (a : ℕ) → length (labelBlock g ++ chunks a 0 (arrowBlock g)) ≡ 512 * a + 512
-  length-before a = length-append (labelBlock g) _ ∙ omega (arith, length-labelBlock g, length-chunks 512 (arrowBlock g) (length-arrowBlock g) a 0)
+  length-before : (a : ℕ) → length (labelBlock g ++ chunks a 0 (arrowBlock g)) ≡ blockBytes * a + blockBytes
+  length-before a = length-append (labelBlock g) _ ∙ omega (arith, length-labelBlock g, length-chunks blockBytes (arrowBlock g) (length-arrowBlock g) a 0)
 
-label-raw : (g : Graph) → labelBlock g ≡ raw (labelHead g) 48 (labelWord g) labelPad (seal (bodyOf (labelHead g) (wordsOf 48 (labelWord g)) labelPad))
+label-raw : (g : Graph) → labelBlock g ≡ raw (labelHead g) labelCount (labelWord g) (seal (bodyOf (labelHead g) labelCount (labelWord g)))
 unfolding labelBlock block sealed
 label-raw g = refl
 
-arrow-raw : (g : Graph) (a : ℕ) → arrowBlock g a ≡ raw (arrowHead a) 60 (rowWord g a) arrowPad (seal (bodyOf (arrowHead a) (wordsOf 60 (rowWord g a)) arrowPad))
+arrow-raw : (g : Graph) (a : ℕ) → arrowBlock g a ≡ raw (arrowHead a) maxNodes (rowWord g a) (seal (bodyOf (arrowHead a) maxNodes (rowWord g a)))
 unfolding arrowBlock block sealed
 arrow-raw g a = refl
 
@@ -136,46 +136,46 @@ unfolding update
 update-other f k v j d = ap (λ b. cond b v (f j)) (sym (ne-eqb j k d))
 
 -- the label block with label k replaced, and sealed
-label-put : (g : Graph) (v : Nodes) (k x : ℕ) → k < 48 → x ≡ setOf (g .n) v → reseal (putWord (labelBlock g) (16 + 8 * k) x) ≡ labelBlock (relabel g k v)
+label-put : (g : Graph) (v : Nodes) (k x : ℕ) → k < labelCount → x ≡ setOf (g .n) v → reseal (putWord (labelBlock g) (16 + 8 * k) x) ≡ labelBlock (relabel g k v)
 unfolding labelBlock
 label-put g v k x h q =
     ap (λ y. reseal (putWord y (16 + 8 * k) x)) (label-raw g)
-    ∙ ap reseal (put-raw (labelHead g) refl 48 labelPad (seal (bodyOf (labelHead g) (wordsOf 48 (labelWord g)) labelPad))
+    ∙ ap reseal (put-raw (labelHead g) refl labelCount (seal (bodyOf (labelHead g) labelCount (labelWord g)))
     (labelWord g) (labelWord (relabel g k v)) k x h (ap (setOf (g .n)) (update-same (g .labelled) k v) ∙ sym q) (λ j d. ap (setOf (g .n)) (update-other (g .labelled) k v j d)))
-    ∙ seal-raw (labelHead g) refl 48 labelPad _ (labelWord (relabel g k v)) refl
+    ∙ seal-raw (labelHead g) refl labelCount _ (labelWord (relabel g k v)) labels-fit
 
 -- Labels: in the sheet that stores g, word k of block 0 replaced, and the block sealed.
-pub relabelled : (g : Graph) (v : Nodes) (k x : ℕ) (t : List ℕ) → k < 48 → t ≡ store g → x ≡ setOf (g .n) v → reseal (putWord (take 512 t) (16 + 8 * k) x) ++ drop 512 t ≡ store (relabel g k v)
+pub relabelled : (g : Graph) (v : Nodes) (k x : ℕ) (t : List ℕ) → k < labelCount → t ≡ store g → x ≡ setOf (g .n) v → reseal (putWord (take blockBytes t) (16 + 8 * k) x) ++ drop blockBytes t ≡ store (relabel g k v)
 unfolding store arrowBlock
 relabelled g v k x t h e q =
     ap₂ (λ y z. reseal (putWord y (16 + 8 * k) x) ++ z)
-    (ap (take 512) e ∙ take-at (labelBlock g) (chunks 16 0 (arrowBlock g)) 512 (length-labelBlock g)) (ap (drop 512) e ∙ drop-at (labelBlock g) (chunks 16 0 (arrowBlock g)) 512 (length-labelBlock g))
-    ∙ ap (_++ chunks 16 0 (arrowBlock g)) (label-put g v k x h q)
+    (ap (take blockBytes) e ∙ take-at (labelBlock g) (chunks arrowCount 0 (arrowBlock g)) blockBytes (length-labelBlock g)) (ap (drop blockBytes) e ∙ drop-at (labelBlock g) (chunks arrowCount 0 (arrowBlock g)) blockBytes (length-labelBlock g))
+    ∙ ap (_++ chunks arrowCount 0 (arrowBlock g)) (label-put g v k x h q)
 
 module _ (g : Graph) (w : Within g) (v : Pairs) (inside : PairsIn g v) (a : ℕ) (rows : List ℕ) (r : Rows (g .n) v rows) where
   arrow-put : reseal (putRows (g .n) rows (arrowBlock g a)) ≡ arrowBlock (rejoin g a v) a
   unfolding arrowBlock
   arrow-put =
       ap (λ y. reseal (putRows (g .n) rows y)) (arrow-raw g a)
-      ∙ put-rows-block (arrowHead a) refl 60 arrowPad (seal (bodyOf (arrowHead a) (wordsOf 60 (rowWord g a)) arrowPad)) (rowWord g a) (rowWord (rejoin g a v) a) rows (g .n) (w .few-nodes) refl
+      ∙ put-rows-block (arrowHead a) refl maxNodes (seal (bodyOf (arrowHead a) maxNodes (rowWord g a))) (rowWord g a) (rowWord (rejoin g a v) a) rows (g .n) (w .few-nodes) rows-fit
       (λ i l. r .row i l ∙ ap (λ u. setOf (g .n) (u i)) (sym (update-same (g .joined) a v)))
       (λ i l. setOf-cong (g .n) _ _ (λ j b. w .arrows-in a .starts i j (no-node g i l) ∙ sym (inside .starts i j (no-node g i l))) ∙ ap (λ u. setOf (g .n) (u i)) (sym (update-same (g .joined) a v)))
 
   other-block : (b : ℕ) → b ≢ a → arrowBlock g b ≡ arrowBlock (rejoin g a v) b
   unfolding arrowBlock
-  other-block b d = ap (λ u. block (arrowHead b) (wordsOf 60 (λ i. setOf (g .n) (u i))) arrowPad) (update-other (g .joined) a v b d)
+  other-block b d = ap (λ u. block (arrowHead b) maxNodes (λ i. setOf (g .n) (u i))) (update-other (g .joined) a v b d)
 
   -- Arrows: in the sheet that stores g, the rows of a's block replaced, and the block sealed.
-  pub rejoined : (t : List ℕ) → a < 16 → t ≡ store g
-      → take (512 * a + 512) t ++ (reseal (putRows (g .n) rows (take 512 (drop (512 * a + 512) t))) ++ drop 512 (drop (512 * a + 512) t)) ≡ store (rejoin g a v)
+  pub rejoined : (t : List ℕ) → a < arrowCount → t ≡ store g
+      → take (blockBytes * a + blockBytes) t ++ (reseal (putRows (g .n) rows (take blockBytes (drop (blockBytes * a + blockBytes) t))) ++ drop blockBytes (drop (blockBytes * a + blockBytes) t)) ≡ store (rejoin g a v)
   unfolding labelBlock
   rejoined t h e =
       let front : List ℕ = labelBlock g ++ chunks a 0 (arrowBlock g) in
-      let back : List ℕ = chunks (15 - a) (suc a) (arrowBlock g) in
+      let back : List ℕ = chunks (arrowCount - suc a) (suc a) (arrowBlock g) in
       let s : t ≡ front ++ (arrowBlock g a ++ back) = e ∙ store-at g a h in
-      let d : drop (512 * a + 512) t ≡ arrowBlock g a ++ back = ap (drop (512 * a + 512)) s ∙ drop-at front (arrowBlock g a ++ back) (512 * a + 512) (length-before g a) in
-      ap₂ (λ x y. x ++ (reseal (putRows (g .n) rows (take 512 y)) ++ drop 512 y)) (ap (take (512 * a + 512)) s ∙ take-at front (arrowBlock g a ++ back) (512 * a + 512) (length-before g a)) d
-      ∙ ap₂ (λ x y. front ++ (reseal (putRows (g .n) rows x) ++ y)) (take-at (arrowBlock g a) back 512 (length-arrowBlock g a)) (drop-at (arrowBlock g a) back 512 (length-arrowBlock g a))
+      let d : drop (blockBytes * a + blockBytes) t ≡ arrowBlock g a ++ back = ap (drop (blockBytes * a + blockBytes)) s ∙ drop-at front (arrowBlock g a ++ back) (blockBytes * a + blockBytes) (length-before g a) in
+      ap₂ (λ x y. x ++ (reseal (putRows (g .n) rows (take blockBytes y)) ++ drop blockBytes y)) (ap (take (blockBytes * a + blockBytes)) s ∙ take-at front (arrowBlock g a ++ back) (blockBytes * a + blockBytes) (length-before g a)) d
+      ∙ ap₂ (λ x y. front ++ (reseal (putRows (g .n) rows x) ++ y)) (take-at (arrowBlock g a) back blockBytes (length-arrowBlock g a)) (drop-at (arrowBlock g a) back blockBytes (length-arrowBlock g a))
       ∙ ap (λ x. front ++ (x ++ back)) arrow-put
-      ∙ ap₂ (λ x y. (labelBlock g ++ x) ++ (arrowBlock (rejoin g a v) a ++ y)) (chunks-same a 0 _ _ (λ j l u. other-block j (λ q. omega arith))) (chunks-same (15 - a) (suc a) _ _ (λ j l u. other-block j (λ q. omega arith)))
+      ∙ ap₂ (λ x y. (labelBlock g ++ x) ++ (arrowBlock (rejoin g a v) a ++ y)) (chunks-same a 0 _ _ (λ j l u. other-block j (λ q. omega arith))) (chunks-same (arrowCount - suc a) (suc a) _ _ (λ j l u. other-block j (λ q. omega arith)))
       ∙ sym (store-at (rejoin g a v) a h)

@@ -10,7 +10,7 @@ use Rattle.logic.specs.Graph.{allBelow, implies}
 use Rattle.logic.specs.Limits.{maxNodes, labelCount, arrowCount}
 use Rattle.words.specs.Words.{member}
 use Rattle.seal.specs.Seal.{blockBytes, bodyBytes, sealRight}
-use Rattle.sheet.specs.Sheet.{sheetBytes, graphOf}
+use Rattle.sheet.specs.Sheet.{blockCount, sheetBytes, graphOf}
 
 -- Block b of a sheet.
 abbrev pub blockOf : List ℕ → ℕ → List ℕ
@@ -27,8 +27,8 @@ headRight (suc a) k = eqb (getD k 0 0) 2 && (eqb (getD k 1 0) (suc a) && eqb (ge
 
 -- Bit i of byte p of block b may be set: bytes 0 to 2, and the bits and rows of nodes below n.
 unfoldable pub free : ℕ → ℕ → ℕ → ℕ → Bool
-free n zero p i = ltb p 3 || (leb 16 p && (ltb p 400 && ltb (p % 8 * 8 + i) n))
-free n (suc a) p i = ltb p 3 || (leb 16 p && (ltb p 496 && (ltb ((p - 16) / 8) n && ltb (p % 8 * 8 + i) n)))
+free n zero p i = ltb p 3 || (leb 16 p && (ltb p (16 + 8 * labelCount) && ltb (p % 8 * 8 + i) n))
+free n (suc a) p i = ltb p 3 || (leb 16 p && (ltb p (16 + 8 * maxNodes) && (ltb ((p - 16) / 8) n && ltb (p % 8 * 8 + i) n)))
 
 -- All that must be zero is zero.
 unfoldable pub zeroRight : ℕ → ℕ → List ℕ → Bool
@@ -49,7 +49,7 @@ askBlocks t (suc m) b = askBlock (getD t 2 0) b (blockOf t b) >> askBlocks t m (
 unfoldable pub askSheet : List ℕ → Asked (Unit {0})
 askSheet t = do
   is (eqb (length t) sheetBytes) 1 0
-  askBlocks t 17 0
+  askBlocks t blockCount 0
 
 -- A sheet is sound when it passes them.
 abbrev pub Sound : List ℕ → Type 0

@@ -2,43 +2,45 @@
 use mathlib.Core.Path.{_≡_}
 use mathlib.Core.Bool.{false, _&&_}
 use mathlib.Core.List.{List, [], _∷_, _++_}
-use Prim.Native.Nat.{ℕ, zero, suc, _+_, _*_, _/_, _%_, _<_}
+use Prim.Native.Nat.{ℕ, zero, suc, _+_, _-_, _*_, _/_, _%_, _<_}
 use lib.Dec.{ltb}
 use lib.ListN.{getD, replicate}
 use Rattle.logic.specs.Graph.{Graph, Nodes, Pairs}
+use Rattle.logic.specs.Limits.{maxNodes, labelCount, arrowCount}
 use Rattle.words.specs.Words.{setOf, member, bytes}
-use Rattle.seal.specs.Seal.{sealed}
+use Rattle.seal.specs.Seal.{blockBytes, bodyBytes, sealed}
+
+-- A block of labels, and one for each arrow kind: 8,704 bytes.
+abbrev pub blockCount : ℕ
+blockCount = 1 + arrowCount
 
 abbrev pub sheetBytes : ℕ
-sheetBytes = 8704
+sheetBytes = blockCount * blockBytes
 
--- Words start at byte 16 of a block; behind them zeros fill the body: 48 words in block 0, 60 in the others.
-abbrev pub labelPad : ℕ
-labelPad = 110
-
-abbrev pub arrowPad : ℕ
-arrowPad = 14
+-- Words start at byte 16 of a block; behind m words so many zeros fill the body.
+abbrev pub padding : ℕ → ℕ
+padding m = bodyBytes - (16 + 8 * m)
 
 -- f i, f (i + 1), .. one behind the other: m of them
 unfoldable pub chunks : ℕ → ℕ → (ℕ → List ℕ) → List ℕ
 chunks zero i f = []
 chunks (suc m) i f = f i ++ chunks m (suc i) f
 
--- A block: bytes 0 to 2, 13 zeros, words, zeros, check bytes.
-unfoldable pub block : List ℕ → List ℕ → ℕ → List ℕ
-block head words pad = sealed (head ++ replicate 13 0 ++ words ++ replicate pad 0)
+-- A block: bytes 0 to 2, 13 zeros, m words, zeros, check bytes.
+unfoldable pub block : List ℕ → (m : ℕ) → (ℕ → ℕ) → List ℕ
+block head m word = sealed (head ++ replicate 13 0 ++ chunks m 0 (λ k. bytes 8 (word k)) ++ replicate (padding m) 0)
 
 -- Block 0: label k is 8 bytes at 16 + 8k, little-endian; bit i is node i.
 unfoldable pub labelBlock : Graph → List ℕ
-labelBlock g = block (1 ∷ 0 ∷ g .n ∷ []) (chunks 48 0 (λ k. bytes 8 (setOf (g .n) (g .labelled k)))) labelPad
+labelBlock g = block (1 ∷ 0 ∷ g .n ∷ []) labelCount (λ k. setOf (g .n) (g .labelled k))
 
 -- Block a + 1: row i of arrow a is 8 bytes at 16 + 8i; bit j is an arrow from i to j.
 unfoldable pub arrowBlock : Graph → ℕ → List ℕ
-arrowBlock g a = block (2 ∷ suc a ∷ 0 ∷ []) (chunks 60 0 (λ i. bytes 8 (setOf (g .n) (g .joined a i)))) arrowPad
+arrowBlock g a = block (2 ∷ suc a ∷ 0 ∷ []) maxNodes (λ i. setOf (g .n) (g .joined a i))
 
 -- The sheet that stores a graph.
 unfoldable pub store : Graph → List ℕ
-store g = labelBlock g ++ chunks 16 0 (arrowBlock g)
+store g = labelBlock g ++ chunks arrowCount 0 (arrowBlock g)
 
 -- Bit i of the 8 bytes at p.
 abbrev pub bitIn : List ℕ → ℕ → Nodes
@@ -49,8 +51,8 @@ unfoldable pub graphOf : List ℕ → Graph
 graphOf t =
     record {
       n = getD t 2 0;
-      labelled = λ k i. ltb k 48 && bitIn t (16 + 8 * k) i;
-      joined = λ a i j. ltb a 16 && (ltb i 60 && bitIn t (512 * (a + 1) + (16 + 8 * i)) j);
+      labelled = λ k i. ltb k labelCount && bitIn t (16 + 8 * k) i;
+      joined = λ a i j. ltb a arrowCount && (ltb i maxNodes && bitIn t (blockBytes * (a + 1) + (16 + 8 * i)) j);
     }
 
 -- The graph of n nodes with no label and no arrow.

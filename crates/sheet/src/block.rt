@@ -11,8 +11,10 @@ ghost use Rattle.seal.specs.Seal.{blockBytes, sealRight, reseal};
 ghost use Rattle.sheet.specs.Questions.{headRight, zeroRight, askBlock};
 ghost use Rattle.sheet.specs.Masks.{zerosAt, masked, zeroBut};
 ghost use Rattle.sheet.specs.Writes.{putRows, bareBlock};
+use super::Sheet;
 use answer::Answer;
 use answer::Refusal;
+use logic::Node;
 
 // A byte as a number.
 pub fn index(x: u8) -> usize
@@ -30,7 +32,7 @@ fn head_right(block: &[u8], b: usize) -> bool
         if block[0] == 1 {
             if block[1] == 0 {
                 if 1 <= block[2] {
-                    return block[2] <= 60;
+                    return block[2] <= Node::MAX;
                 }
             }
         }
@@ -72,7 +74,7 @@ fn mask_of(rows: u64, j: usize, all: u64) -> u64
 
 // Is each of the first m words within its mask? Inner: a block has that many.
 fn masked_words(block: &[u8], m: usize, rows: u64, all: u64) -> bool
-    requires { ⌜ (m ≤ 60) × (length (now block) ≡ blockBytes) ⌝ }
+    requires { ⌜ (m ≤ maxNodes) × (length (now block) ≡ blockBytes) ⌝ }
     ensures { λ r. ⌜ r ≡ allBelow m (masked (now (block .entry)) rows all) ⌝ }
 {
     let mut j = 0;
@@ -88,12 +90,13 @@ fn masked_words(block: &[u8], m: usize, rows: u64, all: u64) -> bool
 
 // Is all zero but the m words within their masks, and bytes 0 to 2? Inner: a block has that many words.
 fn zero_but(block: &[u8], m: usize, rows: u64, all: u64) -> bool
-    requires { ⌜ (m ≤ 60) × (length (now block) ≡ blockBytes) ⌝ }
+    requires { ⌜ (m ≤ maxNodes) × (length (now block) ≡ blockBytes) ⌝ }
     ensures { λ r. ⌜ r ≡ zeroBut m rows all (now (block .entry)) ⌝ }
 {
     if zeros_at(block, 3, 13) {
         if masked_words(block, m, rows, all) {
-            return zeros_at(block, 16 + 8 * m, 494 - 8 * m);
+            let at = 16 + 8 * m;
+            return zeros_at(block, at, seal::BODY - at);
         }
     }
     false
@@ -106,9 +109,9 @@ fn zero_right(block: &[u8], b: usize, n: usize) -> bool
 {
     let all = words::lowest(n);
     if b == 0 {
-        return zero_but(block, 48, words::lowest(48), all);
+        return zero_but(block, Sheet::LABELS, words::lowest(Sheet::LABELS), all);
     }
-    zero_but(block, 60, all, all)
+    zero_but(block, Sheet::NODES, all, all)
 }
 
 // Questions 2 to 4 of block b. Inner: n is in range once block 0 has its head.
@@ -130,7 +133,7 @@ pub fn ask_block(block: &[u8], b: usize, n: usize) -> Answer
 
 // Puts x into word k, byte by byte, and keeps the check bytes right. Inner: the block has that word, and its check bytes are right.
 pub fn put_word(block: &mut [u8], k: usize, x: u64)
-    requires { ⌜ (length (now block) ≡ blockBytes) × (k < 60) × (sealRight (now block) ≡ true) ⌝ }
+    requires { ⌜ (length (now block) ≡ blockBytes) × (k < maxNodes) × (sealRight (now block) ≡ true) ⌝ }
     ensures { λ _. ⌜ now (block .exit) ≡ reseal (putWord (now (block .entry)) (16 + 8 * k) x) ⌝ }
 {
     let mut rest = x;
@@ -144,7 +147,7 @@ pub fn put_word(block: &mut [u8], k: usize, x: u64)
 
 // Puts the first n of the rows into the block's words, and seals it. Inner: the block has that many.
 pub fn put_words(block: &mut [u8], n: usize, rows: [u64; 64])
-    requires { ⌜ (length (now block) ≡ blockBytes) × (n ≤ 60) ⌝ }
+    requires { ⌜ (length (now block) ≡ blockBytes) × (n ≤ maxNodes) ⌝ }
     ensures { λ _. ⌜ now (block .exit) ≡ reseal (putRows n rows (now (block .entry))) ⌝ }
 {
     let mut i = 0;

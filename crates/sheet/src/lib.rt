@@ -31,17 +31,17 @@ pub enum BitRead {
 pub struct Sheet;
 
 impl Sheet {
-    pub const BYTES: usize = 8704;
+    pub const NODES: usize = Node::MAX as usize;
 
-    pub const BLOCK: usize = 512;
+    pub const LABELS: usize = Label::COUNT as usize;
 
-    pub const BLOCKS: usize = 17;
+    pub const ARROWS: usize = Arrow::COUNT as usize;
 
-    pub const NODES: usize = 60;
+    pub const BLOCK: usize = seal::BLOCK;
 
-    pub const LABELS: usize = 48;
+    pub const BLOCKS: usize = 1 + Sheet::ARROWS;
 
-    pub const ARROWS: usize = 16;
+    pub const BYTES: usize = Sheet::BLOCKS * Sheet::BLOCK;
 
     // Questions 1 to 4, of any bytes.
     pub fn check(sheet: &[u8]) -> Answer
@@ -78,7 +78,7 @@ impl Sheet {
         if buf.len() != Sheet::BYTES {
             return Answer::Refused(Refusal::SheetLength { place: 0 });
         }
-        block::blank_block(&mut buf[0..512], 1, 0, n as u8);
+        block::blank_block(&mut buf[0..Sheet::BLOCK], 1, 0, n as u8);
         let mut a = 0;
         while a < Sheet::ARROWS {
             let from = Sheet::BLOCK * a + Sheet::BLOCK;
@@ -164,7 +164,7 @@ impl Sheet {
         requires { ⌜ Sound (now sheet) × (k .0 < labelCount) ⌝ }
         ensures { λ _. ⌜ ((v : Nodes) → x ≡ setOf (graphOf (now (sheet .entry)) .n) v → now (sheet .exit) ≡ store (relabel (graphOf (now (sheet .entry))) (k .0) v)) ⌝ }
     {
-        block::put_word(&mut sheet[0..512], index(k.0), x);
+        block::put_word(&mut sheet[0..Sheet::BLOCK], index(k.0), x);
     }
 
     // Gives arrow a the pairs whose rows are given; only the rows of nodes are read. Inner: the sheet is sound and has that arrow.

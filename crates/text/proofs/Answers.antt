@@ -9,17 +9,18 @@ use lib.Seq.{drop-cons, take-at}
 use borrow.Author.Tests.{le-leb, lt-leb}
 use Rattle.answer.specs.Asked.{Asked, passed, refused, _>>=_, _>>_, is, after, outcome}
 use Rattle.logic.specs.Syntax.{rule, Expr, Edit}
+use Rattle.logic.specs.Limits.{maxNodes}
 use Rattle.text.specs.declared.Stop.{Stop}
 use Rattle.text.specs.declared.Step.the-variants.{Next, Stopped}
 use Rattle.text.specs.Code.{code}
-use Rattle.text.specs.Reading.{textLimits, Want, Thing, expr, edit, operand, done, Fault, missing, wrongSort, tooDeep, outOfRange, Read, got, fault, follow, readAs}
+use Rattle.text.specs.Reading.{longestText, mostRules, textLimits, Want, Thing, expr, edit, operand, done, Fault, missing, wrongSort, tooDeep, outOfRange, Read, got, fault, follow, readAs}
 use Rattle.text.specs.Questions.{faultNumber, first, whole, readRules, rulesEnd, askBook, askFirst, askEdit, askRuleEnd, firstRule}
 use Rattle.text.specs.Rows.{rowPlan, stopOf, stepOf, stepAt, stepAnswer}
 use Rattle.text.proofs.Converse.{read-is-written}
 use Rattle.text.proofs.Books.{rules-step, rules-fault}
 use Rattle.text.proofs.RuleStart.{end-step, end-fault}
 use Rattle.text.proofs.Compose.{same-operand, same-end, alike-steps, ReachedBy, reached}
-use Rattle.text.proofs.Heads.{digit, here-row, here-digit}
+use Rattle.text.proofs.Items.{digit, here-row, here-digit}
 
 -- what a fault answers
 stop-answer : (base : ℕ) (why : Fault) (p : ℕ) → stepAnswer base (Stopped (stopOf why p)) ≡ refused (faultNumber base why) p
@@ -76,13 +77,13 @@ module _ (t : List ℕ) (n : ℕ) where
     fault-answer base f = ap (stepAnswer base) (one-thing w at ∙ ap stepOf (f .reading)) ∙ stop-answer base (f .why) (f .place)
 
   -- BOOK
-  pub book-long : 4096 < length t → refused 11 0 ≡ outcome (askBook (textLimits n) t)
+  pub book-long : longestText < length t → refused 11 0 ≡ outcome (askBook (textLimits n) t)
   unfolding askBook outcome is _>>_
-  book-long h = rw (lt-leb (length t) 4096 h) refl
+  book-long h = rw (lt-leb (length t) longestText h) refl
 
-  pub book-short : length t ≤ 4096 → outcome (readRules (textLimits n) 32 t 0) ≡ outcome (askBook (textLimits n) t)
+  pub book-short : length t ≤ longestText → outcome (readRules (textLimits n) mostRules t 0) ≡ outcome (askBook (textLimits n) t)
   unfolding askBook is _>>_
-  book-short h = rw (le-leb (length t) 4096 h) refl
+  book-short h = rw (le-leb (length t) longestText h) refl
 
   module _ (m at : ℕ) where
     pub rules-end : length t ≤ at → passed tt ≡ outcome (readRules (textLimits n) m (drop at t) at)
@@ -138,13 +139,13 @@ module _ (t : List ℕ) (n : ℕ) where
           ∙ sym (ap (λ k. rulesEnd (textLimits n) k (drop at t) at) one-more ∙ end-fault (textLimits n) (left - 1) (drop at t) at (was-fault (expr rule) at e .reading))
 
   -- EDIT
-  pub edit-long : 4096 < length t → refused 21 0 ≡ outcome (askEdit (textLimits n) t)
+  pub edit-long : longestText < length t → refused 21 0 ≡ outcome (askEdit (textLimits n) t)
   unfolding askEdit outcome is _>>_
-  edit-long h = rw (lt-leb (length t) 4096 h) refl
+  edit-long h = rw (lt-leb (length t) longestText h) refl
 
-  edit-short : length t ≤ 4096 → outcome (whole (readAs (textLimits n) edit t 0)) ≡ outcome (askEdit (textLimits n) t)
+  edit-short : length t ≤ longestText → outcome (whole (readAs (textLimits n) edit t 0)) ≡ outcome (askEdit (textLimits n) t)
   unfolding askEdit is _>>_
-  edit-short h = rw (le-leb (length t) 4096 h) refl
+  edit-short h = rw (le-leb (length t) longestText h) refl
 
   whole-end : (Z : Edit) (rest : List ℕ) (p : ℕ) → rest ≡ [] → passed tt ≡ outcome (whole (got Z rest p))
   unfolding whole outcome
@@ -154,7 +155,7 @@ module _ (t : List ℕ) (n : ℕ) where
   unfolding whole outcome
   whole-more Z rest p c r e = rw e refl
 
-  module _ (short : length t ≤ 4096) where
+  module _ (short : length t ≤ longestText) where
     pub edit-stopped : {s : Stop} → stepAt t n (rowPlan 15 1) 0 ≡ Stopped s → stepAnswer 20 (stepAt t n (rowPlan 15 1) 0) ≡ outcome (askEdit (textLimits n) t)
     unfolding outcome whole
     edit-stopped e = let f = was-fault edit 0 e in fault-answer edit 0 20 f ∙ ap (λ x. outcome (whole x)) (sym (f .reading)) ∙ edit-short short
@@ -174,41 +175,41 @@ module _ (t : List ℕ) (n : ℕ) where
 
 -- RULE END
 module _ (t : List ℕ) where
-  pub first-long : 4096 < length t → refused 11 0 ≡ outcome (askRuleEnd t)
+  pub first-long : longestText < length t → refused 11 0 ≡ outcome (askRuleEnd t)
   unfolding askFirst outcome is _>>_
-  first-long h = rw (lt-leb (length t) 4096 h) refl
+  first-long h = rw (lt-leb (length t) longestText h) refl
 
-  pub no-rule-long : 4096 < length t → [] ≡ firstRule t
+  pub no-rule-long : longestText < length t → [] ≡ firstRule t
   unfolding firstRule askFirst is _>>_ after
-  no-rule-long h = rw (lt-leb (length t) 4096 h) refl
+  no-rule-long h = rw (lt-leb (length t) longestText h) refl
 
-  module _ (short : length t ≤ 4096) where
-    asked-first : first (readAs (textLimits 60) (expr rule) t 0) ≡ askRuleEnd t
+  module _ (short : length t ≤ longestText) where
+    asked-first : first (readAs (textLimits maxNodes) (expr rule) t 0) ≡ askRuleEnd t
     unfolding askFirst is _>>_
-    asked-first = rw (le-leb (length t) 4096 short) refl
+    asked-first = rw (le-leb (length t) longestText short) refl
 
-    pub first-answer : stepAnswer 10 (stepAt t 60 (rowPlan 14 1) 0) ≡ outcome (askRuleEnd t)
+    pub first-answer : stepAnswer 10 (stepAt t maxNodes (rowPlan 14 1) 0) ≡ outcome (askRuleEnd t)
     unfolding first outcome stepOf
-    first-answer = ap (stepAnswer 10) (one-thing t 60 (expr rule) 0) ∙ go (readAs (textLimits 60) (expr rule) t 0) ∙ ap outcome asked-first
+    first-answer = ap (stepAnswer 10) (one-thing t maxNodes (expr rule) 0) ∙ go (readAs (textLimits maxNodes) (expr rule) t 0) ∙ ap outcome asked-first
       where
         go : (x : Read (Expr rule)) → stepAnswer 10 (stepOf x) ≡ outcome (first x)
         go (got K rest q) = refl
         go (fault why q) = stop-answer 10 why q
 
-    pub no-rule : {s : Stop} → stepAt t 60 (rowPlan 14 1) 0 ≡ Stopped s → [] ≡ firstRule t
+    pub no-rule : {s : Stop} → stepAt t maxNodes (rowPlan 14 1) 0 ≡ Stopped s → [] ≡ firstRule t
     unfolding firstRule first after
-    no-rule e = ap (λ x. after (first x) code []) (sym (was-fault t 60 (expr rule) 0 e .reading)) ∙ ap (λ q. after q code []) asked-first
+    no-rule e = ap (λ x. after (first x) code []) (sym (was-fault t maxNodes (expr rule) 0 e .reading)) ∙ ap (λ q. after q code []) asked-first
 
-    pub the-rule : {p : ℕ} → stepAt t 60 (rowPlan 14 1) 0 ≡ Next p → take (p - 0) t ≡ firstRule t
+    pub the-rule : {p : ℕ} → stepAt t maxNodes (rowPlan 14 1) 0 ≡ Next p → take (p - 0) t ≡ firstRule t
     unfolding firstRule first after
     the-rule {p} e =
-        let r = was-read t 60 (expr rule) 0 e in
-        let w = read-is-written (textLimits 60) (expr rule) 1 t 0 (r .reading) in
+        let r = was-read t maxNodes (expr rule) 0 e in
+        let w = read-is-written (textLimits maxNodes) (expr rule) 1 t 0 (r .reading) in
         ap (λ k. take k t) (sub-zero p)
         ∙ ap (take p) (w .text-is)
         ∙ take-at (code (r .thing)) (drop p t) p (omega (arith, w .place-is))
         ∙ ap (λ x. after (first x) code []) (sym (r .reading))
         ∙ ap (λ q. after q code []) asked-first
 
-    pub rule-inside : {p : ℕ} → stepAt t 60 (rowPlan 14 1) 0 ≡ Next p → p ≤ length t
-    rule-inside e = was-read t 60 (expr rule) 0 e .inside (omega arith)
+    pub rule-inside : {p : ℕ} → stepAt t maxNodes (rowPlan 14 1) 0 ≡ Next p → p ≤ length t
+    rule-inside e = was-read t maxNodes (expr rule) 0 e .inside (omega arith)

@@ -9,9 +9,9 @@ use lib.Dec.{T, leb, leb→le, le→leb}
 use Rattle.answer.specs.Asked.{Asked, passed, refused, _>>=_, _>>_, is}
 use Rattle.logic.specs.Syntax.{Expr, rule, Edit}
 use Rattle.text.specs.Code.{code, editCode, bookCode}
-use Rattle.text.specs.Reading.{Limits, expr, edit, Fault, Read, got, fault, follow, readAs}
+use Rattle.text.specs.Reading.{mostRules, Limits, expr, edit, Fault, Read, got, fault, follow, readAs}
 use Rattle.text.specs.Stands.{RulesInRange}
-use Rattle.text.specs.Questions.{faultNumber, mostRules, first, whole, readRules, askBook, askFirst, askEdit}
+use Rattle.text.specs.Questions.{faultNumber, first, whole, readRules, askBook, askFirst, askEdit}
 use Rattle.text.proofs.Converse.{Allowed, Written, Wrote, wrote}
 use Rattle.text.proofs.ReadBack.{reads}
 

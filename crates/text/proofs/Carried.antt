@@ -12,8 +12,8 @@ use Rattle.logic.specs.Steps.{update}
 use Rattle.logic.specs.Carry.{replace, putLabel, putArrow, carry}
 use Rattle.logic.specs.Limits.{Kind, labelNumber, arrowNumber, Ranges, fits, InRange, EditInRange}
 use Rattle.text.specs.Code.{code, levels, bookCode}
-use Rattle.text.specs.Reading.{expr, carriedLimits}
-use Rattle.text.specs.Questions.{mostRules, askFirst, askBook}
+use Rattle.text.specs.Reading.{mostRules, longestCarried, deepestCarried, expr, carriedLimits}
+use Rattle.text.specs.Questions.{askFirst, askBook}
 use Rattle.text.proofs.Converse.{Allowed}
 use Rattle.text.proofs.Books.{EachAllowed, spelled-first-passes, spelled-book-passes}
 
@@ -75,17 +75,17 @@ module _ (r : Ranges) where
       ((z .0, carry-in P (carry Z K) (z .1) k), (z .0, carry-in Q (carry Z K) (z .2) k))
 
 module _ (n : ℕ) (Z : Edit) (z : EditInRange (carriedLimits n .numbers) Z) where
-  carried-allowed : (K : Expr rule) → InRange (carriedLimits n .numbers) K → levels (carry Z K) ≤ 255 → Allowed (carriedLimits n) (expr rule) 1 (carry Z K)
+  carried-allowed : (K : Expr rule) → InRange (carriedLimits n .numbers) K → levels (carry Z K) ≤ deepestCarried → Allowed (carriedLimits n) (expr rule) 1 (carry Z K)
   carried-allowed K i h = record { numbers-fit = carry-in (carriedLimits n .numbers) Z K z i; levels-fit = omega arith }
 
-  -- A carried rule of at most 255 levels and 16,384 bytes, with what follows it, is read back.
-  pub carried-rule-is-read : (K : Expr rule) (rest : List ℕ) → InRange (carriedLimits n .numbers) K → levels (carry Z K) ≤ 255 → length (code (carry Z K) ++ rest) ≤ 16384
+  -- A carried rule within the limits, with what follows it, is read back.
+  pub carried-rule-is-read : (K : Expr rule) (rest : List ℕ) → InRange (carriedLimits n .numbers) K → levels (carry Z K) ≤ deepestCarried → length (code (carry Z K) ++ rest) ≤ longestCarried
       → askFirst (carriedLimits n) (code (carry Z K) ++ rest) ≡ passed (carry Z K)
   carried-rule-is-read K rest i h b = spelled-first-passes (carriedLimits n) _ (carry Z K) (record { rest = rest; text-is = refl; short = b; within = carried-allowed K i h })
 
   abbrev pub EachCarries : List (Expr rule) → Type 0
   EachCarries [] = Unit {0}
-  EachCarries (K ∷ book) = (InRange (carriedLimits n .numbers) K × (levels (carry Z K) ≤ 255)) × EachCarries book
+  EachCarries (K ∷ book) = (InRange (carriedLimits n .numbers) K × (levels (carry Z K) ≤ deepestCarried)) × EachCarries book
 
   each : (book : List (Expr rule)) → EachCarries book → EachAllowed (carriedLimits n) (map (carry Z) book)
   each [] h = tt
@@ -96,7 +96,7 @@ module _ (n : ℕ) (Z : Edit) (z : EditInRange (carriedLimits n .numbers) Z) whe
   length-carried (K ∷ book) = omega (arith, length-carried book)
 
   -- So is a carried book.
-  pub carried-book-is-read : (book : List (Expr rule)) → EachCarries book → length book ≤ mostRules → length (bookCode (map (carry Z) book)) ≤ 16384
+  pub carried-book-is-read : (book : List (Expr rule)) → EachCarries book → length book ≤ mostRules → length (bookCode (map (carry Z) book)) ≤ longestCarried
       → askBook (carriedLimits n) (bookCode (map (carry Z) book)) ≡ passed (map (carry Z) book)
   carried-book-is-read book h few short =
       spelled-book-passes (carriedLimits n) _ (map (carry Z) book)

@@ -11,7 +11,8 @@ use Rattle.text.specs.declared.Step.{Step}
 use Rattle.text.specs.declared.Step.the-variants.{Next, Stopped}
 use Rattle.text.specs.Reading.{Limits, textLimits, Want, Thing, Plan, done, number, operand, _>>=_, Entry, Read, got, fault, Fault, tooDeep, wrongSort, outOfRange, codes, choice, follow}
 use Rattle.text.specs.Rows.{stepOf, stepAt}
-use Rattle.text.proofs.Places.{behind-is, left-at}
+use Rattle.text.proofs.Places.{placeBehind-is}
+use Rattle.text.proofs.Standing.{behind}
 use Rattle.text.proofs.Converse.{spelling, Fine, Outcome, outcome}
 
 bind-assoc : {A B C : Type 0} (p : Plan A) (f : A → Plan B) (h : B → Plan C) → (p >>= f) >>= h ≡ p >>= (λ a. f a >>= h)
@@ -103,9 +104,9 @@ reached {A} l text p at = go (follow l (drop at text) p at) (outcome l (λ a bs.
   where
     go : (r : Read A) → Outcome l (λ a bs. Unit {0}) [] (drop at text) at r → ReachedBy text at r
     go (got a rest q) h =
-        let e : q ≡ at + length (h .0) = h .3 ∙ behind-is (h .0) at in
+        let e : q ≡ at + length (h .0) = h .3 ∙ placeBehind-is (h .0) at in
         record {
-          rest-is = sym (left-at text (h .0) rest at q (h .1) e);
+          rest-is = sym (ap (λ z. drop z text) e ∙ behind text at (h .0) rest (h .1));
           on = omega arith;
           inside = λ i. omega (arith, sym (length-drop at text) ∙ ap length (h .1) ∙ length-append (h .0) rest);
         }

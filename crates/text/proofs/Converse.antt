@@ -10,7 +10,7 @@ use Rattle.logic.specs.Syntax.{node, arrow, rule}
 use Rattle.logic.specs.Limits.{fits, InRange, EditInRange}
 use Rattle.text.specs.Code.{code, editCode, levels, editLevels}
 use Rattle.text.specs.Reading.{Limits, Want, expr, edit, Thing, Plan, done, number, operand, _>>=_, Entry, Read, got, fault, codes, choice, follow}
-use Rattle.text.proofs.Places.{behind, behind-is}
+use Rattle.text.proofs.Places.{placeBehind, placeBehind-is}
 
 -- the bytes of a thing, and its levels
 abbrev pub spelling : (w : Want) → Thing w → List ℕ
@@ -49,7 +49,7 @@ FineAll l w d [] = Unit {0}
 FineAll l w d (e ∷ es) = Fine l (Spelled l w d) (e .plan) (e .byte ∷ []) × FineAll l w d es
 
 infixr 5 _&_
-abbrev _&_ : {A B : Type 0} → A → B → A × B
+abbrev pub _&_ : {A B : Type 0} → A → B → A × B
 a & b = (a, b)
 
 -- each entry of the table has the code that its constructor has
@@ -105,11 +105,11 @@ module _ (l : Limits) {A : Type 0} (P : A → List ℕ → Type 0) where
 
   -- what a plan made is spelled by the bytes before it and those it took
   abbrev pub Outcome : List ℕ → List ℕ → ℕ → Read A → Type 0
-  Outcome pre t at (got a r p) = (bs : List ℕ) × (t ≡ bs ++ r) × P a (pre ++ bs) × (p ≡ behind bs at)
+  Outcome pre t at (got a r p) = (bs : List ℕ) × (t ≡ bs ++ r) × P a (pre ++ bs) × (p ≡ placeBehind bs at)
   Outcome pre t at (fault why p) = Unit {0}
 
   outcome-cons : (pre t : List ℕ) (at x : ℕ) (r : Read A) → Outcome (pre ++ x ∷ []) t (suc at) r → Outcome pre (x ∷ t) at r
-  unfolding behind
+  unfolding placeBehind
   outcome-cons pre t at x (got a r p) h = (x ∷ h .0, ap (x ∷_) (h .1), rw (append-assoc pre (x ∷ []) (h .0)) at (h .2), h .3)
   outcome-cons pre t at x (fault why p) h = tt
 
@@ -126,7 +126,7 @@ module _ (l : Limits) {A : Type 0} (P : A → List ℕ → Type 0) where
       (outcome-choice X pre t at w d c es found other (λ x. h x .1) k o)
 
   pub outcome : (t : List ℕ) (p : Plan A) (pre : List ℕ) (at : ℕ) → Fine l P p pre → Outcome pre t at (follow l t p at)
-  unfolding follow behind
+  unfolding follow placeBehind
   outcome [] (done a) pre at h = ([], refl, rw append-nil h, refl)
   outcome [] (number k f) pre at h = tt
   outcome [] (operand w d f) pre at h = tt
@@ -158,7 +158,7 @@ wrote l w d t at = go (follow l t (operand w d done) at) (outcome l (Spelled l w
     go (got e rest p) h =
         record {
           text-is = h .1 ∙ ap (_++ rest) (sym (h .2 .same));
-          place-is = h .3 ∙ behind-is (h .0) at ∙ ap (λ z. at + length z) (sym (h .2 .same));
+          place-is = h .3 ∙ placeBehind-is (h .0) at ∙ ap (λ z. at + length z) (sym (h .2 .same));
           within = h .2 .allowed;
         }
     go (fault why p) h = tt

@@ -9,5 +9,9 @@ pub mod RuleStart
 pub mod Carried
 pub mod Marked
 pub mod Compose
+pub mod Items
+pub mod Entries
+pub mod Turns
 pub mod Heads
+pub mod Numbers
 pub mod Answers

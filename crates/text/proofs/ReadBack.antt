@@ -10,7 +10,7 @@ use Rattle.logic.specs.Syntax.{Sort, node, arrow, rule, Expr, all, none, label,
 use Rattle.logic.specs.Limits.{Kind, labelNumber, arrowNumber, nodeNumber, leastCount, mostCount, fits, InRange, EditInRange}
 use Rattle.text.specs.Code.{code, editCode, levels, editLevels}
 use Rattle.text.specs.Reading.{Limits, Want, expr, edit, Thing, Plan, done, operand, _>>=_, got, codes, choice, follow}
-use Rattle.text.proofs.Places.{behind, behind-is, behind-append}
+use Rattle.text.proofs.Places.{placeBehind, placeBehind-is, placeBehind-append}
 use Rattle.text.proofs.Converse.{spelling, Allowed}
 
 pub if-so : {X : Type 0} (b : Bool) → T b → (x y : X) → elim b as (λ c. X) [ true ↦ x | false ↦ y ] ≡ x
@@ -22,15 +22,15 @@ regroup a b c t = simp append-assoc
 module _ (l : Limits) where
   -- the bytes of e, wanted at level d, are read as e
   abbrev pub Back : (w : Want) (d : ℕ) → Thing w → Type 1
-  Back w d e = (A : Type 0) (f : Thing w → Plan A) (t : List ℕ) (at : ℕ) → follow l (spelling w e ++ t) (operand w d f) at ≡ follow l t (f e) (behind (spelling w e) at)
+  Back w d e = (A : Type 0) (f : Thing w → Plan A) (t : List ℕ) (at : ℕ) → follow l (spelling w e ++ t) (operand w d f) at ≡ follow l t (f e) (placeBehind (spelling w e) at)
 
   two : (w w′ : Want) (d d′ : ℕ) (e : Thing w) (e′ : Thing w′) → Back w d e → Back w′ d′ e′ → (A : Type 0) (f : Thing w → Thing w′ → Plan A) (t : List ℕ) (at : ℕ)
-      → follow l (spelling w e ++ spelling w′ e′ ++ t) (operand w d (λ x. operand w′ d′ (f x))) at ≡ follow l t (f e e′) (behind (spelling w e ++ spelling w′ e′) at)
+      → follow l (spelling w e ++ spelling w′ e′ ++ t) (operand w d (λ x. operand w′ d′ (f x))) at ≡ follow l t (f e e′) (placeBehind (spelling w e ++ spelling w′ e′) at)
   two w w′ d d′ e e′ b b′ A f t at =
       rw (append-assoc (spelling w e) (spelling w′ e′) t)
       (b A (λ x. operand w′ d′ (f x)) (spelling w′ e′ ++ t) at
-      ∙ b′ A (f e) t (behind (spelling w e) at)
-      ∙ ap (follow l t (f e e′)) (sym (behind-append (spelling w e) (spelling w′ e′) at)))
+      ∙ b′ A (f e) t (placeBehind (spelling w e) at)
+      ∙ ap (follow l t (f e e′)) (sym (placeBehind-append (spelling w e) (spelling w′ e′) at)))
 
   opened : (d m : ℕ) → d + suc m ≤ suc (l .deepest) → {X : Type 0} (x y : X) → elim (leb d (l .deepest)) as (λ c. X) [ true ↦ x | false ↦ y ] ≡ x
   opened d m h x y = if-so (leb d (l .deepest)) (le→leb d (l .deepest) (omega arith)) x y
@@ -39,7 +39,7 @@ module _ (l : Limits) where
   fitting k i h x y = if-so (fits (l .numbers) k i) h x y
 
   expr-back : {s : Sort} (e : Expr s) (d : ℕ) → d + levels e ≤ suc (l .deepest) → InRange (l .numbers) e → Back (expr s) d e
-  unfolding code levels InRange behind follow choice codes _>>=_
+  unfolding code levels InRange placeBehind follow choice codes _>>=_
   expr-back all d h r A f t at = opened d 0 h _ _
   expr-back none d h r A f t at = opened d 0 h _ _
   expr-back (label k) d h r A f t at = opened d 0 h _ _ ∙ fitting labelNumber k r _ _
@@ -67,7 +67,7 @@ module _ (l : Limits) where
   expr-back (notRule K) d h r A f t at = opened d (levels K) h _ _ ∙ expr-back K (suc d) (omega arith) r A (λ x. f (notRule x)) t (suc at)
 
   edit-back : (Z : Edit) (d : ℕ) → d + editLevels Z ≤ suc (l .deepest) → EditInRange (l .numbers) Z → Back edit d Z
-  unfolding editCode editLevels EditInRange behind follow choice codes _>>=_
+  unfolding editCode editLevels EditInRange placeBehind follow choice codes _>>=_
   edit-back finish d h r A f t at = opened d 0 (omega arith) _ _
   edit-back (addLabel k E Z) d h r A f t at =
       opened d (levels E) (omega arith) _ _
@@ -89,8 +89,8 @@ module _ (l : Limits) where
       opened d (levels K) (omega arith) _ _
       ∙ ap (λ z. follow l z (operand (expr rule) (suc d) (λ x. operand edit (suc d) (λ y. operand edit (suc d) (λ z. operand edit d (λ u. f (choose x y z u)))))) (suc at)) (regroup (code K ++ editCode P) (editCode Q) (editCode Z) t)
       ∙ two (expr rule) edit (suc d) (suc d) K P (expr-back K (suc d) (omega arith) (r .0)) (edit-back P (suc d) (omega arith) (r .1)) A (λ x y. operand edit (suc d) (λ z. operand edit d (λ u. f (choose x y z u)))) (editCode Q ++ editCode Z ++ t) (suc at)
-      ∙ two edit edit (suc d) d Q Z (edit-back Q (suc d) (omega arith) (r .2)) (edit-back Z d (omega arith) (r .3)) A (λ z u. f (choose K P z u)) t (behind (code K ++ editCode P) (suc at))
-      ∙ ap (follow l t (f (choose K P Q Z))) (sym (behind-append (code K ++ editCode P) (editCode Q ++ editCode Z) (suc at)) ∙ ap (λ z. behind z (suc at)) (sym (append-assoc (code K ++ editCode P) (editCode Q) (editCode Z))))
+      ∙ two edit edit (suc d) d Q Z (edit-back Q (suc d) (omega arith) (r .2)) (edit-back Z d (omega arith) (r .3)) A (λ z u. f (choose K P z u)) t (placeBehind (code K ++ editCode P) (suc at))
+      ∙ ap (follow l t (f (choose K P Q Z))) (sym (placeBehind-append (code K ++ editCode P) (editCode Q ++ editCode Z) (suc at)) ∙ ap (λ z. placeBehind z (suc at)) (sym (append-assoc (code K ++ editCode P) (editCode Q) (editCode Z))))
 
   -- READ BACK: the bytes of a thing within the limits are read as that thing, and what follows is left.
   pub read-back : (w : Want) (d : ℕ) (e : Thing w) → Allowed l w d e → Back w d e
@@ -103,7 +103,7 @@ module _ (l : Limits) where
   follow-done (x ∷ t) a at = refl
 
   pub reads : (w : Want) (d : ℕ) (e : Thing w) → Allowed l w d e → (rest : List ℕ) (at : ℕ) → follow l (spelling w e ++ rest) (operand w d done) at ≡ got e rest (at + length (spelling w e))
-  reads w d e a rest at = read-back w d e a (Thing w) done rest at ∙ follow-done rest e (behind (spelling w e) at) ∙ ap (got e rest) (behind-is (spelling w e) at)
+  reads w d e a rest at = read-back w d e a (Thing w) done rest at ∙ follow-done rest e (placeBehind (spelling w e) at) ∙ ap (got e rest) (placeBehind-is (spelling w e) at)
 
   got-same : {A : Type 0} {a b : A} {r r′ : List ℕ} {p p′ : ℕ} → got a r p ≡ got b r′ p′ → a ≡ b
   got-same h = cc

@@ -7,6 +7,7 @@ use Rattle.answer.specs.Asked.{Asked, passed, refused, _>>=_, _>>_, is, after}
 use Rattle.logic.specs.Syntax.{Expr, rule, Edit}
 use Rattle.logic.specs.Limits.{maxNodes}
 use Rattle.text.specs.Code.{code}
+pub use Rattle.text.specs.Reading.{mostRules}
 use Rattle.text.specs.Reading.{Limits, textLimits, expr, edit, Fault, missing, wrongSort, tooDeep, outOfRange, Read, got, fault, readAs}
 
 -- The number of a fault: 12 to 15 in a book (base 10), 22 to 25 in an edit (base 20).
@@ -15,10 +16,6 @@ faultNumber base missing = base + 2
 faultNumber base wrongSort = base + 3
 faultNumber base tooDeep = base + 4
 faultNumber base outOfRange = base + 5
-
--- At most so many rules.
-abbrev pub mostRules : ℕ
-mostRules = 32
 
 -- what is read at the start of a text, whatever follows
 unfoldable pub first : {A : Type 0} → Read A → Asked A

@@ -6,19 +6,35 @@ use lib.Dec.{leb, eqb}
 use Rattle.logic.specs.Syntax.{Sort, node, arrow, rule, Expr, all, none, label, nominal, complement, and, or, some, every, atLeast, atMost, arrowKind, reversed, union, common, minus, endingIn, pair, subNodes, subArrows, nodeIn, pairIn, both, either, notRule, Edit, finish, addLabel, takeLabel, addArrow, takeArrow, choose}
 use Rattle.logic.specs.Limits.{Kind, labelNumber, arrowNumber, nodeNumber, leastCount, mostCount, Ranges, ranges, fits}
 
+-- Document 01's limits: the bytes and levels of a book or an edit, the rules of a book, the bytes and levels of a carried book.
+abbrev pub longestText : ℕ
+longestText = 4096
+
+abbrev pub deepestText : ℕ
+deepestText = 32
+
+abbrev pub mostRules : ℕ
+mostRules = 32
+
+abbrev pub longestCarried : ℕ
+longestCarried = 16384
+
+abbrev pub deepestCarried : ℕ
+deepestCarried = 255
+
 -- The limits of a reading: the longest text, the last level, the ranges of numbers.
 pub record Limits : Type 0 where
   pub longest : ℕ
   pub deepest : ℕ
   pub numbers : Ranges
 
--- Document 01's limits of a book or an edit for n nodes.
+-- Those of a book or an edit for n nodes.
 abbrev pub textLimits : ℕ → Limits
-textLimits n = record { longest = 4096; deepest = 32; numbers = ranges n }
+textLimits n = record { longest = longestText; deepest = deepestText; numbers = ranges n }
 
 -- Those of a carried book.
 abbrev pub carriedLimits : ℕ → Limits
-carriedLimits n = record { longest = 16384; deepest = 255; numbers = ranges n }
+carriedLimits n = record { longest = longestCarried; deepest = deepestCarried; numbers = ranges n }
 
 -- What can be wanted at a place: an expression of a sort, or an edit.
 pub data Want : Type 0 where

@@ -12,7 +12,7 @@ use Rattle.text.specs.declared.Stop.the-variants.{Missing, WrongSort, To
 use Rattle.text.specs.declared.Step.{Step}
 use Rattle.text.specs.declared.Step.the-variants.{Next, Stopped}
 use Rattle.text.specs.Questions.{faultNumber}
-use Rattle.text.specs.Reading.{textLimits, Want, expr, edit, Plan, done, number, operand, Fault, missing, wrongSort, tooDeep, outOfRange, Read, got, fault, follow}
+use Rattle.text.specs.Reading.{deepestText, textLimits, Want, expr, edit, Plan, done, number, operand, Fault, missing, wrongSort, tooDeep, outOfRange, Read, got, fault, follow}
 
 -- What can follow a code: nothing; a number of a kind; a thing one level deeper; a thing on the code's own level, with which its row ends.
 pub data Item : Type 0 where
@@ -161,5 +161,5 @@ stepAt text n plan at = stepOf (follow (textLimits n) (drop at text) plan at)
 unfoldable pub headAt : List ℕ → (sort d at : ℕ) → Step
 headAt text sort d at =
     cond (ltb at (length text))
-    (cond (eqb (sortOf (getD text at 0)) sort) (cond (leb d 32) (Next (at + 1)) (Stopped (TooDeep at))) (Stopped (WrongSort at)))
+    (cond (eqb (sortOf (getD text at 0)) sort) (cond (leb d deepestText) (Next (at + 1)) (Stopped (TooDeep at))) (Stopped (WrongSort at)))
     (Stopped (Missing at))

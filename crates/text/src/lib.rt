@@ -1,12 +1,15 @@
 // Reading rules, books and edits ("The code" and "The questions, in order" of document 01).
 use answer::Answer;
 use answer::Refusal;
+use logic::Arrow;
+use logic::Label;
+use logic::Node;
 ghost use mathlib.Core.Path.{_≡_};
 ghost use Prim.Native.Nat.{_<_, _≤_};
 ghost use Rattle.text.specs.Rows.{itemOf, rowOf, itemPlan, finished, rowPlan, sortOf, numberFits, stepAt, headAt, stepAnswer};
 ghost use Rattle.answer.specs.Answers.{asked};
 ghost use Rattle.answer.specs.Asked.{outcome};
-ghost use Rattle.text.specs.Reading.{textLimits};
+ghost use Rattle.text.specs.Reading.{deepestText, textLimits};
 ghost use Rattle.text.specs.Questions.{askBook, askEdit, askRuleEnd, firstRule, ruleStart};
 
 // What is wrong with the bytes, and where: 12 to 15 of a book, 22 to 25 of an edit.
@@ -151,7 +154,7 @@ fn head(text: &[u8], sort: u32, at: usize, level: usize) -> Step
 // Reads an item that stands not on the code's own level: a number, or a thing one level deeper.
 // Inner: `read` has seen that the level is within the limit, which bounds the depth of the calls.
 fn part(text: &[u8], n: usize, item: u32, at: usize, level: usize) -> Step
-    requires { ⌜ (item < 12) × (level ≤ 32) ⌝ }
+    requires { ⌜ (item < 12) × (level ≤ deepestText) ⌝ }
     ensures { λ r. ⌜ r ≡ stepAt (now (text .entry)) n (itemPlan (itemOf item) level finished) at ⌝ }
 {
     if item < 8 {
@@ -161,7 +164,7 @@ fn part(text: &[u8], n: usize, item: u32, at: usize, level: usize) -> Step
 }
 
 // Reads a thing whose first code is on a level, and the steps that follow one another there, along the rows of their codes.
-// It calls itself, through `part`, one level deeper each time and no more than 32 deep, whatever the text: 144 bytes of stack a level,
+// It calls itself, through `part`, one level deeper each time and no more than `Text::DEEPEST` deep, whatever the text: 144 bytes of stack a level,
 // 5 kB in all. Steps that follow one another take no more stack.
 // Inner: the sort wanted is a digit from C to F.
 fn read(text: &[u8], n: usize, wanted: u32, at: usize, level: usize) -> Step
@@ -231,11 +234,11 @@ impl Text {
     // rules of a book
     pub const RULES: usize = 32;
     // label numbers, arrow numbers and, where there is no sheet, node numbers are below these
-    pub const LABELS: u8 = 48;
+    pub const LABELS: u8 = Label::COUNT;
 
-    pub const ARROWS: u8 = 16;
+    pub const ARROWS: u8 = Arrow::COUNT;
 
-    pub const NODES: usize = 60;
+    pub const NODES: usize = Node::MAX as usize;
 
     // Is a book within the limits for n nodes? 11 to 16.
     pub fn check_book(book: &[u8], n: usize) -> Answer

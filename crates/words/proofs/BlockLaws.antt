@@ -1,6 +1,6 @@
 -- The laws of one exchange of blocks.
 use mathlib.Core.Path.{_≡_, refl, sym, ap, ap₂, _∙_, subst}
-use mathlib.Core.Bool.{Bool, true, false, true≢false, not, _&&_, _||_, cond}
+use mathlib.Core.Bool.{Bool, true, false, true≢false, not, _&&_, _||_, cond, Bool·not-not}
 use mathlib.Core.List.{List}
 use mathlib.Core.Logic.{⊎-elim}
 use Prim.Native.Nat.{ℕ, _+_, _-_, _*_, _/_, _%_, _^_, _≤_, _<_}
@@ -33,17 +33,13 @@ and-swap true y m = refl
 and-swap false true m = refl
 and-swap false false m = refl
 
-not-not : (b : Bool) → not (not b) ≡ b
-not-not true = refl
-not-not false = refl
-
 -- bit j of a row that is put together
 module _ (x y s m : ℕ) (B : Blocks s m) (j : ℕ) (h : j < 64) where
   in-mask : (k : ℕ) → k < 64 → member m k ≡ lowHalf s k
   in-mask k l = ap (λ (w : ℕ). member w k) (B .mask) ∙ member-setOf 64 (lowHalf s) k l
 
   in-low : lowHalf s j ≡ not (leb s j && lowHalf s (j - s))
-  in-low = sym (ap not (B .halves j h) ∙ not-not (lowHalf s j))
+  in-low = sym (ap not (B .halves j h) ∙ Bool·not-not (lowHalf s j))
 
   low-bit : member (bitOr (bitAnd x m) (bitAnd y m * 2 ^ s % 2 ^ 64)) j ≡ cond (lowHalf s j) (member x j) (member y (j - s))
   low-bit =
@@ -75,12 +71,12 @@ module _ (x y s m : ℕ) (B : Blocks s m) (hx : x < 2 ^ 64) (hy : y < 2 ^ 64) (h
 -- the rows of a low half, and those behind them
 module _ {s m : ℕ} (B : Blocks s m) where
   low-first : (i : ℕ) → i < s → i < 64 → lowHalf s i ≡ true
-  low-first i h l = sym (not-not (lowHalf s i)) ∙ ap not (sym (B .halves i l) ∙ ap (_&& lowHalf s (i - s)) (lt-leb s i h))
+  low-first i h l = sym (Bool·not-not (lowHalf s i)) ∙ ap not (sym (B .halves i l) ∙ ap (_&& lowHalf s (i - s)) (lt-leb s i h))
 
   behind-half : (i : ℕ) → i + s < 64 → lowHalf s (i + s) ≡ not (lowHalf s i)
   behind-half i h =
       let e : i + s - s ≡ i = omega arith in
-      sym (not-not (lowHalf s (i + s)))
+      sym (Bool·not-not (lowHalf s (i + s)))
       ∙ ap not (sym (B .halves (i + s) h) ∙ ap₂ _&&_ (le-leb s (i + s) (omega arith)) (ap (lowHalf s) e))
 
   pub low-none : LowFrom s 0
@@ -99,7 +95,7 @@ module _ {s m : ℕ} (B : Blocks s m) where
       low = λ i h l k.
           let e : i ≡ i - s - s + s + s = omega arith in
           ap (lowHalf s) e ∙ behind-half (i - s - s + s) (omega arith) ∙ ap not (behind-half (i - s - s) (omega arith))
-          ∙ not-not (lowHalf s (i - s - s)) ∙ L .low (i - s - s) (omega arith) (omega arith) (omega arith);
+          ∙ Bool·not-not (lowHalf s (i - s - s)) ∙ L .low (i - s - s) (omega arith) (omega arith) (omega arith);
     }
 
     -- what is exchanged with a row from b on is a row from b on

@@ -1,16 +1,16 @@
 -- A set member by member: the lowest of them, and what is left without one.
 use mathlib.Core.Path.{_≡_, refl, sym, ap, ap₂, _∙_, subst}
-use mathlib.Core.Bool.{Bool, true, false, not, _&&_, cond, and-true, and-false}
+use mathlib.Core.Bool.{true, false, cond, and-true}
 use mathlib.Core.Logic.{⊎-elim}
 use Prim.Native.Nat.{ℕ, zero, suc, _+_, _-_, _*_, _/_, _%_, _^_, _≤_, _<_, min}
 use native.Mathlib.Nat.{pow-suc, pow-succ', zero-lt-suc, div-one, div-div-eq-div-mul, div-lt-iff-lt-mul, eq-or-lt-of-le, le-of-suc-le-suc}
 use native.Mathlib.Omega.{arith}
 use lib.Bits.{bitAnd, and-step, and-self}
 use lib.Count.{trailingZeros, under}
-use lib.Dec.{eqb}
 use lib.Pow.{pow-pos}
-use borrow.Author.Tests.{eq-eqb, ne-eqb, ltb-false}
-use Rattle.logic.specs.Graph.{Nodes, countBelow}
+use borrow.Author.Tests.{eq-eqb, ne-eqb}
+use Rattle.logic.specs.Graph.{Nodes}
+use Rattle.logic.proofs.Below.{leave, leave-below}
 use Rattle.words.specs.Words.{digit, setOf, member}
 use Rattle.words.proofs.SetLaws.{setOf-cong, setOf-member-lt, member-beyond}
 use Rattle.words.proofs.BitLaws.{below-or-not}
@@ -41,13 +41,7 @@ member-small n x i h e = ⊎-elim
     no : true ≡ false → ⊥
     no e = subst (λ b. cond b (Unit {0}) ⊥) e tt
 
--- without one
-abbrev pub leave : Nodes → ℕ → Nodes
-leave p i k = p k && not (eqb k i)
-
-leave-below : (n i : ℕ) (p : Nodes) → n ≤ i → (k : ℕ) → k < n → leave p i k ≡ p k
-leave-below n i p h k l = ap (λ (b : Bool). p k && not b) (ne-eqb k i (λ e. omega arith)) ∙ and-true (p k)
-
+-- a set without one of its members
 pub setOf-leave : (n i : ℕ) (p : Nodes) → i < n → p i ≡ true → setOf n p ≡ setOf n (leave p i) + 2 ^ i
 unfolding setOf
 setOf-leave zero i p h e = absurd (omega arith)
@@ -57,23 +51,6 @@ setOf-leave (suc n) i p h e = ⊎-elim
     (rw (ap p (sym q) ∙ e, eq-eqb n i (sym q), s) (omega arith)))
     (λ (l : i < n). rw (ne-eqb n i (λ (z : n ≡ i). omega arith), and-true (p n)) (omega (arith, setOf-leave n i p l e)))
     (eq-or-lt-of-le (le-of-suc-le-suc h))
-
-pub count-cong : (n : ℕ) (p q : Nodes) → ((i : ℕ) → i < n → p i ≡ q i) → countBelow n p ≡ countBelow n q
-unfolding countBelow
-count-cong zero p q h = refl
-count-cong (suc n) p q h = rw (h n (omega arith), count-cong n p q (λ i l. h i (omega arith)))
-
-pub count-leave : (n i : ℕ) (p : Nodes) → i < n → p i ≡ true → countBelow n p ≡ suc (countBelow n (leave p i))
-unfolding countBelow
-count-leave zero i p h e = absurd (omega arith)
-count-leave (suc n) i p h e = ⊎-elim
-    (λ (q : i ≡ n). rw (ap p (sym q) ∙ e, eq-eqb n i (sym q), count-cong n (leave p i) p (leave-below n i p (omega arith))))
-    (λ (l : i < n). rw (ne-eqb n i (λ (z : n ≡ i). omega arith), and-true (p n), count-leave n i p l e) (go (p n) (countBelow n (leave p i))))
-    (eq-or-lt-of-le (le-of-suc-le-suc h))
-  where
-    go : (b : Bool) (c : ℕ) → cond b (suc (suc c)) (suc c) ≡ suc (cond b (suc c) c)
-    go true c = refl
-    go false c = refl
 
 -- x & (x - 1) is x without its lowest digit
 lowest-gone : (d x : ℕ) → 0 < x → x < 2 ^ d → bitAnd x (x - 1) + 2 ^ trailingZeros d x ≡ x

@@ -2,7 +2,7 @@
 use mathlib.Core.Path.{_≡_, refl, sym, ap, ap₂, _∙_}
 use mathlib.Core.Bool.{Bool, true, false, not, _&&_, _||_, cond, or-true, or-false, and-true}
 use Prim.Native.Nat.{ℕ, zero, suc, _+_, _-_, _*_, _/_, _%_, _^_, _≤_, _<_}
-use native.Mathlib.Nat.{le-refl, pow-suc, one-mul, mod-lt, mod-one, lt-suc-self, mod-eq-of-lt, eq-or-lt-of-le, le-of-suc-le-suc, div-eq-of-lt, lt-of-lt-of-le}
+use native.Mathlib.Nat.{le-refl, pow-suc, one-mul, mod-lt, mod-one, lt-suc-self, mod-eq-of-lt, eq-or-lt-of-le, le-of-suc-le-suc, div-eq-of-lt, lt-of-lt-of-le, zero-div}
 use native.Mathlib.Omega.{arith}
 use native.Mathlib.Numerals.{add-one, one-add}
 use mathlib.Core.Logic.{⊎-elim}
@@ -91,6 +91,10 @@ pub setOf-none : (n : ℕ) → setOf n (λ i. false) ≡ 0
 unfolding setOf
 setOf-none zero = refl
 setOf-none (suc n) = rw (setOf-none n) (omega arith)
+
+pub member-zero : (i : ℕ) → member 0 i ≡ false
+unfolding member
+member-zero i = ap (λ (x : ℕ). eqb (x % 2) 1) (zero-div (2 ^ i))
 
 -- count_ones counts the members
 pub ones-setOf : (n : ℕ) (p : Nodes) → ones (setOf n p) ≡ countBelow n p

@@ -1,18 +1,17 @@
 -- The laws of words in bytes.
 use mathlib.Core.Path.{_≡_, refl, sym, ap, ap₂, _∙_}
-use mathlib.Core.Bool.{false}
 use mathlib.Core.List.{List, [], _∷_, _++_}
 use mathlib.Core.Logic.{_⊎_, inl, inr, ⊎-elim}
 use Prim.Native.Nat.{ℕ, zero, suc, _+_, _-_, _*_, _/_, _%_, _^_, _≤_, _<_}
-use native.Mathlib.Nat.{pow-suc, mod-one, mod-eq-of-lt, zero-div}
+use native.Mathlib.Nat.{pow-suc, mod-one, mod-eq-of-lt}
 use native.Mathlib.Omega.{arith}
 use lib.Arith.{mod-mul}
-use lib.Dec.{eqb, lit<}
+use lib.Dec.{lit<}
 use lib.ListN.{length, getD, take, drop, set, length-append, length-take, length-drop, List·getD-append, List·getD-eq-default}
 use lib.Pow.{shr-shr}
 use lib.Seq.{sets, sets-eq, drop-cons, length-take-le, getD-take, getD-drop, getD-append-add, ext-getD}
 use Rattle.words.specs.Words.{member, bytes, numberOf, wordAt, putWord}
-use Rattle.words.proofs.SetLaws.{member-low}
+use Rattle.words.proofs.SetLaws.{member-low, member-zero}
 use Rattle.words.proofs.BitLaws.{below-or-not, member-shr}
 
 -- bytes of a number, and the number of bytes
@@ -40,14 +39,10 @@ numberOf-bytes (suc k) x = rw (numberOf-bytes k (x / 256), pow-suc 256 k) (omega
     positive zero = lit< tt
     positive (suc k) = omega (arith, positive k, pow-suc 256 k)
 
-none : (i : ℕ) → member 0 i ≡ false
-unfolding member
-none i = ap (λ (x : ℕ). eqb (x % 2) 1) (zero-div (2 ^ i))
-
 -- bit i of the number is bit i % 8 of byte i / 8
 member-numberOf : (l : List ℕ) → ((j : ℕ) → getD l j 0 < 256) → (i : ℕ) → member (numberOf l) i ≡ member (getD l (i / 8) 0) (i % 8)
 unfolding numberOf
-member-numberOf [] small i = none i ∙ sym (none (i % 8))
+member-numberOf [] small i = member-zero i ∙ sym (member-zero (i % 8))
 member-numberOf (b ∷ bs) small i = ⊎-elim first (later (member-numberOf bs (λ j. small (suc j)) (i - 8))) (below-or-not i 8)
   where
     first : i < 8 → member (b + 256 * numberOf bs) i ≡ member (getD (b ∷ bs) (i / 8) 0) (i % 8)

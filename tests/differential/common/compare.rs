@@ -59,28 +59,6 @@ impl Outcome {
     }
 }
 
-/// The structs that the archives return.
-#[repr(C)]
-pub struct CAnswer {
-    pub number: usize,
-    pub place: usize,
-}
-
-#[repr(C)]
-pub struct CThree {
-    pub number: usize,
-    pub place: usize,
-    pub third: usize,
-}
-
-#[repr(C)]
-pub struct CFour {
-    pub number: usize,
-    pub place: usize,
-    pub third: usize,
-    pub fourth: usize,
-}
-
 /// How many comparisons agreed, and how often each answer number came.
 #[derive(Default)]
 pub struct Tally {

@@ -1,4 +1,4 @@
-use mathlib.Core.Path.{sym, ap}
+use mathlib.Core.Path.{sym}
 use mathlib.Core.List.{List}
 use Prim.Native.Nat.{_≤_, _-_}
 use native.Mathlib.Omega.{arith}
@@ -6,7 +6,6 @@ use borrow.Author.Needs.{needs}
 use Rattle.logic.specs.Syntax.{Expr, rule}
 use Rattle.logic.specs.Limits.{ranges}
 use Rattle.rows.proofs.Laws.{not-is}
-use Rattle.eval.specs.Judge.{Part}
 use Rattle.judge.specs.Judging.{RulesStand}
 use Rattle.judge.proofs.Rules.{opened, for-count, first-of, ends-inside, Reached, reached-start, reached-next, broken-answer, broken-part, all-hold, no-broken-part}
 use Rattle.judge.proofs.judge_rules.Statement.{statement}
@@ -46,7 +45,7 @@ returns c rules s =
     let d = c .before .before .before .before .before .loop .inv .1 rules (for-count _ _ _ _ _ _ (c .before .before .before .before .before .before .before .node-count .ensures .0) s) in
     let b = not-is _ _ (c .before .if1 .taken) in
     let p = broken-part _ _ _ _ _ _ rules d _ _ (c .before .before .before .eval-rule .ensures) (c .before .before .before .before .loop-test .taken) b in
-    (sym (broken-answer _ _ _ _ _ _ rules d _ _ (c .before .before .before .eval-rule .ensures) (c .before .before .before .before .loop-test .taken) b), sym (ap (λ (q : Part). q .start) p), sym (ap (λ (q : Part). q .size) p))
+    (sym (broken-answer _ _ _ _ _ _ rules d _ _ (c .before .before .before .eval-rule .ensures) (c .before .before .before .before .loop-test .taken) b), sym p)
 
 add-i : tie.Need-add-i Inv-loop μ-loop
 add-i c =
@@ -73,7 +72,7 @@ returns-2 : tie.Need-returns-2 Inv-loop μ-loop
 returns-2 c rules s =
     let d = c .before .loop .inv .1 rules (for-count _ _ _ _ _ _ (c .before .before .before .node-count .ensures .0) s) in
     let p = no-broken-part _ _ _ _ _ _ rules d (c .loop-test .left) in
-    (sym (all-hold _ _ _ _ _ _ rules d (c .loop-test .left)), sym (ap (λ (q : Part). q .start) p), sym (ap (λ (q : Part). q .size) p))
+    (sym (all-hold _ _ _ _ _ _ rules d (c .loop-test .left)), sym p)
 
 pub judge-rules-spec : {M : Type 1} → statement M
 judge-rules-spec =

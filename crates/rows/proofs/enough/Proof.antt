@@ -1,13 +1,14 @@
-use mathlib.Core.Path.{ap, ap₂, sym, refl, _∙_, subst}
+use mathlib.Core.Path.{ap, ap₂, sym, refl, _∙_}
 use mathlib.Core.Bool.{_&&_}
 use Prim.Native.Nat.{ℕ}
 use borrow.Author.Needs.{needs}
 use lib.Dec.{leb}
 use Rattle.logic.specs.Graph.{countBelow}
+use Rattle.logic.proofs.Below.{one-or-more}
 use Rattle.words.specs.Words.{member, combined}
 use Rattle.words.proofs.SetLaws.{combined-sets}
 use Rattle.rows.proofs.Laws.{some-common, count-common}
-use Rattle.rows.proofs.Quantifiers.{one-or-more, count-members}
+use Rattle.rows.proofs.Quantifiers.{count-members}
 use Rattle.rows.proofs.enough.Statement.{statement}
 use Rattle.rows.proofs.enough.Tie as tie
 

@@ -3,13 +3,14 @@ use native.Mathlib.Nat.{mul-le-mul, add-le-add, le-of-lt, lt-of-le-of-lt}
 use native.Mathlib.Omega.{arith}
 use borrow.Author.Needs.{needs}
 use lib.Dec.{lit<}
+use Rattle.seal.specs.Seal.{bodyBytes}
 use Rattle.seal.proofs.SealLaws.{byte-put}
 use Rattle.seal.proofs.put_byte.Statement.{statement}
 use Rattle.seal.proofs.put_byte.Tie as tie
 
 -- the weight times the change
-product : (w d : ℕ) → w ≤ 510 → d ≤ 510 → w * d ≤ 260100
-product w d g h = mul-le-mul {n₂ = 510} {m₂ = 510} g h
+product : (w d : ℕ) → w ≤ bodyBytes → d ≤ 2 * 255 → w * d ≤ bodyBytes * (2 * 255)
+product w d g h = mul-le-mul {n₂ = bodyBytes} {m₂ = 2 * 255} g h
 
 mul-t : tie.Need-mul-t
 mul-t c = record { fits = lt-of-le-of-lt (product _ _ (omega arith) (omega arith)) (lit< tt) }

@@ -8,10 +8,10 @@ use Rattle.seal.proofs.sums_of.Statement.{statement}
 use Rattle.seal.proofs.sums_of.Tie as tie
 
 abbrev Inv-loop : tie.InvT-loop
-Inv-loop block s₀ t₀ i₀ s t i = (i ≤ 510) × (s ≤ 255 * i) × (t ≤ 130050 * i) × (sums (take bodyBytes block) ≡ sumsFrom (s % 255) (t % 255) (drop i (take bodyBytes block)))
+Inv-loop block s₀ t₀ i₀ s t i = (i ≤ bodyBytes) × (s ≤ 255 * i) × (t ≤ 255 * bodyBytes * i) × (sums (take bodyBytes block) ≡ sumsFrom (s % 255) (t % 255) (drop i (take bodyBytes block)))
 
 abbrev μ-loop : tie.MeasureT-loop
-μ-loop block s₀ t₀ i₀ s t i = 510 - i
+μ-loop block s₀ t₀ i₀ s t i = bodyBytes - i
 
 loop-holds : tie.Need-loop-holds Inv-loop μ-loop
 loop-holds c = (search needs, search needs, search needs, refl)

@@ -8,9 +8,13 @@ use lib.ListN.{length, getD}
 use borrow.Fn.Kinds.{In}
 use borrow.Fn.PlainCycle.{Measures, is, falls, and}
 use denote.Ref.{now}
+use Rattle.text.specs.Reading.{deepestText}
 use Rattle.text.specs.Rows.{rowPlan, stepAt}
 use Rattle.text.proofs.Compose.{step-on}
-use Rattle.text.proofs.Heads.{any-level, at-deeper, row-done, here-stopped, here-next, item-stopped, item-next, Headed, head-passed, row-small}
+use Rattle.text.proofs.Entries.{row-small}
+use Rattle.text.proofs.Heads.{Headed, head-passed}
+use Rattle.text.proofs.Turns.{at-deeper, row-done, here-stopped, here-next, item-stopped, item-next}
+use Rattle.text.proofs.Numbers.{any-level}
 use Rattle.text.proofs.part.Reads as part
 use Rattle.text.proofs.part.Kinds as part-kinds
 use Rattle.text.proofs.+part+read.Lts-part as part-lts
@@ -24,10 +28,10 @@ use Rattle.text.proofs.+part+read.{statement}
 use Rattle.text.proofs.+part+read.Tie.{close}
 
 abbrev μ-part : Measures 1 part-kinds.ps ℕ
-μ-part κs a = 2 * (33 - a .1 .1 .1 .1 .0)
+μ-part κs a = 2 * (deepestText + 1 - a .1 .1 .1 .1 .0)
 
 abbrev μ-read : Measures 1 read-kinds.ps ℕ
-μ-read κs a = 2 * (33 - a .1 .1 .1 .1 .0) + 1
+μ-read κs a = 2 * (deepestText + 1 - a .1 .1 .1 .1 .0) + 1
 
 abbrev part-at : ℕ → In 1 part-kinds.ps
 part-at t = and 1 part-kinds.ps (is 1 part-kinds.ps μ-part t) part.Pre
@@ -67,7 +71,7 @@ part-returns-2 : (t : ℕ) → part-lts.Need-returns-2 (Rp t) (part-at t) part.P
 part-returns-2 t c = c .read .ensures ∙ sym (at-deeper _ _ _ _ _ (omega arith) (omega arith))
 
 abbrev read-Inv-loop : read-lts.InvT-loop
-read-Inv-loop text n wanted at level row₀ p₀ row p = (stepAt text n (rowPlan row level) p ≡ stepAt text n (rowPlan wanted level) at) × (row < 65536) × (row % 16 < 12 → level ≤ 32)
+read-Inv-loop text n wanted at level row₀ p₀ row p = (stepAt text n (rowPlan row level) p ≡ stepAt text n (rowPlan wanted level) at) × (row < 65536) × (row % 16 < 12 → level ≤ deepestText)
 
 abbrev read-μ-loop : read-lts.MeasureT-loop
 read-μ-loop text n wanted at level row₀ p₀ row p = (length text - p) * 65536 + row

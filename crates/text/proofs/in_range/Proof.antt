@@ -1,6 +1,6 @@
 use mathlib.Core.Path.{sym}
 use native.Mathlib.Omega.{arith}
-use Rattle.text.proofs.Heads.{label-fits, arrow-fits, node-fits, other-fits}
+use Rattle.text.proofs.Numbers.{label-fits, arrow-fits, node-fits, other-fits}
 use Rattle.text.proofs.in_range.Statement.{statement}
 use Rattle.text.proofs.in_range.Tie as tie
 

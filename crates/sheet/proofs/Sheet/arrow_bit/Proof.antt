@@ -6,6 +6,7 @@ use borrow.Author.Needs.{needs}
 use borrow.Author.Tests.{lt-ltb, le-ltb}
 use lib.Dec.{ltb}
 use Rattle.answer.specs.Asked.{passed}
+use Rattle.logic.specs.Limits.{arrowCount}
 use Rattle.words.specs.Words.{member}
 use Rattle.words.proofs.SetLaws.{member-setOf}
 use Rattle.sheet.specs.Sheet.{graphOf}
@@ -24,7 +25,7 @@ returns c =
     let j = st .args .j .0 in
     let r = c .before .before .before .check in
     let n = graphOf t .n in
-    let range : Bool = ltb a 16 && (ltb i n && ltb j n) in
+    let range : Bool = ltb a arrowCount && (ltb i n && ltb j n) in
     let x = graphOf t .joined a i j in
     read-refused t (r .result) (r .ensures) range x _ (c .before .answer .given .1)
 
@@ -50,12 +51,12 @@ returns-2 c =
     let j = st .args .j .0 in
     let r = c .before .before .before .before .before .before .before .before .before .before .before .before .check in
     let n = graphOf t .n in
-    let range : Bool = ltb a 16 && (ltb i n && ltb j n) in
+    let range : Bool = ltb a arrowCount && (ltb i n && ltb j n) in
     let x = graphOf t .joined a i j in
     let e = c .before .before .before .before .before .before .before .node-count .ensures .0 in
     let li : i < n = omega (arith, c .before .before .before .before .before .if2 .taken, c .before .before .before .before .before .before .index2 .ensures, e) in
     let lj : j < n = omega (arith, c .before .before .before .if3 .taken, c .before .before .before .before .index3 .ensures, e) in
-    let f : range ≡ true = ap₂ _&&_ (lt-ltb a 16 (omega (arith, c .before .before .before .before .before .before .before .before .if1 .taken, c .before .before .before .before .before .before .before .before .before .index .ensures))) (ap₂ _&&_ (lt-ltb i n li) (lt-ltb j n lj)) in
+    let f : range ≡ true = ap₂ _&&_ (lt-ltb a arrowCount (omega (arith, c .before .before .before .before .before .before .before .before .if1 .taken, c .before .before .before .before .before .before .before .before .before .index .ensures))) (ap₂ _&&_ (lt-ltb i n li) (lt-ltb j n lj)) in
     ap passed (c .member .ensures ∙ ap₂ member (c .before .before .row-word .ensures) (c .before .index4 .ensures) ∙ member-setOf n (graphOf t .joined a i) j lj)
     ∙ read-bit t (r .result) (r .ensures) range x (c .before .before .before .before .before .before .before .before .before .before .enum-told .given .1) f
 
@@ -69,10 +70,10 @@ returns-3 c =
     let j = st .args .j .0 in
     let r = c .before .before .before .before .before .before .before .before .before .check in
     let n = graphOf t .n in
-    let range : Bool = ltb a 16 && (ltb i n && ltb j n) in
+    let range : Bool = ltb a arrowCount && (ltb i n && ltb j n) in
     let x = graphOf t .joined a i j in
     let l : n ≤ j = omega (arith, c .if3 .left, c .before .index3 .ensures, c .before .before .before .before .node-count .ensures .0) in
-    let f : range ≡ false = ap (λ (b : Bool). ltb a 16 && (ltb i n && b)) (le-ltb j n l) ∙ ap (ltb a 16 &&_) (and-false (ltb i n)) ∙ and-false (ltb a 16) in
+    let f : range ≡ false = ap (λ (b : Bool). ltb a arrowCount && (ltb i n && b)) (le-ltb j n l) ∙ ap (ltb a arrowCount &&_) (and-false (ltb i n)) ∙ and-false (ltb a arrowCount) in
     read-outside t (r .result) (r .ensures) range x (c .before .before .before .before .before .before .before .enum-told .given .1) f
 
 returns-4 : tie.Need-returns-4
@@ -85,10 +86,10 @@ returns-4 c =
     let j = st .args .j .0 in
     let r = c .before .before .before .before .before .before .before .check in
     let n = graphOf t .n in
-    let range : Bool = ltb a 16 && (ltb i n && ltb j n) in
+    let range : Bool = ltb a arrowCount && (ltb i n && ltb j n) in
     let x = graphOf t .joined a i j in
     let l : n ≤ i = omega (arith, c .if2 .left, c .before .index2 .ensures, c .before .before .node-count .ensures .0) in
-    let f : range ≡ false = ap (λ (b : Bool). ltb a 16 && (b && ltb j n)) (le-ltb i n l) ∙ and-false (ltb a 16) in
+    let f : range ≡ false = ap (λ (b : Bool). ltb a arrowCount && (b && ltb j n)) (le-ltb i n l) ∙ and-false (ltb a arrowCount) in
     read-outside t (r .result) (r .ensures) range x (c .before .before .before .before .before .enum-told .given .1) f
 
 returns-5 : tie.Need-returns-5
@@ -101,9 +102,9 @@ returns-5 c =
     let j = st .args .j .0 in
     let r = c .before .before .before .before .check in
     let n = graphOf t .n in
-    let range : Bool = ltb a 16 && (ltb i n && ltb j n) in
+    let range : Bool = ltb a arrowCount && (ltb i n && ltb j n) in
     let x = graphOf t .joined a i j in
-    let f : range ≡ false = ap (_&& (ltb i n && ltb j n)) (le-ltb a 16 (omega (arith, c .if1 .left, c .before .index .ensures))) in
+    let f : range ≡ false = ap (_&& (ltb i n && ltb j n)) (le-ltb a arrowCount (omega (arith, c .if1 .left, c .before .index .ensures))) in
     read-outside t (r .result) (r .ensures) range x (c .before .before .enum-told .given .1) f
 
 pub arrow-bit-spec : {M : Type 1} → statement M

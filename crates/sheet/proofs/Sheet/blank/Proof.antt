@@ -4,16 +4,18 @@ use native.Mathlib.Omega.{arith}
 use borrow.Author.Needs.{needs}
 use lib.ListN.{length, drop}
 use Rattle.answer.specs.Asked.{Asked, after}
+use Rattle.logic.specs.Limits.{arrowCount}
+use Rattle.seal.specs.Seal.{blockBytes}
 use Rattle.sheet.specs.Sheet.{sheetBytes, store, blank}
 use Rattle.sheet.proofs.Blanks.{Begun, begun-first, begun-more, begun-all, first-length, more-length, few-nodes, many-nodes, no-room, room}
 use Rattle.sheet.proofs.Sheet.blank.Statement.{statement}
 use Rattle.sheet.proofs.Sheet.blank.Tie as tie
 
 abbrev Inv-loop : tie.InvT-loop
-Inv-loop buf₀ n a₀ buf a = (a ≤ 16) × (length buf ≡ sheetBytes) × Begun n a buf
+Inv-loop buf₀ n a₀ buf a = (a ≤ arrowCount) × (length buf ≡ sheetBytes) × Begun n a buf
 
 abbrev μ-loop : tie.MeasureT-loop
-μ-loop buf₀ n a₀ buf a = 16 - a
+μ-loop buf₀ n a₀ buf a = arrowCount - a
 
 returns : tie.Need-returns Inv-loop μ-loop
 unfolding after
@@ -40,7 +42,7 @@ loop-holds : tie.Need-loop-holds Inv-loop μ-loop
 loop-holds c =
     let st = c .before .before .before .before .before .before .before .before in
     let e = c .before .before .blank-block .ensures in
-    (omega arith, first-length (st .args .n) _ (st .args .buf .now) e (c .before .before .before .before .if3 .left), begun-first (st .args .n) _ (drop 512 (st .args .buf .now)) e)
+    (omega arith, first-length (st .args .n) _ (st .args .buf .now) e (c .before .before .before .before .if3 .left), begun-first (st .args .n) _ (drop blockBytes (st .args .buf .now)) e)
 
 loop-again : tie.Need-loop-again Inv-loop μ-loop
 loop-again c =
@@ -48,7 +50,7 @@ loop-again c =
     let l = c .before .before .before .before .before .loop in
     let e = c .before .before .blank-block2 .ensures in
     let h = c .before .before .before .before .loop-test .taken in
-    let d : 512 * l .a + 512 + 512 - (512 * l .a + 512) ≡ 512 = omega arith in
+    let d : blockBytes * l .a + blockBytes + blockBytes - (blockBytes * l .a + blockBytes) ≡ blockBytes = omega arith in
     (search needs, more-length (st .args .n) (l .a) _ (l .buf) _ e h d (l .inv .1), begun-more (st .args .n) (l .a) _ (l .buf) _ e (l .inv .2) (omega (arith, l .inv .1, h)))
 
 returns-4 : tie.Need-returns-4 Inv-loop μ-loop

@@ -5,20 +5,22 @@ use native.Mathlib.Omega.{arith}
 use borrow.Author.Needs.{needs}
 use lib.ListN.{length, take, drop, length-take, length-drop}
 use Rattle.logic.specs.Limits.{maxNodes}
+use Rattle.seal.specs.Seal.{blockBytes}
 use Rattle.sheet.specs.Questions.{blockOf, headRight, askBlock, askBlocks}
+use Rattle.sheet.specs.Sheet.{blockCount}
 use Rattle.sheet.proofs.Asks.{wrong-length, right-length, block-next, block-stop, few, few-after, blocks-end}
 use Rattle.sheet.proofs.Sheet.check.Statement.{statement}
 use Rattle.sheet.proofs.Sheet.check.Tie as tie
 
 -- the part that is block b
-part : (t : List ℕ) (b : ℕ) → take (512 * b + 512 - 512 * b) (drop (512 * b) t) ≡ blockOf t b
-part t b = let e : 512 * b + 512 - 512 * b ≡ 512 = omega arith in ap (λ (x : ℕ). take x (drop (512 * b) t)) e
+part : (t : List ℕ) (b : ℕ) → take (blockBytes * b + blockBytes - blockBytes * b) (drop (blockBytes * b) t) ≡ blockOf t b
+part t b = let e : blockBytes * b + blockBytes - blockBytes * b ≡ blockBytes = omega arith in ap (λ (x : ℕ). take x (drop (blockBytes * b) t)) e
 
 abbrev Inv-loop : tie.InvT-loop
-Inv-loop sheet n b₀ b = (b ≤ 17) × (0 < b → n ≤ maxNodes) × (askBlocks sheet 17 0 ≡ askBlocks sheet (17 - b) b)
+Inv-loop sheet n b₀ b = (b ≤ blockCount) × (0 < b → n ≤ maxNodes) × (askBlocks sheet blockCount 0 ≡ askBlocks sheet (blockCount - b) b)
 
 abbrev μ-loop : tie.MeasureT-loop
-μ-loop sheet n b₀ b = 17 - b
+μ-loop sheet n b₀ b = blockCount - b
 
 returns : tie.Need-returns Inv-loop μ-loop
 returns c = wrong-length (c .before .before .args .sheet .now) (c .if1 .taken)
@@ -32,7 +34,7 @@ ask-block-requires c κs =
     let t = st .args .sheet .now in
     let l = c .before .before .loop in
     let i = c .before .before .before .index in (
-      ap length (part t (l .b)) ∙ length-take 512 (drop (512 * l .b) t) ∙ omega (arith, length-drop (512 * l .b) t, c .before .before .before .before .before .if1 .left, c .before .loop-test .taken),
+      ap length (part t (l .b)) ∙ length-take blockBytes (drop (blockBytes * l .b) t) ∙ omega (arith, length-drop (blockBytes * l .b) t, c .before .before .before .before .before .if1 .left, c .before .loop-test .taken),
       λ e. few t (i .result) (i .ensures) (l .b) (l .inv .1) (ap (headRight (l .b)) (sym (part t (l .b))) ∙ e),
     )
 

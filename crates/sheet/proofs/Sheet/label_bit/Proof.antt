@@ -6,6 +6,7 @@ use borrow.Author.Needs.{needs}
 use borrow.Author.Tests.{lt-ltb, le-ltb}
 use lib.Dec.{ltb}
 use Rattle.answer.specs.Asked.{passed}
+use Rattle.logic.specs.Limits.{labelCount}
 use Rattle.words.specs.Words.{member}
 use Rattle.words.proofs.SetLaws.{member-setOf}
 use Rattle.sheet.specs.Sheet.{graphOf}
@@ -23,7 +24,7 @@ returns c =
     let i = st .args .i .0 in
     let a = c .before .before .before .check in
     let n = graphOf t .n in
-    let range : Bool = ltb k 48 && ltb i n in
+    let range : Bool = ltb k labelCount && ltb i n in
     read-refused t (a .result) (a .ensures) range (graphOf t .labelled k i) _ (c .before .answer .given .1)
 
 node-count-requires : tie.Need-node-count-requires
@@ -41,9 +42,9 @@ returns-2 c =
     let i = st .args .i .0 in
     let a = c .before .before .before .before .before .before .before .before .before .before .check in
     let n = graphOf t .n in
-    let range : Bool = ltb k 48 && ltb i n in
+    let range : Bool = ltb k labelCount && ltb i n in
     let l : i < n = omega (arith, c .before .before .before .if2 .taken, c .before .before .before .before .before .index2 .ensures, c .before .before .before .before .node-count .ensures .0) in
-    let f : range ≡ true = ap₂ _&&_ (lt-ltb k 48 (omega (arith, c .before .before .before .before .before .before .if1 .taken, c .before .before .before .before .before .before .before .index .ensures))) (lt-ltb i n l) in
+    let f : range ≡ true = ap₂ _&&_ (lt-ltb k labelCount (omega (arith, c .before .before .before .before .before .before .if1 .taken, c .before .before .before .before .before .before .before .index .ensures))) (lt-ltb i n l) in
     ap passed (c .member .ensures ∙ ap₂ member (c .before .before .label-word .ensures) (c .before .index3 .ensures) ∙ member-setOf n (graphOf t .labelled k) i l)
     ∙ read-bit t (a .result) (a .ensures) range (graphOf t .labelled k i) (c .before .before .before .before .before .before .before .before .enum-told .given .1) f
 
@@ -56,9 +57,9 @@ returns-3 c =
     let i = st .args .i .0 in
     let a = c .before .before .before .before .before .before .before .check in
     let n = graphOf t .n in
-    let range : Bool = ltb k 48 && ltb i n in
+    let range : Bool = ltb k labelCount && ltb i n in
     let l : n ≤ i = omega (arith, c .if2 .left, c .before .before .index2 .ensures, c .before .node-count .ensures .0) in
-    let f : range ≡ false = ap (ltb k 48 &&_) (le-ltb i n l) ∙ and-false (ltb k 48) in
+    let f : range ≡ false = ap (ltb k labelCount &&_) (le-ltb i n l) ∙ and-false (ltb k labelCount) in
     read-outside t (a .result) (a .ensures) range (graphOf t .labelled k i) (c .before .before .before .before .before .enum-told .given .1) f
 
 returns-4 : tie.Need-returns-4
@@ -70,8 +71,8 @@ returns-4 c =
     let i = st .args .i .0 in
     let a = c .before .before .before .before .check in
     let n = graphOf t .n in
-    let range : Bool = ltb k 48 && ltb i n in
-    let f : range ≡ false = ap (_&& ltb i n) (le-ltb k 48 (omega (arith, c .if1 .left, c .before .index .ensures))) in
+    let range : Bool = ltb k labelCount && ltb i n in
+    let f : range ≡ false = ap (_&& ltb i n) (le-ltb k labelCount (omega (arith, c .if1 .left, c .before .index .ensures))) in
     read-outside t (a .result) (a .ensures) range (graphOf t .labelled k i) (c .before .before .enum-told .given .1) f
 
 pub label-bit-spec : {M : Type 1} → statement M

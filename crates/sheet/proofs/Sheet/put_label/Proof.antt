@@ -5,7 +5,7 @@ use native.Mathlib.Omega.{arith}
 use borrow.Author.Needs.{needs}
 use lib.ListN.{take, drop}
 use Rattle.words.specs.Words.{putWord}
-use Rattle.seal.specs.Seal.{reseal}
+use Rattle.seal.specs.Seal.{reseal, blockBytes}
 use Rattle.sheet.specs.Sheet.{graphOf}
 use Rattle.sheet.proofs.Opening.{opening}
 use Rattle.sheet.proofs.Loads.{sound-length, sound-seal}
@@ -25,7 +25,7 @@ returns c = λ v q.
     let t = st .args .sheet .now in
     let k = c .before .before .before .index .ensures in
     let o = opening t (λ p. omega (arith, c .before .before .before .before .before .slice-known .given p)) (st .pre .0) in
-    ap (_++ drop 512 t) (c .before .before .put-word .ensures ∙ ap (λ (k : ℕ). reseal (putWord (take 512 t) (16 + 8 * k) (st .args .x))) k)
+    ap (_++ drop blockBytes t) (c .before .before .put-word .ensures ∙ ap (λ (k : ℕ). reseal (putWord (take blockBytes t) (16 + 8 * k) (st .args .x))) k)
     ∙ relabelled (graphOf t) v (st .args .k .0) (st .args .x) t (st .pre .1) (o .stored) q
 
 pub put-label-spec : {M : Type 1} → statement M

@@ -4,7 +4,7 @@ use Prim.Native.Nat.{ℕ, _+_, _-_, _*_}
 use native.Mathlib.Omega.{arith}
 use borrow.Author.Needs.{needs}
 use lib.ListN.{take, drop}
-use Rattle.seal.specs.Seal.{reseal}
+use Rattle.seal.specs.Seal.{reseal, blockBytes}
 use Rattle.sheet.specs.Sheet.{graphOf}
 use Rattle.sheet.specs.Writes.{putRows}
 use Rattle.sheet.proofs.Opening.{opening}
@@ -22,12 +22,12 @@ returns c = λ v inside r.
     let t = st .args .sheet .now in
     let rows = st .args .rows in
     let i = c .before .before .before .before .index in
-    let from : ℕ = 512 * i .result + 512 in
-    let d : from + 512 - from ≡ 512 = omega arith in
+    let from : ℕ = blockBytes * i .result + blockBytes in
+    let d : from + blockBytes - from ≡ blockBytes = omega arith in
     let o = opening t (λ p. omega (arith, c .before .before .before .before .before .before .before .slice-known .given p)) (st .pre .0) in
     ap₂ (λ (x : List ℕ) (y : ℕ). take from t ++ (x ++ drop y (drop from t)))
     (c .before .before .put-words .ensures ∙ ap₂ (λ (m y : ℕ). reseal (putRows m rows (take y (drop from t)))) (c .before .before .before .before .before .node-count .ensures .0) d) d
-    ∙ ap (λ (a : ℕ). take (512 * a + 512) t ++ (reseal (putRows (graphOf t .n) rows (take 512 (drop (512 * a + 512) t))) ++ drop 512 (drop (512 * a + 512) t))) (i .ensures)
+    ∙ ap (λ (a : ℕ). take (blockBytes * a + blockBytes) t ++ (reseal (putRows (graphOf t .n) rows (take blockBytes (drop (blockBytes * a + blockBytes) t))) ++ drop blockBytes (drop (blockBytes * a + blockBytes) t))) (i .ensures)
     ∙ rejoined (graphOf t) (o .within) v inside (st .args .a .0) rows r t (st .pre .1) (o .stored)
 
 pub put-rows-spec : {M : Type 1} → statement M

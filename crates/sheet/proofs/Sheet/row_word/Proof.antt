@@ -3,6 +3,7 @@ use Prim.Native.Nat.{ℕ, _+_, _*_}
 use native.Mathlib.Omega.{arith}
 use borrow.Author.Needs.{needs}
 use Rattle.words.specs.Words.{wordAt}
+use Rattle.seal.specs.Seal.{blockBytes}
 use Rattle.sheet.proofs.Loads.{sound-length, sound-n, sound-row}
 use Rattle.sheet.proofs.Sheet.row_word.Statement.{statement}
 use Rattle.sheet.proofs.Sheet.row_word.Tie as tie
@@ -17,7 +18,7 @@ returns : tie.Need-returns
 returns c =
     let st = c .before .before .before .before in
     let t = st .args .sheet .now in
-    c .load .ensures ∙ ap₂ (λ (x y : ℕ). wordAt t (512 * (x + 1) + (16 + 8 * y))) (c .before .before .index .ensures) (c .before .index2 .ensures)
+    c .load .ensures ∙ ap₂ (λ (x y : ℕ). wordAt t (blockBytes * (x + 1) + (16 + 8 * y))) (c .before .before .index .ensures) (c .before .index2 .ensures)
     ∙ sound-row t (λ p. omega (arith, c .before .before .before .shared-slice-known .given p)) (st .pre .0) (st .args .a .0) (st .args .i .0) (st .pre .1) (st .pre .2)
 
 pub row-word-spec : {M : Type 1} → statement M

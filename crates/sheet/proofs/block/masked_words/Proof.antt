@@ -5,9 +5,9 @@ use borrow.Author.Needs.{needs}
 use borrow.Author.Tests.{eq-eqb, ne-eqb}
 use lib.Dec.{eqb}
 use Rattle.logic.specs.Graph.{allBelow}
+use Rattle.logic.proofs.Below.{all-none, all-next, all-stop, all-end}
 use Rattle.words.specs.Words.{combined}
 use Rattle.sheet.specs.Masks.{masked}
-use Rattle.sheet.proofs.Zeros.{all-none, all-next, all-stop, all-end}
 use Rattle.sheet.proofs.block.masked_words.Statement.{statement}
 use Rattle.sheet.proofs.block.masked_words.Tie as tie
 

@@ -2,6 +2,7 @@ use mathlib.Core.Path.{ap, ap₂, _∙_}
 use Prim.Native.Nat.{ℕ}
 use native.Mathlib.Omega.{arith}
 use borrow.Author.Needs.{needs}
+use Rattle.logic.specs.Limits.{maxNodes, labelCount}
 use Rattle.sheet.specs.Masks.{zeroBut}
 use Rattle.sheet.proofs.Zeros.{masks-first, masks-later}
 use Rattle.sheet.proofs.block.zero_right.Statement.{statement}
@@ -11,14 +12,14 @@ returns : tie.Need-returns
 returns c =
     let st = c .before .before .before .before .before in
     let k = st .args .block .now in
-    c .zero-but .ensures ∙ ap₂ (λ (x y : ℕ). zeroBut 48 x y k) (c .before .lowest2 .ensures) (c .before .before .before .lowest .ensures)
+    c .zero-but .ensures ∙ ap₂ (λ (x y : ℕ). zeroBut labelCount x y k) (c .before .lowest2 .ensures) (c .before .before .before .lowest .ensures)
     ∙ masks-first k (λ p. omega (arith, c .before .before .before .before .shared-slice-known .given p)) (st .args .n) (st .args .b) (c .before .before .if1 .taken)
 
 returns-2 : tie.Need-returns-2
 returns-2 c =
     let st = c .before .before .before .before in
     let k = st .args .block .now in
-    c .zero-but2 .ensures ∙ ap (λ (x : ℕ). zeroBut 60 x x k) (c .before .before .lowest .ensures)
+    c .zero-but2 .ensures ∙ ap (λ (x : ℕ). zeroBut maxNodes x x k) (c .before .before .lowest .ensures)
     ∙ masks-later k (λ p. omega (arith, c .before .before .before .shared-slice-known .given p)) (st .args .n) (st .args .b) (c .before .if1 .left)
 
 pub zero-right-spec : {M : Type 1} → statement M

@@ -6,8 +6,8 @@ use borrow.Author.Tests.{eq-eqb, ne-eqb}
 use lib.Dec.{eqb}
 use lib.ListN.{getD}
 use Rattle.logic.specs.Graph.{allBelow}
+use Rattle.logic.proofs.Below.{all-none, all-next, all-stop, all-end}
 use Rattle.sheet.specs.Masks.{zerosAt}
-use Rattle.sheet.proofs.Zeros.{all-none, all-next, all-stop, all-end}
 use Rattle.sheet.proofs.block.zeros_at.Statement.{statement}
 use Rattle.sheet.proofs.block.zeros_at.Tie as tie
 

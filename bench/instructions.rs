@@ -1,0 +1,64 @@
+//! The instructions of each call, counted by callgrind, which don't depend on what else the machine does.
+//!
+//! The bench runs itself once more under valgrind with the argument `counted`. There each call is made once inside
+//! `counted_call`; callgrind counts only there, and writes a file with the total each time it is left.
+
+use crate::calls::{Buffers, Call, Outcome, Row};
+use std::hint::black_box;
+use std::path::Path;
+use std::process::Command;
+
+/// Where callgrind writes: parts.1, parts.2 and so on.
+const FOLDER: &str = "target/bench/callgrind";
+
+/// A few dozen instructions are counted besides those of the call itself.
+#[no_mangle]
+#[inline(never)]
+fn counted_call(call: Call, buffers: &mut Buffers) -> Outcome {
+    call(buffers)
+}
+
+/// What the bench does under callgrind.
+pub fn make_counted_calls(rows: &mut [Row]) {
+    for row in rows {
+        for call in row.sides {
+            row.buffers.set();
+            black_box(counted_call(black_box(call), &mut row.buffers));
+        }
+    }
+}
+
+/// The instructions of each row: of the library, and of plain Rust.
+pub fn count(rows: usize) -> Result<Vec<[u64; 2]>, String> {
+    // What an earlier run left must not be read.
+    if Path::new(FOLDER).exists() {
+        std::fs::remove_dir_all(FOLDER).map_err(|error| format!("{FOLDER}: {error}"))?;
+    }
+    std::fs::create_dir_all(FOLDER).map_err(|error| format!("{FOLDER}: {error}"))?;
+    run_callgrind()?;
+    (0..rows).map(|row| Ok([total(2 * row + 1)?, total(2 * row + 2)?])).collect()
+}
+
+fn run_callgrind() -> Result<(), String> {
+    let bench = std::env::current_exe().map_err(|error| error.to_string())?;
+    let run = Command::new("valgrind")
+        .args(["--tool=callgrind", "--collect-atstart=no"])
+        .args(["--toggle-collect=counted_call", "--dump-after=counted_call"])
+        .arg(format!("--callgrind-out-file={FOLDER}/parts"))
+        .arg(bench)
+        .arg("counted")
+        .output()
+        .map_err(|error| format!("valgrind: {error}"))?;
+    if !run.status.success() {
+        return Err(String::from_utf8_lossy(&run.stderr).into_owned());
+    }
+    Ok(())
+}
+
+/// The total of a part.
+fn total(part: usize) -> Result<u64, String> {
+    let path = format!("{FOLDER}/parts.{part}");
+    let text = std::fs::read_to_string(&path).map_err(|error| format!("{path}: {error}"))?;
+    let total = text.lines().find_map(|line| line.strip_prefix("totals: ")?.trim().parse().ok());
+    total.filter(|total| *total > 0).ok_or(format!("{path}: nothing was counted"))
+}

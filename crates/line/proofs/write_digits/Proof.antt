@@ -1,0 +1,47 @@
+use mathlib.Core.Path.{_≡_, _∙_}
+use mathlib.Core.List.{_++_}
+use Prim.Native.Nat.{_+_, _-_, _%_, _≤_}
+use native.Mathlib.Omega.{arith}
+use borrow.Author.Needs.{needs}
+use lib.ListN.{length, drop, length-set}
+use Rattle.line.specs.Line.{digits}
+use Rattle.line.proofs.LineLaws.{none-written, one-written, all-written}
+use Rattle.line.proofs.write_digits.Statement.{statement}
+use Rattle.line.proofs.write_digits.Tie as tie
+
+abbrev Inv-loop : tie.InvT-loop
+Inv-loop out₀ n at₀ rest₀ out at rest =
+    (at ≤ length out) × (length out ≡ length out₀) × (digits at rest ++ drop at out ≡ digits (length out₀) n)
+
+abbrev μ-loop : tie.MeasureT-loop
+μ-loop out₀ n at₀ rest₀ out at rest = at
+
+loop-holds : tie.Need-loop-holds Inv-loop μ-loop
+loop-holds c = (search needs, search needs, none-written (c .args .out .now) (c .args .n))
+
+loop-again : tie.Need-loop-again Inv-loop μ-loop
+loop-again c =
+    let l = c .before .loop in
+    let same = length-set (l .out) (l .at - 1) (48 + l .rest % 10) in
+    (omega arith, omega arith, one-written (l .out) (l .rest) (l .at) (c .loop-test .taken) (l .inv .0) ∙ l .inv .2)
+
+returns : tie.Need-returns Inv-loop μ-loop
+returns c =
+    let l = c .before .loop in
+    all-written (l .out) (l .at) (l .rest) (c .loop-test .left) (l .inv .2)
+
+pub write-digits-spec : {M : Type 1} → statement M
+write-digits-spec =
+    tie.close
+    (tie.spec
+    Inv-loop
+    μ-loop
+    loop-holds
+    (λ c. search needs)
+    (λ c. search needs)
+    (λ c. search needs)
+    (λ c. search needs)
+    (λ c. search needs)
+    loop-again
+    (λ c. search needs)
+    returns)

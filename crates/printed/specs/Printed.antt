@@ -1,0 +1,15 @@
+-- What the program `enter` prints, given a whole input: the line of the answer, then the sheet ("The program `enter`" of document 01).
+use mathlib.Core.List.{List}
+use Prim.Native.Nat.{ℕ}
+use Rattle.demands.specs.Enter.{enterAnswer, enterSheet}
+use Rattle.line.specs.Line.{askedLine}
+
+-- The bytes of its scratch.
+abbrev pub scratchBytes : ℕ
+scratchBytes = 16384
+
+abbrev pub printedLine : (sheet book edit : List ℕ) → List ℕ
+printedLine sheet book edit = askedLine (enterAnswer sheet book edit scratchBytes)
+
+abbrev pub printedSheet : (sheet book edit : List ℕ) → List ℕ
+printedSheet sheet book edit = enterSheet sheet book edit scratchBytes

@@ -1,0 +1,58 @@
+// Carrying out an edit without a book, carrying a book back through it, and entering it.
+ghost use mathlib.Core.Path.{_≡_};
+ghost use lib.ListN.{length};
+ghost use Rattle.apply.specs.Apply.{askApply, appliedSheet};
+ghost use Rattle.carry.specs.Answers.{carriedAsked};
+ghost use Rattle.carry.specs.Carrying.{carryAnswer, carryOutput};
+ghost use Rattle.demands.specs.Enter.{enterAnswer, enterSheet, enterScratch};
+ghost use Rattle.suite.specs.Numbers.{numbers, lengthNumbers};
+use crate::LengthNumbers;
+use crate::Numbers;
+use carry::Carried;
+
+#[no_mangle]
+pub extern "C" fn zamiathen_apply(sheet: &mut [u8], edit: &[u8]) -> Numbers
+    ensures { λ r. ⌜ r ≡ numbers (askApply (now (sheet .entry)) (now (edit .entry))) ⌝ }
+    ensures { λ _. ⌜ now (sheet .exit) ≡ appliedSheet (now (sheet .entry)) (now (edit .entry)) ⌝ }
+{
+    crate::answer_numbers(apply::apply(sheet, edit))
+}
+
+fn carried_numbers(carried: Carried) -> LengthNumbers
+    ensures { λ r. ⌜ r ≡ lengthNumbers (carriedAsked carried) ⌝ }
+{
+    match carried {
+        Carried::Length(n) => LengthNumbers {
+            number: 0,
+            place: 0,
+            length: n,
+        },
+        Carried::Refused(r) => LengthNumbers {
+            number: answer::refusal_number(r),
+            place: answer::refusal_place(r),
+            length: 0,
+        },
+    }
+}
+
+#[no_mangle]
+pub extern "C" fn zamiathen_carry_back(book: &[u8], edit: &[u8], output: &mut [u8]) -> LengthNumbers
+    ensures { λ r. ⌜ r ≡ lengthNumbers (carryAnswer (now (book .entry)) (now (edit .entry)) (length (now (output .entry)))) ⌝ }
+    ensures { λ _. ⌜ now (output .exit) ≡ carryOutput (now (book .entry)) (now (edit .entry)) (now (output .entry)) ⌝ }
+{
+    carried_numbers(carry::carry_back(book, edit, output))
+}
+
+#[no_mangle]
+pub extern "C" fn zamiathen_enter(
+    sheet: &mut [u8],
+    book: &[u8],
+    edit: &[u8],
+    scratch: &mut [u8],
+) -> Numbers
+    ensures { λ r. ⌜ r ≡ numbers (enterAnswer (now (sheet .entry)) (now (book .entry)) (now (edit .entry)) (length (now (scratch .entry)))) ⌝ }
+    ensures { λ _. ⌜ now (sheet .exit) ≡ enterSheet (now (sheet .entry)) (now (book .entry)) (now (edit .entry)) (length (now (scratch .entry))) ⌝ }
+    ensures { λ _. ⌜ now (scratch .exit) ≡ enterScratch (now (sheet .entry)) (now (book .entry)) (now (edit .entry)) (now (scratch .entry)) ⌝ }
+{
+    crate::answer_numbers(entry::enter(sheet, book, edit, scratch))
+}

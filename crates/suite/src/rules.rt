@@ -1,0 +1,44 @@
+// Where the rules of a text stand, and judging them.
+ghost use mathlib.Core.Path.{_≡_};
+ghost use Rattle.text.specs.Reading.{textLimits};
+ghost use Rattle.text.specs.Questions.{ruleStart};
+ghost use Rattle.judge.specs.Judging.{judgedPart};
+ghost use Rattle.judge.specs.Questions.{askJudge};
+ghost use Rattle.suite.specs.Numbers.{lengthNumbers, partNumbers, ruleEnd};
+use crate::LengthNumbers;
+use crate::PartNumbers;
+use text::Text;
+
+#[no_mangle]
+pub extern "C" fn zamiathen_first_rule(text: &[u8]) -> LengthNumbers
+    ensures { λ r. ⌜ r ≡ lengthNumbers (ruleEnd (now (text .entry))) ⌝ }
+{
+    let a = Text::first_rule_answer(text);
+    let rule = Text::first_rule(text);
+    LengthNumbers {
+        number: answer::number(a),
+        place: answer::place(a),
+        length: rule.len(),
+    }
+}
+
+#[no_mangle]
+pub extern "C" fn zamiathen_rule_start(book: &[u8], n: usize, rule: usize) -> usize
+    ensures { λ r. ⌜ r ≡ ruleStart (textLimits n) rule (now (book .entry)) ⌝ }
+{
+    Text::rule_start(book, n, rule)
+}
+
+#[no_mangle]
+pub extern "C" fn zamiathen_judge(sheet: &[u8], book: &[u8]) -> PartNumbers
+    ensures { λ r. ⌜ r ≡ partNumbers (askJudge (now (sheet .entry)) (now (book .entry))) (judgedPart (now (sheet .entry)) (now (book .entry))) ⌝ }
+{
+    let verdict = judge::decide(sheet, book);
+    let a = verdict.answer;
+    PartNumbers {
+        number: answer::number(a),
+        place: answer::place(a),
+        start: verdict.start,
+        length: verdict.size,
+    }
+}

@@ -1,0 +1,64 @@
+// Blank sheets and bit reads.
+ghost use mathlib.Core.Path.{_≡_};
+ghost use lib.ListN.{length};
+ghost use Rattle.answer.specs.Asked.{after};
+ghost use Rattle.sheet.specs.Sheet.{store, blank};
+ghost use Rattle.sheet.specs.Questions.{askBlank, askLabelBit, askArrowBit};
+ghost use Rattle.sheet.specs.BitReads.{bitAsked};
+ghost use Rattle.words.specs.Words.{digit};
+ghost use Rattle.suite.specs.Numbers.{numbers, bitNumbers};
+use crate::BitNumbers;
+use crate::Numbers;
+use logic::Arrow;
+use logic::Label;
+use logic::Node;
+use sheet::BitRead;
+use sheet::Sheet;
+
+#[no_mangle]
+pub extern "C" fn zamiathen_blank(sheet: &mut [u8], n: usize) -> Numbers
+    ensures { λ r. ⌜ r ≡ numbers (askBlank n (length (now (sheet .entry)))) ⌝ }
+    ensures { λ _. ⌜ now (sheet .exit) ≡ after (askBlank n (length (now (sheet .entry)))) (λ _. store (blank n)) (now (sheet .entry)) ⌝ }
+{
+    crate::answer_numbers(Sheet::blank(sheet, n))
+}
+
+fn digit(b: bool) -> usize
+    ensures { λ r. ⌜ r ≡ digit b ⌝ }
+{
+    if b {
+        return 1;
+    }
+    0
+}
+
+fn bit_numbers(read: BitRead) -> BitNumbers
+    ensures { λ r. ⌜ r ≡ bitNumbers (bitAsked read) ⌝ }
+{
+    match read {
+        BitRead::Bit(b) => BitNumbers {
+            number: 0,
+            place: 0,
+            bit: digit(b),
+        },
+        BitRead::Refused(r) => BitNumbers {
+            number: answer::refusal_number(r),
+            place: answer::refusal_place(r),
+            bit: 0,
+        },
+    }
+}
+
+#[no_mangle]
+pub extern "C" fn zamiathen_label_bit(sheet: &[u8], label: u8, node: u8) -> BitNumbers
+    ensures { λ r. ⌜ r ≡ bitNumbers (askLabelBit (now (sheet .entry)) label node) ⌝ }
+{
+    bit_numbers(Sheet::label_bit(sheet, Label(label), Node(node)))
+}
+
+#[no_mangle]
+pub extern "C" fn zamiathen_arrow_bit(sheet: &[u8], arrow: u8, from: u8, to: u8) -> BitNumbers
+    ensures { λ r. ⌜ r ≡ bitNumbers (askArrowBit (now (sheet .entry)) arrow from to) ⌝ }
+{
+    bit_numbers(Sheet::arrow_bit(sheet, Arrow(arrow), Node(from), Node(to)))
+}

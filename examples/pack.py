@@ -1,0 +1,32 @@
+#!/usr/bin/env python3
+"""Writes the input of the program `enter`: the sheet, then book and edit, each with its length before it.
+
+    python3 examples/pack.py SHEET BOOK [EDIT] | target/bin/enter | head -n 1
+
+A book or edit in a file whose name ends in .hex is read as commented hexadecimal, any other as bytes. Without an edit
+it is 30, which changes nothing: the program then judges the book on the sheet.
+"""
+import sys
+
+import layout
+from source import content, fault, hexadecimal, write
+
+
+def text(file):
+    return bytes(byte.value for byte in hexadecimal([file])) if file.endswith(".hex") else content(file)
+
+
+def main(arguments):
+    if len(arguments) not in (2, 3):
+        fault("usage", "pack.py SHEET BOOK [EDIT]")
+    sheet = content(arguments[0])
+    if len(sheet) != layout.SHEET:
+        fault(arguments[0], f"it has {len(sheet)} bytes, and a sheet has {layout.SHEET}")
+    texts = [text(file) for file in arguments[1:]] + [b"\x30"]
+    for file, found in zip(arguments[1:], texts):
+        if len(found) > 65535:
+            fault(file, f"it has {len(found)} bytes, and its length must fit in two")
+    write(sheet + b"".join(len(found).to_bytes(2, "little") + found for found in texts[:2]))
+
+
+main(sys.argv[1:])

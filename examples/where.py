@@ -1,0 +1,107 @@
+#!/usr/bin/env python3
+"""Shows what an answer means and where it points: takes a book or edit in commented hexadecimal, and number and place as printed.
+
+    python3 examples/where.py examples/station/book.hex 41 00002
+"""
+import re
+import sys
+
+import codes
+import layout
+from source import fault, hexadecimal
+
+LONGEST = 4096
+OF_A_TEXT = {
+    1: f"has more than {LONGEST} bytes; this is the first too many",
+    2: "ends where a byte is wanted",
+    3: "has a byte here that is no code of the sort wanted",
+    4: "is deeper than level 32 here",
+    5: "has a label, arrow or node number here that is out of range",
+}
+IN_A_TEXT = {10 + n: f"the book {words}" for n, words in OF_A_TEXT.items()}
+IN_A_TEXT |= {20 + n: f"the edit {words}" for n, words in OF_A_TEXT.items()}
+IN_A_TEXT |= {
+    16: "the book has more than 32 rules; the 33rd begins here",
+    26: "the edit has ended, and bytes follow",
+    41: "this rule does not hold",
+}
+IN_A_BLOCK = {
+    2: "the check bytes of a block of the sheet are wrong",
+    3: "the head of a block of the sheet is wrong",
+    4: "a byte or bit of a block of the sheet that must be zero is not",
+}
+WITHOUT_PLACE = {
+    0: "done",
+    1: f"the sheet has not {layout.SHEET} bytes",
+    31: "the carried book would pass 16384 bytes",
+    32: "the carried book would pass 255 levels",
+    99: "the program's input ended early",
+}
+
+
+def shown(line, first, behind):
+    """A line with its sentence, and marks under some of its columns."""
+    indent = re.sub(r"\S", " ", line.code[:first]).ljust(first)
+    sentence = f": {line.comment}" if line.comment else ""
+    return [line.where + sentence, f"    {line.code.rstrip()}", f"    {indent}{'^' * (behind - first)}"]
+
+
+def marked(text, start, behind):
+    """The lines of bytes start to behind - 1, with marks under these bytes."""
+    columns = {}
+    for byte in text[start:behind]:
+        columns.setdefault(byte.line, []).append(byte.column)
+    return [out for line, on_line in columns.items() for out in shown(line, min(on_line), max(on_line) + 2)]
+
+
+def in_a_text(file, number, place):
+    text = hexadecimal([file])
+    if number in (11, 21):
+        if place != 0 or len(text) <= LONGEST:
+            fault(file, f"{number} {place:05} is no answer for this text, which has {len(text)} bytes")
+        return marked(text, LONGEST, LONGEST + 1)
+    if number in (12, 22):
+        if place != len(text):
+            fault(file, f"the place of {number} is the text's length, and this text has {len(text)} bytes")
+        end = text[-1].column + 3 if text else 0
+        return shown(text[-1].line, end, end + 2) if text else [f"{file}: no byte in it"]
+    if number == 41:
+        rules = codes.rules([byte.value for byte in text])
+        if place >= len(rules):
+            fault(file, f"this text has no rule {place}: it has {len(rules)}, counted from 0")
+        return marked(text, *rules[place])
+    if place >= len(text):
+        fault(file, f"this text has no byte {place}: it has {len(text)}, counted from 0")
+    return marked(text, place, place + 1)
+
+
+def explained(file, number, place):
+    if number in IN_A_TEXT:
+        return [IN_A_TEXT[number]] + in_a_text(file, number, place)
+    if number in IN_A_BLOCK:
+        if place * layout.BLOCK >= layout.SHEET:
+            fault(file, f"a sheet has no block {place}")
+        of = "the labels" if place == layout.LABEL_BLOCK else f"arrow {place - layout.arrow_block(0)}"
+        return [f"{IN_A_BLOCK[number]}: block {place}, {of}"]
+    if number == 33:
+        return [f"scratch or output is too short: the carried book has {place} bytes"]
+    if number not in WITHOUT_PLACE:
+        fault(file, f"no call answers {number:02}")
+    if place != 0:
+        fault(file, f"the place of {number:02} is 0")
+    return [WITHOUT_PLACE[number]]
+
+
+def main(arguments):
+    if len(arguments) != 3:
+        fault("usage", "where.py FILE.hex NUMBER PLACE")
+    file, *figures = arguments
+    for figure in figures:
+        if not re.fullmatch("[0-9]{1,5}", figure):
+            fault(file, f"{figure} is not a number of at most five digits")
+    number, place = map(int, figures)
+    meaning, *lines = explained(file, number, place)
+    print(f"{number:02} {place:05}: {meaning}", *lines, sep="\n")
+
+
+main(sys.argv[1:])

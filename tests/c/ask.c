@@ -1,0 +1,87 @@
+/* Asks the library, for tests in other languages. Takes a sheet's file; then reads calls from standard input, one a line, with
+ * texts in hexadecimal and - for an empty one, and prints one line for each:
+ *
+ *   judge BOOK          number and place
+ *   carry BOOK EDIT     number, place and the carried book
+ *   enter BOOK EDIT     number, place and the sheet's bytes after the call; each call begins with the sheet of the file
+ */
+#include "zamiathen.h"
+
+#include <stdio.h>
+#include <string.h>
+
+enum { TEXT = 8192, LINE = 4 * TEXT };
+
+struct text {
+    uint8_t bytes[TEXT];
+    size_t length;
+};
+
+static uint8_t sheet[ZAMIATHEN_SHEET_BYTES], entered[ZAMIATHEN_SHEET_BYTES], scratch[ZAMIATHEN_CARRIED_BYTES];
+
+static int read_text(struct text *text, const char *word) {
+    unsigned byte;
+    text->length = 0;
+    if (word == NULL)
+        return 0;
+    if (strcmp(word, "-") == 0)
+        return 1;
+    for (; sscanf(word, "%2x", &byte) == 1; word += 2) {
+        if (text->length == TEXT || word[1] == 0)
+            return 0;
+        text->bytes[text->length++] = (uint8_t)byte;
+    }
+    return *word == 0;
+}
+
+static void print_bytes(const uint8_t *bytes, size_t length) {
+    if (length == 0)
+        printf("-");
+    for (size_t i = 0; i < length; i++)
+        printf("%02x", bytes[i]);
+    printf("\n");
+}
+
+static int call(char *line) {
+    static struct text book, edit;
+    const char *name = strtok(line, " \n");
+    if (name == NULL || !read_text(&book, strtok(NULL, " \n")))
+        return 0;
+    if (strcmp(name, "judge") == 0) {
+        zamiathen_judged j = zamiathen_judge(sheet, sizeof sheet, book.bytes, book.length);
+        printf("%02zu %05zu\n", j.number, j.place);
+        return 1;
+    }
+    if (!read_text(&edit, strtok(NULL, " \n")))
+        return 0;
+    if (strcmp(name, "carry") == 0) {
+        zamiathen_length c =
+            zamiathen_carry_back(book.bytes, book.length, edit.bytes, edit.length, scratch, sizeof scratch);
+        printf("%02zu %05zu ", c.number, c.place);
+        print_bytes(scratch, c.length);
+        return 1;
+    }
+    if (strcmp(name, "enter") != 0)
+        return 0;
+    memcpy(entered, sheet, sizeof sheet);
+    zamiathen_answer a = zamiathen_enter(entered, sizeof entered, book.bytes, book.length, edit.bytes, edit.length,
+                                         scratch, sizeof scratch);
+    printf("%02zu %05zu ", a.number, a.place);
+    print_bytes(entered, sizeof entered);
+    return 1;
+}
+
+int main(int count, char **words) {
+    static char line[LINE];
+    FILE *file = count == 2 ? fopen(words[1], "rb") : NULL;
+    if (file == NULL || fread(sheet, 1, sizeof sheet, file) != sizeof sheet) {
+        fprintf(stderr, "usage: ask SHEET\n");
+        return 2;
+    }
+    while (fgets(line, sizeof line, stdin) != NULL)
+        if (!call(line)) {
+            fprintf(stderr, "not a call\n");
+            return 2;
+        }
+    return 0;
+}
