@@ -11,7 +11,7 @@ ghost use Rattle.measure.specs.Edits.{EditAt, SomeEdit};
 ghost use Rattle.measure.specs.Book.{BookIs, SomeBook};
 ghost use Rattle.carry.specs.Carrying.{carriedBook, carryAnswer, carryOutput};
 ghost use Rattle.carry.specs.Answers.{carriedAsked};
-ghost use Rattle.carry.specs.Written.{Into};
+ghost use Rattle.carry.specs.Into.{Into};
 
 // Bytes and levels of a carried book.
 const LONGEST_CARRIED: usize = 16384;
