@@ -27,7 +27,7 @@ use Rattle.write.specs.Rules.{SomeBookFits}
 use Rattle.write.proofs.Laying.{laid-fits}
 use Rattle.carry.specs.declared.Carried.the-variants.{Length, Refused}
 use Rattle.carry.specs.Carrying.{askSize, writtenAtStart}
-use Rattle.carry.specs.Written.{Into}
+use Rattle.carry.specs.Into.{Into}
 
 module _ (carried : List (Expr rule)) (out : List ℕ) where
   into-refused : (r : Refusal) → askSize carried (length out) ≡ refused (refusalNumber r) (refusalPlace r) → Into carried (Refused r) out out

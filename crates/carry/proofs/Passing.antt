@@ -20,7 +20,7 @@ use Rattle.carry.specs.declared.Carried.{Carried}
 use Rattle.carry.specs.declared.Carried.the-variants.{Refused}
 use Rattle.carry.specs.Carrying.{askSize, askCarry, carryAnswer, carryOutput, writtenAtStart}
 use Rattle.carry.specs.Answers.{carriedAsked}
-use Rattle.carry.specs.Written.{Into}
+use Rattle.carry.specs.Into.{Into}
 
 -- a book and an edit that have passed, whatever n
 module _ (n : ℕ) {t : List ℕ} where

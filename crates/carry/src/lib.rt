@@ -11,7 +11,7 @@ ghost use Rattle.ends.specs.Edits.{EditAt, SomeEdit};
 ghost use Rattle.ends.specs.Books.{BookIs, SomeBook};
 ghost use Rattle.carry.specs.Carrying.{carriedBook, carryAnswer, carryOutput};
 ghost use Rattle.carry.specs.Answers.{carriedAsked};
-ghost use Rattle.carry.specs.Written.{Into};
+ghost use Rattle.carry.specs.Into.{Into};
 ghost use Rattle.text.specs.Reading.{longestText};
 
 // Bytes and levels of a carried book.

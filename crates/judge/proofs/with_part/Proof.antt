@@ -1,4 +1,4 @@
--- `judge::joined` meets its contract: a walk of its MIR, by hand. A `Judged` is made of the verdict's answer, which is plain, and the slice passed.
+-- `judge::with_part` meets its contract: a walk of its MIR, by hand. A `Judged` is made of the verdict's answer, which is plain, and the slice passed.
 -- What the answer owns is made anew of its facts; a `&[u8]` is Copy, so what it owns is had twice, once for the exit and once inside the result.
 --
 use mathlib.Core.Path.{refl}
@@ -44,12 +44,12 @@ use Rattle.judge.proofs.Verdict as Ver
 use Rattle.judge.proofs.Verdict.Laws as Ver′
 use Rattle.answer.proofs.Answer as Ans
 use Rattle.answer.proofs.Answer.Laws as Ans′
-use Rattle.judge.proofs.joined.Key.{name as #judge·joined}
-use Rattle.judge.proofs.joined as joined
-use Rattle.judge.proofs.joined.Statement as stated
-use Rattle.judge.proofs.joined.Code as code
+use Rattle.judge.proofs.with_part.Key.{name as #judge·with-part}
+use Rattle.judge.proofs.with_part as with-part
+use Rattle.judge.proofs.with_part.Statement as stated
+use Rattle.judge.proofs.with_part.Code as code
 
-abbrev stayed : Stays (joined.ended .signature .params) (joined.ended .kept)
+abbrev stayed : Stays (with-part.ended .signature .params) (with-part.ended .kept)
 stayed = (stay-none (λ _. Ver.the-row) yes, (stay-none-slice (0 ∷ []) tt (plain (λ _. u8)) yes, tt))
 
 module _ {M : Type 1} (𝓤 : URA M) (H : Heap 𝓤) (A : Atoms 𝓤) (W : Given 𝓤 H A) (mem : Memory → SProp 𝓤) (run : Routine → Fun 𝓤) (κ : Lft) (q : Share) (d : Verdict) (s : RefT (List ℕ)) where
@@ -69,19 +69,19 @@ module _ {M : Type 1} (𝓤 : URA M) (H : Heap 𝓤) (A : Atoms 𝓤) (W : Given
   abbrev out : Val
   out = LL.val (T.the-type α) (T′.the-laws α) made
 
-  abbrev at : Vals joined.signature (κ, tt)
+  abbrev at : Vals with-part.signature (κ, tt)
   at = (mach ∷ [], (v ∷ [], tt))
 
   abbrev Post : Val → SProp 𝓤
-  Post = walkOf 𝓤 H A joined.ended stayed (joined.clauses 𝓤 H A mem run) .post (((κ, tt), (q, tt), tt, (d, (s, tt)), at), tt)
+  Post = walkOf 𝓤 H A with-part.ended stayed (with-part.clauses 𝓤 H A mem run) .post (((κ, tt), (q, tt), tt, (d, (s, tt)), at), tt)
 
   abbrev Own : Fml
   Own = ShrSlice (named 0) κ u8 .own s (v ∷ [])
 
-  exits : Is Ver.the-row d (mach ∷ []) → ent 𝓤 (onEntry 𝓤 H A joined.signature (κ, tt) (q, tt) (d, (s, tt)) at) (Post out)
+  exits : Is Ver.the-row d (mach ∷ []) → ent 𝓤 (onEntry 𝓤 H A with-part.signature (κ, tt) (q, tt) (d, (s, tt)) at) (Post out)
   exits is =
       qed W ((‵ (flft κ q) ⊛ ‵ ftrue) ∷ ‵ (owns (Ver.the-row ∷ ShrSlice (named 0) κ u8 ∷ []) (d, (s, tt)) at) ∷ []) ∵
-      suffices ! _ (ends-at 𝓤 H A joined.ended stayed (joined.clauses 𝓤 H A mem run) W (((κ, tt), (q, tt), tt, (d, (s, tt)), at), tt) out made (tt, (tt, tt)) (tt, (tt, tt))) $ says ! (refl, refl) $
+      suffices ! _ (ends-at 𝓤 H A with-part.ended stayed (with-part.clauses 𝓤 H A mem run) W (((κ, tt), (q, tt), tt, (d, (s, tt)), at), tt) out made (tt, (tt, tt)) (tt, (tt, tt))) $ says ! (refl, refl) $
       -- [what d owns; what s owns and true]
       frame ! $ fsplit ! $ move ! (1 ∷ []) $ fsplit ! $ use1 W (‵ Own ⊛ ‵ Own) (shr-slice-copy 𝓤 H A W (named 0) κ u8 .twice s (v ∷ [])) $ split ! $
       -- [what s owns; what s owns; true; what d owns]
@@ -91,7 +91,7 @@ module _ {M : Type 1} (𝓤 : URA M) (H : Heap 𝓤) (A : Atoms 𝓤) (W : Given
       by ! (own-shut 𝓤 H A W (T.the-type α) (T′.the-laws α) (d .answer, (s, tt)))
 
   module _ (C : Calls 𝓤 H) (Λ : Loops 𝓤 H) where
-    walk : Is Ver.the-row d (mach ∷ []) → Holds (hasTy Ver′.mir mach) × WT mach → Is (ShrSlice (named 0) κ u8) s (v ∷ []) → ent 𝓤 (onEntry 𝓤 H A joined.signature (κ, tt) (q, tt) (d, (s, tt)) at) (WpFn 𝓤 H C Λ code.function (mach ∷ v ∷ []) Post)
+    walk : Is Ver.the-row d (mach ∷ []) → Holds (hasTy Ver′.mir mach) × WT mach → Is (ShrSlice (named 0) κ u8) s (v ∷ []) → ent 𝓤 (onEntry 𝓤 H A with-part.signature (κ, tt) (q, tt) (d, (s, tt)) at) (WpFn 𝓤 H C Λ code.function (mach ∷ v ∷ []) Post)
     walk is wt p =
         qed W ((‵ (flft κ q) ⊛ ‵ ftrue) ∷ ‵ (owns (Ver.the-row ∷ ShrSlice (named 0) κ u8 ∷ []) (d, (s, tt)) at) ∷ []) ∵ enter ! C Λ code.function (mach ∷ v ∷ []) _ $
         alloc1 ! (λ l₀. alloc1 ! (λ l₁. alloc1 ! (λ l₂. alloc0 ! $ params1 ! $ pass1 ! (init ! 2 refl wt) $ pass1 ! (init ! 0 refl (shr-slice-lawful 𝓤 H A W (named 0) κ u8 .typed s (v ∷ []) p .0)) $ pass0 ! $
@@ -100,17 +100,17 @@ module _ {M : Type 1} (𝓤 : URA M) (H : Heap 𝓤) (A : Atoms 𝓤) (W : Given
         move ! (4 ∷ 5 ∷ []) $ free1 ! $ move ! (2 ∷ 3 ∷ []) $ free1 ! $ free1 ! $ free0 ! $ by ! (exits is))))
 
 module _ {M : Type 1} (𝓤 : URA M) (H : Heap 𝓤) (A : Atoms 𝓤) (W : Given 𝓤 H A) (mem : Memory → SProp 𝓤) (run : Routine → Fun 𝓤) where
-  walks : (C : Calls 𝓤 H) (Λ : Loops 𝓤 H) → Walks 𝓤 H A joined.ended stayed (WpFn 𝓤 H C Λ code.function) (joined.clauses 𝓤 H A mem run)
-  walks C Λ = walked 𝓤 H A joined.ended stayed (joined.clauses 𝓤 H A mem run) (WpFn 𝓤 H C Λ code.function) (λ κs. (LL.vals Ver.the-type Ver′.the-laws, (slice-vals, tt))) (λ κs. (LL.tells Ver.the-type Ver′.the-laws, (shr-slice-tells (named 0) (κs .0) u8, tt)))
+  walks : (C : Calls 𝓤 H) (Λ : Loops 𝓤 H) → Walks 𝓤 H A with-part.ended stayed (WpFn 𝓤 H C Λ code.function) (with-part.clauses 𝓤 H A mem run)
+  walks C Λ = walked 𝓤 H A with-part.ended stayed (with-part.clauses 𝓤 H A mem run) (WpFn 𝓤 H C Λ code.function) (λ κs. (LL.vals Ver.the-type Ver′.the-laws, (slice-vals, tt))) (λ κs. (LL.tells Ver.the-type Ver′.the-laws, (shr-slice-tells (named 0) (κs .0) u8, tt)))
       (λ κs qs bounds a g are. via 𝓤 _ (fst∗ 𝓤 _ (emp 𝓤)) (walk 𝓤 H A W mem run (κs .0) (qs .0) (a .0) (a .1 .0) C Λ (are .0) (LL.lawful Ver.the-type Ver′.the-laws 𝓤 H A W .typed (a .0) _ (are .0) .0) (are .1 .0)))
 
 meets : {M : Type 1} (𝓤 : URA M) (H : Heap 𝓤) (A : Atoms 𝓤) → Given 𝓤 H A → (mem : Memory → SProp 𝓤) (run : Routine → Fun 𝓤) (𝓣 : Tables 𝓤 H)
-    → Meets 𝓤 H A joined.signature (WpFn 𝓤 H (𝓣 .C) (𝓣 .Λ) code.function) (joined.spec 𝓤 H A mem run)
-meets 𝓤 H A W mem run 𝓣 = walk-meets 𝓤 H A joined.ended stayed W (goes-none 𝓤 H A W 1 (λ _. Ver.the-row) yes (λ κs x f. refl), (goes-none-slice 𝓤 H A W 1 (0 ∷ []) tt (plain (λ _. u8)) yes, tt)) (joined.clauses 𝓤 H A mem run) (WpFn 𝓤 H (𝓣 .C) (𝓣 .Λ) code.function) (WpFn-mono 𝓤 H (W .laws) 𝓣 code.function) (walks 𝓤 H A W mem run (𝓣 .C) (𝓣 .Λ))
+    → Meets 𝓤 H A with-part.signature (WpFn 𝓤 H (𝓣 .C) (𝓣 .Λ) code.function) (with-part.spec 𝓤 H A mem run)
+meets 𝓤 H A W mem run 𝓣 = walk-meets 𝓤 H A with-part.ended stayed W (goes-none 𝓤 H A W 1 (λ _. Ver.the-row) yes (λ κs x f. refl), (goes-none-slice 𝓤 H A W 1 (0 ∷ []) tt (plain (λ _. u8)) yes, tt)) (with-part.clauses 𝓤 H A mem run) (WpFn 𝓤 H (𝓣 .C) (𝓣 .Λ) code.function) (WpFn-mono 𝓤 H (W .laws) 𝓣 code.function) (walks 𝓤 H A W mem run (𝓣 .C) (𝓣 .Λ))
 
-pub joined-spec : {M : Type 1} → stated.statement M
+pub with-part-spec : {M : Type 1} → stated.statement M
 unfolding code.routine tablesOf
-joined-spec 𝓤 H 𝓜 𝓖 𝓡 =
-    entered 𝓤 H (tripleOf 𝓤 H (𝓖 .A) joined.signature (joined.spec 𝓤 H (𝓖 .A) (𝓜 .mem) (𝓡 .run)))
-    (tables 𝓤 H 𝓜 𝓡 code.env .C) (tables 𝓤 H 𝓜 𝓡 code.env .Λ) #judge·joined code.function (code.unfolded 𝓤 H 𝓜 𝓡)
+with-part-spec 𝓤 H 𝓜 𝓖 𝓡 =
+    entered 𝓤 H (tripleOf 𝓤 H (𝓖 .A) with-part.signature (with-part.spec 𝓤 H (𝓖 .A) (𝓜 .mem) (𝓡 .run)))
+    (tables 𝓤 H 𝓜 𝓡 code.env .C) (tables 𝓤 H 𝓜 𝓡 code.env .Λ) #judge·with-part code.function (code.unfolded 𝓤 H 𝓜 𝓡)
     (meets 𝓤 H (𝓖 .A) (givenOf 𝓤 H 𝓜 𝓖) (𝓜 .mem) (𝓡 .run) (tablesOf 𝓤 H 𝓜 (tables 𝓤 H 𝓜 𝓡 code.env)))
