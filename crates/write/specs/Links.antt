@@ -8,7 +8,7 @@ use Rattle.tree.specs.Tree.{same}
 use Rattle.tree.specs.Stack.{touched}
 use Rattle.ends.specs.Shapes.{Named, cell}
 use Rattle.ends.specs.Kept.{Kept}
-use Rattle.write.specs.Work.{workLength, lastOf, stackOf, linksOf, behindOf}
+use Rattle.write.specs.Work.{linksStart, workLength, lastOf, stackOf, linksOf, behindOf}
 
 -- the code and the number of the name that the step at a place touches
 abbrev pub codeAt : (edit : List ℕ) → ℕ → ℕ
@@ -39,7 +39,7 @@ pub record SomeLinks (edit work : List ℕ) (h : ℕ) : Type 0 where
 
 -- what linking a step leaves: the link of the step on top of h others, and the last step of its name
 abbrev pub linkStep : (edit : List ℕ) (at h : ℕ) (work : List ℕ) → List ℕ
-linkStep edit at h work = set (set work (4160 + h) (getD work (cell (codeAt edit at) (numberAt edit at)) 0)) (cell (codeAt edit at) (numberAt edit at)) (h + 1)
+linkStep edit at h work = set (set work (linksStart + h) (getD work (cell (codeAt edit at) (numberAt edit at)) 0)) (cell (codeAt edit at) (numberAt edit at)) (h + 1)
 
 -- the links after a walk on from h steps, and the edits behind
 pub record Relinked (edit work work′ : List ℕ) (h h′ : ℕ) : Type 0 where

@@ -1,7 +1,7 @@
 // An expression written under the steps passed: names become what the steps make of them.
 use crate::LINKS;
 use crate::Place;
-use crate::STEPS;
+use crate::STACK;
 use crate::bytes;
 use crate::names;
 use crate::names::Name;
@@ -54,7 +54,7 @@ fn name(edit: &[u8], work: &[u16], j: usize, of: Name, out: &mut [u8], pos: usiz
         return bytes::put_two(of.code, of.number, out, pos);
     }
     let below = j - 1;
-    let o = work[STEPS + below] as usize;
+    let o = work[STACK + below] as usize;
     let op = edit[o];
     out[pos] = lead(op);
     let older = work[LINKS + below] as usize;

@@ -1,7 +1,5 @@
 // A rule carried back through an edit, written byte for byte, each byte once.
-ghost use mathlib.Core.Path.{_≡_};
 ghost use mathlib.Core.List.{List};
-ghost use Prim.Native.Nat.{_≤_};
 ghost use lib.ListN.{length};
 ghost use Rattle.logic.specs.Syntax.{rule, Expr, Edit};
 ghost use Rattle.ends.specs.Edits.{EditAt};
@@ -17,7 +15,7 @@ mod ways;
 use ways::Reached;
 
 // The work array, in parts: for each of the 64 names its last step, the offsets of the steps passed, the link of each, the offsets of the edits behind.
-const STEPS: usize = 64;
+const STACK: usize = 64;
 
 const LINKS: usize = 4160;
 

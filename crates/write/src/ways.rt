@@ -1,7 +1,7 @@
 // A way through an edit, and a rule written along it. A 35 has two ways, and the rule is written along both.
 use crate::BEHIND;
 use crate::Place;
-use crate::STEPS;
+use crate::STACK;
 use crate::bytes;
 use crate::expressions::emit;
 use crate::names;
@@ -64,7 +64,7 @@ fn pass(edit: &[u8], work: &mut [u16], from: Reached) -> Reached
             d: top,
         };
     }
-    work[STEPS + h] = at as u16;
+    work[STACK + h] = at as u16;
     names::link(edit, at, work, h);
     let next = ends::past(edit, at + 2);
     Reached {
