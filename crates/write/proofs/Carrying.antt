@@ -1,7 +1,7 @@
 -- A rule written along a way: at the end, and at a 35 both its ways.
 use mathlib.Core.Path.{_≡_, refl, sym, ap, _∙_}
 use mathlib.Core.List.{List, _∷_}
-use Prim.Native.Nat.{ℕ, _+_, _*_, _≤_, _<_}
+use Prim.Native.Nat.{ℕ, _+_, _<_}
 use native.Mathlib.Omega.{arith}
 use lib.ListN.{length, getD, set}
 use lib.Seq.{set-set, set-getD}
@@ -130,6 +130,3 @@ module _ {edit behind : List ℕ} {at d first second next : ℕ} (C : (Z : Edit)
     kept = kept-more (a .up) (a .kept) (kept-more (omega arith) (c .kept) (c′ .kept));
     again = e′ ∙ ap (λ (b : List ℕ). set b d (getD behind d 0)) (c′ .again ∙ c .again ∙ e) ∙ set-set behind d next (getD behind d 0) ∙ set-getD behind d 0;
   }
-
-pub choice-room : {text edit stack behind : List ℕ} {from at h d pos room : ℕ} → SomeCarried text from edit stack behind at h d pos room → length edit ≤ 2 * length behind → d < length behind
-choice-room w l = omega (arith, w .way .low-behind, place-inside w, l)

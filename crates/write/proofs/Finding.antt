@@ -16,9 +16,11 @@ use Rattle.tree.proofs.Written.{env-hit, env-miss}
 use Rattle.ends.specs.Shapes.{Named, cell}
 use Rattle.ends.specs.Kept.{Kept}
 use Rattle.ends.proofs.Names.{named-lt, apart, alike}
+use Rattle.write.proofs.Parts.{part-at, part-length, part-in, part-before, part-behind}
 use Rattle.ends.proofs.Kept.{kept-set, kept-more}
 use Rattle.write.specs.Offsets.{StepAt, StackIs}
-use Rattle.write.specs.Links.{codeAt, numberAt, lastIn, Linked, SomeLinks, Link, Relinked}
+use Rattle.write.specs.Work.{workLength, lastOf, stackOf, linksOf, behindOf}
+use Rattle.write.specs.Links.{codeAt, numberAt, lastIn, Linked, LinkedIn, SomeLinks, linkStep, Relinked}
 
 both-true : (a b : Bool) → (a && b) ≡ true → (a ≡ true) × (b ≡ true)
 both-true true b e = (refl, e)
@@ -110,40 +112,54 @@ older-is {edit} {stack} {links} {last} {h} {j} c k m w e l r =
     let b = both-true (eqb c (codeAt edit o)) (eqb k (numberAt edit o)) (q .1) in
     w .olders (j - 1) r ∙ sym (ap₂ (λ (x y : ℕ). lastIn edit stack (j - 1) x y) (eqb-true c (codeAt edit o) (b .0)) (eqb-true k (numberAt edit o) (b .1)))
 
-pub hit-older : {edit stack links last : List ℕ} {σ : List Step} {c k j : ℕ} → SomeLinks edit stack links last j → j ≡ lastIn edit stack (length σ) c k → (j ≡ 0 → ⊥) → (H : Hit edit stack σ c k (j - 1)) → (getD links (j - 1) 0 ≡ lastIn edit stack (length (H .below)) c k) × (getD links (j - 1) 0 < j)
-hit-older {edit} {stack} {links} {last} {σ} {c} {k} {j} w e n H =
-    let q = older-is c k (length σ) (w .linked) e (omega (arith, n)) (omega (arith, n, w .high)) in
-    (q ∙ ap (λ (x : ℕ). lastIn edit stack x c k) (H .len), omega (arith, q, n, last-low edit stack (j - 1) c k))
+-- as the work array has it
+older-at : {edit work : List ℕ} {h j : ℕ} (c k m : ℕ) (w : SomeLinks edit work h) → j ≡ lastIn edit (stackOf work) m c k → 0 < j → j - 1 < w .top → getD work (4160 + (j - 1)) 0 ≡ lastIn edit (stackOf work) (j - 1) c k
+older-at {edit} {work} {h} {j} c k m w e l r = sym (part-at 4160 4096 work (j - 1) (4160 + (j - 1)) (omega (arith, r, w .room)) refl) ∙ older-is c k m (w .linked) e l r
+
+pub hit-at : {edit work : List ℕ} {σ : List Step} {c k j : ℕ} → SomeLinks edit work j → (j ≡ 0 → ⊥) → (H : Hit edit (stackOf work) σ c k (j - 1)) → StepAt edit (getD work (64 + (j - 1)) 0) (H .s)
+hit-at {edit} {work} {σ} {c} {k} {j} w n H = subst (λ (o : ℕ). StepAt edit o (H .s)) (part-at 64 4096 work (j - 1) (64 + (j - 1)) (omega (arith, n, w .high, w .room)) refl) (H .at)
+
+pub hit-older : {edit work : List ℕ} {σ : List Step} {c k j : ℕ} → SomeLinks edit work j → j ≡ lastIn edit (stackOf work) (length σ) c k → (j ≡ 0 → ⊥) → (H : Hit edit (stackOf work) σ c k (j - 1))
+    → (getD work (4160 + (j - 1)) 0 ≡ lastIn edit (stackOf work) (length (H .below)) c k) × (getD work (4160 + (j - 1)) 0 < j)
+hit-older {edit} {work} {σ} {c} {k} {j} w e n H =
+    let q = older-at c k (length σ) w e (omega (arith, n)) (omega (arith, n, w .high)) in
+    (q ∙ ap (λ (x : ℕ). lastIn edit (stackOf work) x c k) (H .len), omega (arith, q, n, last-low edit (stackOf work) (j - 1) c k))
 
 -- Down the links: j is the last of the first m steps that touches the name.
-pub record Following (edit stack links last : List ℕ) (h c k j : ℕ) : Type 0 where
-  pub some : SomeLinks edit stack links last h
+pub record Following (edit work : List ℕ) (h c k j : ℕ) : Type 0 where
+  pub some : SomeLinks edit work h
   pub m : ℕ
   pub above : h ≤ m
   pub below : m ≤ some .top
-  pub is : j ≡ lastIn edit stack m c k
+  pub is : j ≡ lastIn edit (stackOf work) m c k
 
-pub following-first : {edit stack links last : List ℕ} {h c k i : ℕ} → SomeLinks edit stack links last h → Named c k → i ≡ cell c k → Following edit stack links last h c k (getD last i 0)
-following-first {edit} {stack} {links} {last} {h} {c} {k} w n e = record { some = w; m = w .top; above = w .high; below = omega arith; is = ap (λ (x : ℕ). getD last x 0) e ∙ w .linked .lasts c k n }
+pub following-first : {edit work : List ℕ} {h c k i : ℕ} → SomeLinks edit work h → Named c k → i ≡ cell c k → Following edit work h c k (getD work i 0)
+following-first {edit} {work} {h} {c} {k} {i} w n e = record {
+  some = w;
+  m = w .top;
+  above = w .high;
+  below = omega arith;
+  is = sym (part-at 0 64 work (cell c k) i (named-lt c k n) (omega (arith, e))) ∙ w .linked .lasts c k n;
+}
 
-module _ {edit stack links last : List ℕ} {h c k j : ℕ} (f : Following edit stack links last h c k j) where
-  pub following-low : j ≤ length links
-  following-low = omega (arith, f .is, last-low edit stack (f .m) c k, f .below, f .some .room)
+module _ {edit work : List ℕ} {h c k j : ℕ} (f : Following edit work h c k j) where
+  pub following-low : j ≤ 4096
+  following-low = omega (arith, f .is, last-low edit (stackOf work) (f .m) c k, f .below, f .some .room)
 
-  lower-is : h < j → (j - 1 < f .m) × (getD links (j - 1) 0 ≡ lastIn edit stack (j - 1) c k)
+  lower-is : h < j → (j - 1 < f .m) × (getD work (4160 + (j - 1)) 0 ≡ lastIn edit (stackOf work) (j - 1) c k)
   lower-is l =
-      let e : lastIn edit stack (f .m) c k ≡ suc (j - 1) = omega (arith, f .is) in
-      let q = last-hits edit stack (f .m) c k (j - 1) e in
-      (q .0, older-is c k (f .m) (f .some .linked) (f .is) (omega arith) (omega (arith, q .0, f .below)))
+      let e : lastIn edit (stackOf work) (f .m) c k ≡ suc (j - 1) = omega (arith, f .is) in
+      let q = last-hits edit (stackOf work) (f .m) c k (j - 1) e in
+      (q .0, older-at c k (f .m) (f .some) (f .is) (omega arith) (omega (arith, q .0, f .below)))
 
-  pub following-more : h < j → Following edit stack links last h c k (getD links (j - 1) 0)
+  pub following-more : h < j → Following edit work h c k (getD work (4160 + (j - 1)) 0)
   following-more l = let q = lower-is l in record { some = f .some; m = j - 1; above = omega arith; below = omega (arith, q .0, f .below); is = q .1 }
 
-  pub following-less : h < j → getD links (j - 1) 0 < j
-  following-less l = omega (arith, lower-is l .1, last-low edit stack (j - 1) c k)
+  pub following-less : h < j → getD work (4160 + (j - 1)) 0 < j
+  following-less l = omega (arith, lower-is l .1, last-low edit (stackOf work) (j - 1) c k)
 
-  pub following-end : j ≤ h → j ≡ lastIn edit stack h c k
-  following-end l = f .is ∙ last-same edit stack (f .m) h c k (f .above) (omega (arith, f .is, l))
+  pub following-end : j ≤ h → j ≡ lastIn edit (stackOf work) h c k
+  following-end l = f .is ∙ last-same edit (stackOf work) (f .m) h c k (f .above) (omega (arith, f .is, l))
 
 -- Links are read below a height only.
 last-kept : (edit : List ℕ) {stack stack′ : List ℕ} (h c k : ℕ) → Kept h stack stack′ → lastIn edit stack′ h c k ≡ lastIn edit stack h c k
@@ -162,52 +178,95 @@ linked-kept {edit} {stack} {stack′} {links} {links′} {last} {last′} {h} s 
 }
 
 -- one step more
-pub linked-more : {edit stack links last links′ last′ : List ℕ} {at h : ℕ} → h < length stack → h < length links → length last ≡ 64 → Named (codeAt edit at) (numberAt edit at) → Linked edit stack links last h
-    → Link edit at links last h links′ last′ → Relinked edit (set stack h at) links links′ last′ h (h + 1)
-unfolding lastIn
-linked-more {edit} {stack} {links} {last} {links′} {last′} {at} {h} room wide long n w u =
-    record { linked = record { lasts = lasts; olders = λ j l. older j l (decLt j h) }; kept = kept }
-  where
-    kept : Kept h links links′
-    kept = subst (Kept h links) (sym (u .links-are)) (kept-set links h (getD last (cell (codeAt edit at) (numberAt edit at)) 0))
+module _ (edit : List ℕ) (at h : ℕ) {stack links last links′ last′ : List ℕ} (room : h < length stack) (wide : h < length links) (long : length last ≡ 64) (n : Named (codeAt edit at) (numberAt edit at)) (w : Linked edit stack links last h)
+    (links-are : links′ ≡ set links h (getD last (cell (codeAt edit at) (numberAt edit at)) 0)) (last-is : last′ ≡ set last (cell (codeAt edit at) (numberAt edit at)) (h + 1)) where
+  linked-set : Linked edit (set stack h at) links′ last′ (h + 1) × Kept h links links′
+  unfolding lastIn
+  linked-set = (record { lasts = lasts; olders = λ j l. older j l (decLt j h) }, kept)
+    where
+      kept : Kept h links links′
+      kept = subst (Kept h links) (sym links-are) (kept-set links h (getD last (cell (codeAt edit at) (numberAt edit at)) 0))
 
-    below : Linked edit (set stack h at) links′ last h
-    below = linked-kept (kept-set stack h at) kept (record { same = λ i r. refl }) w
+      below : Linked edit (set stack h at) links′ last h
+      below = linked-kept (kept-set stack h at) kept (record { same = λ i r. refl }) w
 
-    here : getD (set stack h at) h 0 ≡ at
-    here = getD-set-same stack h at 0 room
+      here : getD (set stack h at) h 0 ≡ at
+      here = getD-set-same stack h at 0 room
 
-    lasts : (c k : ℕ) → Named c k → getD last′ (cell c k) 0 ≡ lastIn edit (set stack h at) (h + 1) c k
-    lasts c k m = ap (λ (l : List ℕ). getD l (cell c k) 0) (u .last-is) ∙ go (same c k (codeAt edit at) (numberAt edit at)) refl ∙ ap (λ (o : ℕ). cond (same c k (codeAt edit o) (numberAt edit o)) (suc h) (lastIn edit (set stack h at) h c k)) (sym here) ∙ ap (λ (x : ℕ). lastIn edit (set stack h at) x c k) (sym (add-one h))
-      where
-        go : (b : Bool) → same c k (codeAt edit at) (numberAt edit at) ≡ b → getD (set last (cell (codeAt edit at) (numberAt edit at)) (h + 1)) (cell c k) 0 ≡ cond (same c k (codeAt edit at) (numberAt edit at)) (suc h) (lastIn edit (set stack h at) h c k)
-        go true q =
-            ap (λ (x : ℕ). getD (set last (cell (codeAt edit at) (numberAt edit at)) (h + 1)) x 0) (sym (alike c k (codeAt edit at) (numberAt edit at) q)) ∙ getD-set-same last (cell (codeAt edit at) (numberAt edit at)) (h + 1) 0 (omega (arith, long, named-lt (codeAt edit at) (numberAt edit at) n))
-            ∙ add-one h ∙ sym (ap (λ (b : Bool). cond b (suc h) (lastIn edit (set stack h at) h c k)) q)
-        go false q =
-            getD-set-other last (cell (codeAt edit at) (numberAt edit at)) (cell c k) (h + 1) 0 (λ e. apart c k (codeAt edit at) (numberAt edit at) m n q (omega (arith, e)))
-            ∙ below .lasts c k m ∙ sym (ap (λ (b : Bool). cond b (suc h) (lastIn edit (set stack h at) h c k)) q)
+      lasts : (c k : ℕ) → Named c k → getD last′ (cell c k) 0 ≡ lastIn edit (set stack h at) (h + 1) c k
+      lasts c k m = ap (λ (l : List ℕ). getD l (cell c k) 0) last-is ∙ go (same c k (codeAt edit at) (numberAt edit at)) refl ∙ ap (λ (o : ℕ). cond (same c k (codeAt edit o) (numberAt edit o)) (suc h) (lastIn edit (set stack h at) h c k)) (sym here) ∙ ap (λ (x : ℕ). lastIn edit (set stack h at) x c k) (sym (add-one h))
+        where
+          go : (b : Bool) → same c k (codeAt edit at) (numberAt edit at) ≡ b → getD (set last (cell (codeAt edit at) (numberAt edit at)) (h + 1)) (cell c k) 0 ≡ cond (same c k (codeAt edit at) (numberAt edit at)) (suc h) (lastIn edit (set stack h at) h c k)
+          go true q =
+              ap (λ (x : ℕ). getD (set last (cell (codeAt edit at) (numberAt edit at)) (h + 1)) x 0) (sym (alike c k (codeAt edit at) (numberAt edit at) q)) ∙ getD-set-same last (cell (codeAt edit at) (numberAt edit at)) (h + 1) 0 (omega (arith, long, named-lt (codeAt edit at) (numberAt edit at) n))
+              ∙ add-one h ∙ sym (ap (λ (b : Bool). cond b (suc h) (lastIn edit (set stack h at) h c k)) q)
+          go false q =
+              getD-set-other last (cell (codeAt edit at) (numberAt edit at)) (cell c k) (h + 1) 0 (λ e. apart c k (codeAt edit at) (numberAt edit at) m n q (omega (arith, e)))
+              ∙ below .lasts c k m ∙ sym (ap (λ (b : Bool). cond b (suc h) (lastIn edit (set stack h at) h c k)) q)
 
-    older : (j : ℕ) → j < h + 1 → Dec (j < h) → getD links′ j 0 ≡ lastIn edit (set stack h at) j (codeAt edit (getD (set stack h at) j 0)) (numberAt edit (getD (set stack h at) j 0))
-    older j l (yes r) = below .olders j r
-    older j l (no r) =
-        let q : j ≡ h = omega (arith, l, r) in
-        subst (λ (x : ℕ). getD links′ x 0 ≡ lastIn edit (set stack h at) x (codeAt edit (getD (set stack h at) x 0)) (numberAt edit (getD (set stack h at) x 0))) (sym q)
-        (ap (λ (l : List ℕ). getD l h 0) (u .links-are) ∙ getD-set-same links h (getD last (cell (codeAt edit at) (numberAt edit at)) 0) 0 wide ∙ below .lasts (codeAt edit at) (numberAt edit at) n
-        ∙ ap (λ (o : ℕ). lastIn edit (set stack h at) h (codeAt edit o) (numberAt edit o)) (sym here))
+      older : (j : ℕ) → j < h + 1 → Dec (j < h) → getD links′ j 0 ≡ lastIn edit (set stack h at) j (codeAt edit (getD (set stack h at) j 0)) (numberAt edit (getD (set stack h at) j 0))
+      older j l (yes r) = below .olders j r
+      older j l (no r) =
+          let q : j ≡ h = omega (arith, l, r) in
+          subst (λ (x : ℕ). getD links′ x 0 ≡ lastIn edit (set stack h at) x (codeAt edit (getD (set stack h at) x 0)) (numberAt edit (getD (set stack h at) x 0))) (sym q)
+          (ap (λ (l : List ℕ). getD l h 0) links-are ∙ getD-set-same links h (getD last (cell (codeAt edit at) (numberAt edit at)) 0) 0 wide ∙ below .lasts (codeAt edit at) (numberAt edit at) n
+          ∙ ap (λ (o : ℕ). lastIn edit (set stack h at) h (codeAt edit o) (numberAt edit o)) (sym here))
 
-pub relinked-more : {edit links stack₁ links₁ last₁ stack₂ links₂ last₂ : List ℕ} {h h₁ h₂ : ℕ} → h ≤ h₁ → Relinked edit stack₁ links links₁ last₁ h h₁ → Relinked edit stack₂ links₁ links₂ last₂ h₁ h₂ → Relinked edit stack₂ links links₂ last₂ h h₂
-relinked-more l a b = record { linked = b .linked; kept = kept-more l (a .kept) (b .kept) }
+-- the step at `at` put on the stack of the work array and linked
+module _ (edit : List ℕ) (at h : ℕ) (work : List ℕ) {work′ : List ℕ} (low : h < 4096) (long : length work ≡ workLength) (n : Named (codeAt edit at) (numberAt edit at)) (e : work′ ≡ linkStep edit at h (set work (64 + h) at)) where
+  abbrev i : ℕ
+  i = cell (codeAt edit at) (numberAt edit at)
+
+  abbrev one : List ℕ
+  one = set work (64 + h) at
+
+  abbrev two : List ℕ
+  two = set one (4160 + h) (getD one i 0)
+
+  under : i < 64
+  under = named-lt (codeAt edit at) (numberAt edit at) n
+
+  pub stack-is : stackOf work′ ≡ set (stackOf work) h at
+  stack-is =
+      ap stackOf e ∙ part-before 64 4096 two i (h + 1) under ∙ part-behind 64 4096 one (4160 + h) (getD one i 0) (omega arith) ∙ part-in 64 4096 work (64 + h) at h low refl
+
+  links-are : linksOf work′ ≡ set (linksOf work) h (getD (lastOf work) i 0)
+  links-are =
+      ap linksOf e ∙ part-before 4160 4096 two i (h + 1) (omega (arith, under)) ∙ part-in 4160 4096 one (4160 + h) (getD one i 0) h low refl
+      ∙ ap₂ (λ (l : List ℕ) (x : ℕ). set l h x) (part-before 4160 4096 work (64 + h) at (omega (arith, low)))
+      (getD-set-other work (64 + h) i at 0 (λ q. omega (arith, q, under)) ∙ sym (part-at 0 64 work i i under (omega arith)))
+
+  last-is : lastOf work′ ≡ set (lastOf work) i (h + 1)
+  last-is =
+      ap lastOf e ∙ part-in 0 64 two i (h + 1) i under (omega arith)
+      ∙ ap (λ (l : List ℕ). set l i (h + 1)) (part-behind 0 64 one (4160 + h) (getD one i 0) (omega arith) ∙ part-behind 0 64 work (64 + h) at (omega arith))
+
+  behind-is : behindOf work′ ≡ behindOf work
+  behind-is =
+      ap behindOf e ∙ part-before 8256 2048 two i (h + 1) (omega (arith, under)) ∙ part-before 8256 2048 one (4160 + h) (getD one i 0) (omega (arith, low))
+      ∙ part-before 8256 2048 work (64 + h) at (omega (arith, low))
+
+  pub linked-more : LinkedIn edit work h → Relinked edit work work′ h (h + 1)
+  linked-more w =
+      let q = linked-set edit at h (omega (arith, part-length 64 4096 work (omega (arith, long)), low)) (omega (arith, part-length 4160 4096 work (omega (arith, long)), low)) (part-length 0 64 work (omega (arith, long))) n w links-are last-is in
+      record { linked = subst (λ (l : List ℕ). Linked edit l (linksOf work′) (lastOf work′) (h + 1)) (sym stack-is) (q .0); kept = q .1; behind-same = behind-is }
+
+pub relinked-none : {edit work : List ℕ} {h : ℕ} → LinkedIn edit work h → Relinked edit work work h h
+relinked-none w = record { linked = w; kept = record { same = λ i r. refl }; behind-same = refl }
+
+pub relinked-more : {edit work work₁ work₂ : List ℕ} {h h₁ h₂ : ℕ} → h ≤ h₁ → Relinked edit work work₁ h h₁ → Relinked edit work₁ work₂ h₁ h₂ → Relinked edit work work₂ h h₂
+relinked-more l a b = record { linked = b .linked; kept = kept-more l (a .kept) (b .kept); behind-same = b .behind-same ∙ a .behind-same }
 
 pub kept-all : {n : ℕ} {l : List ℕ} → Kept n l l
 kept-all = record { same = λ i r. refl }
 
-pub linked-none : (edit stack links : List ℕ) → Linked edit stack links (replicate 64 0) 0
+-- no step, where the last step of each name is none
+pub linked-none : (edit work : List ℕ) → Kept 64 (replicate 64 0) (lastOf work) → LinkedIn edit work 0
 unfolding lastIn
-linked-none edit stack links = record { lasts = λ c k n. getD-replicate 64 (cell c k) 0 0 (named-lt c k n); olders = λ j l. absurd (omega (arith, l)) }
+linked-none edit work s = record { lasts = λ c k n. s .same (cell c k) (named-lt c k n) ∙ getD-replicate 64 (cell c k) 0 0 (named-lt c k n); olders = λ j l. absurd (omega (arith, l)) }
 
-pub some-links : {edit stack links last : List ℕ} {h : ℕ} → Linked edit stack links last h → h ≤ length links → length last ≡ 64 → SomeLinks edit stack links last h
-some-links {edit} {stack} {links} {last} {h} w r l = record { top = h; high = omega arith; room = r; wide = l; linked = w }
+pub some-links : {edit work : List ℕ} {h : ℕ} → LinkedIn edit work h → h ≤ 4096 → length work ≡ workLength → SomeLinks edit work h
+some-links {edit} {work} {h} w r l = record { top = h; high = omega arith; room = r; long = l; linked = w }
 
-pub links-lower : {edit stack links last : List ℕ} {h h′ : ℕ} → h′ ≤ h → SomeLinks edit stack links last h → SomeLinks edit stack links last h′
-links-lower l w = record { top = w .top; high = omega (arith, l, w .high); room = w .room; wide = w .wide; linked = w .linked }
+pub links-lower : {edit work : List ℕ} {h h′ : ℕ} → h′ ≤ h → SomeLinks edit work h → SomeLinks edit work h′
+links-lower l w = record { top = w .top; high = omega (arith, l, w .high); room = w .room; long = w .long; linked = w .linked }

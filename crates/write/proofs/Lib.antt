@@ -1,7 +1,9 @@
+pub mod Parts
 pub mod Finding
 pub mod Laying
 pub mod Emitting
 pub mod Walking
 pub mod Choosing
 pub mod Carrying
+pub mod Storing
 pub mod Rules

@@ -91,23 +91,19 @@ next-rule {book} {rules} {Z} {o} {at} {pos} {out} l h = go (h .left) (h .range) 
           };
         }
 
-pub record Writing (book edit : List ℕ) (from : ℕ) (o stack₀ behind₀ : List ℕ) (at pos : ℕ) (out stack behind : List ℕ) : Type 0 where
+pub record Writing (book edit : List ℕ) (from : ℕ) (o : List ℕ) (at pos : ℕ) (out : List ℕ) : Type 0 where
   pub long : length out ≡ length o
-  pub stack-long : length stack ≡ length stack₀
-  pub behind-long : length behind ≡ length behind₀
   pub some : SomeBookFits book edit from (length o)
   pub each : (rules : List (Expr rule)) (Z : Edit) → BookIs book rules → EditAt edit from Z → Left book rules Z o at pos out
 
-pub writing-first : {book edit : List ℕ} {from : ℕ} (o stack behind : List ℕ) → SomeBookFits book edit from (length o) → Writing book edit from o stack behind 0 0 o stack behind
-writing-first o stack behind w = record {
+pub writing-first : {book edit : List ℕ} {from : ℕ} (o : List ℕ) → SomeBookFits book edit from (length o) → Writing book edit from o 0 0 o
+writing-first o w = record {
   long = refl;
-  stack-long = refl;
-  behind-long = refl;
   some = w;
   each = λ rules Z b h. record { left = rules; limits = b .limits; range = b .range; here = b .is; done = []; wrote = wrote-none o 0; whole = refl };
 }
 
-module _ {book edit : List ℕ} {from : ℕ} {o stack₀ behind₀ : List ℕ} {at pos : ℕ} {out stack behind : List ℕ} (w : Writing book edit from o stack₀ behind₀ at pos out stack behind) where
+module _ {book edit : List ℕ} {from : ℕ} {o : List ℕ} {at pos : ℕ} {out : List ℕ} (w : Writing book edit from o at pos out) where
   some-next : at < length book → Next book (w .some .rules) (w .some .Z) o at pos out
   some-next l = next-rule l (w .each (w .some .rules) (w .some .Z) (w .some .is) (w .some .Z-at))
 
@@ -118,11 +114,9 @@ module _ {book edit : List ℕ} {from : ℕ} {o stack₀ behind₀ : List ℕ} {
     pub writing-on : at < at′
     writing-on = let q = some-next l in omega (arith, f (q .K) (w .some .Z) (q .K-at) (w .some .Z-at) .read, rule-fits book at (q .K) (q .K-at) .0)
 
-    pub writing-more : {stack′ behind′ : List ℕ} → length out′ ≡ length out → length stack′ ≡ length stack → length behind′ ≡ length behind → Writing book edit from o stack₀ behind₀ at′ pos′ out′ stack′ behind′
-    writing-more a b c = record {
+    pub writing-more : length out′ ≡ length out → Writing book edit from o at′ pos′ out′
+    writing-more a = record {
       long = a ∙ w .long;
-      stack-long = b ∙ w .stack-long;
-      behind-long = c ∙ w .behind-long;
       some = w .some;
       each = λ rules Z i h. let q = next-rule l (w .each rules Z i h) in q .more at′ pos′ out′ (f (q .K) Z (q .K-at) h);
     }

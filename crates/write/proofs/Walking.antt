@@ -2,7 +2,7 @@
 use mathlib.Core.Path.{_≡_, refl, sym, ap, _∙_, subst}
 use mathlib.Core.Bool.{Bool, true, false}
 use mathlib.Core.List.{List, [], _∷_}
-use Prim.Native.Nat.{ℕ, _+_, _*_, _-_, _≤_, _<_}
+use Prim.Native.Nat.{ℕ, _+_, _-_, _≤_, _<_}
 use native.Mathlib.Omega.{arith}
 use lib.Dec.{eqb}
 use lib.ListN.{length, getD, set}
@@ -95,8 +95,8 @@ module _ {edit stack behind : List ℕ} {at h d : ℕ} where
           }
 
   -- past the end of what a 35 does
-  pub end-room : SomeWay edit stack behind at h d → length edit ≤ 2 * length behind → d ≤ length behind
-  end-room w l = omega (arith, w .low-behind, edit-inside edit at (w .what) (w .way .here), l)
+  pub way-low : SomeWay edit stack behind at h d → length edit ≤ 4096 → (h < 4096) × (d < 2048)
+  way-low w l = let r = edit-inside edit at (w .what) (w .way .here) in (omega (arith, w .low, r, l), omega (arith, w .low-behind, r, l))
 
   pub end-passed : SomeWay edit stack behind at h d → getD edit at 0 ≡ 0x30 → 0 < d → Passed edit stack behind at h d stack (getD behind (d - 1) 0) h (d - 1)
   unfolding followed followedBy BehindIs editCode
@@ -128,24 +128,33 @@ module _ {edit stack behind : List ℕ} {at h d : ℕ} where
             way = record { steps-passed = y .steps-passed; steps = y .steps; here = subst (λ (x : ℕ). EditAt edit (getD behind x 0) W) m (i .1); around = sym m; rest = subst (λ (x : ℕ). BehindIs edit behind (getD behind x 0 + length (editCode W)) Ws) m (i .2) };
           }
 
+-- where the stack, the next place or the offsets behind are given otherwise
+pub passed-on : {edit stack behind stack′ stack″ : List ℕ} {at h d at′ h′ d′ : ℕ} → stack″ ≡ stack′ → Passed edit stack behind at h d stack′ at′ h′ d′ → Passed edit stack behind at h d stack″ at′ h′ d′
+passed-on {edit} {stack} {behind} {stack′} {stack″} {at} {h} {d} {at′} {h′} {d′} e p = subst (λ (l : List ℕ). Passed edit stack behind at h d l at′ h′ d′) (sym e) p
+
+pub passed-at : {edit stack behind stack′ : List ℕ} {at h d at′ at″ h′ d′ : ℕ} → at′ ≡ at″ → Passed edit stack behind at h d stack′ at′ h′ d′ → Passed edit stack behind at h d stack′ at″ h′ d′
+passed-at {edit} {stack} {behind} {stack′} {at} {h} {d} {at′} {at″} {h′} {d′} e p = subst (λ (x : ℕ). Passed edit stack behind at h d stack′ x h′ d′) e p
+
+pub way-behind : {edit stack behind behind′ : List ℕ} {at h d : ℕ} → behind′ ≡ behind → SomeWay edit stack behind at h d → SomeWay edit stack behind′ at h d
+way-behind {edit} {stack} {behind} {behind′} {at} {h} {d} e w = subst (λ (b : List ℕ). SomeWay edit stack b at h d) (sym e) w
+
 -- a walk of many
 pub record Walking (edit stack behind : List ℕ) (at h d : ℕ) (stack′ : List ℕ) (at′ h′ d′ : ℕ) : Type 0 where
-  pub long : length stack′ ≡ length stack
   pub some : SomeWay edit stack′ behind at′ h′ d′
   pub each : (σ : List Step) (Z : Edit) (Ws : List Edit) → Way edit stack behind at h d σ Z Ws → SameWay edit stack′ behind at′ h′ d′ σ Z Ws
   pub kept : Kept h stack stack′
   pub up : h ≤ h′
 
 pub walking-first : {edit stack behind : List ℕ} {at h d : ℕ} → SomeWay edit stack behind at h d → Walking edit stack behind at h d stack at h d
-walking-first w = record { long = refl; some = w; each = λ σ Z Ws y. record { steps = σ; what = Z; later = Ws; way = y; same = λ K. refl }; kept = record { same = λ i r. refl }; up = omega arith }
+walking-first w = record { some = w; each = λ σ Z Ws y. record { steps = σ; what = Z; later = Ws; way = y; same = λ K. refl }; kept = record { same = λ i r. refl }; up = omega arith }
 
-pub walking-more : {edit stack behind : List ℕ} {at h d : ℕ} {stack₁ : List ℕ} {at₁ h₁ d₁ : ℕ} {stack₂ : List ℕ} {at₂ h₂ d₂ : ℕ} → Walking edit stack behind at h d stack₁ at₁ h₁ d₁ → length stack₂ ≡ length stack₁
-    → Passed edit stack₁ behind at₁ h₁ d₁ stack₂ at₂ h₂ d₂ → Walking edit stack behind at h d stack₂ at₂ h₂ d₂
-walking-more w l p =
+pub walking-more : {edit stack behind : List ℕ} {at h d : ℕ} {stack₁ behind₁ : List ℕ} {at₁ h₁ d₁ : ℕ} {stack₂ : List ℕ} {at₂ h₂ d₂ : ℕ} → Walking edit stack behind at h d stack₁ at₁ h₁ d₁ → behind₁ ≡ behind
+    → Passed edit stack₁ behind₁ at₁ h₁ d₁ stack₂ at₂ h₂ d₂ → Walking edit stack behind at h d stack₂ at₂ h₂ d₂
+walking-more {edit} {stack} {behind} {at} {h} {d} {stack₁} {behind₁} {at₁} {h₁} {d₁} {stack₂} {at₂} {h₂} {d₂} w e q =
+    let p = subst (λ (b : List ℕ). Passed edit stack₁ b at₁ h₁ d₁ stack₂ at₂ h₂ d₂) e q in
     let s = w .some in
     let m = p .each (s .steps) (s .what) (s .later) (s .way) in
     record {
-      long = l ∙ w .long;
       some = record { steps = m .steps; what = m .what; later = m .later; way = m .way; low = p .low; low-behind = p .low-behind };
       each = λ σ Z Ws y. let a = w .each σ Z Ws y in let b = p .each (a .steps) (a .what) (a .later) (a .way) in record { steps = b .steps; what = b .what; later = b .later; way = b .way; same = λ K. a .same K ∙ b .same K };
       kept = kept-more (w .up) (w .kept) (p .kept);

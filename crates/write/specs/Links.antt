@@ -2,12 +2,13 @@
 use mathlib.Core.Path.{_≡_}
 use mathlib.Core.Bool.{cond}
 use mathlib.Core.List.{List}
-use Prim.Native.Nat.{ℕ, zero, suc, _+_, _*_, _<_, _≤_}
+use Prim.Native.Nat.{ℕ, zero, suc, _+_, _<_, _≤_}
 use lib.ListN.{length, getD, set}
 use Rattle.tree.specs.Tree.{same}
 use Rattle.tree.specs.Stack.{touched}
 use Rattle.ends.specs.Shapes.{Named, cell}
 use Rattle.ends.specs.Kept.{Kept}
+use Rattle.write.specs.Work.{linksStart, workLength, lastOf, stackOf, linksOf, behindOf}
 
 -- the code and the number of the name that the step at a place touches
 abbrev pub codeAt : (edit : List ℕ) → ℕ → ℕ
@@ -25,28 +26,28 @@ pub record Linked (edit stack links last : List ℕ) (h : ℕ) : Type 0 where
   pub lasts : (c k : ℕ) → Named c k → getD last (cell c k) 0 ≡ lastIn edit stack h c k
   pub olders : (j : ℕ) → j < h → getD links j 0 ≡ lastIn edit stack j (codeAt edit (getD stack j 0)) (numberAt edit (getD stack j 0))
 
+abbrev pub LinkedIn : (edit work : List ℕ) (h : ℕ) → Type 0
+LinkedIn edit work h = Linked edit (stackOf work) (linksOf work) (lastOf work) h
+
 -- so for these steps and perhaps others above them
-pub record SomeLinks (edit stack links last : List ℕ) (h : ℕ) : Type 0 where
+pub record SomeLinks (edit work : List ℕ) (h : ℕ) : Type 0 where
   pub top : ℕ
   pub high : h ≤ top
-  pub room : top ≤ length links
-  pub wide : length last ≡ 64
-  pub linked : Linked edit stack links last top
+  pub room : top ≤ 4096
+  pub long : length work ≡ workLength
+  pub linked : LinkedIn edit work top
 
--- what linking a step leaves
-pub record Link (edit : List ℕ) (at : ℕ) (links last : List ℕ) (h : ℕ) (links′ last′ : List ℕ) : Type 0 where
-  pub links-are : links′ ≡ set links h (getD last (cell (codeAt edit at) (numberAt edit at)) 0)
-  pub last-is : last′ ≡ set last (cell (codeAt edit at) (numberAt edit at)) (h + 1)
+-- what linking a step leaves: the link of the step on top of h others, and the last step of its name
+abbrev pub linkStep : (edit : List ℕ) (at h : ℕ) (work : List ℕ) → List ℕ
+linkStep edit at h work = set (set work (linksStart + h) (getD work (cell (codeAt edit at) (numberAt edit at)) 0)) (cell (codeAt edit at) (numberAt edit at)) (h + 1)
 
--- the links after a walk on from h steps
-pub record Relinked (edit stack′ links links′ last′ : List ℕ) (h h′ : ℕ) : Type 0 where
-  pub linked : Linked edit stack′ links′ last′ h′
-  pub kept : Kept h links links′
+-- the links after a walk on from h steps, and the edits behind
+pub record Relinked (edit work work′ : List ℕ) (h h′ : ℕ) : Type 0 where
+  pub linked : LinkedIn edit work′ h′
+  pub kept : Kept h (linksOf work) (linksOf work′)
+  pub behind-same : behindOf work′ ≡ behindOf work
 
 -- there is room for all offsets
-pub record Fitting (edit stack links last behind : List ℕ) : Type 0 where
-  pub stack-long : length edit ≤ length stack
-  pub links-long : length edit ≤ length links
-  pub behind-long : length edit ≤ 2 * length behind
+pub record Fitting (edit work : List ℕ) : Type 0 where
   pub short : length edit ≤ 4096
-  pub wide : length last ≡ 64
+  pub long : length work ≡ workLength

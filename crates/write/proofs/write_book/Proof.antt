@@ -7,20 +7,18 @@ use Rattle.write.proofs.write_book.Statement.{statement}
 use Rattle.write.proofs.write_book.Tie as tie
 
 abbrev Inv-loop : tie.InvT-loop
-Inv-loop book edit from stack₀ links₀ behind₀ out₀ at₀ pos₀ stack links behind out at pos = Writing book edit from out₀ stack₀ behind₀ at pos out stack behind × (length links ≡ length links₀)
+Inv-loop book edit from work₀ out₀ place₀ work out place = Writing book edit from out₀ (place .at) (place .pos) out × (length work ≡ length work₀)
 
 abbrev μ-loop : tie.MeasureT-loop
-μ-loop book edit from stack₀ links₀ behind₀ out₀ at₀ pos₀ stack links behind out at pos = length book - at
+μ-loop book edit from work₀ out₀ place₀ work out place = length book - place .at
 
 pub write-book-spec : {M : Type 1} → statement M
 write-book-spec = tie.close (tie.spec Inv-loop μ-loop
-    (λ c. (writing-first _ _ _ (c .before .before .before .before .before .before .pre .0), refl))
-    (λ c κs. let s = c .before .before .before .before .before .before .before .before .before .before .before .before in let i = c .before .before .before .before .before .loop .inv .0 in (rule-fits-next i (c .before .before .before .before .loop-test .taken), omega (arith, s .pre .1, i .stack-long), omega (arith, s .pre .2, c .before .before .before .before .before .loop .inv .1), omega (arith, s .pre .3, i .behind-long), s .pre .4))
-    (λ c. omega (arith, c .before .before .before .before .before .before .before .before .before .before .before .before .before .loop-test .taken, writing-on (c .before .before .before .before .before .before .before .before .before .before .before .before .before .before .loop .inv .0) (c .before .before .before .before .before .before .before .before .before .before .before .before .before .loop-test .taken) (c .before .before .before .before .before .before .before .before .write-rule .ensures)))
-    (λ c. (writing-more (c .before .before .before .before .before .before .before .before .before .before .before .before .before .before .loop .inv .0) (c .before .before .before .before .before .before .before .before .before .before .before .before .before .loop-test .taken) (c .before .before .before .before .before .before .before .before .write-rule .ensures) (c .before .before .before .before .before .before .before .before .write-rule .kept .1 .1 .1 .1 .1 .1 .1 .0) (c .before .before .before .before .before .before .before .before .write-rule .kept .1 .1 .1 .1 .0) (c .before .before .before .before .before .before .before .before .write-rule .kept .1 .1 .1 .1 .1 .1 .0), c .before .before .before .before .before .before .before .before .write-rule .kept .1 .1 .1 .1 .1 .0 ∙ c .before .before .before .before .before .before .before .before .before .before .before .before .before .before .loop .inv .1))
-    (λ c. c .before .loop .inv .0 .stack-long)
-    (λ c. c .before .loop .inv .1)
-    (λ c. c .before .loop .inv .0 .behind-long)
-    (λ c. c .before .loop .inv .0 .long)
-    (λ c. writing-end (c .before .loop .inv .0) (c .loop-test .left))
+    (λ c. (writing-first _ (c .before .before .before .before .pre .0), refl))
+    (λ c κs. let p = c .before .before .before .before .before .before .before .before .before .pre in let i = c .before .before .before .before .loop .inv in (rule-fits-next (i .0) (c .before .before .if1 .taken), record { short = p .1 .short; long = i .1 ∙ p .1 .long }))
+    (λ c. omega (arith, c .before .before .before .before .before .before .before .if1 .taken, writing-on (c .before .before .before .before .before .before .before .before .before .loop .inv .0) (c .before .before .before .before .before .before .before .if1 .taken) (c .before .before .before .before .write-rule .ensures)))
+    (λ c. let i = c .before .before .before .before .before .before .before .before .before .loop .inv in (writing-more (i .0) (c .before .before .before .before .before .before .before .if1 .taken) (c .before .before .before .before .write-rule .ensures) (c .before .before .before .before .write-rule .kept .1 .1 .1 .1 .0), c .before .before .before .before .write-rule .kept .1 .1 .1 .0 ∙ i .1))
+    (λ c. c .before .before .loop .inv .1)
+    (λ c. c .before .before .loop .inv .0 .long)
+    (λ c. writing-end (c .before .before .loop .inv .0) (c .if1 .left))
     )

@@ -1,0 +1,99 @@
+-- The work array at a 35: an offset behind is stored, and the last steps of names are put back for the second way.
+use mathlib.Core.Path.{_≡_, refl, sym, ap, _∙_, subst}
+use mathlib.Core.List.{List, _++_}
+use Prim.Native.Nat.{ℕ, _+_, _<_}
+use native.Mathlib.Omega.{arith}
+use lib.ListN.{length, getD, set, take, drop, length-set}
+use lib.Seq.{length-front, length-take-le}
+use Rattle.ends.specs.Kept.{Kept}
+use Rattle.write.specs.Work.{workLength, stackOf, linksOf, behindOf}
+use Rattle.write.specs.Links.{LinkedIn, SomeLinks, Relinked, Fitting}
+use Rattle.write.specs.Ways.{Walked, SomeCarried, WayWritten}
+use Rattle.write.proofs.Parts.{part-at, part-length, last-first, behind-stored, last-replaced}
+use Rattle.ends.proofs.Kept.{kept-more}
+use Rattle.write.proofs.Walking.{way-low}
+use Rattle.write.proofs.Finding.{linked-kept, some-links}
+use Rattle.write.proofs.Carrying.{rested}
+
+-- where the stack or the offsets behind are given otherwise
+pub walked-on : {edit stack behind stack′ stack″ : List ℕ} {at h d at′ h′ d′ : ℕ} → stack″ ≡ stack′ → Walked edit stack behind at h d stack′ at′ h′ d′ → Walked edit stack behind at h d stack″ at′ h′ d′
+walked-on {edit} {stack} {behind} {stack′} {stack″} {at} {h} {d} {at′} {h′} {d′} e w = subst (λ (l : List ℕ). Walked edit stack behind at h d l at′ h′ d′) (sym e) w
+
+pub written-on : {text edit stack behind o stack′ stack″ behind′ behind″ o′ : List ℕ} {from at h d pos pos′ : ℕ} → stack″ ≡ stack′ → behind″ ≡ behind′ → WayWritten text from edit stack behind at h d o pos pos′ stack′ behind′ o′
+    → WayWritten text from edit stack behind at h d o pos pos′ stack″ behind″ o′
+written-on {text} {edit} {stack} {behind} {o} {stack′} {stack″} {behind′} {behind″} {o′} {from} {at} {h} {d} {pos} {pos′} e f w = record { wrote = w .wrote; kept = subst (Kept h stack) (sym e) (w .kept); again = f ∙ w .again }
+
+pub kept-on : {n : ℕ} {l m m′ : List ℕ} → m′ ≡ m → Kept n l m → Kept n l m′
+kept-on {n} {l} e k = subst (Kept n l) (sym e) k
+
+kept-of : {n : ℕ} {l l′ m : List ℕ} → l′ ≡ l → Kept n l m → Kept n l′ m
+kept-of {n} {l} {l′} {m} e k = subst (λ (x : List ℕ). Kept n x m) (sym e) k
+
+kept-same : {n : ℕ} {l m : List ℕ} → m ≡ l → Kept n l m
+kept-same e = record { same = λ i r. ap (λ (x : List ℕ). getD x i 0) e }
+
+-- the first way of a 35: behind it stands `next`
+pub record Branch (text : List ℕ) (from : ℕ) (edit work : List ℕ) (at h d pos room : ℕ) (work′ : List ℕ) (at′ h′ d′ next : ℕ) : Type 0 where
+  pub walked : Walked edit (stackOf work) (behindOf work) at h d (stackOf work′) at′ h′ d′
+  pub some : SomeCarried text from edit (stackOf work′) (behindOf work) at′ h′ d′ pos room
+  pub low : d′ < length (behindOf work)
+  pub behind : behindOf work′ ≡ set (behindOf work) d′ next
+  pub linked : LinkedIn edit work′ h′
+  pub links : SomeLinks edit work′ h′
+  pub fits : Fitting edit work′
+  pub kept : Kept h (linksOf work) (linksOf work′)
+
+pub branch : {text edit work work₁ : List ℕ} {from at h d pos room at′ h′ d′ : ℕ} → SomeCarried text from edit (stackOf work) (behindOf work) at h d pos room → Fitting edit work → length work₁ ≡ length work
+    → Walked edit (stackOf work) (behindOf work) at h d (stackOf work₁) at′ h′ d′ → Relinked edit work work₁ h h′ → (next : ℕ) → Branch text from edit work at h d pos room (set work₁ (8256 + d′) next) at′ h′ d′ next
+branch {text} {edit} {work} {work₁} {from} {at} {h} {d} {pos} {room} {at′} {h′} {d′} w f l a r next =
+    let q = way-low (rested w a .way) (f .short) in
+    let b = behind-stored work₁ d′ next (q .1) in
+    let k : LinkedIn edit (set work₁ (8256 + d′) next) h′ = linked-kept (kept-same (b .stack-same)) (kept-same (b .links-same)) (kept-same (b .last-same)) (r .linked) in
+    let n = length-set work₁ (8256 + d′) next ∙ l ∙ f .long in
+    let v = walked-on (b .stack-same) a in
+    record {
+      walked = v;
+      some = rested w v;
+      low = omega (arith, q .1, part-length 8256 2048 work (omega (arith, f .long)));
+      behind = b .behind-is ∙ ap (λ (x : List ℕ). set x d′ next) (r .behind-same);
+      linked = k;
+      links = some-links k (omega (arith, q .0)) n;
+      fits = record { short = f .short; long = n };
+      kept = kept-on (b .links-same) (r .kept);
+    }
+
+-- the second way: the last steps of names as before the first
+pub record Again (text : List ℕ) (from : ℕ) (edit work : List ℕ) (at h d : ℕ) (o : List ℕ) (pos pos′ : ℕ) (work′ o′ : List ℕ) : Type 0 where
+  pub written : WayWritten text from edit (stackOf work) (behindOf work) at h d o pos pos′ (stackOf work′) (behindOf work′) o′
+  pub linked : LinkedIn edit work′ h
+  pub links : SomeLinks edit work′ h
+  pub fits : Fitting edit work′
+  pub kept : Kept h (linksOf work) (linksOf work′)
+
+pub again : (work₁ : List ℕ) {text edit work o o′ last last′ : List ℕ} {from at h d pos pos′ : ℕ} → LinkedIn edit work h → SomeLinks edit work h → Fitting edit work → length work₁ ≡ length work
+    → WayWritten text from edit (stackOf work) (behindOf work) at h d o pos pos′ (stackOf work₁) (behindOf work₁) o′ → Kept h (linksOf work) (linksOf work₁) → Kept 64 (take 64 work) last → Kept 64 last last′
+    → length last′ ≡ length (take 64 work₁) → Again text from edit work at h d o pos pos′ (last′ ++ drop 64 work₁) o′
+again work₁ {text} {edit} {work} {o} {o′} {last} {last′} {from} {at} {h} {d} w s f l c t a b e =
+    let r = last-replaced work₁ last′ (e ∙ length-take-le 64 work₁ (omega (arith, l, f .long))) in
+    let k : LinkedIn edit (last′ ++ drop 64 work₁) h = linked-kept (kept-on (r .stack-same) (c .kept)) (kept-on (r .links-same) t) (kept-on (r .last-is) (kept-of (last-first work) (kept-more (omega arith) a b))) w in
+    let n = length-front work₁ last′ 64 e ∙ l ∙ f .long in
+    record {
+      written = written-on (r .stack-same) (r .behind-same) c;
+      linked = k;
+      links = some-links k (omega (arith, s .high, s .room)) n;
+      fits = record { short = f .short; long = n };
+      kept = kept-on (r .links-same) t;
+    }
+
+-- after both, what stood behind is there again
+pub stored-back : (work₀ work₁ work : List ℕ) {text edit : List ℕ} {from at h d : ℕ} {o : List ℕ} {pos pos′ : ℕ} {o′ : List ℕ} {d′ : ℕ} → d′ < length (behindOf work₀) → length work₀ ≡ workLength → behindOf work₁ ≡ behindOf work₀
+    → ((behind′ : List ℕ) → behind′ ≡ set (behindOf work) d′ (getD (behindOf work₀) d′ 0) → WayWritten text from edit (stackOf work₀) (behindOf work₀) at h d o pos pos′ (stackOf work) behind′ o′)
+    → Kept h (linksOf work₀) (linksOf work)
+    → WayWritten text from edit (stackOf work₀) (behindOf work₀) at h d o pos pos′ (stackOf (set work (8256 + d′) (getD work₁ (8256 + d′) 0))) (behindOf (set work (8256 + d′) (getD work₁ (8256 + d′) 0))) o′
+    × Kept h (linksOf work₀) (linksOf (set work (8256 + d′) (getD work₁ (8256 + d′) 0)))
+stored-back work₀ work₁ work {text} {edit} {from} {at} {h} {d} {o} {pos} {pos′} {o′} {d′} l n e c k =
+    let r : d′ < 2048 = omega (arith, l, part-length 8256 2048 work₀ (omega (arith, n))) in
+    let v = getD work₁ (8256 + d′) 0 in
+    let b = behind-stored work d′ v r in
+    let x : v ≡ getD (behindOf work₀) d′ 0 = sym (part-at 8256 2048 work₁ d′ (8256 + d′) r refl) ∙ ap (λ (y : List ℕ). getD y d′ 0) e in
+    (written-on (b .stack-same) refl (c (behindOf (set work (8256 + d′) v)) (b .behind-is ∙ ap (λ (y : ℕ). set (behindOf work) d′ y) x)), kept-on (b .links-same) k)

@@ -1,0 +1,93 @@
+// An expression written under the steps passed: names become what the steps make of them.
+use crate::LINKS;
+use crate::Place;
+use crate::STACK;
+use crate::bytes;
+use crate::names;
+use crate::names::Name;
+ghost use mathlib.Core.Path.{_≡_};
+ghost use mathlib.Core.List.{List, []};
+ghost use Prim.Native.Nat.{_+_, _≤_};
+ghost use lib.ListN.{length};
+ghost use Rattle.tree.specs.Tree.{Tree, treeCode, graft};
+ghost use Rattle.tree.specs.Stack.{Step, env, lead, inner};
+ghost use Rattle.ends.specs.Shapes.{At};
+ghost use Rattle.write.specs.Laid.{Wrote};
+ghost use Rattle.write.specs.Work.{stackOf};
+ghost use Rattle.write.specs.Offsets.{StackIs};
+ghost use Rattle.write.specs.Links.{lastIn, SomeLinks};
+ghost use Rattle.write.specs.Writing.{SomeName, SomeShown};
+
+// The code that a step puts before a name.
+fn lead(op: u8) -> u8
+    ensures { λ r. ⌜ r ≡ lead op ⌝ }
+{
+    if op == 0x31 {
+        return 0x07;
+    }
+    if op == 0x32 {
+        return 0x06;
+    }
+    if op == 0x33 { 0x13 } else { 0x15 }
+}
+
+// Writes the 05 that a step 32 puts before its expression.
+// Inner: there is room.
+fn put_not(op: u8, out: &mut [u8], pos: usize) -> usize
+    requires { ⌜ pos + length (inner op []) ≤ length (now out) ⌝ }
+    ensures { λ r. ⌜ Wrote (now (out .entry)) pos (inner op []) r (now (out .exit)) ⌝ }
+{
+    if op == 0x32 {
+        out[pos] = 0x05;
+        return pos + 1;
+    }
+    pos
+}
+
+// Writes a name under steps of which the one below index j is the last that touches it; j is 0 where none does.
+// Inner: the work array holds offsets of steps, with their links, and there is room; the room left falls with each call.
+fn name(edit: &[u8], work: &[u16], j: usize, of: Name, out: &mut [u8], pos: usize) -> usize
+    requires { ⌜ SomeName (now edit) (stackOf (now work)) j (of .code) (of .number) pos (length (now out)) × SomeLinks (now edit) (now work) j ⌝ }
+    ensures { λ r. ⌜ ((σ : List Step) → j ≡ lastIn (now (edit .entry)) (stackOf (now (work .entry))) (length σ) (of .code) (of .number) → StackIs (now (edit .entry)) (stackOf (now (work .entry))) σ → Wrote (now (out .entry)) pos (treeCode (env σ (of .code) (of .number))) r (now (out .exit))) ⌝ }
+{
+    if j == 0 {
+        return bytes::put_two(of.code, of.number, out, pos);
+    }
+    let below = j - 1;
+    let o = work[STACK + below] as usize;
+    let op = edit[o];
+    out[pos] = lead(op);
+    let older = work[LINKS + below] as usize;
+    let p = name(edit, work, older, of, out, pos + 1);
+    let q = put_not(op, out, p);
+    emit(edit, edit, work, below, out, Place { at: o + 2, pos: q })
+}
+
+// Writes an expression of a text under h steps, code by code: a name as it is under them, any other code with its numbers as it stands.
+// Each code takes one from the expressions that are wanted, and adds its operands.
+// Inner: it stands there, the work array holds offsets of steps, and there is room.
+pub fn emit(text: &[u8], edit: &[u8], work: &[u16], h: usize, out: &mut [u8], place: Place) -> usize
+    requires { ⌜ SomeShown (now text) (place .at) (now edit) (stackOf (now work)) h (place .pos) (length (now out)) × SomeLinks (now edit) (now work) h ⌝ }
+    ensures { λ r. ⌜ ((σ : List Step) (t : Tree) → h ≡ length σ → StackIs (now (edit .entry)) (stackOf (now (work .entry))) σ → At (now (text .entry)) (place .at) t → Wrote (now (out .entry)) (place .pos) (treeCode (graft (env σ) t)) r (now (out .exit))) ⌝ }
+{
+    let mut p = place.at;
+    let mut q = place.pos;
+    let mut wanted: usize = 1;
+    while 0 < wanted {
+        let c = text[p];
+        let s = ends::shape(c);
+        if s >= 16 {
+            let number = text[p + 1];
+            let of = Name { code: c, number };
+            let j = names::find(edit, work, h, of);
+            q = name(edit, work, j, of, out, q);
+            p += 2;
+            wanted -= 1;
+        } else {
+            q = bytes::copy(text, p, s % 4, out, q);
+            p += s % 4;
+            wanted = wanted - 1 + s / 4 % 4;
+        }
+    }
+    q
+}

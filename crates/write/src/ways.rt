@@ -1,0 +1,171 @@
+// A way through an edit, and a rule written along it. A 35 has two ways, and the rule is written along both.
+use crate::BEHIND;
+use crate::Place;
+use crate::STACK;
+use crate::bytes;
+use crate::expressions::emit;
+use crate::names;
+ghost use mathlib.Core.Path.{_≡_};
+ghost use mathlib.Core.List.{List, _∷_};
+ghost use mathlib.Core.Bool.{false};
+ghost use Prim.Native.Nat.{_+_, _<_};
+ghost use lib.ListN.{length, getD};
+ghost use Rattle.tree.specs.Tree.{Tree, treeCode, graft};
+ghost use Rattle.tree.specs.Stack.{Step, env};
+ghost use Rattle.logic.specs.Syntax.{Edit};
+ghost use Rattle.ends.specs.Shapes.{At};
+ghost use Rattle.ends.specs.Edits.{EditAt, SomeEdit};
+ghost use Rattle.ends.specs.Kept.{Kept};
+ghost use Rattle.write.specs.Laid.{Wrote};
+ghost use Rattle.write.specs.Work.{stackOf, linksOf, behindOf};
+ghost use Rattle.write.specs.Offsets.{StackIs};
+ghost use Rattle.write.specs.Links.{SomeLinks, LinkedIn, Relinked, Fitting};
+ghost use Rattle.write.specs.Ways.{SomeWay, resting, Passed, Walked, Chosen, SomeCarried, WayWritten};
+ghost use Rattle.write.specs.Writing.{SomeShown};
+
+// How far a walk has come: the place in the edit, the number of steps passed, the number of edits behind.
+pub struct Reached {
+    pub at: usize,
+    pub h: usize,
+    pub d: usize,
+}
+
+// Does a walk rest here: at a 35, or at the end?
+// Inner: the place is in the edit.
+fn rests(edit: &[u8], at: usize, d: usize) -> bool
+    requires { ⌜ at < length (now edit) ⌝ }
+    ensures { λ r. ⌜ r ≡ resting (getD (now (edit .entry)) at 0) d ⌝ }
+{
+    let c = edit[at];
+    if c == 0x35 {
+        return true;
+    }
+    if c != 0x30 {
+        return false;
+    }
+    d == 0
+}
+
+// Goes past a step, which is put on the stack and linked, or past an end, to the edit behind it.
+// Inner: there is a way, and it does not rest here.
+fn pass(edit: &[u8], work: &mut [u16], from: Reached) -> Reached
+    requires { ⌜ SomeWay (now edit) (stackOf (now work)) (behindOf (now work)) (from .at) (from .h) (from .d) × (resting (getD (now edit) (from .at) 0) (from .d) ≡ false) × Fitting (now edit) (now work) × LinkedIn (now edit) (now work) (from .h) ⌝ }
+    ensures { λ r. ⌜ Passed (now (edit .entry)) (stackOf (now (work .entry))) (behindOf (now (work .entry))) (from .at) (from .h) (from .d) (stackOf (now (work .exit))) (r .at) (r .h) (r .d) × Relinked (now (edit .entry)) (now (work .entry)) (now (work .exit)) (from .h) (r .h) ⌝ }
+{
+    let at = from.at;
+    let h = from.h;
+    let d = from.d;
+    if edit[at] == 0x30 {
+        let top = d - 1;
+        let next = work[BEHIND + top] as usize;
+        return Reached {
+            at: next,
+            h,
+            d: top,
+        };
+    }
+    work[STACK + h] = at as u16;
+    names::link(edit, at, work, h);
+    let next = ends::past(edit, at + 2);
+    Reached {
+        at: next,
+        h: h + 1,
+        d,
+    }
+}
+
+// Goes on until the walk rests.
+// Inner: there is a way.
+fn walk(edit: &[u8], work: &mut [u16], from: Reached) -> Reached
+    requires { ⌜ SomeWay (now edit) (stackOf (now work)) (behindOf (now work)) (from .at) (from .h) (from .d) × Fitting (now edit) (now work) × LinkedIn (now edit) (now work) (from .h) ⌝ }
+    ensures { λ r. ⌜ Walked (now (edit .entry)) (stackOf (now (work .entry))) (behindOf (now (work .entry))) (from .at) (from .h) (from .d) (stackOf (now (work .exit))) (r .at) (r .h) (r .d) × Relinked (now (edit .entry)) (now (work .entry)) (now (work .exit)) (from .h) (r .h) ⌝ }
+{
+    let mut here = from;
+    while !rests(edit, here.at, here.d) {
+        here = pass(edit, work, here);
+    }
+    here
+}
+
+// Where the ways of a 35 stand, and what follows it.
+struct Ways {
+    first: usize,
+    second: usize,
+    next: usize,
+}
+
+// Inner: a 35 stands there.
+fn ways_at(edit: &[u8], at: usize) -> Ways
+    requires { ⌜ SomeEdit (now edit) at × (getD (now edit) at 0 ≡ 0x35) ⌝ }
+    ensures { λ r. ⌜ ((Z : Edit) → EditAt (now (edit .entry)) at Z → Chosen (now (edit .entry)) at (r .first) (r .second) (r .next) Z) ⌝ }
+{
+    let first = ends::past(edit, at + 1);
+    let second = ends::end_of(edit, first);
+    let next = ends::end_of(edit, second);
+    Ways {
+        first,
+        second,
+        next,
+    }
+}
+
+// Writes 25 26 27 and the rule of the 35 where a walk rests.
+// Inner: it stands there, the work array holds offsets of steps, and there is room.
+fn open_first(edit: &[u8], work: &[u16], rest: Reached, out: &mut [u8], pos: usize) -> usize
+    requires { ⌜ SomeShown (now edit) (rest .at + 1) (now edit) (stackOf (now work)) (rest .h) (pos + 3) (length (now out)) × SomeLinks (now edit) (now work) (rest .h) ⌝ }
+    ensures { λ r. ⌜ ((σ : List Step) (t : Tree) → rest .h ≡ length σ → StackIs (now (edit .entry)) (stackOf (now (work .entry))) σ → At (now (edit .entry)) (rest .at + 1) t → Wrote (now (out .entry)) pos (0x25 ∷ 0x26 ∷ 0x27 ∷ treeCode (graft (env σ) t)) r (now (out .exit))) ⌝ }
+{
+    let at = rest.at + 1;
+    let p = bytes::put_two(0x25, 0x26, out, pos);
+    out[p] = 0x27;
+    emit(edit, edit, work, rest.h, out, Place { at, pos: p + 1 })
+}
+
+// Writes 26 and the rule of the 35 where a walk rests.
+// Inner: as above.
+fn open_second(edit: &[u8], work: &[u16], rest: Reached, out: &mut [u8], pos: usize) -> usize
+    requires { ⌜ SomeShown (now edit) (rest .at + 1) (now edit) (stackOf (now work)) (rest .h) (pos + 1) (length (now out)) × SomeLinks (now edit) (now work) (rest .h) ⌝ }
+    ensures { λ r. ⌜ ((σ : List Step) (t : Tree) → rest .h ≡ length σ → StackIs (now (edit .entry)) (stackOf (now (work .entry))) σ → At (now (edit .entry)) (rest .at + 1) t → Wrote (now (out .entry)) pos (0x26 ∷ treeCode (graft (env σ) t)) r (now (out .exit))) ⌝ }
+{
+    let at = rest.at + 1;
+    out[pos] = 0x26;
+    emit(edit, edit, work, rest.h, out, Place { at, pos: pos + 1 })
+}
+
+// Writes the rule at a place of a text as carried back along a way of the edit.
+// Inner: the rule stands there, there is a way, and there is room; the room left falls with each call. What the last steps of names are after is free.
+pub fn write_way(
+    text: &[u8],
+    edit: &[u8],
+    work: &mut [u16],
+    from: Reached,
+    out: &mut [u8],
+    place: Place,
+) -> usize
+    requires { ⌜ SomeCarried (now text) (place .at) (now edit) (stackOf (now work)) (behindOf (now work)) (from .at) (from .h) (from .d) (place .pos) (length (now out)) × Fitting (now edit) (now work) × LinkedIn (now edit) (now work) (from .h) ⌝ }
+    ensures { λ r. ⌜ WayWritten (now (text .entry)) (place .at) (now (edit .entry)) (stackOf (now (work .entry))) (behindOf (now (work .entry))) (from .at) (from .h) (from .d) (now (out .entry)) (place .pos) r (stackOf (now (work .exit))) (behindOf (now (work .exit))) (now (out .exit)) × Kept (from .h) (linksOf (now (work .entry))) (linksOf (now (work .exit))) ⌝ }
+{
+    let rest = walk(edit, work, from);
+    let p = rest.at;
+    if edit[p] == 0x30 {
+        return emit(text, edit, work, rest.h, out, place);
+    }
+    let ways = ways_at(edit, p);
+    let top = BEHIND + rest.d;
+    let saved = work[top];
+    work[top] = ways.next as u16;
+    let mut last = [0u16; 64];
+    names::copy_last(&work[..64], &mut last);
+    let at = place.at;
+    let mut way = rest;
+    way.d = rest.d + 1;
+    let a = open_first(edit, work, rest, out, place.pos);
+    way.at = ways.first;
+    let b = write_way(text, edit, work, way, out, Place { at, pos: a });
+    names::copy_last(&last, &mut work[..64]);
+    let c = open_second(edit, work, rest, out, b);
+    way.at = ways.second;
+    let end = write_way(text, edit, work, way, out, Place { at, pos: c });
+    work[top] = saved;
+    end
+}
