@@ -30,7 +30,7 @@ put-mid A B D at x a b =
     ap₂ (λ y z. y ++ bytes 8 x ++ z) (take-at A (B ++ D) at a) (ap (drop (at + 8)) (sym (append-assoc A B D)) ∙ drop-at (A ++ B) D (at + 8) (length-append A B ∙ omega arith))
     ∙ append-assoc A (bytes 8 x) D
 
-chunks-same : (m i : ℕ) (f h : ℕ → List ℕ) → ((j : ℕ) → i ≤ j → j < i + m → f j ≡ h j) → chunks m i f ≡ chunks m i h
+pub chunks-same : (m i : ℕ) (f h : ℕ → List ℕ) → ((j : ℕ) → i ≤ j → j < i + m → f j ≡ h j) → chunks m i f ≡ chunks m i h
 unfolding chunks
 chunks-same zero i f h e = refl
 chunks-same (suc m) i f h e = ap₂ _++_ (e i (omega arith) (omega arith)) (chunks-same m (suc i) f h (λ j l u. e j (omega arith) (omega arith)))
