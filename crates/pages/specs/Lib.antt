@@ -1,3 +1,4 @@
 pub mod Page
 pub mod Print
 pub mod Typed
+pub mod Prints
