@@ -1,32 +1,31 @@
 -- A page is accepted exactly when some graph within the limits of this n prints it.
-use mathlib.Core.Path.{_≡_, refl, sym, _∙_, ap, ap₂, fun-ext}
+use mathlib.Core.Path.{_≡_, refl, sym, _∙_, ap, ap₂}
 use mathlib.Core.Bool.{Bool, true, false, _&&_, cond, and-false}
-use mathlib.Core.List.{List, [], _∷_, _++_}
+use mathlib.Core.List.{List, _++_}
 use Prim.Native.Nat.{ℕ, zero, suc, _+_, _*_, _/_, _%_, _≤_, _<_}
 use native.Mathlib.Omega.{arith}
 use native.Mathlib.Decide.{decLt}
-use borrow.Author.Tests.{lt-ltb, le-ltb, eq-eqb}
+use borrow.Author.Tests.{lt-ltb, le-ltb, eq-eqb, ne-eqb}
 use lib.Dec.{eqb, ltb}
-use lib.ListN.{length, getD, List·getD-append}
+use lib.ListN.{length}
 use Rattle.answer.specs.Asked.{Asked, passed, refused, _>>=_, _>>_, is}
-use Rattle.logic.specs.Graph.{Graph, Nodes, isNode}
-use Rattle.logic.specs.Limits.{Within, maxNodes, labelCount, arrowCount}
+use Rattle.logic.specs.Graph.{Graph, Pairs, isNode}
+use Rattle.logic.specs.Limits.{Within, maxNodes, labelCount}
 use Rattle.logic.specs.Steps.{update}
-use Rattle.logic.proofs.Inside.{no-node}
 use Rattle.seal.specs.Seal.{sameBytes}
 use Rattle.seal.proofs.SealLaws.{same-refl, same-is}
 use Rattle.line.specs.Line.{digits}
-use Rattle.sheet.specs.Sheet.{chunks, blank}
+use Rattle.sheet.specs.Sheet.{blank}
 use Rattle.sheet.proofs.Opening.{is-yes, both-yes}
 use Rattle.sheet.proofs.Writes.{chunks-same}
 use Rattle.pages.specs.Page.{headLine, setLine, rowLines, arrowPage, labelLines, labelPage}
 use Rattle.pages.specs.Typed.{lineOf, marks, lineRight, Block, arrows, labels, linesOf, headIs, headNumber, askHead, askLines, askPage, marked, typed}
-use Rattle.pages.specs.Prints.{pageOf, HasBlock, Prints, IsLine}
+use Rattle.pages.specs.Prints.{pageOf, HasBlock, Prints}
 use Rattle.pages.proofs.LineLaws.{setLine-cong}
 use Rattle.pages.proofs.PageLaws.{length-headLine, length-setLine}
 use Rattle.pages.proofs.PrintLaws.{length-arrowPage, length-labelPage}
 use Rattle.pages.proofs.TypeLaws.{head-same, head-length, head-bytes, labels-head, arrows-head, names-labels, names-arrows}
-use Rattle.pages.proofs.RightLines.{line-right, right-line}
+use Rattle.pages.proofs.RightLines.{line-right}
 use Rattle.pages.proofs.PageParts.{first-line, later-line, parts}
 
 -- all lines are right
@@ -72,11 +71,11 @@ right-accepted n page b r = rw (r .head, r .lines)
 
 -- what a graph prints is accepted
 module _ (g : Graph) (w : Within g) where
-  arrow-line : (a x : ℕ) → x < g .n → lineOf (arrowPage g a) (suc x) ≡ setLine (g .n) x (g .joined a x)
+  pub arrow-line : (a x : ℕ) → x < g .n → lineOf (arrowPage g a) (suc x) ≡ setLine (g .n) x (g .joined a x)
   unfolding arrowPage rowLines
   arrow-line a = later-line (headLine 0x41 a) (λ i. setLine (g .n) i (g .joined a i)) (g .n) (length-headLine 0x41 a) (λ i. length-setLine (g .n) i (g .joined a i))
 
-  label-line : (k : ℕ) → k < labelCount → lineOf (labelPage g) (suc k) ≡ setLine (g .n) k (g .labelled k)
+  pub label-line : (k : ℕ) → k < labelCount → lineOf (labelPage g) (suc k) ≡ setLine (g .n) k (g .labelled k)
   unfolding labelPage labelLines
   label-line = later-line (headLine 0x4C (g .n)) (λ k. setLine (g .n) k (g .labelled k)) labelCount (length-headLine 0x4C (g .n)) (λ k. length-setLine (g .n) k (g .labelled k))
 
@@ -118,3 +117,75 @@ module _ (g : Graph) (w : Within g) where
         head = sym (names-labels (g .n) (labelPage g) label-head);
         lines = all-right (g .n) (labelPage g) labelCount 0 (λ y l u. line-right (g .n) y (w .few-nodes) _ (record { set = g .labelled y; is-line = label-line y (omega arith) }));
       }
+
+-- the graph with a page's marks
+module _ (g : Graph) (w : Within g) (page : List ℕ) where
+  pub typed-within : (b : Block) → HasBlock b → Within (typed g page b)
+  unfolding typed isNode update
+  typed-within (arrows a) h =
+      record {
+        some-node = w .some-node;
+        few-nodes = w .few-nodes;
+        labels-in = w .labels-in;
+        arrows-in = λ c. record { starts = λ i j e. by (eqb c a) (λ i j. isNode g i && marked g page i j) (g .joined c) i j (ap (_&& marked g page i j) e) (w .arrows-in c .starts i j e); ends = λ i j e. by (eqb c a) (λ i j. isNode g i && marked g page i j) (g .joined c) i j (ap (λ x. isNode g i && (x && marks (lineOf page (suc i)) j)) e ∙ and-false (isNode g i)) (w .arrows-in c .ends i j e) };
+        no-more-labels = w .no-more-labels;
+        no-more-arrows = λ c i j l. ap (λ x. cond x (λ i j. isNode g i && marked g page i j) (g .joined c) i j) (ne-eqb c a (λ e. omega arith)) ∙ w .no-more-arrows c i j l;
+      }
+    where
+      by : (x : Bool) (u v : Pairs) (i j : ℕ) → u i j ≡ false → v i j ≡ false → cond x u v i j ≡ false
+      by true u v i j p q = p
+      by false u v i j p q = q
+  typed-within labels h =
+      record {
+        some-node = w .some-node;
+        few-nodes = w .few-nodes;
+        labels-in = λ k i e. ap (λ x. ltb k labelCount && (x && marks (lineOf page (suc k)) i)) e ∙ and-false (ltb k labelCount);
+        arrows-in = λ a. record { starts = w .arrows-in a .starts; ends = w .arrows-in a .ends };
+        no-more-labels = λ k i l. ap (_&& marked g page k i) (le-ltb k labelCount l);
+        no-more-arrows = w .no-more-arrows;
+      }
+
+  -- a line that is right is the line of what it marks
+  marked-line : (x : ℕ) (c : Bool) → c ≡ true → lineRight (g .n) x (lineOf page (suc x)) ≡ true → lineOf page (suc x) ≡ setLine (g .n) x (λ j. c && marked g page x j)
+  unfolding isNode lineRight
+  marked-line x c t e =
+      same-is (lineOf page (suc x)) (setLine (g .n) x (marks (lineOf page (suc x)))) e
+      ∙ setLine-cong (g .n) x _ _ (λ j l. sym (ap₂ (λ y z. y && (z && marks (lineOf page (suc x)) j)) t (lt-ltb j (g .n) l)))
+
+  -- An accepted page is the page of the graph with its marks.
+  pub accepted-page : (b : Block) → Right (g .n) page b → HasBlock b × (page ≡ pageOf (typed g page b) b)
+  unfolding typed arrowPage labelPage rowLines labelLines update isNode
+  accepted-page (arrows a) r =
+      let h = arrows-head (g .n) page a (r .head) in (
+        h .0,
+        parts page (g .n) (head-length (g .n) page 0x41 a (g .n) (h .1))
+            ∙ ap₂ _++_ (same-is (lineOf page 0) (headLine 0x41 a) (head-bytes (g .n) page 0x41 a (g .n) (h .1)))
+            (chunks-same (g .n) 0 _ _ (λ x l u. marked-line x (isNode g x) (node x (omega arith)) (right-all (g .n) page (g .n) 0 (r .lines) x l u) ∙ ap (λ (c : Bool). setLine (g .n) x (λ j. cond c (λ i j. isNode g i && marked g page i j) (g .joined a) x j)) (sym (eq-eqb a a refl)))),
+      )
+    where
+      node : (x : ℕ) → x < g .n → isNode g x ≡ true
+      node x l = lt-ltb x (g .n) l
+  accepted-page labels r =
+      let h = labels-head (g .n) page (r .head) in (
+        tt,
+        parts page labelCount (head-length (g .n) page 0x4C (g .n) labelCount h)
+            ∙ ap₂ _++_ (same-is (lineOf page 0) (headLine 0x4C (g .n)) (head-bytes (g .n) page 0x4C (g .n) labelCount h))
+            (chunks-same labelCount 0 _ _ (λ x l u. marked-line x (ltb x labelCount) (lt-ltb x labelCount (omega arith)) (right-all (g .n) page labelCount 0 (r .lines) x l u))),
+      )
+
+-- EXACTLY WHEN. From 1 to 60 nodes: a page is accepted for a block exactly when some graph of n nodes within the limits prints it for that block.
+module _ (n : ℕ) (some : 1 ≤ n) (few : n ≤ maxNodes) (page : List ℕ) (b : Block) where
+  pub accepted-printed : askPage n page ≡ passed b → Prints n page b
+  unfolding typed
+  accepted-printed e =
+      let w : Within (blank n) = record { some-node = some; few-nodes = few; labels-in = λ k i e. refl; arrows-in = λ a. record { starts = λ i j e. refl; ends = λ i j e. refl }; no-more-labels = λ k i l. refl; no-more-arrows = λ a i j l. refl } in
+      let p = accepted-page (blank n) w page b (accepted-right n page b e) in
+      record { graph = typed (blank n) page b; within = typed-within (blank n) w page b (p .0); nodes = nodes-kept b; block = p .0; is-page = p .1 }
+    where
+      nodes-kept : (c : Block) → typed (blank n) page c .n ≡ n
+      nodes-kept (arrows a) = refl
+      nodes-kept labels = refl
+
+  pub printed-accepted : Prints n page b → askPage n page ≡ passed b
+  printed-accepted p =
+      ap₂ askPage (sym (p .nodes)) (p .is-page) ∙ right-accepted (p .graph .n) (pageOf (p .graph) b) b (printed-right (p .graph) (p .within) b (p .block))

@@ -5,3 +5,6 @@ pub mod TypeLaws
 pub mod RightLines
 pub mod PageParts
 pub mod Accepted
+pub mod ComesBack
+pub mod PlaceOf51
+pub mod AfterTyping

@@ -1,10 +1,10 @@
 -- A page written line by line at the start of an output.
 use mathlib.Core.Path.{_≡_, refl, sym, _∙_, ap, ap₂}
-use mathlib.Core.List.{List, [], _∷_, _++_, append-assoc, append-nil}
-use Prim.Native.Nat.{ℕ, zero, suc, _+_, _-_, _*_, _≤_, _<_}
+use mathlib.Core.List.{List, [], _∷_, _++_, append-assoc}
+use Prim.Native.Nat.{ℕ, _+_, _-_, _*_, _≤_}
 use native.Mathlib.Omega.{arith}
 use lib.ListN.{length, take, drop, replicate, length-append, length-drop, length-replicate}
-use lib.Seq.{take-at, drop-at, drop-append-add, length-take-le, drop-drop}
+use lib.Seq.{take-at, drop-append-add, length-take-le, drop-drop}
 use borrow.Rule.Slice.PartMut.{putMid, post-is}
 use Rattle.answer.specs.Outputs.{writtenAtStart}
 use Rattle.logic.specs.Graph.{Nodes}

@@ -1,7 +1,7 @@
 -- Printing, by its questions.
 use mathlib.Core.Path.{_≡_, sym, _∙_, ap, ap₂}
 use mathlib.Core.List.{List, _++_, append-assoc, append-nil}
-use Prim.Native.Nat.{ℕ, suc, _+_, _-_, _*_, _≤_, _<_}
+use Prim.Native.Nat.{ℕ, _+_, _-_, _*_, _≤_, _<_}
 use native.Mathlib.Omega.{arith}
 use borrow.Author.Tests.{lt-ltb, le-ltb, le-leb, lt-leb}
 use lib.ListN.{length, take, drop, length-append, length-drop}
@@ -11,10 +11,9 @@ use Rattle.answer.specs.declared.Answer.{Answer}
 use Rattle.answer.specs.declared.Answer.the-variants.{Done, Refused}
 use Rattle.answer.specs.declared.Refusal.{Refusal}
 use Rattle.answer.specs.Answers.{refusalNumber, refusalPlace, asked}
-use Rattle.answer.specs.Asked.{Asked, passed, refused, _>>_, is}
+use Rattle.answer.specs.Asked.{passed, refused, _>>_, is}
 use Rattle.answer.specs.Outputs.{writtenAtStart}
 use Rattle.logic.specs.Graph.{Graph}
-use Rattle.logic.specs.Limits.{labelCount}
 use Rattle.sheet.specs.Sheet.{graphOf}
 use Rattle.sheet.specs.Questions.{askSheet}
 use Rattle.sheet.proofs.Blocks.{length-chunks}

@@ -1,9 +1,9 @@
 -- Typing, by its questions: the head, then the lines one by one.
 use mathlib.Core.Logic.{_≢_}
 use mathlib.Core.Path.{_≡_, refl, sym, _∙_, ap, ap₂}
-use mathlib.Core.Bool.{Bool, true, false, _&&_, cond, and-false}
+use mathlib.Core.Bool.{Bool, true, false, _&&_, cond, and-false, and-eq-true-iff}
 use mathlib.Core.List.{List}
-use Prim.Native.Nat.{ℕ, zero, suc, _+_, _-_, _*_, _≤_, _<_}
+use Prim.Native.Nat.{ℕ, suc, _+_, _-_, _*_, _≤_, _<_}
 use native.Mathlib.Numerals.{add-one}
 use native.Mathlib.Omega.{arith}
 use native.Mathlib.Decide.{decLt}
@@ -131,17 +131,13 @@ module _ (n : ℕ) (page : List ℕ) (m : ℕ) where
 
 -- what the head's name says of the page
 module _ (n : ℕ) (page : List ℕ) where
-  both-right : (a b : Bool) → (a && b) ≡ true → (a ≡ true) × (b ≡ true)
-  both-right true b e = (refl, e)
-  both-right false b e = let z : _≡_ {A = ℕ} 0 1 = cc in absurd (omega arith)
-
   pub head-length : (letter x lines : ℕ) → headIs page letter x lines ≡ true → length page ≡ 64 * lines + 64
   unfolding headIs
-  head-length letter x lines e = eqb-true (length page) (64 * lines + 64) (both-right (eqb (length page) (64 * lines + 64)) (sameBytes (lineOf page 0) (headLine letter x)) e .0)
+  head-length letter x lines e = eqb-true (length page) (64 * lines + 64) (and-eq-true-iff (eqb (length page) (64 * lines + 64)) (sameBytes (lineOf page 0) (headLine letter x)) .0 e .0)
 
   pub head-bytes : (letter x lines : ℕ) → headIs page letter x lines ≡ true → sameBytes (lineOf page 0) (headLine letter x) ≡ true
   unfolding headIs
-  head-bytes letter x lines e = both-right (eqb (length page) (64 * lines + 64)) (sameBytes (lineOf page 0) (headLine letter x)) e .1
+  head-bytes letter x lines e = and-eq-true-iff (eqb (length page) (64 * lines + 64)) (sameBytes (lineOf page 0) (headLine letter x)) .0 e .1
 
   pub labels-head : askHead n page ≡ passed labels → headIs page 0x4C n labelCount ≡ true
   labels-head e = go (headIs page 0x4C n labelCount) refl
@@ -161,7 +157,7 @@ module _ (n : ℕ) (page : List ℕ) where
           → cond b (passed (arrows (headNumber page))) (refused 51 0) ≡ passed (arrows a) → (a < arrowCount) × (headIs page 0x41 a n ≡ true)
       kinds true q p =
           let z : headNumber page ≡ a = cc in
-          let r = both-right _ _ q in
+          let r = and-eq-true-iff (ltb (headNumber page) arrowCount) (headIs page 0x41 (headNumber page) n) .0 q in
           (ltb-true a arrowCount (ap (λ k. ltb k arrowCount) (sym z) ∙ r .0), ap (λ k. headIs page 0x41 k n) (sym z) ∙ r .1)
       kinds false q p = let z : _≡_ {A = ℕ} 0 1 = cc in absurd (omega arith)
 
@@ -205,9 +201,6 @@ module _ {A : Type 0} (a : Answer) (q : Asked (Unit {0})) (is-q : asked a ≡ q)
 
 -- the whole call
 module _ (sheet page : List ℕ) where
-  abbrev all-asked : Asked Block
-  all-asked = askType sheet page
-
   gives : (a b : Asked Block) → a ≡ b → (outcome b ≡ outcome a) × (after b (λ b. store (typed (graphOf sheet) page b)) sheet ≡ after a (λ b. store (typed (graphOf sheet) page b)) sheet)
   gives a b e = (sym (ap outcome e), sym (ap (λ x. after x (λ b. store (typed (graphOf sheet) page b)) sheet) e))
 
