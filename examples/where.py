@@ -33,6 +33,8 @@ IN_A_BLOCK = {
 WITHOUT_PLACE = {
     0: "done",
     1: f"the sheet has not {layout.SHEET} bytes",
+    5: "a blank sheet cannot have so many nodes, or none",
+    7: "the sheet has no label, arrow or node of this number",
     31: "the carried book would pass 16384 bytes",
     32: "the carried book would pass 255 levels",
     99: "the program's input ended early",

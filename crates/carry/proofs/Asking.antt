@@ -14,6 +14,7 @@ use Rattle.answer.specs.declared.Refusal.the-variants.{CarriedLength, CarriedLe
 use Rattle.logic.specs.Syntax.{rule, Expr, Edit}
 use Rattle.logic.specs.Carry.{carriedBook}
 use Rattle.text.specs.Code.{bookCode, bookLevels}
+use Rattle.text.specs.Reading.{longestCarried, deepestCarried}
 use Rattle.tree.specs.Sizes.{measures}
 use Rattle.measure.specs.Pruned.{pruned}
 use Rattle.ends.specs.Edits.{EditAt}
@@ -26,7 +27,7 @@ use Rattle.write.specs.Rules.{SomeBookFits}
 use Rattle.write.proofs.Laying.{laid-fits}
 use Rattle.carry.specs.declared.Carried.the-variants.{Length, Refused}
 use Rattle.carry.specs.Carrying.{askSize, writtenAtStart}
-use Rattle.carry.specs.Written.{Into}
+use Rattle.carry.specs.Into.{Into}
 
 module _ (carried : List (Expr rule)) (out : List ℕ) where
   into-refused : (r : Refusal) → askSize carried (length out) ≡ refused (refusalNumber r) (refusalPlace r) → Into carried (Refused r) out out
@@ -45,26 +46,26 @@ module _ (carried : List (Expr rule)) (out : List ℕ) where
 
 -- the questions of a length, a number of levels and a room
 sized : (len levels room : ℕ) → Asked (Unit {0})
-sized len levels room = is (leb len 16384) 31 0 >> (is (leb levels 255) 32 0 >> is (leb len room) 33 len)
+sized len levels room = is (leb len longestCarried) 31 0 >> (is (leb levels deepestCarried) 32 0 >> is (leb len room) 33 len)
 
 module _ (len levels room : ℕ) where
-  no-31 : 16384 < len → sized len levels room ≡ refused 31 0
+  no-31 : longestCarried < len → sized len levels room ≡ refused 31 0
   unfolding sized is _>>_
-  no-31 h = rw (lt-leb len 16384 h)
+  no-31 h = rw (lt-leb len longestCarried h)
 
-  module _ (h : len ≤ 16384) where
-    no-32 : 255 < levels → sized len levels room ≡ refused 32 0
+  module _ (h : len ≤ longestCarried) where
+    no-32 : deepestCarried < levels → sized len levels room ≡ refused 32 0
     unfolding sized is _>>_
-    no-32 k = rw (le-leb len 16384 h, lt-leb levels 255 k)
+    no-32 k = rw (le-leb len longestCarried h, lt-leb levels deepestCarried k)
 
-    module _ (k : levels ≤ 255) where
+    module _ (k : levels ≤ deepestCarried) where
       no-33 : room < len → sized len levels room ≡ refused 33 len
       unfolding sized is _>>_
-      no-33 i = rw (le-leb len 16384 h, le-leb levels 255 k, lt-leb len room i)
+      no-33 i = rw (le-leb len longestCarried h, le-leb levels deepestCarried k, lt-leb len room i)
 
       all-so : len ≤ room → sized len levels room ≡ passed tt
       unfolding sized is _>>_
-      all-so i = rw (le-leb len 16384 h, le-leb levels 255 k, le-leb len room i)
+      all-so i = rw (le-leb len longestCarried h, le-leb levels deepestCarried k, le-leb len room i)
 
 module _ {Z : Edit} {rules : List (Expr rule)} {len tall : ℕ} (s : BookSized Z rules len tall) (out : List ℕ) where
   abbrev len-of : ℕ
@@ -78,22 +79,22 @@ module _ {Z : Edit} {rules : List (Expr rule)} {len tall : ℕ} (s : BookSized Z
   asks = refl
 
   -- 31
-  pub too-long : 16384 < len → Into (carriedBook Z rules) (Refused (CarriedLength 0)) out out
+  pub too-long : longestCarried < len → Into (carriedBook Z rules) (Refused (CarriedLength 0)) out out
   too-long h = into-refused (carriedBook Z rules) out (CarriedLength 0) (asks ∙ no-31 len-of levels-of (length out) (omega (arith, s .len-is)))
 
-  module _ (h : len ≤ 16384) where
+  module _ (h : len ≤ longestCarried) where
     len-exact : len ≡ len-of
     len-exact = omega (arith, s .len-is)
 
-    short : len-of ≤ 16384
+    short : len-of ≤ longestCarried
     short = omega (arith, s .len-is)
 
     -- 32
-    pub too-deep : 255 < tall → Into (carriedBook Z rules) (Refused (CarriedLevels 0)) out out
+    pub too-deep : deepestCarried < tall → Into (carriedBook Z rules) (Refused (CarriedLevels 0)) out out
     too-deep k = into-refused (carriedBook Z rules) out (CarriedLevels 0) (asks ∙ no-32 len-of levels-of (length out) short (omega (arith, s .tall-is)))
 
-    module _ (k : tall ≤ 255) where
-      shallow : levels-of ≤ 255
+    module _ (k : tall ≤ deepestCarried) where
+      shallow : levels-of ≤ deepestCarried
       shallow = omega (arith, s .tall-is)
 
       -- 33, with the length needed

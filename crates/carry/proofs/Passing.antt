@@ -11,7 +11,7 @@ use Rattle.logic.specs.Syntax.{rule, Expr, Edit}
 use Rattle.logic.specs.Carry.{carriedBook}
 use Rattle.logic.specs.Limits.{maxNodes}
 use Rattle.text.specs.Code.{bookCode}
-use Rattle.text.specs.Reading.{textLimits}
+use Rattle.text.specs.Reading.{longestText, textLimits}
 use Rattle.text.specs.Questions.{askBook, askEdit}
 use Rattle.text.proofs.Books.{rules-in-range, book-is-spelled, edit-is-spelled}
 use Rattle.ends.specs.Edits.{EditAt, SomeEdit}
@@ -20,14 +20,14 @@ use Rattle.carry.specs.declared.Carried.{Carried}
 use Rattle.carry.specs.declared.Carried.the-variants.{Refused}
 use Rattle.carry.specs.Carrying.{askSize, askCarry, carryAnswer, carryOutput, writtenAtStart}
 use Rattle.carry.specs.Answers.{carriedAsked}
-use Rattle.carry.specs.Written.{Into}
+use Rattle.carry.specs.Into.{Into}
 
 -- a book and an edit that have passed, whatever n
 module _ (n : ℕ) {t : List ℕ} where
   pub book-passed : {rules : List (Expr rule)} → askBook (textLimits n) t ≡ passed rules → BookIs t rules
   book-passed {rules} h = let s = book-is-spelled (textLimits n) t rules h in record { limits = textLimits n .numbers; is = s .spells .text-is; range = rules-in-range (textLimits n) rules (s .spells .rules); few = s .spells .few }
 
-  pub edit-passed : {Z : Edit} → askEdit (textLimits n) t ≡ passed Z → EditAt t 0 Z × (length t ≤ 4096)
+  pub edit-passed : {Z : Edit} → askEdit (textLimits n) t ≡ passed Z → EditAt t 0 Z × (length t ≤ longestText)
   edit-passed {Z} h = let s = edit-is-spelled (textLimits n) t Z h in (record { limits = textLimits n .numbers; place = record { rest = []; here = s .text-is ∙ sym (append-nil _); range = s .within .numbers-fit } }, s .short)
 
 -- the bytes learned once the size has passed
@@ -66,7 +66,7 @@ module _ (book edit out : List ℕ) where
       Z : Learned (askEdit (textLimits maxNodes) edit)
       Z = learned (askEdit (textLimits maxNodes) edit) e
 
-      pub both-read : SomeBook book × SomeEdit edit 0 × (length edit ≤ 4096)
+      pub both-read : SomeBook book × SomeEdit edit 0 × (length edit ≤ longestText)
       both-read = let s = edit-passed maxNodes (Z .is) in (record { what = rules .what; is = book-passed maxNodes (rules .is) }, record { what = Z .what; stands = s .0 }, s .1)
 
       asks : askCarry book edit (length out) ≡ (askSize (carriedBook (Z .what) (rules .what)) (length out) >> passed (bookCode (carriedBook (Z .what) (rules .what))))

@@ -9,14 +9,8 @@ pub use Rattle.logic.specs.Carry.{carriedBook}
 use Rattle.logic.specs.Limits.{maxNodes}
 use Rattle.text.specs.Code.{bookCode}
 unfoldable pub use Rattle.text.specs.Code.{bookLevels}
-use Rattle.text.specs.Reading.{textLimits}
+use Rattle.text.specs.Reading.{longestCarried, deepestCarried, textLimits}
 use Rattle.text.specs.Questions.{askBook, askEdit}
-
-abbrev pub longestCarried : ℕ
-longestCarried = 16384
-
-abbrev pub deepestCarried : ℕ
-deepestCarried = 255
 
 -- 31, 32, 33 of a carried book and the room that there is for it.
 unfoldable pub askSize : List (Expr rule) → ℕ → Asked (Unit {0})

@@ -1,3 +1,3 @@
 pub mod Carrying
 pub mod Answers
-pub mod Written
+pub mod Into

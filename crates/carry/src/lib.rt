@@ -11,7 +11,8 @@ ghost use Rattle.ends.specs.Edits.{EditAt, SomeEdit};
 ghost use Rattle.ends.specs.Books.{BookIs, SomeBook};
 ghost use Rattle.carry.specs.Carrying.{carriedBook, carryAnswer, carryOutput};
 ghost use Rattle.carry.specs.Answers.{carriedAsked};
-ghost use Rattle.carry.specs.Written.{Into};
+ghost use Rattle.carry.specs.Into.{Into};
+ghost use Rattle.text.specs.Reading.{longestText};
 
 // Bytes and levels of a carried book.
 const LONGEST_CARRIED: usize = 16384;
@@ -28,7 +29,7 @@ pub enum Carried {
 // The edit that is written with lacks the idle steps, which change nothing, so that none is passed more than once in vain.
 // Inner: book and edit were read before.
 pub fn carry_into(book: &[u8], edit: &[u8], out: &mut [u8]) -> Carried
-    requires { ⌜ SomeBook (now book) × SomeEdit (now edit) 0 × (length (now edit) ≤ 4096) ⌝ }
+    requires { ⌜ SomeBook (now book) × SomeEdit (now edit) 0 × (length (now edit) ≤ longestText) ⌝ }
     ensures { λ r. ⌜ ((rules : List (Expr rule)) (Z : Edit) → BookIs (now (book .entry)) rules → EditAt (now (edit .entry)) 0 Z → Into (carriedBook Z rules) r (now (out .entry)) (now (out .exit))) ⌝ }
 {
     if book.len() == 0 {

@@ -25,7 +25,7 @@ use Rattle.text.specs.Questions.{whole, readRules, askBook, askEdit}
 use Rattle.text.specs.Marked.{sheetT, B}
 use Rattle.judge.specs.Questions.{askRules}
 use Rattle.carry.specs.Carrying.{askSize, writtenAtStart}
-use Rattle.demands.specs.Enter.{EditAndRules, askCarried, askEnter, enterSheet, enterScratch}
+use Rattle.demands.specs.Enter.{StepsAndCarried, askBefore41, askEnter, enterSheet, enterScratch}
 use Rattle.demands.specs.Examples.{Result, scratchOf, enteredOnT, calls, results}
 use Rattle.demands.proofs.OneCall.{asked-of-stored}
 
@@ -49,28 +49,28 @@ T-within =
     }
 
 -- What enter asks before 41, of a graph.
-askOf : Graph → List ℕ → List ℕ → ℕ → Asked EditAndRules
+askOf : Graph → List ℕ → List ℕ → ℕ → Asked StepsAndCarried
 askOf g book edit room = do
   rules ← askBook (textLimits (g .n)) book
   Z ← askEdit (textLimits (g .n)) edit
   askSize (carriedBook Z rules) room
-  passed (record { edit = Z; rules = carriedBook Z rules })
+  passed (record { steps = Z; carried = carriedBook Z rules })
 
-carried-of : (g : Graph) (book edit : List ℕ) (room : ℕ) → Within g → askCarried (store g) book edit room ≡ askOf g book edit room
-unfolding askCarried askOf
+carried-of : (g : Graph) (book edit : List ℕ) (room : ℕ) → Within g → askBefore41 (store g) book edit room ≡ askOf g book edit room
+unfolding askBefore41 askOf
 carried-of g book edit room w = ap (_>>= size (graphOf (store g))) (asked-of-stored g book w) ∙ ap (λ h. askBook (textLimits (g .n)) book >>= size h) (read-back g w)
   where
-    size : Graph → List (Expr rule) → Asked EditAndRules
-    size h rules = askEdit (textLimits (h .n)) edit >>= (λ Z. askSize (carriedBook Z rules) room >> passed (record { edit = Z; rules = carriedBook Z rules }))
+    size : Graph → List (Expr rule) → Asked StepsAndCarried
+    size h rules = askEdit (textLimits (h .n)) edit >>= (λ Z. askSize (carriedBook Z rules) room >> passed (record { steps = Z; carried = carriedBook Z rules }))
 
 -- What is shown, from what is asked of T.
-resultOf : Graph → Asked EditAndRules → Asked EditAndRules → ℕ → Result
+resultOf : Graph → Asked StepsAndCarried → Asked StepsAndCarried → ℕ → Result
 resultOf g a b room =
-    let q : Asked Edit = a >>= (λ c. askRules g (c .rules) 0 >> passed (c .edit)) in
+    let q : Asked Edit = a >>= (λ c. askRules g (c .carried) 0 >> passed (c .steps)) in
     record {
       answer = outcome q;
       sheet = after q (λ Z. store (run Z g)) (store sheetT);
-      scratch = after b (λ c. writtenAtStart (bookCode (c .rules)) (scratchOf room)) (scratchOf room);
+      scratch = after b (λ c. writtenAtStart (bookCode (c .carried)) (scratchOf room)) (scratchOf room);
     }
 
 on-graph : (edit : List ℕ) (room : ℕ) → enteredOnT edit room ≡ resultOf sheetT (askOf sheetT B edit room) (askOf sheetT B edit (length (scratchOf room))) room

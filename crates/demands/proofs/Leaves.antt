@@ -15,11 +15,11 @@ use Rattle.text.specs.Code.{bookCode}
 use Rattle.judge.specs.Questions.{askSheetAndBook, askRules}
 use Rattle.carry.specs.Carrying.{writtenAtStart}
 use Rattle.apply.specs.Apply.{afterSteps}
-use Rattle.demands.specs.Enter.{EditAndRules, askCarried, askEnter, enterAnswer, enterSheet, enterScratch}
+use Rattle.demands.specs.Enter.{StepsAndCarried, askBefore41, askEnter, enterAnswer, enterSheet, enterScratch}
 use Rattle.demands.specs.Run.{Call, log}
 use Rattle.demands.specs.Demand3.{Each}
-use Rattle.demands.specs.Leaves.{Written, Leaves}
-use Rattle.demands.proofs.Numbers.{Below41, carried-below}
+use Rattle.demands.specs.Leaves.{ScratchWritten, Leaves}
+use Rattle.demands.proofs.Numbers.{Below41, before-41-below}
 
 stays : (sheet book edit : List ℕ) (room q p : ℕ) → enterAnswer sheet book edit room ≡ refused q p → enterSheet sheet book edit room ≡ sheet
 unfolding enterSheet after outcome
@@ -44,37 +44,37 @@ rules-41 g (K ∷ rules) i = go (value g K) (rules-41 g rules (suc i))
     go false h = refl
 
 module _ (sheet book edit scratch : List ℕ) where
-  abbrev carriedHere : Asked EditAndRules
-  carriedHere = askCarried sheet book edit (length scratch)
+  abbrev askedHere : Asked StepsAndCarried
+  askedHere = askBefore41 sheet book edit (length scratch)
 
   -- after the questions before 41 have been asked
-  abbrev judged : Asked EditAndRules → Asked (Unit {0})
-  judged a = outcome (a >>= (λ c. askRules (graphOf sheet) (c .rules) 0 >> passed (c .edit)))
+  abbrev judged : Asked StepsAndCarried → Asked (Unit {0})
+  judged a = outcome (a >>= (λ c. askRules (graphOf sheet) (c .carried) 0 >> passed (c .steps)))
 
   scratch-same : (q p : ℕ) → enterAnswer sheet book edit (length scratch) ≡ refused q p → q ≢ 41 → enterScratch sheet book edit scratch ≡ scratch
   unfolding askEnter enterScratch after outcome _>>=_ _>>_
-  scratch-same q p e other = go carriedHere e
+  scratch-same q p e other = go askedHere e
     where
-      by-rules : (c : EditAndRules) (r : Asked (Unit {0})) → Only41 r → outcome (r >> passed (c .edit)) ≡ refused q p → q ≡ 41
+      by-rules : (c : StepsAndCarried) (r : Asked (Unit {0})) → Only41 r → outcome (r >> passed (c .steps)) ≡ refused q p → q ≡ 41
       by-rules c (passed u) h e = let z : _≡_ {A = ℕ} 0 1 = cc in absurd (omega arith)
       by-rules c (refused n m) h e = cc
 
-      go : (a : Asked EditAndRules) → judged a ≡ refused q p → after a (λ c. writtenAtStart (bookCode (c .rules)) scratch) scratch ≡ scratch
-      go (passed c) e = absurd (other (by-rules c (askRules (graphOf sheet) (c .rules) 0) (rules-41 (graphOf sheet) (c .rules) 0) e))
+      go : (a : Asked StepsAndCarried) → judged a ≡ refused q p → after a (λ c. writtenAtStart (bookCode (c .carried)) scratch) scratch ≡ scratch
+      go (passed c) e = absurd (other (by-rules c (askRules (graphOf sheet) (c .carried) 0) (rules-41 (graphOf sheet) (c .carried) 0) e))
       go (refused n m) e = refl
 
-  done-or-41 : (p : ℕ) → (enterAnswer sheet book edit (length scratch) ≡ passed tt) ⊎ (enterAnswer sheet book edit (length scratch) ≡ refused 41 p) → Written sheet book edit scratch
+  done-or-41 : (p : ℕ) → (enterAnswer sheet book edit (length scratch) ≡ passed tt) ⊎ (enterAnswer sheet book edit (length scratch) ≡ refused 41 p) → ScratchWritten sheet book edit scratch
   unfolding askEnter enterScratch after outcome _>>=_ _>>_
-  done-or-41 p e = go carriedHere refl (carried-below sheet book edit (length scratch)) e
+  done-or-41 p e = go askedHere refl (before-41-below sheet book edit (length scratch)) e
     where
-      go : (a : Asked EditAndRules) → carriedHere ≡ a → Below41 a → (judged a ≡ passed tt) ⊎ (judged a ≡ refused 41 p) → Written sheet book edit scratch
-      go (passed c) f b e = record { what = c; carried = f; written = ap (λ a. after a (λ c. writtenAtStart (bookCode (c .rules)) scratch) scratch) f }
+      go : (a : Asked StepsAndCarried) → askedHere ≡ a → Below41 a → (judged a ≡ passed tt) ⊎ (judged a ≡ refused 41 p) → ScratchWritten sheet book edit scratch
+      go (passed c) f b e = record { what = c; passes = f; written = ap (λ a. after a (λ c. writtenAtStart (bookCode (c .carried)) scratch) scratch) f }
       go (refused n m) f b (inl e) = let z : _≡_ {A = ℕ} 0 1 = cc in absurd (omega arith)
       go (refused n m) f b (inr e) = let z : n ≡ 41 = cc in absurd (omega arith)
 
 -- A sheet or book that is refused, through all calls.
 answers : (sheet book edit : List ℕ) (room q p : ℕ) → askSheetAndBook sheet book ≡ refused q p → enterAnswer sheet book edit room ≡ refused q p
-unfolding askEnter askCarried outcome _>>=_
+unfolding askEnter askBefore41 outcome _>>=_
 answers sheet book edit room q p e = rw e
 
 others : (opening book : List ℕ) (calls : List Call) (q p : ℕ) → askSheetAndBook opening book ≡ refused q p → Each (λ l. (l .answer ≡ refused q p) × (l .sheet ≡ opening)) (log book opening calls)

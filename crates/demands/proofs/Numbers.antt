@@ -12,7 +12,7 @@ use Rattle.text.specs.Reading.{Limits, textLimits, expr, Fault, missing, wrongS
 use Rattle.text.specs.Questions.{faultNumber, mostRules, whole, readRules, askBook, askEdit}
 use Rattle.judge.specs.Questions.{askSheetAndBook}
 use Rattle.carry.specs.Carrying.{askSize}
-use Rattle.demands.specs.Enter.{askCarried}
+use Rattle.demands.specs.Enter.{askBefore41}
 
 -- The number of a refusal is below 41.
 abbrev pub Below41 : {A : Type 0} → Asked A → Type 0
@@ -79,9 +79,9 @@ size-below : (rules : List (Expr rule)) (room : ℕ) → Below41 (askSize rules 
 unfolding askSize
 size-below rules room = then-below (is _ 31 0) _ (is-below _ 31 0 (omega arith)) (then-below (is _ 32 0) _ (is-below _ 32 0 (omega arith)) (is-below _ 33 _ (omega arith)))
 
-pub carried-below : (sheet book edit : List ℕ) (room : ℕ) → Below41 (askCarried sheet book edit room)
-unfolding askCarried askSheetAndBook
-carried-below sheet book edit room =
+pub before-41-below : (sheet book edit : List ℕ) (room : ℕ) → Below41 (askBefore41 sheet book edit room)
+unfolding askBefore41 askSheetAndBook
+before-41-below sheet book edit room =
     bind-below
     (askSheetAndBook sheet book)
     _

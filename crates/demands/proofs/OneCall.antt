@@ -15,7 +15,7 @@ use Rattle.text.specs.Reading.{textLimits}
 use Rattle.text.specs.Questions.{askBook, askEdit}
 use Rattle.judge.specs.Questions.{askSheetAndBook, askRules}
 use Rattle.carry.specs.Carrying.{askSize}
-use Rattle.demands.specs.Enter.{EditAndRules, askCarried, askEnter, enterSheet}
+use Rattle.demands.specs.Enter.{StepsAndCarried, askBefore41, askEnter, enterSheet}
 use Rattle.demands.specs.Clerk.{Fed, Line, clerkCopy, clerkAsks, clerkGraph, clerkLine}
 use Rattle.demands.specs.Run.{Hold, Call, fed, enterLine}
 use Rattle.demands.proofs.Passing.{bind-passed, then-passed, hold-asked, asked-hold, ask-carried}
@@ -29,20 +29,20 @@ askSteps rules g c = do
   passed Z
 
 pub enter-asks : (sheet book : List ℕ) (rules : List (Expr rule)) (c : Fed) → askSheetAndBook sheet book ≡ passed rules → askEnter sheet book (c .edit) (c .room) ≡ askSteps rules (graphOf sheet) c
-unfolding askEnter askCarried askSteps _>>=_ _>>_
+unfolding askEnter askBefore41 askSteps _>>=_ _>>_
 enter-asks sheet book rules c e = ap (λ q. (q >>= size) >>= judged) e ∙ go (askEdit (textLimits (graphOf sheet .n)) (c .edit))
   where
-    size : List (Expr rule) → Asked EditAndRules
-    size rules = askEdit (textLimits (graphOf sheet .n)) (c .edit) >>= (λ Z. askSize (carriedBook Z rules) (c .room) >> passed (record { edit = Z; rules = carriedBook Z rules }))
+    size : List (Expr rule) → Asked StepsAndCarried
+    size rules = askEdit (textLimits (graphOf sheet .n)) (c .edit) >>= (λ Z. askSize (carriedBook Z rules) (c .room) >> passed (record { steps = Z; carried = carriedBook Z rules }))
 
-    judged : EditAndRules → Asked Edit
-    judged k = askRules (graphOf sheet) (k .rules) 0 >> passed (k .edit)
+    judged : StepsAndCarried → Asked Edit
+    judged k = askRules (graphOf sheet) (k .carried) 0 >> passed (k .steps)
 
-    sized : (Z : Edit) (q : Asked (Unit {0})) → ((q >> passed (record { edit = Z; rules = carriedBook Z rules })) >>= judged) ≡ (q >> (askRules (run Z (graphOf sheet)) rules 0 >> passed Z))
+    sized : (Z : Edit) (q : Asked (Unit {0})) → ((q >> passed (record { steps = Z; carried = carriedBook Z rules })) >>= judged) ≡ (q >> (askRules (run Z (graphOf sheet)) rules 0 >> passed Z))
     sized Z (passed u) = ap (_>> passed Z) (ask-carried Z rules (graphOf sheet) 0)
     sized Z (refused n p) = refl
 
-    go : (q : Asked Edit) → ((q >>= (λ Z. askSize (carriedBook Z rules) (c .room) >> passed (record { edit = Z; rules = carriedBook Z rules }))) >>= judged) ≡ (q >>= (λ Z. askSize (carriedBook Z rules) (c .room) >> (askRules (run Z (graphOf sheet)) rules 0 >> passed Z)))
+    go : (q : Asked Edit) → ((q >>= (λ Z. askSize (carriedBook Z rules) (c .room) >> passed (record { steps = Z; carried = carriedBook Z rules }))) >>= judged) ≡ (q >>= (λ Z. askSize (carriedBook Z rules) (c .room) >> (askRules (run Z (graphOf sheet)) rules 0 >> passed Z)))
     go (passed Z) = sized Z (askSize (carriedBook Z rules) (c .room))
     go (refused n p) = refl
 

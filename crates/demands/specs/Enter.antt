@@ -13,25 +13,25 @@ use Rattle.judge.specs.Questions.{askSheetAndBook, askRules}
 use Rattle.carry.specs.Carrying.{askSize, writtenAtStart}
 use Rattle.apply.specs.Apply.{afterSteps}
 
--- The edit, and the rules of the book carried back through it.
-pub record EditAndRules : Type 0 where
-  pub edit : Edit
-  pub rules : List (Expr rule)
+-- What is learned before 41: the steps of the edit, and the rules of the book carried back through them.
+pub record StepsAndCarried : Type 0 where
+  pub steps : Edit
+  pub carried : List (Expr rule)
 
 -- Sheet, then book, then edit, then scratch, of which there is so much room: 1 to 33.
-unfoldable pub askCarried : (sheet book edit : List ℕ) (room : ℕ) → Asked EditAndRules
-askCarried sheet book edit room = do
+unfoldable pub askBefore41 : (sheet book edit : List ℕ) (room : ℕ) → Asked StepsAndCarried
+askBefore41 sheet book edit room = do
   rules ← askSheetAndBook sheet book
   Z ← askEdit (textLimits (graphOf sheet .n)) edit
   askSize (carriedBook Z rules) room
-  passed (record { edit = Z; rules = carriedBook Z rules })
+  passed (record { steps = Z; carried = carriedBook Z rules })
 
 -- Then 41: does each rule hold after the edit? It is asked of the carried rules, on the sheet as it is. What is learned is the edit.
 unfoldable pub askEnter : (sheet book edit : List ℕ) (room : ℕ) → Asked Edit
 askEnter sheet book edit room = do
-  c ← askCarried sheet book edit room
-  askRules (graphOf sheet) (c .rules) 0
-  passed (c .edit)
+  c ← askBefore41 sheet book edit room
+  askRules (graphOf sheet) (c .carried) 0
+  passed (c .steps)
 
 -- The answer.
 abbrev pub enterAnswer : (sheet book edit : List ℕ) (room : ℕ) → Asked (Unit {0})
@@ -44,4 +44,4 @@ enterSheet sheet book edit room = after (askEnter sheet book edit room) (λ Z. a
 -- The scratch after it: after done or 41, which is when 1 to 33 have passed, the carried book at its start.
 unfoldable pub enterScratch : (sheet book edit scratch : List ℕ) → List ℕ
 enterScratch sheet book edit scratch =
-    after (askCarried sheet book edit (length scratch)) (λ c. writtenAtStart (bookCode (c .rules)) scratch) scratch
+    after (askBefore41 sheet book edit (length scratch)) (λ c. writtenAtStart (bookCode (c .carried)) scratch) scratch

@@ -9,15 +9,15 @@ use Rattle.answer.specs.Asked.{passed, refused}
 use Rattle.text.specs.Code.{bookCode}
 use Rattle.judge.specs.Questions.{askSheetAndBook}
 use Rattle.carry.specs.Carrying.{writtenAtStart}
-use Rattle.demands.specs.Enter.{EditAndRules, askCarried, enterAnswer, enterSheet, enterScratch}
+use Rattle.demands.specs.Enter.{StepsAndCarried, askBefore41, enterAnswer, enterSheet, enterScratch}
 use Rattle.demands.specs.Run.{Call, log}
 use Rattle.demands.specs.Demand3.{Each}
 
 -- The scratch after done or 41: the carried book at its start, the rest of it unchanged.
-pub record Written (sheet book edit scratch : List ℕ) : Type 0 where
-  pub what : EditAndRules
-  pub carried : askCarried sheet book edit (length scratch) ≡ passed what
-  pub written : enterScratch sheet book edit scratch ≡ writtenAtStart (bookCode (what .rules)) scratch
+pub record ScratchWritten (sheet book edit scratch : List ℕ) : Type 0 where
+  pub what : StepsAndCarried
+  pub passes : askBefore41 sheet book edit (length scratch) ≡ passed what
+  pub written : enterScratch sheet book edit scratch ≡ writtenAtStart (bookCode (what .carried)) scratch
 
 pub record Leaves : Type 0 where
   -- Only done changes the sheet.
@@ -29,7 +29,7 @@ pub record Leaves : Type 0 where
   -- After done or 41 the carried book stands in it.
   pub scratch-written : (sheet book edit scratch : List ℕ) (p : ℕ)
       → (enterAnswer sheet book edit (length scratch) ≡ passed tt) ⊎ (enterAnswer sheet book edit (length scratch) ≡ refused 41 p)
-      → Written sheet book edit scratch
+      → ScratchWritten sheet book edit scratch
   -- A sheet that is not sound, or whose book is not within the limits, stays as it is through all calls, each refused alike.
   pub others-stay : (opening book : List ℕ) (calls : List Call) (q p : ℕ) → askSheetAndBook opening book ≡ refused q p
       → Each (λ l. (l .answer ≡ refused q p) × (l .sheet ≡ opening)) (log book opening calls)

@@ -84,6 +84,10 @@ edit-long text at Z h = omega (arith, within text at (editCode Z) (h .place .res
 pub edit-inside : (text : List ℕ) (at : ℕ) (Z : Edit) → EditAt text at Z → at < length text
 edit-inside text at Z h = omega (arith, edit-long text at Z h, code-pos Z)
 
+-- what stands behind a part, at that place
+from : (text : List ℕ) (at : ℕ) (h l : List ℕ) → drop at text ≡ h ++ l → (p : ℕ) → p ≡ at + length h → drop p text ≡ l
+from text at h l e p q = ap (λ (x : ℕ). drop x text) q ∙ behind text at h l e
+
 -- 31 to 34
 pub record IsStep (text : List ℕ) (at : ℕ) (Z : Edit) : Type 0 where
   pub no-end : editTag Z ≡ 0x30 → ⊥
@@ -132,7 +136,7 @@ as-step text at Z h n m =
       reads-k = byte-at text (at + 1) (editNumber Z) (t ++ tail) (behind text at (editTag Z ∷ []) (editNumber Z ∷ t ++ tail) split);
       room = inside text (at + 2) (editTree Z) what;
       what = what;
-      next = λ p′ e. record { limits = h .limits; place = record { rest = h .place .rest; here = ap (λ (x : ℕ). drop x text) (e ∙ ap (λ (x : ℕ). at + 2 + x) (sym (size-is (editTree Z)))) ∙ behind text (at + 2) t tail here; range = p .range } };
+      next = λ p′ e. record { limits = h .limits; place = record { rest = h .place .rest; here = from text (at + 2) t tail here p′ (omega (arith, e, size-is (editTree Z))); range = p .range } };
       long = omega (arith, ap length codes, length-append (stepCode Z) (editCode (behindStep Z)), size-is (editTree Z));
       tail = tail;
       split = split;
@@ -155,10 +159,6 @@ pub record IsChoose (text : List ℕ) (at : ℕ) (Z : Edit) : Type 0 where
 pub four : (a p q z r : List ℕ) → (a ++ p ++ q ++ z) ++ r ≡ a ++ (p ++ (q ++ (z ++ r)))
 four a p q z r = append-assoc (a ++ p ++ q) z r ∙ append-assoc (a ++ p) q (z ++ r) ∙ append-assoc a p (q ++ (z ++ r))
 
--- what stands behind a part, at that place
-from : (text : List ℕ) (at : ℕ) (h l : List ℕ) → drop at text ≡ h ++ l → (p : ℕ) → p ≡ at + length h → drop p text ≡ l
-from text at h l e p q = ap (λ (x : ℕ). drop x text) q ∙ behind text at h l e
-
 pub as-choose : (text : List ℕ) (at : ℕ) (Z : Edit) → EditAt text at Z → getD text at 0 ≡ 0x35 → IsChoose text at Z
 unfolding editCode EditInRange behindStep
 as-choose text at finish h m = absurd (omega (arith, tag-edit text at finish h))
@@ -173,7 +173,7 @@ as-choose text at (choose K P Q Z) h m =
     let z : List ℕ = editCode Z ++ rest in
     let d : drop at text ≡ (0x35 ∷ code K) ++ (editCode P ++ (editCode Q ++ z)) = h .place .here ∙ four (0x35 ∷ code K) (editCode P) (editCode Q) (editCode Z) rest in
     let dK : drop (at + 1) text ≡ code K ++ (editCode P ++ (editCode Q ++ z)) = behind text at (0x35 ∷ []) (code K ++ (editCode P ++ (editCode Q ++ z))) d in
-    let dP : (p : ℕ) → p ≡ at + 1 + size (tree K) → drop p text ≡ editCode P ++ (editCode Q ++ z) = λ p q. from text (at + 1) (code K) (editCode P ++ (editCode Q ++ z)) dK p (q ∙ ap (λ (x : ℕ). at + 1 + x) (size-code K)) in
+    let dP : (p : ℕ) → p ≡ at + 1 + size (tree K) → drop p text ≡ editCode P ++ (editCode Q ++ z) = λ p q. from text (at + 1) (code K) _ dK p (omega (arith, q, size-code K)) in
     let dQ = from text (at + 1 + size (tree K)) (editCode P) (editCode Q ++ z) (dP _ refl) in
     let dZ = from text (at + 1 + size (tree K) + length (editCode P)) (editCode Q) z (dQ _ refl) in
     record {

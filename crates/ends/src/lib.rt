@@ -1,5 +1,5 @@
 // Where expressions, steps and edits end, found from the code bytes alone: a table says of each code how long it is and how many operands follow.
-// And the cells of names.
+// At the end of the file: the 64 cells of names, in which numbers of each name are kept.
 ghost use mathlib.Core.Path.{_≡_};
 ghost use Prim.Native.Nat.{_+_, _*_, _/_, _%_, _^_, _<_};
 ghost use lib.ListN.{length, getD};

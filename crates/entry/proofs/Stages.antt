@@ -23,13 +23,13 @@ use Rattle.text.proofs.Carried.{carry-in}
 use Rattle.judge.specs.Questions.{askRules, askSheetAndBook}
 use Rattle.judge.specs.Judging.{RulesStand}
 use Rattle.carry.specs.Carrying.{askSize, writtenAtStart}
-use Rattle.carry.specs.Written.{Into}
+use Rattle.carry.specs.Into.{Into}
 use Rattle.carry.specs.Answers.{carriedAsked}
 use Rattle.carry.specs.declared.Carried as into
 use Rattle.carry.specs.declared.Carried.the-variants as into-case
 use Rattle.answer.proofs.AnswerLaws.{not-learned}
 use Rattle.apply.specs.Apply.{afterSteps}
-use Rattle.demands.specs.Enter.{EditAndRules, askCarried, askEnter, enterAnswer, enterSheet, enterScratch}
+use Rattle.demands.specs.Enter.{StepsAndCarried, askBefore41, askEnter, enterAnswer, enterSheet, enterScratch}
 use Rattle.entry.specs.Settled.{Settled}
 
 module _ {rules : List (Expr rule)} (Z : Edit) {sheet : List ℕ} (a : Answer) (e : asked a ≡ askRules (graphOf sheet) rules 0) where
@@ -64,30 +64,30 @@ module _ (s b e scratch : List ℕ) where
   Left a s′ scratch′ = (asked a ≡ enterAnswer s b e (length scratch)) × ((s′ ≡ enterSheet s b e (length scratch)) × (scratch′ ≡ enterScratch s b e scratch))
 
   -- the questions after the book, and after the edit
-  abbrev then-size : List (Expr rule) → Edit → Asked EditAndRules
-  then-size rules Z = askSize (carriedBook Z rules) (length scratch) >> passed (record { edit = Z; rules = carriedBook Z rules })
+  abbrev then-size : List (Expr rule) → Edit → Asked StepsAndCarried
+  then-size rules Z = askSize (carriedBook Z rules) (length scratch) >> passed (record { steps = Z; carried = carriedBook Z rules })
 
-  abbrev then-edit : List (Expr rule) → Asked EditAndRules
+  abbrev then-edit : List (Expr rule) → Asked StepsAndCarried
   then-edit rules = askEdit (textLimits (graphOf s .n)) e >>= then-size rules
 
-  abbrev then-rules : EditAndRules → Asked Edit
-  then-rules c = askRules (graphOf s) (c .rules) 0 >> passed (c .edit)
+  abbrev then-rules : StepsAndCarried → Asked Edit
+  then-rules c = askRules (graphOf s) (c .carried) 0 >> passed (c .steps)
 
   -- A no before 41 leaves all as it was.
-  stops : (a : Answer) (r : Refusal) → a ≡ Refused r → askCarried s b e (length scratch) ≡ refused (refusalNumber r) (refusalPlace r) → Left a s scratch
+  stops : (a : Answer) (r : Refusal) → a ≡ Refused r → askBefore41 s b e (length scratch) ≡ refused (refusalNumber r) (refusalPlace r) → Left a s scratch
   unfolding enterSheet enterScratch askEnter after outcome _>>=_
   stops a r p q = (
     ap asked p ∙ sym (ap (λ x. outcome (x >>= then-rules)) q),
-    (sym (ap (λ x. after (x >>= then-rules) (λ Z. afterSteps Z s) s) q), sym (ap (λ x. after x (λ c. writtenAtStart (bookCode (c .rules)) scratch) scratch) q)),
+    (sym (ap (λ x. after (x >>= then-rules) (λ Z. afterSteps Z s) s) q), sym (ap (λ x. after x (λ c. writtenAtStart (bookCode (c .carried)) scratch) scratch) q)),
   )
 
   pub sheet-stops : (a : Answer) (r : Refusal) → asked a ≡ askSheet s → a ≡ Refused r → Left a s scratch
-  unfolding askCarried askSheetAndBook _>>=_ _>>_
+  unfolding askBefore41 askSheetAndBook _>>=_ _>>_
   sheet-stops a r q p = stops a r p (ap (λ x. (x >> askBook (textLimits (graphOf s .n)) b) >>= then-edit) (sym q ∙ ap asked p))
 
   module _ (sound : Sound s) (n : ℕ) (n-is : n ≡ graphOf s .n) where
-    from-book : askCarried s b e (length scratch) ≡ (askBook (textLimits n) b >>= then-edit)
-    unfolding askCarried askSheetAndBook _>>_
+    from-book : askBefore41 s b e (length scratch) ≡ (askBook (textLimits n) b >>= then-edit)
+    unfolding askBefore41 askSheetAndBook _>>_
     from-book = ap (λ x. (x >> askBook (textLimits (graphOf s .n)) b) >>= then-edit) sound ∙ ap (λ m. askBook (textLimits m) b >>= then-edit) (sym n-is)
 
     pub book-stops : (a : Answer) (r : Refusal) → asked a ≡ outcome (askBook (textLimits n) b) → a ≡ Refused r → Left a s scratch
@@ -95,7 +95,7 @@ module _ (s b e scratch : List ℕ) where
     book-stops a r q p = stops a r p (from-book ∙ ap (_>>= then-edit) (not-learned _ _ _ (sym (ap asked p) ∙ q)))
 
     module _ {rules : List (Expr rule)} (book : askBook (textLimits n) b ≡ passed rules) where
-      from-edit : askCarried s b e (length scratch) ≡ (askEdit (textLimits n) e >>= then-size rules)
+      from-edit : askBefore41 s b e (length scratch) ≡ (askEdit (textLimits n) e >>= then-size rules)
       unfolding _>>=_
       from-edit = from-book ∙ ap (_>>= then-edit) book ∙ ap (λ m. askEdit (textLimits m) e >>= then-size rules) (sym n-is)
 
@@ -104,7 +104,7 @@ module _ (s b e scratch : List ℕ) where
       edit-stops a r q p = stops a r p (from-edit ∙ ap (_>>= then-size rules) (not-learned _ _ _ (sym (ap asked p) ∙ q)))
 
       module _ {Z : Edit} (steps : askEdit (textLimits n) e ≡ passed Z) where
-        from-size : askCarried s b e (length scratch) ≡ then-size rules Z
+        from-size : askBefore41 s b e (length scratch) ≡ then-size rules Z
         unfolding _>>=_
         from-size = from-edit ∙ ap (_>>= then-size rules) steps
 
@@ -112,7 +112,7 @@ module _ (s b e scratch : List ℕ) where
         unfolding _>>_ after
         size-stops c r scratch′ i p =
             let q : askSize (carriedBook Z rules) (length scratch) ≡ refused (refusalNumber r) (refusalPlace r) = size-refused _ _ _ _ (sym (ap carriedAsked p) ∙ i .answer-is) in
-            let l = stops (Refused r) r refl (from-size ∙ ap (_>> passed (record { edit = Z; rules = carriedBook Z rules })) q) in
+            let l = stops (Refused r) r refl (from-size ∙ ap (_>> passed (record { steps = Z; carried = carriedBook Z rules })) q) in
             let same : scratch′ ≡ scratch = i .output-is ∙ ap (λ x. after x (λ u. writtenAtStart (bookCode (carriedBook Z rules)) scratch) scratch) q in
             (l .0, (l .1 .0, same ∙ l .1 .1))
 
@@ -144,11 +144,11 @@ module _ (s b e scratch : List ℕ) where
           pub settles : (a : Answer) (s′ : List ℕ) → Settled (carriedBook Z rules) Z a s s′ → Left a s′ scratch′
           unfolding enterSheet enterScratch askEnter after outcome _>>=_ _>>_
           settles a s′ t =
-              let q : askCarried s b e (length scratch) ≡ passed (record { edit = Z; rules = carriedBook Z rules }) = from-size ∙ ap (_>> passed (record { edit = Z; rules = carriedBook Z rules })) (fits .0) in (
+              let q : askBefore41 s b e (length scratch) ≡ passed (record { steps = Z; carried = carriedBook Z rules }) = from-size ∙ ap (_>> passed (record { steps = Z; carried = carriedBook Z rules })) (fits .0) in (
                 t .answer-is ∙ answer-same (askRules (graphOf s) (carriedBook Z rules) 0) ∙ sym (ap (λ x. outcome (x >>= then-rules)) q),
                 (
                   t .sheet-is ∙ sheet-same (askRules (graphOf s) (carriedBook Z rules) 0) ∙ sym (ap (λ x. after (x >>= then-rules) (λ Y. afterSteps Y s) s) q),
-                  written ∙ sym (ap (λ x. after x (λ y. writtenAtStart (bookCode (y .rules)) scratch) scratch) q),
+                  written ∙ sym (ap (λ x. after x (λ y. writtenAtStart (bookCode (y .carried)) scratch) scratch) q),
                 ),
               )
             where

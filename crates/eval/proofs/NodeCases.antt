@@ -19,7 +19,7 @@ use Rattle.text.specs.Code.{code}
 use Rattle.text.specs.Stands.{Stands}
 use Rattle.rows.specs.Operations.{quantified, quantifiedNodes, answered, least, looked, turn}
 use Rattle.rows.proofs.Quantifiers.{quantified-is, set-small}
-use Rattle.eval.specs.Evaluated.{Opened, IsSet, IsPart, IsRelation, IsTurned}
+use Rattle.eval.specs.Evaluated.{Opened, IsSet, IsSetWithin, IsRelation, IsTurned}
 use Rattle.eval.proofs.ArrowCases.{as-kind}
 use Rattle.eval.proofs.Places.{first-number, code-at, inside-at, Operand, Operands, operand-at, operands-at}
 
@@ -33,10 +33,10 @@ pub part-whole : (sheet : List ℕ) (n all : ℕ) → Opened sheet n all → (e 
 part-whole sheet n w o e x h =
     h ∙ setOf-cong n _ _ (λ i l. ap (_&& value (graphOf sheet) e i) (ap (λ (y : ℕ). member y i) (o .nodes) ∙ member-setOf n (isNode (graphOf sheet)) i l ∙ node-there sheet n (o .count) i l))
 
-pub is-whole : {sheet : List ℕ} {n all at : ℕ} {e : Expr node} {x next : ℕ} → Opened sheet n all → IsPart sheet n at e all x next → IsSet sheet n at e x next
+pub is-whole : {sheet : List ℕ} {n all at : ℕ} {e : Expr node} {x next : ℕ} → Opened sheet n all → IsSetWithin sheet n at e all x next → IsSet sheet n at e x next
 is-whole {sheet = sheet} {n = n} {all = w} {e = e} {x = x} o h = record { set = part-whole sheet n w o e x (h .set); ends = h .ends }
 
-pub part-small : {sheet : List ℕ} {n at : ℕ} {e : Expr node} {within x next : ℕ} → IsPart sheet n at e within x next → x < 2 ^ n
+pub part-small : {sheet : List ℕ} {n at : ℕ} {e : Expr node} {within x next : ℕ} → IsSetWithin sheet n at e within x next → x < 2 ^ n
 part-small {n = n} h = set-small n _ (h .set)
 
 pub all-small : {sheet : List ℕ} {n all : ℕ} → Opened sheet n all → all < 2 ^ n
@@ -114,21 +114,21 @@ module _ (n : ℕ) (text : List ℕ) (at : ℕ) where
   leaf-node (is-nominal c l e r) p = omega arith
 
   module _ (sheet : List ℕ) (count : n ≡ graphOf sheet .n) (within z : ℕ) (small : within < 2 ^ n) where
-    pub all-set : {e : Expr node} → Leaf e → getD text at 0 ≤ 0x01 → z ≡ within → IsPart sheet n at e within z (at + 1)
+    pub all-set : {e : Expr node} → Leaf e → getD text at 0 ≤ 0x01 → z ≡ within → IsSetWithin sheet n at e within z (at + 1)
     unfolding code value
     all-set (is-all c l) p h = record { set = h ∙ sym (setOf-member-lt n within small) ∙ setOf-cong n _ _ (λ i l. sym (ap (member within i &&_) (node-there sheet n count i l) ∙ and-true (member within i))); ends = refl }
     all-set (is-none c l) p h = absurd (omega arith)
     all-set (is-label c l e r) p h = absurd (omega arith)
     all-set (is-nominal c l e r) p h = absurd (omega arith)
 
-    pub none-set : {e : Expr node} → Leaf e → 0x01 < getD text at 0 → getD text at 0 ≤ 0x02 → z ≡ 0 → IsPart sheet n at e within z (at + 1)
+    pub none-set : {e : Expr node} → Leaf e → 0x01 < getD text at 0 → getD text at 0 ≤ 0x02 → z ≡ 0 → IsSetWithin sheet n at e within z (at + 1)
     unfolding code value
     none-set (is-all c l) p q h = absurd (omega arith)
     none-set (is-none c l) p q h = record { set = h ∙ sym (setOf-none n) ∙ setOf-cong n _ _ (λ i l. sym (and-false (member within i))); ends = refl }
     none-set (is-label c l e r) p q h = absurd (omega arith)
     none-set (is-nominal c l e r) p q h = absurd (omega arith)
 
-    pub label-set : {e : Expr node} → Leaf e → 0x02 < getD text at 0 → getD text at 0 ≤ 0x03 → n ≤ 64 → (x : ℕ) → x ≡ setOf (graphOf sheet .n) (graphOf sheet .labelled (getD text (at + 1) 0)) → z ≡ combined _&&_ within x → IsPart sheet n at e within z (at + 2)
+    pub label-set : {e : Expr node} → Leaf e → 0x02 < getD text at 0 → getD text at 0 ≤ 0x03 → n ≤ 64 → (x : ℕ) → x ≡ setOf (graphOf sheet .n) (graphOf sheet .labelled (getD text (at + 1) 0)) → z ≡ combined _&&_ within x → IsSetWithin sheet n at e within z (at + 2)
     unfolding code value
     label-set (is-all c l) p q m x h d = absurd (omega arith)
     label-set (is-none c l) p q m x h d = absurd (omega arith)
@@ -141,7 +141,7 @@ module _ (n : ℕ) (text : List ℕ) (at : ℕ) where
         }
     label-set (is-nominal c l e r) p q m x h d = absurd (omega arith)
 
-    pub nominal-set : {e : Expr node} → Leaf e → 0x03 < getD text at 0 → z ≡ setOf n (λ k. member within k && eqb k (getD text (at + 1) 0)) → IsPart sheet n at e within z (at + 2)
+    pub nominal-set : {e : Expr node} → Leaf e → 0x03 < getD text at 0 → z ≡ setOf n (λ k. member within k && eqb k (getD text (at + 1) 0)) → IsSetWithin sheet n at e within z (at + 2)
     unfolding code value
     nominal-set (is-all c l) p h = absurd (omega arith)
     nominal-set (is-none c l) p h = absurd (omega arith)
@@ -247,9 +247,9 @@ module _ (n : ℕ) (text : List ℕ) (at : ℕ) where
 
   module _ (sheet : List ℕ) (all : ℕ) (o : Opened sheet n all) (within : ℕ) (small : within < 2 ^ n) (e : Expr node) where
     pub complement-set : IsComplement e → (x nx z : ℕ)
-        → ((f : Expr node) → Stands (ranges n) text (at + 1) f → IsPart sheet n (at + 1) f within x nx)
+        → ((f : Expr node) → Stands (ranges n) text (at + 1) f → IsSetWithin sheet n (at + 1) f within x nx)
         → z ≡ combined (λ a b. a && not b) within x
-        → IsPart sheet n at e within z nx
+        → IsSetWithin sheet n at e within z nx
     unfolding value
     complement-set h x nx z p r =
         let g = graphOf sheet in
@@ -268,9 +268,9 @@ module _ (n : ℕ) (text : List ℕ) (at : ℕ) where
         go false b = refl
 
     pub and-set : IsAnd e → (x nx y ny : ℕ)
-        → ((f : Expr node) → Stands (ranges n) text (at + 1) f → IsPart sheet n (at + 1) f within x nx)
-        → ((f : Expr node) → Stands (ranges n) text nx f → IsPart sheet n nx f x y ny)
-        → IsPart sheet n at e within y ny
+        → ((f : Expr node) → Stands (ranges n) text (at + 1) f → IsSetWithin sheet n (at + 1) f within x nx)
+        → ((f : Expr node) → Stands (ranges n) text nx f → IsSetWithin sheet n nx f x y ny)
+        → IsSetWithin sheet n at e within y ny
     unfolding value
     and-set h x nx y ny p q =
         let g = graphOf sheet in
@@ -289,11 +289,11 @@ module _ (n : ℕ) (text : List ℕ) (at : ℕ) where
         go false b c = refl
 
     pub or-set : IsOr e → (x nx w y ny z : ℕ)
-        → ((f : Expr node) → Stands (ranges n) text (at + 1) f → IsPart sheet n (at + 1) f within x nx)
+        → ((f : Expr node) → Stands (ranges n) text (at + 1) f → IsSetWithin sheet n (at + 1) f within x nx)
         → w ≡ combined (λ a b. a && not b) within x
-        → ((f : Expr node) → Stands (ranges n) text nx f → IsPart sheet n nx f w y ny)
+        → ((f : Expr node) → Stands (ranges n) text nx f → IsSetWithin sheet n nx f w y ny)
         → z ≡ combined _||_ x y
-        → IsPart sheet n at e within z ny
+        → IsSetWithin sheet n at e within z ny
     unfolding value
     or-set h x nx w y ny z p s q r =
         let g = graphOf sheet in
@@ -318,9 +318,9 @@ module _ (n : ℕ) (text : List ℕ) (at : ℕ) where
 
     quantifier-part : (k : ℕ) (h : IsQuantifier k e) (turned : Bool) (next x nx ny z : ℕ) (d : IsTurned n text (at + k) (h .R) turned next)
         → nx ≡ next + length (code (d .R))
-        → ((f : Expr node) → Stands (ranges n) text nx f → IsPart sheet n nx f all x ny)
+        → ((f : Expr node) → Stands (ranges n) text nx f → IsSetWithin sheet n nx f all x ny)
         → z ≡ setOf n (λ i. member within i && quantified (getD text at 0) (getD text (at + k - 1) 0) n (turn turned (value (graphOf sheet) (d .R)) i) (member x))
-        → IsPart sheet n at e within z ny
+        → IsSetWithin sheet n at e within z ny
     quantifier-part k h turned next x nx ny z d s q r =
         let g = graphOf sheet in
         let c = getD text at 0 in
@@ -342,9 +342,9 @@ module _ (n : ℕ) (text : List ℕ) (at : ℕ) where
     pub quantifier-set : (k : ℕ) → IsQuantifier k e → (turned : Bool) (next : ℕ) (rows : List ℕ) (x nx ny z : ℕ)
         → ((f : Expr arrow) → Stands (ranges n) text (at + k) f → IsTurned n text (at + k) f turned next)
         → ((f : Expr arrow) → Stands (ranges n) text next f → IsRelation sheet n next f rows nx)
-        → ((f : Expr node) → Stands (ranges n) text nx f → IsPart sheet n nx f all x ny)
+        → ((f : Expr node) → Stands (ranges n) text nx f → IsSetWithin sheet n nx f all x ny)
         → ((v : Pairs) → Rows n v rows → z ≡ setOf n (λ i. member within i && quantified (getD text at 0) (getD text (at + k - 1) 0) n (turn turned v i) (member x)))
-        → IsPart sheet n at e within z ny
+        → IsSetWithin sheet n at e within z ny
     quantifier-set k h turned next rows x nx ny z t p q r =
         let d = t (h .R) (h .parts .first) in
         let a = p (d .R) (d .stands) in
@@ -354,9 +354,9 @@ module _ (n : ℕ) (text : List ℕ) (at : ℕ) where
     pub quantifier-kind : (k : ℕ) → IsQuantifier k e → (turned : Bool) (next x ny z : ℕ)
         → ((f : Expr arrow) → Stands (ranges n) text (at + k) f → IsTurned n text (at + k) f turned next)
         → getD text next 0 ≤ 0x11
-        → ((f : Expr node) → Stands (ranges n) text (next + 2) f → IsPart sheet n (next + 2) f all x ny)
+        → ((f : Expr node) → Stands (ranges n) text (next + 2) f → IsSetWithin sheet n (next + 2) f all x ny)
         → z ≡ setOf n (λ i. member within i && quantified (getD text at 0) (getD text (at + k - 1) 0) n (turn turned (graphOf sheet .joined (getD text (next + 1) 0)) i) (member x))
-        → IsPart sheet n at e within z ny
+        → IsSetWithin sheet n at e within z ny
     unfolding value
     quantifier-kind k h turned next x ny z t l q r =
         let g = graphOf sheet in

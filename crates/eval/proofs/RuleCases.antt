@@ -17,7 +17,7 @@ use Rattle.words.proofs.SetLaws.{member-setOf}
 use Rattle.sheet.specs.Sheet.{graphOf, Rows}
 use Rattle.text.specs.Code.{code}
 use Rattle.text.specs.Stands.{Stands}
-use Rattle.eval.specs.Evaluated.{Opened, IsPart, IsRelation, IsTruth, ruleOperation, decided}
+use Rattle.eval.specs.Evaluated.{Opened, IsSetWithin, IsRelation, IsTruth, ruleOperation, decided}
 use Rattle.eval.proofs.NodeCases.{node-there, part-whole}
 use Rattle.eval.proofs.Places.{first-number, second-number, code-at, Operand, Operands, operand-at, operands-at}
 
@@ -163,8 +163,8 @@ module _ (n : ℕ) (text : List ℕ) (at : ℕ) where
 
   module _ (sheet : List ℕ) (all : ℕ) (o : Opened sheet n all) (e : Expr rule) (b : Bool) where
     pub sub-nodes-truth : IsSubNodes e → (x nx y ny : ℕ)
-        → ((f : Expr node) → Stands (ranges n) text (at + 1) f → IsPart sheet n (at + 1) f all x nx)
-        → ((f : Expr node) → Stands (ranges n) text nx f → IsPart sheet n nx f x y ny)
+        → ((f : Expr node) → Stands (ranges n) text (at + 1) f → IsSetWithin sheet n (at + 1) f all x nx)
+        → ((f : Expr node) → Stands (ranges n) text nx f → IsSetWithin sheet n nx f x y ny)
         → ((m : ℕ) (v w : Nodes) → m ≤ 64 → x ≡ setOf m v → y ≡ setOf m w → b ≡ allBelow m (λ i. implies (v i) (w i)))
         → IsTruth sheet at e b ny
     unfolding value
@@ -206,7 +206,7 @@ module _ (n : ℕ) (text : List ℕ) (at : ℕ) where
 
     pub node-in-truth : IsNodeIn e → (w x nx : ℕ)
         → w ≡ setOf n (λ k. isNode (graphOf sheet) k && eqb k (getD text (at + 1) 0))
-        → ((f : Expr node) → Stands (ranges n) text (at + 2) f → IsPart sheet n (at + 2) f w x nx)
+        → ((f : Expr node) → Stands (ranges n) text (at + 2) f → IsSetWithin sheet n (at + 2) f w x nx)
         → ((m : ℕ) (v : Nodes) → getD text (at + 1) 0 < m → x ≡ setOf m v → b ≡ v (getD text (at + 1) 0))
         → IsTruth sheet at e b nx
     unfolding value

@@ -28,7 +28,7 @@ pub record IsSet (sheet : List ℕ) (n at : ℕ) (e : Expr node) (x next : ℕ) 
   pub ends : next ≡ at + length (code e)
 
 -- The same of the nodes that are asked about alone.
-pub record IsPart (sheet : List ℕ) (n at : ℕ) (e : Expr node) (within x next : ℕ) : Type 0 where
+pub record IsSetWithin (sheet : List ℕ) (n at : ℕ) (e : Expr node) (within x next : ℕ) : Type 0 where
   pub set : x ≡ setOf n (λ i. member within i && value (graphOf sheet) e i)
   pub ends : next ≡ at + length (code e)
 

@@ -12,7 +12,7 @@ ghost use Rattle.logic.specs.Limits.{ranges, maxNodes};
 ghost use Rattle.sheet.specs.Sheet.{graphOf};
 ghost use Rattle.sheet.specs.Questions.{Sound};
 ghost use Rattle.text.specs.Stands.{Stands, SomeStands};
-ghost use Rattle.eval.specs.Evaluated.{Opened, IsSet, IsPart, IsRelation, IsJoined, IsTruth, IsTurned, decided};
+ghost use Rattle.eval.specs.Evaluated.{Opened, IsSet, IsSetWithin, IsRelation, IsJoined, IsTruth, IsTurned, decided};
 use logic::Arrow;
 use logic::Label;
 use logic::Node;
@@ -38,7 +38,7 @@ pub struct Turned {
 // 01 to 04, of the nodes within.
 fn leaf_node(sheet: &[u8], n: usize, within: u64, text: &[u8], at: usize) -> NodeSet
     requires { ⌜ Sound (now sheet) × (n ≡ graphOf (now sheet) .n) × (n ≤ maxNodes) × (within < 2 ^ n) × SomeStands (ranges n) (now text) at node × (getD (now text) at 0 ≤ 0x04) ⌝ }
-    ensures { λ r. ⌜ ((e : Expr node) → Stands (ranges n) (now (text .entry)) at e → IsPart (now (sheet .entry)) n at e within (r .set) (r .next)) ⌝ }
+    ensures { λ r. ⌜ ((e : Expr node) → Stands (ranges n) (now (text .entry)) at e → IsSetWithin (now (sheet .entry)) n at e within (r .set) (r .next)) ⌝ }
 {
     let c = text[at];
     if c <= 0x01 {
@@ -143,7 +143,7 @@ fn behind_turns(n: usize, text: &[u8], at: usize) -> Turned
 // the second is asked of those nodes only that the first leaves open.
 fn node_within(sheet: &[u8], n: usize, all: u64, within: u64, text: &[u8], at: usize) -> NodeSet
     requires { ⌜ Opened (now sheet) n all × (within < 2 ^ n) × SomeStands (ranges n) (now text) at node ⌝ }
-    ensures { λ r. ⌜ ((e : Expr node) → Stands (ranges n) (now (text .entry)) at e → IsPart (now (sheet .entry)) n at e within (r .set) (r .next)) ⌝ }
+    ensures { λ r. ⌜ ((e : Expr node) → Stands (ranges n) (now (text .entry)) at e → IsSetWithin (now (sheet .entry)) n at e within (r .set) (r .next)) ⌝ }
 {
     if within == 0 {
         return NodeSet {

@@ -37,11 +37,12 @@ judgedPart sheet book = after (askSheetAndBook sheet book) (λ rules. brokenPart
 abbrev pub partNamed : Verdict → Part
 partNamed v = record { start = v .start; size = v .size }
 
--- A slice is that part of the book itself, and no equal text elsewhere: it lies in the book's memory, behind its first `start` bytes.
+-- A slice is that part of the book itself, and no equal text elsewhere. Its pointer, a block of memory and an offset in it, is the book's
+-- moved on by the part's start.
 pub record PartOf (book : RefT (List ℕ)) (p : Part) (slice : RefT (List ℕ)) : Type 0 where
-  pub block : slice .ptr .0 ≡ book .ptr .0
-  pub place : slice .ptr .1 ≡ book .ptr .1 + p .start
-  pub bytes : now slice ≡ take (p .size) (drop (p .start) (now book))
+  pub memory : slice .ptr .0 ≡ book .ptr .0
+  pub starts : slice .ptr .1 ≡ book .ptr .1 + p .start
+  pub contents : now slice ≡ take (p .size) (drop (p .start) (now book))
 
 -- Rules that stand from a place to an end. An inner function asks for some and speaks of all such.
 pub record RulesStand (r : Ranges) (text : List ℕ) (at end : ℕ) (rules : List (Expr rule)) : Type 0 where

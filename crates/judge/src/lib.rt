@@ -93,7 +93,7 @@ pub struct Judged<'b> {
 }
 
 // A verdict's answer with its part.
-fn joined<'b>(v: Verdict, rule: &'b [u8]) -> Judged<'b>
+fn with_part<'b>(v: Verdict, rule: &'b [u8]) -> Judged<'b>
     ensures { λ r. ⌜ (r .answer ≡ v .answer) × (r .rule ≡ rule .entry) ⌝ }
 {
     Judged {
@@ -109,5 +109,5 @@ pub fn judge<'s, 'b>(sheet: &'s [u8], book: &'b [u8]) -> Judged<'b>
 {
     let v = decide(sheet, book);
     let rule = part_of(book, v);
-    joined(v, rule)
+    with_part(v, rule)
 }

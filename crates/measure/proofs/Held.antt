@@ -7,7 +7,7 @@ use native.Mathlib.Omega.{arith}
 use lib.ListN.{length, getD, set, length-set}
 use lib.Seq.{getD-set-same}
 use Rattle.tree.specs.Tree.{Tree, name, leaf, one, two, height, count, deep, same, under}
-use Rattle.tree.specs.Sizes.{Measure, measure, substituted, capped, cappedMeasure}
+use Rattle.tree.specs.Sizes.{Measure, measure, substituted, beyond, capped, cappedMeasure}
 use Rattle.tree.proofs.Measured.{under-max, under-under, under-nothing}
 use Rattle.tree.proofs.Capped.{capped-max, capped-under, capped-mul}
 use Rattle.ends.specs.Shapes.{Named, cell}
@@ -19,15 +19,15 @@ pub deeper-none : (v : ℕ) → v ≡ 0 → 0 ≡ capped (under v 2)
 unfolding under
 deeper-none v e = sym (ap (λ (u : ℕ). capped (under u 2)) e)
 
-pub deeper-some : (v : ℕ) → (v ≡ 0 → ⊥) → v < 16385 → v + 1 ≡ capped (under v 2)
+pub deeper-some : (v : ℕ) → (v ≡ 0 → ⊥) → v < beyond → v + 1 ≡ capped (under v 2)
 unfolding under
 deeper-some zero n l = absurd (n refl)
 deeper-some (suc v) n l = omega arith
 
-pub deeper-cut : (v : ℕ) → 16385 ≤ v → 16385 ≡ capped (under v 2)
+pub deeper-beyond : (v : ℕ) → beyond ≤ v → beyond ≡ capped (under v 2)
 unfolding under
-deeper-cut zero l = absurd (omega arith)
-deeper-cut (suc v) l = omega arith
+deeper-beyond zero l = absurd (omega arith)
+deeper-beyond (suc v) l = omega arith
 
 pub holds-same : {l : List ℕ} {M N : Measure} → cappedMeasure M ≡ cappedMeasure N → Holds l M → Holds l N
 unfolding cappedMeasure
@@ -44,7 +44,7 @@ holds-is {l} e h = subst (Holds l) e h
 abbrev pub risen : ℕ → Measure → Measure
 risen v M = record { len = M .len; tall = max (M .tall) v; counts = M .counts; deeps = M .deeps }
 
-pub holds-rise : (l : List ℕ) (M : Measure) (v : ℕ) → length l ≡ 130 → v ≤ 16385 → Holds l M → Holds (set l 129 (max (getD l 129 0) v)) (risen v M)
+pub holds-rise : (l : List ℕ) (M : Measure) (v : ℕ) → length l ≡ 130 → v ≤ beyond → Holds l M → Holds (set l 129 (max (getD l 129 0) v)) (risen v M)
 holds-rise l M v e b h = record {
   len-at = elsewhere l 129 128 _ (λ q. omega arith) ∙ h .len-at;
   tall-at = getD-set-same l 129 _ 0 (omega arith) ∙ omega (arith, h .tall-at);
@@ -60,7 +60,7 @@ unfolding under
 under-1 zero = refl
 under-1 (suc v) = omega arith
 
-pub holds-touch : (l : List ℕ) (M : Measure) (c k w v : ℕ) → length l ≡ 130 → v ≤ 16385 → Named c k → Holds l M
+pub holds-touch : (l : List ℕ) (M : Measure) (c k w v : ℕ) → length l ≡ 130 → v ≤ beyond → Named c k → Holds l M
     → Holds (set (set l (cell c k) (capped (getD l (cell c k) 0 + w))) (64 + cell c k) (max (getD l (64 + cell c k) 0) v)) (marked c k w v M)
 holds-touch l M c k w v e b n h = record {
   len-at = elsewhere m (64 + i) 128 y (λ q. omega (arith, named-lt c k n)) ∙ elsewhere l i 128 x (λ q. omega (arith, named-lt c k n)) ∙ h .len-at;
@@ -146,9 +146,9 @@ added-two w v h x y M = λ i. record { len = M .len; tall = tops (M .tall) (heig
         a ∙ ap (max m) (sym (under-max (under v 2) p q) ∙ under-under v 2 (max p q))
 
 -- a level cut beforehand
-pub added-cut : (w v : ℕ) (E M : Measure) → cappedMeasure (added w (capped v) E M) ≡ cappedMeasure (added w v E M)
+pub added-capped : (w v : ℕ) (E M : Measure) → cappedMeasure (added w (capped v) E M) ≡ cappedMeasure (added w v E M)
 unfolding added cappedMeasure
-added-cut w v E M = λ i. record { len = capped (M .len); tall = tips (M .tall) (E .tall) i; counts = λ c k. capped (M .counts c k + w * E .counts c k); deeps = λ c k. tips (M .deeps c k) (E .deeps c k) i }
+added-capped w v E M = λ i. record { len = capped (M .len); tall = tips (M .tall) (E .tall) i; counts = λ c k. capped (M .counts c k + w * E .counts c k); deeps = λ c k. tips (M .deeps c k) (E .deeps c k) i }
   where
     tips : (m e : ℕ) → capped (max m (under (capped v) e)) ≡ capped (max m (under v e))
     tips m e = capped-max m (under (capped v) e) ∙ ap (max (capped m)) (capped-under v e) ∙ sym (capped-max m (under v e))

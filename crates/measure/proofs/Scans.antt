@@ -5,18 +5,18 @@ use Prim.Native.Nat.{ℕ, _+_, _%_, max, _≤_, _<_}
 use native.Mathlib.Omega.{arith}
 use lib.ListN.{length, getD, set, length-set}
 use Rattle.tree.specs.Tree.{Tree, size, under}
-use Rattle.tree.specs.Sizes.{Measure, measure, capped, cappedMeasure}
+use Rattle.tree.specs.Sizes.{Measure, measure, beyond, capped, cappedMeasure}
 use Rattle.ends.specs.Shapes.{shapeOf, cell, At}
 use Rattle.measure.specs.State.{Holds, added, Scanned}
 use Rattle.ends.proofs.Places.{IsName, IsLeaf, IsOne, IsTwo}
 use Rattle.ends.proofs.Names.{named-lt}
-use Rattle.measure.proofs.Held.{holds-same, holds-is, holds-rise, holds-touch, risen, marked, added-name, added-leaf, added-one, added-two, added-cut}
+use Rattle.measure.proofs.Held.{holds-same, holds-is, holds-rise, holds-touch, risen, marked, added-name, added-leaf, added-one, added-two, added-capped}
 
 module _ (text : List ℕ) (at w v : ℕ) where
   pub place-lt : (t : Tree) → IsName text at t → (i : ℕ) → i ≡ cell (getD text at 0) (getD text (at + 1) 0) → i < 64
   place-lt t q i e = omega (arith, named-lt (q .c) (q .k) (q .named), e ∙ ap₂ cell (q .reads-c) (q .reads-k))
 
-  module _ (l₀ l₁ : List ℕ) (long : length l₀ ≡ 130) (low : v ≤ 16385) (rose : l₁ ≡ set l₀ 129 (max (getD l₀ 129 0) v)) where
+  module _ (l₀ l₁ : List ℕ) (long : length l₀ ≡ 130) (low : v ≤ beyond) (rose : l₁ ≡ set l₀ 129 (max (getD l₀ 129 0) v)) where
     risen-held : (M : Measure) → Holds l₀ M → Holds l₁ (risen v M)
     risen-held M h = subst (λ (l : List ℕ). Holds l (risen v M)) (sym rose) (holds-rise l₀ M v long low h)
 
@@ -43,10 +43,10 @@ module _ (text : List ℕ) (at w v : ℕ) where
     -- the level below, cut
     module _ (below : ℕ) (down : below ≡ capped (under v 2)) where
       lower : {l : List ℕ} (E M : Measure) → Holds l (added w below E M) → Holds l (added w (under v 2) E M)
-      lower E M h = holds-same (ap (λ (x : ℕ). cutOf x) down ∙ added-cut w (under v 2) E M) h
+      lower E M h = holds-same (ap (λ (x : ℕ). cappedAt x) down ∙ added-capped w (under v 2) E M) h
         where
-          cutOf : ℕ → Measure
-          cutOf x = cappedMeasure (added w x E M)
+          cappedAt : ℕ → Measure
+          cappedAt x = cappedMeasure (added w x E M)
 
       pub one-scanned : (t : Tree) → IsOne text at t → (s first next : ℕ) (l₂ : List ℕ) → s ≡ shapeOf (getD text at 0) → first ≡ at + s % 4
           → ((x : Tree) → At text first x → Scanned first w below x next l₁ l₂) → Scanned at w v t next l₀ l₂

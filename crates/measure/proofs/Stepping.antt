@@ -11,7 +11,7 @@ use lib.ListN.{length, getD, set}
 use Rattle.logic.specs.Syntax.{Edit}
 use Rattle.text.specs.Code.{editCode}
 use Rattle.tree.specs.Tree.{Tree, size, under}
-use Rattle.tree.specs.Sizes.{Measure, measure, substituted, back, capped}
+use Rattle.tree.specs.Sizes.{Measure, measure, substituted, back, beyond, capped}
 use Rattle.tree.specs.Stack.{touched}
 use Rattle.tree.proofs.Trees.{size-is}
 use Rattle.tree.proofs.Capped.{capped-under}
@@ -54,14 +54,14 @@ module _ (text : List ℕ) (at : ℕ) (Z : Edit) (q : IsStep text at Z) where
       go true p = p ∙ twice D d e′
       go false p = p ∙ e′
 
-  pub stepped : (l₀ l₁ l₂ l₃ : List ℕ) (x i d w v next m y : ℕ) → length l₀ ≡ 130 → length l₂ ≡ 130
+  pub step-measured : (l₀ l₁ l₂ l₃ : List ℕ) (x i d w v next m y : ℕ) → length l₀ ≡ 130 → length l₂ ≡ 130
       → x ≡ touched (getD text at 0) → i ≡ cell x (getD text (at + 1) 0)
       → d ≡ capped (under (getD l₀ (64 + i) 0) 2) → l₁ ≡ set l₀ (64 + i) d → w ≡ getD l₀ i 0 → v ≡ cond (eqb (getD text at 0) 0x32) (capped (under d 2)) d
       → ((t : Tree) → At text (at + 2) t → Scanned (at + 2) w v t next l₁ l₂)
       → m ≡ cond (eqb (getD text at 0) 0x32) 2 1 → y ≡ capped (getD l₂ 128 0 + w * (m + (next - (at + 2)))) → l₃ ≡ set l₂ 128 y
       → (rules : ℕ) → StepMeasured rules Z l₀ l₃
   unfolding measure
-  stepped l₀ l₁ l₂ l₃ x i d w v next m y long₀ long₂ ex ei ed el ew ev sc em ey el₃ rules = record { holds = λ M h. holds-is (sym (back-step Z (q .no-end) (q .no-choice) rules M)) (go (back rules (behindStep Z) M) h) }
+  step-measured l₀ l₁ l₂ l₃ x i d w v next m y long₀ long₂ ex ei ed el ew ev sc em ey el₃ rules = record { holds = λ M h. holds-is (sym (back-step Z (q .no-end) (q .no-choice) rules M)) (go (back rules (behindStep Z) M) h) }
     where
       j : i ≡ cell c k
       j = step-cell x i ex ei
@@ -105,13 +105,13 @@ module _ (text : List ℕ) (at : ℕ) (Z : Edit) (q : IsStep text at Z) where
       }
 
   -- no number is too large
-  pub step-fits : (l₀ : List ℕ) (i w : ℕ) → Held l₀ → i ≡ cell c k → w ≡ getD l₀ i 0 → w ≤ 16385
+  pub step-fits : (l₀ : List ℕ) (i w : ℕ) → Held l₀ → i ≡ cell c k → w ≡ getD l₀ i 0 → w ≤ beyond
   step-fits l₀ i w h j e = omega (arith, e ∙ ap (λ (u : ℕ). getD l₀ u 0) j ∙ h .holds .count-at c k (q .named))
 
-  pub step-product : (w m n : ℕ) → w ≤ 16385 → m ≤ 2 → n ≤ 4096 → w * (m + n) ≤ 16385 * 4098
+  pub step-product : (w m n : ℕ) → w ≤ beyond → m ≤ 2 → n ≤ 4096 → w * (m + n) ≤ beyond * 4098
   step-product w m n a b c = mul-le-mul a (let e : m + n ≤ 4098 = omega arith in e)
 
-pub low-level : (b : Bool) (x d v : ℕ) → d ≡ capped x → v ≡ cond b (capped (under d 2)) d → v ≤ 16385
+pub low-level : (b : Bool) (x d v : ℕ) → d ≡ capped x → v ≡ cond b (capped (under d 2)) d → v ≤ beyond
 low-level true x d v e f = omega (arith, f)
 low-level false x d v e f = omega (arith, f, e)
 

@@ -235,8 +235,8 @@ backing-end text at rules top stack₀ stack state₀ state out₀ out start₀ 
 module _ (text : List ℕ) (at rules : ℕ) (m : getD text at 0 ≡ 0x35) (first second : ℕ) (f : (t : Tree) → At text (at + 1) t → first ≡ at + 1 + size t) (g : (Y : Edit) → EditAt text first Y → second ≡ first + length (editCode Y))
     (state state₂ other₁ other₂ out out₁ out₂ : List ℕ) (pos q p : ℕ) (k : Kept 130 state other₁) (b₂ : (Y : Edit) → EditAt text second Y → Backed rules Y state out pos state₂ out₁ q)
     (b₁ : (Y : Edit) → EditAt text first Y → Backed rules Y other₁ out₁ q other₂ out₂ p) where
-  pub choice-stepped : (state₃ : List ℕ) → ((K : Tree) → At text (at + 1) K → Joined rules K other₂ state₂ state₃) → (Z : Edit) → EditAt text at Z → StepMeasured rules Z state state₃
-  choice-stepped state₃ j Z h =
+  pub choice-measured : (state₃ : List ℕ) → ((K : Tree) → At text (at + 1) K → Joined rules K other₂ state₂ state₃) → (Z : Edit) → EditAt text at Z → StepMeasured rules Z state state₃
+  choice-measured state₃ j Z h =
       let c = as-choose text at Z h m in
       let a = f (tree (c .K)) (c .what) in
       let b : second ≡ at + 1 + size (tree (c .K)) + length (editCode (c .P)) = g (c .P) (c .first first a) ∙ (λ t. a t + length (editCode (c .P))) in

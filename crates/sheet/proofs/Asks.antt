@@ -43,10 +43,6 @@ module _ (n b : ℕ) (k : List ℕ) where
   unfolding askBlock is _>>_
   ask-4 e f h = rw (e, f, h)
 
-  pub ask-none : sealRight k ≡ true → headRight b k ≡ true → zeroRight n b k ≡ true → askBlock n b k ≡ passed tt
-  unfolding askBlock is _>>_
-  ask-none e f h = rw (e, f, h)
-
 module _ (t : List ℕ) where
   -- 1
   pub wrong-length : (length t ≡ sheetBytes → ⊥) → refused 1 0 ≡ askSheet t

@@ -47,7 +47,7 @@ module _ (head : List ℕ) (m : ℕ) (f : ℕ → ℕ) (h : length head ≡ 3) (
   block-sealed = sealed-right (bodyOf head m f) (length-body head m f h fits)
 
 -- the three questions of a block, answered
-block-right : (n b : ℕ) (k : List ℕ) → sealRight k ≡ true → headRight b k ≡ true → zeroRight n b k ≡ true → askBlock n b k ≡ passed tt
+pub block-right : (n b : ℕ) (k : List ℕ) → sealRight k ≡ true → headRight b k ≡ true → zeroRight n b k ≡ true → askBlock n b k ≡ passed tt
 unfolding askBlock is _>>_
 block-right n b k e f h = rw (e, f, h)
 

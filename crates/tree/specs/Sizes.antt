@@ -52,9 +52,13 @@ unfoldable pub measures : List (Expr rule) → Measure
 measures [] = nothing
 measures (K ∷ Ks) = join (measure (tree K)) (measures Ks)
 
--- A number cut at 16,385: exact up to 16,384, and over it when the true number is.
+-- Counting ends one beyond the 16,384 bytes that a carried book may have.
+abbrev pub beyond : ℕ
+beyond = 16385
+
+-- A number cut there: exact up to 16,384, and over it when the true number is.
 abbrev pub capped : ℕ → ℕ
-capped x = min x 16385
+capped x = min x beyond
 
 unfoldable pub cappedMeasure : Measure → Measure
 cappedMeasure M = record { len = capped (M .len); tall = capped (M .tall); counts = λ c k. capped (M .counts c k); deeps = λ c k. capped (M .deeps c k) }

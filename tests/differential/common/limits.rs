@@ -127,12 +127,14 @@ pub fn levels() -> Vec<Vec<u8>> {
             }
         }
     }
-    // Q of a 35 deeper and deeper, and the level of Z, which is that of its step.
+    // P of a 35 deeper and deeper (the frames above have its K and its Q), and a 35 whose K is that deep.
     for depth in 30..=33 {
         texts.push([[0x35, 0x21, 0x01, 0x01].repeat(depth), vec![0x30; 2 * depth + 1]].concat());
         texts.push([vec![0x35], vec![0x27; depth], vec![0x23, 0x00, 0x01, 0x30, 0x30, 0x30]].concat());
     }
+    // Forty steps one behind the other: Z is on the level of its step.
     texts.push([[0x31, 0x00, 0x01].repeat(40), vec![0x30]].concat());
+    // A rule that ends where level 33 would begin.
     texts.push([vec![0x23, 0x01], vec![0x05; 31]].concat());
     texts
 }

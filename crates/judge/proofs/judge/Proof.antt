@@ -1,4 +1,4 @@
--- `judge::judge` meets its contract: a walk of its MIR, by hand. `decide`, `part_of` and `joined` are called one after the other, and each one's result goes on whole.
+-- `judge::judge` meets its contract: a walk of its MIR, by hand. `decide`, `part_of` and `with_part` are called one after the other, and each one's result goes on whole.
 -- The two slices are Copy: what each owns is had as often as it is passed, and one of each is kept for the exit. A verdict is plain, so what it owns is made anew of its facts.
 --
 use mathlib.Core.Path.{_≡_, refl, sym, ap, _∙_, subst}
@@ -54,10 +54,10 @@ use Rattle.judge.proofs.part_of as rule
 use Rattle.judge.proofs.part_of.Symbol as rule-def
 use Rattle.judge.proofs.part_of.Symbol.{name as #judge·part-of}
 use Rattle.judge.proofs.part_of.Met as rule-thm
-use Rattle.judge.proofs.joined as joined
-use Rattle.judge.proofs.joined.Symbol as joined-def
-use Rattle.judge.proofs.joined.Symbol.{name as #judge·joined}
-use Rattle.judge.proofs.joined.Met as joined-thm
+use Rattle.judge.proofs.with_part as with-part
+use Rattle.judge.proofs.with_part.Symbol as with-part-def
+use Rattle.judge.proofs.with_part.Symbol.{name as #judge·with-part}
+use Rattle.judge.proofs.with_part.Met as with-part-thm
 use Rattle.judge.proofs.judge.Key.{name as #judge·judge}
 use Rattle.judge.proofs.judge as judge
 use Rattle.judge.proofs.judge.Statement as stated
@@ -74,8 +74,8 @@ module _ {M : Type 1} (𝓤 : URA M) (H : Heap 𝓤) (A : Atoms 𝓤) (mem : Mem
   abbrev RuleOf : Contract 𝓤
   RuleOf = tripleOf 𝓤 H A rule.signature (rule.spec 𝓤 H A mem run)
 
-  abbrev Joined : Contract 𝓤
-  Joined = tripleOf 𝓤 H A joined.signature (joined.spec 𝓤 H A mem run)
+  abbrev WithPart : Contract 𝓤
+  WithPart = tripleOf 𝓤 H A with-part.signature (with-part.spec 𝓤 H A mem run)
 
 module _ {M : Type 1} (𝓤 : URA M) (H : Heap 𝓤) (A : Atoms 𝓤) (W : Given 𝓤 H A) (mem : Memory → SProp 𝓤) (run : Routine → Fun 𝓤) (κ κ′ : Lft) (q q′ : Share) (s b : RefT (List ℕ)) where
   abbrev κs : Lfts 2
@@ -149,15 +149,15 @@ module _ {M : Type 1} (𝓤 : URA M) (H : Heap 𝓤) (A : Atoms 𝓤) (W : Given
   rule-said : (r : Verdict) (x : RefT (List ℕ)) → ent 𝓤 (ensured 𝓤 H A rule.ended (rule.clauses 𝓤 H A mem run) (κ′, tt) (b, (r, tt)) tt x) (fact 𝓤 (PartOf b (partNamed r) x))
   rule-said r x = exE 𝓤 _ (λ ws. snd∗ 𝓤 (sem 𝓤 H A (lasts rule.ended (κ′, tt) (b, (r, tt)) ws)) (fact 𝓤 (PartOf b (partNamed r) x)))
 
-  -- the call of `joined`, at that verdict and the part x with the machine value w
-  abbrev to-joined : Verdict → Val → RefT (List ℕ) → Val → Joined 𝓤 H A mem run .Ghost
-  to-joined r u x w = (((κ′, tt), (q′, tt), tt, (r, (x, tt)), (u ∷ [], (w ∷ [], tt))), tt)
+  -- the call of `with_part`, at that verdict and the part x with the machine value w
+  abbrev to-with-part : Verdict → Val → RefT (List ℕ) → Val → WithPart 𝓤 H A mem run .Ghost
+  to-with-part r u x w = (((κ′, tt), (q′, tt), tt, (r, (x, tt)), (u ∷ [], (w ∷ [], tt))), tt)
 
-  goes-joined : (r : Verdict) (u : Val) (x : RefT (List ℕ)) (w : Val) → ent 𝓤 (⋆ 𝓤 H A (‵ (Ver.the-row .own r (u ∷ [])) ∷ ‵ (ShrSlice (named 0) κ′ u8 .own x (w ∷ [])) ∷ (‵ (flft κ′ q′) ⊛ ‵ ftrue) ∷ [])) (Joined 𝓤 H A mem run .pre (to-joined r u x w))
-  goes-joined r u x w = qed W (‵ (Ver.the-row .own r (u ∷ [])) ∷ ‵ (ShrSlice (named 0) κ′ u8 .own x (w ∷ [])) ∷ (‵ (flft κ′ q′) ⊛ ‵ ftrue) ∷ []) ∵ nothing ! $ move ! (2 ∷ 0 ∷ []) $ fjoin ! $ move ! (1 ∷ 0 ∷ []) $ fjoin ! $ move ! (1 ∷ 0 ∷ []) $ join ! $ frame ! $ done !
+  goes-with-part : (r : Verdict) (u : Val) (x : RefT (List ℕ)) (w : Val) → ent 𝓤 (⋆ 𝓤 H A (‵ (Ver.the-row .own r (u ∷ [])) ∷ ‵ (ShrSlice (named 0) κ′ u8 .own x (w ∷ [])) ∷ (‵ (flft κ′ q′) ⊛ ‵ ftrue) ∷ [])) (WithPart 𝓤 H A mem run .pre (to-with-part r u x w))
+  goes-with-part r u x w = qed W (‵ (Ver.the-row .own r (u ∷ [])) ∷ ‵ (ShrSlice (named 0) κ′ u8 .own x (w ∷ [])) ∷ (‵ (flft κ′ q′) ⊛ ‵ ftrue) ∷ []) ∵ nothing ! $ move ! (2 ∷ 0 ∷ []) $ fjoin ! $ move ! (1 ∷ 0 ∷ []) $ fjoin ! $ move ! (1 ∷ 0 ∷ []) $ join ! $ frame ! $ done !
 
-  joined-said : (r : Verdict) (x : RefT (List ℕ)) (j : Judged) → ent 𝓤 (ensured 𝓤 H A joined.ended (joined.clauses 𝓤 H A mem run) (κ′, tt) (r, (x, tt)) tt j) (fact 𝓤 ((j .answer ≡ r .answer) × (j .rule ≡ x)))
-  joined-said r x j = exE 𝓤 _ (λ ws. snd∗ 𝓤 (sem 𝓤 H A (lasts joined.ended (κ′, tt) (r, (x, tt)) ws)) (fact 𝓤 ((j .answer ≡ r .answer) × (j .rule ≡ x))))
+  with-part-said : (r : Verdict) (x : RefT (List ℕ)) (j : Judged) → ent 𝓤 (ensured 𝓤 H A with-part.ended (with-part.clauses 𝓤 H A mem run) (κ′, tt) (r, (x, tt)) tt j) (fact 𝓤 ((j .answer ≡ r .answer) × (j .rule ≡ x)))
+  with-part-said r x j = exE 𝓤 _ (λ ws. snd∗ 𝓤 (sem 𝓤 H A (lasts with-part.ended (κ′, tt) (r, (x, tt)) ws)) (fact 𝓤 ((j .answer ≡ r .answer) × (j .rule ≡ x))))
 
   exits : (j : Judged) (u : Val) → (asked (j .answer) ≡ askJudge (now s) (now b)) × PartOf b (judgedPart (now s) (now b)) (j .rule) → ent 𝓤 (⋆ 𝓤 H A (‵ (J .own j (u ∷ [])) ∷ (‵ (flft κ′ q′) ⊛ ‵ ftrue) ∷ ‵ (flft κ q) ∷ ‵ All ∷ [])) (Post u)
   exits j u e =
@@ -165,7 +165,7 @@ module _ {M : Type 1} (𝓤 : URA M) (H : Heap 𝓤) (A : Atoms 𝓤) (W : Given
       suffices ! _ (ends-at 𝓤 H A judge.ended stayed (judge.clauses 𝓤 H A mem run) W ((κs, (q, (q′, tt)), tt, (s, (b, tt)), at), tt) u j (tt, (tt, tt)) (tt, (tt, tt))) $ says ! e $
       move ! (2 ∷ 1 ∷ []) $ join ! $ frame ! $ move ! (1 ∷ []) $ frame ! $ done !
 
-  module _ (C : Calls 𝓤 H) (Λ : Loops 𝓤 H) (fm : FmC 𝓤 H (W .laws) C) (known-decide : Triple 𝓤 (C #judge·decide) (Decide 𝓤 H A mem run)) (known-rule : Triple 𝓤 (C #judge·part-of) (RuleOf 𝓤 H A mem run)) (known-joined : Triple 𝓤 (C #judge·joined) (Joined 𝓤 H A mem run)) where
+  module _ (C : Calls 𝓤 H) (Λ : Loops 𝓤 H) (fm : FmC 𝓤 H (W .laws) C) (known-decide : Triple 𝓤 (C #judge·decide) (Decide 𝓤 H A mem run)) (known-rule : Triple 𝓤 (C #judge·part-of) (RuleOf 𝓤 H A mem run)) (known-with-part : Triple 𝓤 (C #judge·with-part) (WithPart 𝓤 H A mem run)) where
     walk : Is (ShrSlice (named 0) κ u8) s (vs ∷ []) → Is (ShrSlice (named 1) κ′ u8) b (vb ∷ []) → ent 𝓤 (onEntry 𝓤 H A judge.signature κs (q, (q′, tt)) (s, (b, tt)) at) (WpFn 𝓤 H C Λ code.function (vs ∷ vb ∷ []) Post)
     walk ps pb =
         qed W (raw (onEntry 𝓤 H A judge.signature κs (q, (q′, tt)) (s, (b, tt)) at) ∷ []) ∵ enter ! C Λ code.function (vs ∷ vb ∷ []) _ $
@@ -180,18 +180,18 @@ module _ {M : Type 1} (𝓤 : URA M) (H : Heap 𝓤) (A : Atoms 𝓤) (W : Given
         peeks ! Ver.the-row (Is Ver.the-row) (shows 𝓤 H A Ver.the-row) r (u ∷ []) (λ is.
         land ! (from ! (stop !)) (init ! 6 refl (LL.lawful Ver.the-type Ver′.the-laws 𝓤 H A W .typed r _ is .0)) $
         move ! (1 ∷ []) $ split ! $ move ! (1 ∷ 2 ∷ 4 ∷ []) $ use3 W (raw (RuleOf 𝓤 H A mem run .pre (to-rule r u))) (goes-rule r u (found-inside r e)) $
-        -- [what rule_of asks; the sheet's token; both; room for _4; …; _3; …; _2; …]
+        -- [what part_of asks; the sheet's token; both; room for _4; …; _3; …; _2; …]
         calls-at ! fm (RuleOf 𝓤 H A mem run) known-rule (to-rule r u) (and-then ! (load ! (from ! (stop !)) (look ! 7 refl)) (and-then ! (load ! (from ! (stop !)) (look ! 5 refl)) (no-more !))) (λ w.
         use1 W (later (some (λ (x : RefT (List ℕ)). ((‵ (flft κ′ q′) ⊛ ‵ ftrue) ⊛ ‵ (ShrSlice (named 0) κ′ u8 .own x (w ∷ []))) ⊛ raw (ensured 𝓤 H A rule.ended (rule.clauses 𝓤 H A mem run) (κ′, tt) (b, (r, tt)) tt x)))) (id⊢ 𝓤 _) $ await ! tt $ pick ! (λ x.
         split ! $ move ! (1 ∷ []) $ use1 W (raw (fact 𝓤 (PartOf b (partNamed r) x))) (rule-said r x) $ heard ! (PartOf b (partNamed r) x) (λ e₂. split ! $ move ! (1 ∷ []) $
         -- [the part; the book's token; the sheet's token; both; room for _4; …]
         peeks ! (ShrSlice (named 0) κ′ u8) (Is (ShrSlice (named 0) κ′ u8)) (shows 𝓤 H A (ShrSlice (named 0) κ′ u8)) x (w ∷ []) (λ is₂.
         land ! (from ! (stop !)) (init ! 4 refl (shr-slice-lawful 𝓤 H A W erased κ′ u8 .typed x (w ∷ []) is₂ .0)) $
-        owned ! Ver.the-row (Is Ver.the-row) (LL.makes Ver.the-type Ver′.the-plain 𝓤 H A) r (u ∷ []) is $ use3 W (raw (Joined 𝓤 H A mem run .pre (to-joined r u x w))) (goes-joined r u x w) $
-        -- [what joined asks; the sheet's token; both; _4; …; _3; …]
-        calls-at ! fm (Joined 𝓤 H A mem run) known-joined (to-joined r u x w) (and-then ! (load ! (from ! (stop !)) (look ! 5 refl)) (and-then ! (load ! (from ! (stop !)) (look ! 3 refl)) (no-more !))) (λ y.
-        use1 W (later (some (λ (j : Judged). ((‵ (flft κ′ q′) ⊛ ‵ ftrue) ⊛ ‵ (J .own j (y ∷ []))) ⊛ raw (ensured 𝓤 H A joined.ended (joined.clauses 𝓤 H A mem run) (κ′, tt) (r, (x, tt)) tt j)))) (id⊢ 𝓤 _) $ await ! tt $ pick ! (λ j.
-        split ! $ move ! (1 ∷ []) $ use1 W (raw (fact 𝓤 ((j .answer ≡ r .answer) × (j .rule ≡ x)))) (joined-said r x j) $ heard ! ((j .answer ≡ r .answer) × (j .rule ≡ x)) (λ e₃. split ! $ move ! (1 ∷ []) $
+        owned ! Ver.the-row (Is Ver.the-row) (LL.makes Ver.the-type Ver′.the-plain 𝓤 H A) r (u ∷ []) is $ use3 W (raw (WithPart 𝓤 H A mem run .pre (to-with-part r u x w))) (goes-with-part r u x w) $
+        -- [what with_part asks; the sheet's token; both; _4; …; _3; …]
+        calls-at ! fm (WithPart 𝓤 H A mem run) known-with-part (to-with-part r u x w) (and-then ! (load ! (from ! (stop !)) (look ! 5 refl)) (and-then ! (load ! (from ! (stop !)) (look ! 3 refl)) (no-more !))) (λ y.
+        use1 W (later (some (λ (j : Judged). ((‵ (flft κ′ q′) ⊛ ‵ ftrue) ⊛ ‵ (J .own j (y ∷ []))) ⊛ raw (ensured 𝓤 H A with-part.ended (with-part.clauses 𝓤 H A mem run) (κ′, tt) (r, (x, tt)) tt j)))) (id⊢ 𝓤 _) $ await ! tt $ pick ! (λ j.
+        split ! $ move ! (1 ∷ []) $ use1 W (raw (fact 𝓤 ((j .answer ≡ r .answer) × (j .rule ≡ x)))) (with-part-said r x j) $ heard ! ((j .answer ≡ r .answer) × (j .rule ≡ x)) (λ e₃. split ! $ move ! (1 ∷ []) $
         -- [the result; the book's token; the sheet's token; both; _4; …; _3; …; _2; …; _1; …; room for _0; …]
         peeks ! J (Is J) (shows 𝓤 H A J) j (y ∷ []) (λ is₃.
         land ! (from ! (stop !)) (init ! 12 refl (LL.lawful (T.the-type α) (T′.the-laws α) 𝓤 H A W .typed j _ is₃ .0)) $
@@ -200,13 +200,13 @@ module _ {M : Type 1} (𝓤 : URA M) (H : Heap 𝓤) (A : Atoms 𝓤) (W : Given
         by ! (exits j y (ap asked (e₃ .0) ∙ e .0, found-part r x j e e₂ (e₃ .1))))))))))))))))))))
 
 module _ {M : Type 1} (𝓤 : URA M) (H : Heap 𝓤) (A : Atoms 𝓤) (W : Given 𝓤 H A) (mem : Memory → SProp 𝓤) (run : Routine → Fun 𝓤) where
-  walks : (C : Calls 𝓤 H) (Λ : Loops 𝓤 H) → FmC 𝓤 H (W .laws) C → Triple 𝓤 (C #judge·decide) (Decide 𝓤 H A mem run) → Triple 𝓤 (C #judge·part-of) (RuleOf 𝓤 H A mem run) → Triple 𝓤 (C #judge·joined) (Joined 𝓤 H A mem run)
+  walks : (C : Calls 𝓤 H) (Λ : Loops 𝓤 H) → FmC 𝓤 H (W .laws) C → Triple 𝓤 (C #judge·decide) (Decide 𝓤 H A mem run) → Triple 𝓤 (C #judge·part-of) (RuleOf 𝓤 H A mem run) → Triple 𝓤 (C #judge·with-part) (WithPart 𝓤 H A mem run)
       → Walks 𝓤 H A judge.ended stayed (WpFn 𝓤 H C Λ code.function) (judge.clauses 𝓤 H A mem run)
   walks C Λ fm kd kr kj = walked 𝓤 H A judge.ended stayed (judge.clauses 𝓤 H A mem run) (WpFn 𝓤 H C Λ code.function) (λ κs. (slice-vals, (slice-vals, tt))) (λ κs. (shr-slice-tells (named 0) (κs .0) u8, (shr-slice-tells (named 1) (κs .1 .0) u8, tt)))
       (λ κs qs bounds a g are. via 𝓤 _ (fst∗ 𝓤 _ (emp 𝓤)) (walk 𝓤 H A W mem run (κs .0) (κs .1 .0) (qs .0) (qs .1 .0) (a .0) (a .1 .0) C Λ fm kd kr kj (are .0) (are .1 .0)))
 
 meets : {M : Type 1} (𝓤 : URA M) (H : Heap 𝓤) (A : Atoms 𝓤) (W : Given 𝓤 H A) (mem : Memory → SProp 𝓤) (run : Routine → Fun 𝓤) (𝓣 : Tables 𝓤 H)
-    → Triple 𝓤 (𝓣 .C #judge·decide) (Decide 𝓤 H A mem run) → Triple 𝓤 (𝓣 .C #judge·part-of) (RuleOf 𝓤 H A mem run) → Triple 𝓤 (𝓣 .C #judge·joined) (Joined 𝓤 H A mem run)
+    → Triple 𝓤 (𝓣 .C #judge·decide) (Decide 𝓤 H A mem run) → Triple 𝓤 (𝓣 .C #judge·part-of) (RuleOf 𝓤 H A mem run) → Triple 𝓤 (𝓣 .C #judge·with-part) (WithPart 𝓤 H A mem run)
     → Meets 𝓤 H A judge.signature (WpFn 𝓤 H (𝓣 .C) (𝓣 .Λ) code.function) (judge.spec 𝓤 H A mem run)
 meets 𝓤 H A W mem run 𝓣 kd kr kj = walk-meets 𝓤 H A judge.ended stayed W (goes-none-slice 𝓤 H A W 2 (0 ∷ []) tt (plain (λ _. u8)) yes, (goes-none-slice 𝓤 H A W 2 (1 ∷ []) tt (plain (λ _. u8)) yes, tt)) (judge.clauses 𝓤 H A mem run) (WpFn 𝓤 H (𝓣 .C) (𝓣 .Λ) code.function) (WpFn-mono 𝓤 H (W .laws) 𝓣 code.function)
     (walks 𝓤 H A W mem run (𝓣 .C) (𝓣 .Λ) (fmOf 𝓤 H (W .laws) 𝓣) kd kr kj)
@@ -219,4 +219,4 @@ judge-spec 𝓤 H 𝓜 𝓖 𝓡 =
     (meets 𝓤 H (𝓖 .A) (givenOf 𝓤 H 𝓜 𝓖) (𝓜 .mem) (𝓡 .run) (tablesOf 𝓤 H 𝓜 (tables 𝓤 H 𝓜 𝓡 code.env))
     (cited 𝓤 H (Decide 𝓤 H (𝓖 .A) (𝓜 .mem) (𝓡 .run)) 𝓜 𝓡 code.env #judge·decide decide-def.routine code.calls-judge·decide (decide-thm.met 𝓤 H 𝓜 𝓖 𝓡))
     (cited 𝓤 H (RuleOf 𝓤 H (𝓖 .A) (𝓜 .mem) (𝓡 .run)) 𝓜 𝓡 code.env #judge·part-of rule-def.routine code.calls-judge·part-of (rule-thm.met 𝓤 H 𝓜 𝓖 𝓡))
-    (cited 𝓤 H (Joined 𝓤 H (𝓖 .A) (𝓜 .mem) (𝓡 .run)) 𝓜 𝓡 code.env #judge·joined joined-def.routine code.calls-judge·joined (joined-thm.met 𝓤 H 𝓜 𝓖 𝓡)))
+    (cited 𝓤 H (WithPart 𝓤 H (𝓖 .A) (𝓜 .mem) (𝓡 .run)) 𝓜 𝓡 code.env #judge·with-part with-part-def.routine code.calls-judge·with-part (with-part-thm.met 𝓤 H 𝓜 𝓖 𝓡)))

@@ -11,7 +11,7 @@ returns : tie.Need-returns
 returns c =
     let a = c .before .before .args in
     let e : a .v .start + a .v .size - a .v .start ≡ a .v .size = omega arith in
-    record { block = search needs; place = search needs; bytes = ap (λ (k : ℕ). take k (drop (a .v .start) (now (a .book)))) e }
+    record { memory = search needs; starts = search needs; contents = ap (λ (k : ℕ). take k (drop (a .v .start) (now (a .book)))) e }
 
 pub part-of-spec : {M : Type 1} → statement M
 part-of-spec = tie.close (tie.spec (λ c. search needs) (λ c. search needs) (λ c. search needs) (λ c. search needs) returns)

@@ -1,7 +1,8 @@
 use mathlib.Core.Path.{sym, _∙_}
 use borrow.Author.Needs.{needs}
 use borrow.Author.Tests.{not-true, not-false}
-use Rattle.sheet.proofs.Asks.{ask-2, ask-3, ask-4, ask-none}
+use Rattle.sheet.proofs.Asks.{ask-2, ask-3, ask-4}
+use Rattle.sheet.proofs.Passes.{block-right}
 use Rattle.sheet.proofs.block.ask_block.Statement.{statement}
 use Rattle.sheet.proofs.block.ask_block.Tie as tie
 
@@ -26,7 +27,7 @@ returns-3 c =
 returns-4 : tie.Need-returns-4
 returns-4 c =
     let st = c .before .before .before .before .before .before .before in
-    sym (ask-none (st .args .n) (st .args .b) (st .args .block .now) (sym (c .before .before .before .before .before .seal-right .ensures) ∙ not-false _ (c .before .before .before .before .if1 .left)) (sym (c .before .before .before .head-right .ensures) ∙ not-false _ (c .before .before .if2 .left)) (sym (c .before .zero-right .ensures) ∙ not-false _ (c .if3 .left)))
+    sym (block-right (st .args .n) (st .args .b) (st .args .block .now) (sym (c .before .before .before .before .before .seal-right .ensures) ∙ not-false _ (c .before .before .before .before .if1 .left)) (sym (c .before .before .before .head-right .ensures) ∙ not-false _ (c .before .before .if2 .left)) (sym (c .before .zero-right .ensures) ∙ not-false _ (c .if3 .left)))
 
 pub ask-block-spec : {M : Type 1} → statement M
 ask-block-spec =

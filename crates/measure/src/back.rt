@@ -1,0 +1,128 @@
+// The walk back over the edit.
+ghost use mathlib.Core.Path.{_≡_};
+ghost use mathlib.Core.Bool.{cond};
+ghost use Prim.Native.Nat.{ℕ, _≤_};
+ghost use lib.Dec.{eqb};
+ghost use lib.ListN.{length, getD};
+ghost use Rattle.logic.specs.Syntax.{Edit};
+ghost use Rattle.tree.specs.Tree.{Tree, under};
+ghost use Rattle.tree.specs.Sizes.{capped};
+ghost use Rattle.ends.specs.Shapes.{At, Some};
+ghost use Rattle.ends.specs.Edits.{EditAt, SomeEdit};
+ghost use Rattle.ends.specs.Kept.{Kept};
+ghost use Rattle.measure.specs.Edits.{EditRoom, StepRoom, Held, StepMeasured, Prefixed, Backed, Pushed, Joined};
+use super::keep;
+use super::numbers;
+use super::scan;
+
+// How many codes a step puts above its expression: 32 puts 06 and 05.
+fn extra(op: u8) -> usize
+    ensures { λ r. ⌜ r ≡ cond (eqb op 0x32) 2 1 ⌝ }
+{
+    if op == 0x32 { 2 } else { 1 }
+}
+
+// The level of a step's expression, `d` being one below the name's.
+fn lower(op: u8, d: usize) -> usize
+    ensures { λ r. ⌜ r ≡ cond (eqb op 0x32) (capped (under d 2)) d ⌝ }
+{
+    if op == 0x32 { numbers::deeper(d) } else { d }
+}
+
+// Back over one step 31 to 34.
+// Inner: the text was read before.
+fn step_back(text: &[u8], at: usize, state: &mut [usize])
+    requires { ⌜ SomeEdit (now text) at × Held (now state) × (length (now text) ≤ 4096) × (getD (now text) at 0 ≡ 0x30 → ⊥) × (getD (now text) at 0 ≡ 0x35 → ⊥) ⌝ }
+    ensures { λ r. ⌜ ((Z : Edit) → EditAt (now (text .entry)) at Z → (rules : ℕ) → StepMeasured rules Z (now (state .entry)) (now (state .exit))) ⌝ }
+{
+    let op = text[at];
+    let i = ends::cell_of(ends::name_code(op), text[at + 1]);
+    let w = state[i];
+    let d = numbers::deeper(state[64 + i]);
+    state[64 + i] = d;
+    let next = scan::scan(text, at + 2, w, lower(op, d), state);
+    state[128] = numbers::sum(state[128], w * (extra(op) + (next - (at + 2))));
+}
+
+// The places of an edit's steps, put on a stack; answers its new top. A step takes a byte at least, so a stack as long as the text suffices.
+// Inner: the text was read before.
+fn push(text: &[u8], at: usize, stack: &mut [u16], top: usize) -> usize
+    requires { ⌜ SomeEdit (now text) at × (top ≤ at) × (length (now text) ≤ length (now stack)) × (length (now text) ≤ 4096) ⌝ }
+    ensures { λ r. ⌜ ((Z : Edit) → EditAt (now (text .entry)) at Z → Pushed (now (text .entry)) at Z (now (stack .exit)) top r) × Kept top (now (stack .entry)) (now (stack .exit)) ⌝ }
+{
+    let mut p = at;
+    let mut n = top;
+    while text[p] != 0x30 {
+        stack[n] = p as u16;
+        n += 1;
+        p = ends::next_step(text, p);
+    }
+    n
+}
+
+// The two ways of a 35 together, with its rule at `at`, which stands twice for each rule of the book: 25 26 27 K T 26 K U.
+// Inner: the text was read before.
+fn join_ways(text: &[u8], at: usize, rules: usize, t: &[usize], state: &mut [usize])
+    requires { ⌜ Some (now text) at × (length (now text) ≤ 4096) × (rules ≤ 32) × (length (now t) ≡ 130) × (length (now state) ≡ 130) ⌝ }
+    ensures { λ r. ⌜ ((K : Tree) → At (now (text .entry)) at K → Joined rules K (now (t .entry)) (now (state .entry)) (now (state .exit))) ⌝ }
+{
+    numbers::merge(t, state);
+    let next = scan::scan(text, at, 2 * rules, 4, state);
+    state[128] = numbers::sum(state[128], rules * (4 + 2 * (next - at)));
+}
+
+// Back over one step: the numbers in `state`, and the step in front of what stands at `pos` unless it is idle.
+// Inner: the edit was read before. The two ways of a 35 are written last way first.
+fn one_back(
+    text: &[u8],
+    at: usize,
+    rules: usize,
+    stack: &mut [u16],
+    top: usize,
+    state: &mut [usize],
+    out: &mut [u8],
+    pos: usize,
+) -> usize
+    requires { ⌜ StepRoom (now text) at pos × (getD (now text) at 0 ≡ 0x30 → ⊥) × (top ≤ at) × (length (now text) ≤ length (now stack)) × (length (now text) ≤ 4096) × (rules ≤ 32) × Held (now state) × (pos ≤ length (now out)) ⌝ }
+    ensures { λ r. ⌜ ((Z : Edit) → EditAt (now (text .entry)) at Z → StepMeasured rules Z (now (state .entry)) (now (state .exit)) × Prefixed rules Z (now (state .entry)) (now (out .entry)) pos (now (out .exit)) r) × Kept top (now (stack .entry)) (now (stack .exit)) ⌝ }
+{
+    let c = text[at];
+    if c != 0x35 {
+        let start = keep::keep_step(text, at, state, out, pos);
+        step_back(text, at, state);
+        return start;
+    }
+    let first = ends::past(text, at + 1);
+    let second = ends::end_of(text, first);
+    let mut other = [0usize; 130];
+    numbers::copy(state, &mut other);
+    let q = back(text, second, rules, stack, top, state, out, pos);
+    let p = back(text, first, rules, stack, top, &mut other, out, q);
+    join_ways(text, at + 1, rules, &other, state);
+    keep::put_before(text, at, first, out, p)
+}
+
+// Back over an edit: the numbers in `state`, and the edit without its idle steps in front of what stands at `pos`.
+// Inner: the edit was read before.
+pub fn back(
+    text: &[u8],
+    at: usize,
+    rules: usize,
+    stack: &mut [u16],
+    top: usize,
+    state: &mut [usize],
+    out: &mut [u8],
+    pos: usize,
+) -> usize
+    requires { ⌜ EditRoom (now text) at pos × (top ≤ at) × (length (now text) ≤ length (now stack)) × (length (now text) ≤ 4096) × (rules ≤ 32) × Held (now state) × (pos ≤ length (now out)) ⌝ }
+    ensures { λ r. ⌜ ((Z : Edit) → EditAt (now (text .entry)) at Z → Backed rules Z (now (state .entry)) (now (out .entry)) pos (now (state .exit)) (now (out .exit)) r) × Kept top (now (stack .entry)) (now (stack .exit)) ⌝ }
+{
+    let mut n = push(text, at, stack, top);
+    let mut start = keep::end_before(out, pos);
+    while n > top {
+        n -= 1;
+        let p = stack[n] as usize;
+        start = one_back(text, p, rules, stack, n, state, out, start);
+    }
+    start
+}
