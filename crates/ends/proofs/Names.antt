@@ -1,12 +1,11 @@
 -- The cells of names: 64 of them, and different names have different ones.
-use mathlib.Core.Path.{_≡_, refl, sym, ap, ap₂, _∙_}
-use mathlib.Core.Bool.{Bool, true, false, cond, _&&_}
+use mathlib.Core.Path.{_≡_, sym, ap, ap₂, _∙_}
+use mathlib.Core.Bool.{Bool, true, false, cond}
 use mathlib.Core.Logic.{⊎-elim}
 use Prim.Native.Nat.{ℕ, _<_}
 use native.Mathlib.Omega.{arith}
-use borrow.Author.Tests.{eq-eqb}
 use Rattle.tree.specs.Tree.{same}
-use Rattle.tree.proofs.Measured.{same-eq}
+use Rattle.tree.proofs.Measured.{same-eq, same-self}
 use Rattle.ends.specs.Shapes.{Named, cell}
 
 pub named-lt : (c k : ℕ) → Named c k → cell c k < 64
@@ -19,14 +18,11 @@ cell-inj c k c′ k′ n m e = ⊎-elim
     (λ (p : (c ≡ 0x11) × (k < 16)). ⊎-elim (λ (q : (c′ ≡ 0x03) × (k′ < 48)). absurd (omega (arith, p .0, p .1, q .0, q .1, e))) (λ (q : (c′ ≡ 0x11) × (k′ < 16)). (omega (arith, p .0, q .0), omega (arith, p .0, q .0, e))) m)
     n
 
-same-refl : (c k : ℕ) → same c k c k ≡ true
-same-refl c k = ap₂ _&&_ (eq-eqb c c refl) (eq-eqb k k refl)
-
 false-true : {b : Bool} → b ≡ false → b ≡ true → ⊥
 false-true e f = let z : _≡_ {A = ℕ} 0 1 = ap {B = ℕ} (λ (x : Bool). cond x 1 0) (sym e ∙ f) in omega (arith, z)
 
 pub apart : (c k c′ k′ : ℕ) → Named c k → Named c′ k′ → same c k c′ k′ ≡ false → cell c k ≡ cell c′ k′ → ⊥
-apart c k c′ k′ n m e q = let p = cell-inj c k c′ k′ n m q in false-true e (ap₂ (λ (u v : ℕ). same c k u v) (sym (p .0)) (sym (p .1)) ∙ same-refl c k)
+apart c k c′ k′ n m e q = let p = cell-inj c k c′ k′ n m q in false-true e (ap₂ (λ (u v : ℕ). same c k u v) (sym (p .0)) (sym (p .1)) ∙ same-self c k)
 
 pub alike : (c k c′ k′ : ℕ) → same c k c′ k′ ≡ true → cell c′ k′ ≡ cell c k
 alike c k c′ k′ e = let p = same-eq c k c′ k′ e in ap₂ cell (sym (p .0)) (sym (p .1))

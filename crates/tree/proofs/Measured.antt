@@ -1,6 +1,6 @@
 -- Measuring backward gives the measure of the carried rule.
 use mathlib.Core.Path.{_≡_, refl, sym, _∙_, ap, ap₂}
-use mathlib.Core.Bool.{Bool, true, false, cond, _&&_}
+use mathlib.Core.Bool.{Bool, true, false, cond, _&&_, and-eq-true-iff}
 use mathlib.Core.List.{[], _∷_}
 use Prim.Native.Nat.{ℕ, zero, suc, _+_, _*_, max, _≤_, _<_}
 use native.Mathlib.Omega.{arith}
@@ -61,18 +61,13 @@ height-pos (leaf h) = omega arith
 height-pos (one h x) = omega arith
 height-pos (two h x y) = omega arith
 
-and-both : (a b : Bool) → (a && b) ≡ true → (a ≡ true) × (b ≡ true)
-and-both true true e = (refl, refl)
-and-both true false e = (refl, e)
-and-both false b e = (e, absurd (let z : _≡_ {A = ℕ} 0 1 = ap (λ (x : Bool). cond x 1 0) e in omega (arith, z)))
-
 eqb-sym : (a b : ℕ) → eqb a b ≡ true → eqb b a ≡ true
 eqb-sym a b e = eq-eqb b a (sym (eqb-true a b e))
 
 pub same-eq : (c k c′ k′ : ℕ) → same c k c′ k′ ≡ true → (c ≡ c′) × (k ≡ k′)
-same-eq c k c′ k′ e = let p = and-both (eqb c c′) (eqb k k′) e in (eqb-true _ _ (p .0), eqb-true _ _ (p .1))
+same-eq c k c′ k′ e = let p = and-eq-true-iff (eqb c c′) (eqb k k′) .0 e in (eqb-true _ _ (p .0), eqb-true _ _ (p .1))
 
-same-self : (c k : ℕ) → same c k c k ≡ true
+pub same-self : (c k : ℕ) → same c k c k ≡ true
 same-self c k = ap₂ _&&_ (eq-eqb c c refl) (eq-eqb k k refl)
 
 -- where the second name is the third, or the first is

@@ -1,17 +1,16 @@
 -- The last step of a name, by the links of the steps on the stack.
 use mathlib.Core.Path.{_≡_, refl, sym, ap, ap₂, _∙_, subst}
-use mathlib.Core.Bool.{Bool, true, false, cond, _&&_}
+use mathlib.Core.Bool.{Bool, true, false, cond}
 use mathlib.Core.List.{List, [], _∷_}
 use Prim.Native.Nat.{ℕ, zero, suc, _+_, _-_, _<_, _≤_}
 use native.Mathlib.Omega.{arith}
 use native.Mathlib.Decide.{decLt}
 use native.Mathlib.Numerals.{add-one}
-use lib.Dec.{eqb}
 use lib.ListN.{length, getD, set, replicate, getD-replicate}
 use lib.Seq.{getD-set-same, getD-set-other}
-use borrow.Author.Tests.{eqb-true}
 use Rattle.tree.specs.Tree.{name, graft, same}
 use Rattle.tree.specs.Stack.{Step, env, becomes, touched}
+use Rattle.tree.proofs.Measured.{same-eq}
 use Rattle.tree.proofs.Written.{env-hit, env-miss}
 use Rattle.ends.specs.Shapes.{Named, cell}
 use Rattle.ends.specs.Kept.{Kept}
@@ -21,10 +20,6 @@ use Rattle.ends.proofs.Kept.{kept-set, kept-more}
 use Rattle.write.specs.Offsets.{StepAt, StackIs}
 use Rattle.write.specs.Work.{workLength, lastOf, stackOf, linksOf, behindOf}
 use Rattle.write.specs.Links.{codeAt, numberAt, lastIn, Linked, LinkedIn, SomeLinks, linkStep, Relinked}
-
-both-true : (a b : Bool) → (a && b) ≡ true → (a ≡ true) × (b ≡ true)
-both-true true b e = (refl, e)
-both-true false b e = let z : _≡_ {A = ℕ} 0 1 = cc in absurd (omega arith)
 
 module _ (edit stack : List ℕ) where
   abbrev hits : ℕ → ℕ → ℕ → Bool
@@ -109,8 +104,8 @@ older-is {edit} {stack} {links} {last} {h} {j} c k m w e l r =
     let f : lastIn edit stack m c k ≡ suc (j - 1) = omega (arith, e) in
     let q = last-hits edit stack m c k (j - 1) f in
     let o : ℕ = getD stack (j - 1) 0 in
-    let b = both-true (eqb c (codeAt edit o)) (eqb k (numberAt edit o)) (q .1) in
-    w .olders (j - 1) r ∙ sym (ap₂ (λ (x y : ℕ). lastIn edit stack (j - 1) x y) (eqb-true c (codeAt edit o) (b .0)) (eqb-true k (numberAt edit o) (b .1)))
+    let b = same-eq c k (codeAt edit o) (numberAt edit o) (q .1) in
+    w .olders (j - 1) r ∙ sym (ap₂ (λ (x y : ℕ). lastIn edit stack (j - 1) x y) (b .0) (b .1))
 
 -- as the work array has it
 older-at : {edit work : List ℕ} {h j : ℕ} (c k m : ℕ) (w : SomeLinks edit work h) → j ≡ lastIn edit (stackOf work) m c k → 0 < j → j - 1 < w .top → getD work (4160 + (j - 1)) 0 ≡ lastIn edit (stackOf work) (j - 1) c k
