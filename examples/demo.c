@@ -309,8 +309,8 @@ static void show_first_step(const char *name) {
 static void show_page(size_t a) {
     uint8_t page[ZAMIATHEN_PAGE_BYTES];
     zamiathen_length printed = zamiathen_print_arrow(sheet, sizeof sheet, a, page, sizeof page);
-    printf("   zamiathen_print_arrow answers %02zu %05zu: %zu bytes, from each node to each node.\n\n", printed.number, printed.place,
-           printed.length);
+    printf("   zamiathen_print_arrow answers %02zu %05zu: %zu bytes, a line for each node.\n\n", printed.number,
+           printed.place, printed.length);
     for (size_t at = 0; at < printed.length; at += ZAMIATHEN_LINE_BYTES)
         printf("      %.*s", ZAMIATHEN_LINE_BYTES, (const char *)page + at);
     memcpy(before, sheet, sizeof sheet);
@@ -321,8 +321,8 @@ static void show_page(size_t a) {
     printf(".\n");
     page[ZAMIATHEN_LINE_BYTES + 3] = '?';
     typed = zamiathen_type_page(sheet, sizeof sheet, page, printed.length);
-    printf("   With ? for the first square it answers %02zu %05zu: line %zu is none that a sheet of %zu nodes prints.\n", typed.number,
-           typed.place, typed.place, node_count);
+    printf("   With ? for the first square it answers %02zu %05zu: line %zu is none that a sheet of %zu nodes prints.\n",
+           typed.number, typed.place, typed.place, node_count);
 }
 
 int main(int count, char **words) {

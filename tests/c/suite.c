@@ -336,9 +336,10 @@ static void pages(void) {
     left("label page", labels, label_length);
     memset(scratch, FILL, room);
     measured("no such kind", zamiathen_print_arrow(sheet, whole, 16, scratch, room), ZAMIATHEN_OUT_OF_RANGE, 0, 0);
-    measured("kind of any size", zamiathen_print_arrow(sheet, whole, SIZE_MAX, scratch, room), ZAMIATHEN_OUT_OF_RANGE, 0, 0);
+    measured("no such kind", zamiathen_print_arrow(sheet, whole, SIZE_MAX, scratch, room), ZAMIATHEN_OUT_OF_RANGE, 0, 0);
     measured("short output", zamiathen_print_arrow(sheet, whole, 15, scratch, length - 1), ZAMIATHEN_ROOM, length, 0);
-    measured("short output", zamiathen_print_labels(sheet, whole, scratch, label_length - 1), ZAMIATHEN_ROOM, label_length, 0);
+    measured("short output", zamiathen_print_labels(sheet, whole, scratch, label_length - 1), ZAMIATHEN_ROOM, label_length,
+             0);
     answered("own page", zamiathen_type_page(sheet, whole, page, length), ZAMIATHEN_DONE, 0);
     answered("own label page", zamiathen_type_page(sheet, whole, labels, label_length), ZAMIATHEN_DONE, 0);
     left_alone("pages of its own");

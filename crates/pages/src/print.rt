@@ -19,7 +19,7 @@ use logic::Node;
 use sheet::Sheet;
 
 // Writes a line for each node, the row of an arrow kind, at the output's start. Inner: the sheet is sound with these n nodes, and there is room.
-fn put_rows(sheet: &[u8], n: usize, a: Arrow, out: &mut [u8])
+fn put_row_lines(sheet: &[u8], n: usize, a: Arrow, out: &mut [u8])
     requires { ⌜ Sound (now sheet) × (n ≡ graphOf (now sheet) .n) × (n ≤ maxNodes) × (a .0 < arrowCount) × (lineBytes * n ≤ length (now out)) ⌝ }
     ensures { λ _. ⌜ now (out .exit) ≡ writtenAtStart (rowLines (graphOf (now (sheet .entry))) (a .0)) (now (out .entry)) ⌝ }
 {
@@ -38,7 +38,7 @@ fn put_rows(sheet: &[u8], n: usize, a: Arrow, out: &mut [u8])
 }
 
 // A line for each label likewise.
-fn put_labels(sheet: &[u8], n: usize, out: &mut [u8])
+fn put_label_lines(sheet: &[u8], n: usize, out: &mut [u8])
     requires { ⌜ Sound (now sheet) × (n ≡ graphOf (now sheet) .n) × (n ≤ maxNodes) × (lineBytes * labelCount ≤ length (now out)) ⌝ }
     ensures { λ _. ⌜ now (out .exit) ≡ writtenAtStart (labelLines (graphOf (now (sheet .entry)))) (now (out .entry)) ⌝ }
 {
@@ -74,7 +74,7 @@ pub fn print_arrow(sheet: &[u8], arrow: usize, out: &mut [u8]) -> Written
         return Written::Refused(Refusal::OutputLength { place: size });
     }
     put_head(&mut out[0..64], b'A', arrow);
-    put_rows(sheet, n, Arrow(arrow as u8), &mut out[64..]);
+    put_row_lines(sheet, n, Arrow(arrow as u8), &mut out[64..]);
     Written::Length(size)
 }
 
@@ -93,6 +93,6 @@ pub fn print_labels(sheet: &[u8], out: &mut [u8]) -> Written
     }
     let n = Sheet::node_count(sheet);
     put_head(&mut out[0..64], b'L', n);
-    put_labels(sheet, n, &mut out[64..]);
+    put_label_lines(sheet, n, &mut out[64..]);
     Written::Length(size)
 }

@@ -44,8 +44,8 @@ returns-3 c =
     not-written (askPrintArrow (now (s .sheet)) (s .arrow) room) (now (s .out)) 33 _
     (short-arrow (now (s .sheet)) (a .result) (a .ensures) room (c .before .before .before .enum-told .given .1) (n .result) (n .ensures .0) (s .arrow) (c .before .before .if1 .left) (c .if2 .taken))
 
-put-rows-requires : tie.Need-put-rows-requires
-put-rows-requires c κs =
+put-row-lines-requires : tie.Need-put-row-lines-requires
+put-row-lines-requires c κs =
     let s = c .before .before .before .before .before .before .before .before .before .before .before .before .before .args in
     let a = c .before .before .before .before .before .before .before .before .before .before .check in
     let n = c .before .before .before .before .before .before .node-count in
@@ -73,7 +73,7 @@ returns-4 c =
     (enough-arrow (now (s .sheet)) (a .result) (a .ensures) _ (c .before .before .before .before .before .before .before .before .before .before .before .enum-told .given .1) (n .result) (n .ensures .0) (s .arrow) (c .before .before .before .before .before .before .before .before .before .before .if1 .left) room)
     (omega (arith, length-arrowPage g (s .arrow), n .ensures .0)) in (
       w .0,
-      page-put (now (s .out)) (head .last .0) whole (omega arith) (rowLines g (s .arrow)) _ (c .before .before .put-rows .ensures)
+      page-put (now (s .out)) (head .last .0) whole (omega arith) (rowLines g (s .arrow)) _ (c .before .before .put-row-lines .ensures)
           ∙ ap (λ h. writtenAtStart (h ++ rowLines g (s .arrow)) (now (s .out))) (head .ensures) ∙ w .1,
     )
 
@@ -98,6 +98,6 @@ print-arrow-spec =
     (λ c. search needs)
     (λ c. search needs)
     (λ c. search needs)
-    put-rows-requires
+    put-row-lines-requires
     (λ c. search needs)
     returns-4)

@@ -35,8 +35,8 @@ node-count-requires c κs =
     let a = c .before .before .before .check in
     done-sound _ (a .result) (a .ensures) (c .before .enum-told .given .1)
 
-put-labels-requires : tie.Need-put-labels-requires
-put-labels-requires c κs =
+put-label-lines-requires : tie.Need-put-label-lines-requires
+put-label-lines-requires c κs =
     let s = c .before .before .before .before .before .before .before .before .before .before .before .before .args in
     let a = c .before .before .before .before .before .before .before .before .before .check in
     let n = c .before .before .before .before .before .node-count in
@@ -63,7 +63,7 @@ returns-3 c =
     (enough-labels (now (s .sheet)) (a .result) (a .ensures) _ (c .before .before .before .before .before .before .before .before .before .before .enum-told .given .1) room)
     (omega (arith, length-labelPage g)) in (
       w .0,
-      page-put (now (s .out)) (head .last .0) whole (omega arith) (labelLines g) _ (c .before .before .put-labels .ensures)
+      page-put (now (s .out)) (head .last .0) whole (omega arith) (labelLines g) _ (c .before .before .put-label-lines .ensures)
           ∙ ap (λ h. writtenAtStart (h ++ labelLines g) (now (s .out))) (head .ensures ∙ ap (headLine 0x4C) (n .ensures .0)) ∙ w .1,
     )
 
@@ -86,6 +86,6 @@ print-labels-spec =
     (λ c. search needs)
     (λ c. search needs)
     (λ c. search needs)
-    put-labels-requires
+    put-label-lines-requires
     (λ c. search needs)
     returns-3)

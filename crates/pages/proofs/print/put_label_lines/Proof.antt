@@ -11,10 +11,10 @@ use Rattle.words.specs.Words.{setOf}
 use Rattle.pages.specs.Page.{setLine, rowLines, labelLines}
 use Rattle.pages.proofs.LineLaws.{setLine-word}
 use Rattle.pages.proofs.PageLaws.{Grown, grown-first, grown-length, grown-part, grown-next, grown-last}
-use Rattle.pages.proofs.print.put_labels.Statement.{statement}
-use Rattle.pages.proofs.print.put_labels.Tie as tie
-use Rattle.pages.proofs.print.put_labels.Reads as reads
-use Rattle.pages.proofs.print.put_labels.Lts as lts
+use Rattle.pages.proofs.print.put_label_lines.Statement.{statement}
+use Rattle.pages.proofs.print.put_label_lines.Tie as tie
+use Rattle.pages.proofs.print.put_label_lines.Reads as reads
+use Rattle.pages.proofs.print.put_label_lines.Lts as lts
 
 abbrev Inv-loop : tie.InvT-loop
 Inv-loop sheet n out₀ k₀ out k = (k ≤ labelCount) × Grown out₀ n (graphOf sheet .labelled) k out
@@ -38,8 +38,8 @@ returns c =
     grown-last (s .args .out .now) (s .args .n) (graphOf (now (s .args .sheet)) .labelled) labelCount (l .k) (l .out) (l .inv .0) (c .loop-test .left) (l .inv .1)
     ∙ ap (λ m. writtenAtStart (chunks labelCount 0 (λ j. setLine m j ((graphOf (now (s .args .sheet)) .labelled) j))) (s .args .out .now)) (s .pre .1)
 
-pub put-labels-spec : {M : Type 1} → statement M
-put-labels-spec =
+pub put-label-lines-spec : {M : Type 1} → statement M
+put-label-lines-spec =
     tie.close
     (tie.spec
     Inv-loop

@@ -11,10 +11,10 @@ use Rattle.words.specs.Words.{setOf}
 use Rattle.pages.specs.Page.{setLine, rowLines, labelLines}
 use Rattle.pages.proofs.LineLaws.{setLine-word}
 use Rattle.pages.proofs.PageLaws.{Grown, grown-first, grown-length, grown-part, grown-next, grown-last}
-use Rattle.pages.proofs.print.put_rows.Statement.{statement}
-use Rattle.pages.proofs.print.put_rows.Tie as tie
-use Rattle.pages.proofs.print.put_rows.Reads as reads
-use Rattle.pages.proofs.print.put_rows.Lts as lts
+use Rattle.pages.proofs.print.put_row_lines.Statement.{statement}
+use Rattle.pages.proofs.print.put_row_lines.Tie as tie
+use Rattle.pages.proofs.print.put_row_lines.Reads as reads
+use Rattle.pages.proofs.print.put_row_lines.Lts as lts
 
 abbrev Inv-loop : tie.InvT-loop
 Inv-loop sheet n a out₀ i₀ out i = (i ≤ n) × Grown out₀ n (graphOf sheet .joined (a .0)) i out
@@ -38,8 +38,8 @@ returns c =
     grown-last (s .args .out .now) (s .args .n) (graphOf (now (s .args .sheet)) .joined (s .args .a .0)) (s .args .n) (l .i) (l .out) (l .inv .0) (c .loop-test .left) (l .inv .1)
     ∙ ap (λ m. writtenAtStart (chunks m 0 (λ j. setLine m j ((graphOf (now (s .args .sheet)) .joined (s .args .a .0)) j))) (s .args .out .now)) (s .pre .1)
 
-pub put-rows-spec : {M : Type 1} → statement M
-put-rows-spec =
+pub put-row-lines-spec : {M : Type 1} → statement M
+put-row-lines-spec =
     tie.close
     (tie.spec
     Inv-loop
