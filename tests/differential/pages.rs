@@ -100,7 +100,8 @@ fn pages_back(tally: &mut Tally) {
 /// Each byte of some pages changed to bytes that mean something elsewhere on a page, and to others.
 fn changed_bytes(tally: &mut Tally) {
     let mut random = Random::new(3);
-    for (n, shown) in [(1, Shown::Arrow(0)), (3, Shown::Arrow(15)), (48, Shown::Arrow(9)), (60, Shown::Arrow(10)), (5, Shown::Labels), (60, Shown::Labels)] {
+    let arrows = [(1, 0), (3, 15), (48, 9), (60, 10)].map(|(n, a)| (n, Shown::Arrow(a)));
+    for (n, shown) in arrows.into_iter().chain([(5, Shown::Labels), (60, Shown::Labels)]) {
         let graph = random_graph(&mut random, n);
         let bytes = sheet::store(&random_graph(&mut random, n));
         let mut page = pages::page(&graph, shown);
