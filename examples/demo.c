@@ -305,6 +305,26 @@ static void show_first_step(const char *name) {
     enter_edit(&edit);
 }
 
+/* The page of an arrow kind, which is typed back. */
+static void show_page(size_t a) {
+    uint8_t page[ZAMIATHEN_PAGE_BYTES];
+    zamiathen_length printed = zamiathen_print_arrow(sheet, sizeof sheet, a, page, sizeof page);
+    printf("   zamiathen_print_arrow answers %02zu %05zu: %zu bytes, from each node to each node.\n\n", printed.number, printed.place,
+           printed.length);
+    for (size_t at = 0; at < printed.length; at += ZAMIATHEN_LINE_BYTES)
+        printf("      %.*s", ZAMIATHEN_LINE_BYTES, (const char *)page + at);
+    memcpy(before, sheet, sizeof sheet);
+    zamiathen_answer typed = zamiathen_type_page(sheet, sizeof sheet, page, printed.length);
+    printf("\n   zamiathen_type_page answers %02zu %05zu", typed.number, typed.place);
+    if (memcmp(before, sheet, sizeof sheet) == 0)
+        printf(": the sheet is as it was, to the byte");
+    printf(".\n");
+    page[ZAMIATHEN_LINE_BYTES + 3] = '?';
+    typed = zamiathen_type_page(sheet, sizeof sheet, page, printed.length);
+    printf("   With ? for the first square it answers %02zu %05zu: line %zu is none that a sheet of %zu nodes prints.\n", typed.number,
+           typed.place, typed.place, node_count);
+}
+
 int main(int count, char **words) {
     if (count != 2) {
         fprintf(stderr, "usage: demo DIRECTORY\n");
@@ -336,5 +356,8 @@ int main(int count, char **words) {
     judge_sheet();
     printf("\n5. A rule of pairs, and the pair that would break it (one_way.hex)\n\n");
     show_edit("one_way.hex");
+    printf("\n6. A page for the wall: who stands at which berth (stands_at.page)\n\n");
+    load_sheet("sheet.bin");
+    show_page(0);
     return 0;
 }

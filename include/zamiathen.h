@@ -1,13 +1,14 @@
-/* Station sheets: make a blank sheet, read its bits, judge a rule book on it, carry a book back through an edit, and
- * change the sheet by an edit, with a book or without one.
+/* Station sheets: make a blank sheet, read its bits, print its blocks as pages and type pages back, judge a rule book on
+ * it, carry a book back through an edit, and change the sheet by an edit, with a book or without one.
  *
  * Link with libzamiathen.a:  cc program.c $(pkg-config --cflags --libs zamiathen)
  *
  * Buffers. Each buffer is a pointer and its length in bytes. A call reads no byte outside its buffers and writes only
  * where this header says so. The buffers of one call must not overlap where one of them is written: the sheet of
- * zamiathen_blank, zamiathen_apply and zamiathen_enter, the scratch of zamiathen_enter and the output of
- * zamiathen_carry_back share no byte with any other buffer of the call. A pointer may be NULL only when its length is
- * 0. There is no other demand: any bytes, any length and any number get an answer.
+ * zamiathen_blank, zamiathen_type_page, zamiathen_apply and zamiathen_enter, the scratch of zamiathen_enter and the
+ * output of zamiathen_print_arrow, zamiathen_print_labels and zamiathen_carry_back share no byte with any other buffer
+ * of the call. A pointer may be NULL only when its length is 0. There is no other demand: any bytes, any length and any
+ * number get an answer.
  *
  * Threads. The library keeps no state, allocates nothing and takes no lock. Calls may run at the same time in any
  * number of threads as long as no buffer that one call writes is read or written by another.
@@ -29,13 +30,15 @@ extern "C" {
 /* The version. The first number moves when the form of sheets or an answer of a call changes, the second when a call is
  * added: a card written under another first number may be answered otherwise. As one number: 1000 * first + second. */
 #define ZAMIATHEN_VERSION_FIRST 1
-#define ZAMIATHEN_VERSION_SECOND 1
+#define ZAMIATHEN_VERSION_SECOND 2
 #define ZAMIATHEN_VERSION (1000 * ZAMIATHEN_VERSION_FIRST + ZAMIATHEN_VERSION_SECOND)
 
 /* Sizes. */
 #define ZAMIATHEN_SHEET_BYTES 8704    /* a sheet has just this length */
 #define ZAMIATHEN_TEXT_BYTES 4096     /* the longest book and the longest edit */
 #define ZAMIATHEN_CARRIED_BYTES 16384 /* the longest carried book: an output or scratch of this length suffices */
+#define ZAMIATHEN_LINE_BYTES 64       /* a line of a page, its line feed included */
+#define ZAMIATHEN_PAGE_BYTES 3904     /* the longest page, of an arrow kind at 60 nodes; a label page has 3136 */
 #define ZAMIATHEN_STACK_BYTES 262144  /* measured: 196,544 at 255 levels, the deepest carried rule */
 #define ZAMIATHEN_THREAD_BYTES 393216 /* a thread's whole stack */
 
@@ -82,7 +85,10 @@ enum zamiathen_number {
     ZAMIATHEN_ROOM = 33,           /* the scratch or output is too short; place: the length needed */
 
     /* The rules. */
-    ZAMIATHEN_RULE_BROKEN = 41 /* place: the first broken rule of the book, from 0 */
+    ZAMIATHEN_RULE_BROKEN = 41, /* place: the first broken rule of the book, from 0 */
+
+    /* The page. Place: 0 for its length or its head, else the first line, from 0, that printing could not give. */
+    ZAMIATHEN_PAGE = 51 /* it is not what printing a sheet of this n could give */
 };
 
 /* The answer: a number of enum zamiathen_number, and its place. */
@@ -120,6 +126,29 @@ zamiathen_bit zamiathen_label_bit(const uint8_t *sheet, size_t sheet_length, uin
 /* Does an arrow of this kind go from one node to the other? The bit is 1 if so. Answers 0, 1 to 4, or 7 unless the
  * arrow is below 16 and both nodes are below n. Writes nothing. Each call asks the whole sheet. */
 zamiathen_bit zamiathen_arrow_bit(const uint8_t *sheet, size_t sheet_length, uint8_t arrow, uint8_t from, uint8_t to);
+
+/*
+ * Pages
+ *
+ * A page is text for the wall: lines of 64 bytes, the line feed included. The page of an arrow kind has the head A, two
+ * digits of the kind, 60 blanks; then one line for each node: two digits, a blank, 60 squares, # for an arrow to the
+ * node of that column, . for none, blank for columns n and above. The label page has the head L, two digits of n, 60
+ * blanks; then 48 such lines, one for each label, # for a node that has it.
+ */
+
+/* Prints the page of an arrow kind, 64 * (n + 1) bytes. Answers 0 with its length, 1 to 4, 7 unless the arrow is below 16,
+ * or 33. Done writes the page at the start of the output and leaves the rest of it; every other answer leaves the output
+ * as it was. */
+zamiathen_length zamiathen_print_arrow(const uint8_t *sheet, size_t sheet_length, size_t arrow, uint8_t *output,
+                                       size_t output_length);
+
+/* Prints the label page, 64 * 49 bytes. Answers 0 with its length, 1 to 4 or 33, and writes likewise. */
+zamiathen_length zamiathen_print_labels(const uint8_t *sheet, size_t sheet_length, uint8_t *output,
+                                        size_t output_length);
+
+/* Types a page back into a sheet of its n, in place of the block that its head names: the arrows of that kind, or all
+ * labels. Answers 0, 1 to 4 or 51. Only done changes the sheet, its check bytes too; every other block is as it was. */
+zamiathen_answer zamiathen_type_page(uint8_t *sheet, size_t sheet_length, const uint8_t *page, size_t page_length);
 
 /*
  * Rules

@@ -287,8 +287,67 @@ static void refused_sheet(const char *what, size_t length, size_t number, size_t
     bit_read(what, zamiathen_label_bit(sheet, length, 0, 0), number, place, 0);
     bit_read(what, zamiathen_arrow_bit(sheet, length, 0, 0, 2), number, place, 0);
     answered(what, zamiathen_apply(sheet, length, TAKE, sizeof TAKE), number, place);
+    measured(what, zamiathen_print_arrow(sheet, length, 16, scratch, 0), number, place, 0);
+    measured(what, zamiathen_print_labels(sheet, length, scratch, 0), number, place, 0);
+    answered(what, zamiathen_type_page(sheet, length, scratch, 0), number, place);
     answered(what, enter(length, B, sizeof B, TAKE, sizeof TAKE), number, place);
     left_alone(what);
+}
+
+/* The squares of arrow 0 of sheet T, and of its first two labels. */
+static const char T_ROWS[3][4] = {"..#", "..#", "..."}, T_LABELS[2][4] = {"##.", "..#"};
+
+static size_t page_line(uint8_t *page, size_t line, const char *start, const char *squares) {
+    memset(page + 64 * line, ' ', 63);
+    memcpy(page + 64 * line, start, 3);
+    memcpy(page + 64 * line + 3, squares, strlen(squares));
+    page[64 * line + 63] = '\n';
+    return 64 * (line + 1);
+}
+
+static size_t arrow_page(uint8_t *page) {
+    char number[4];
+    size_t length = page_line(page, 0, "A00", "");
+    for (size_t i = 0; i < 3; i++) {
+        snprintf(number, sizeof number, "%02zu ", i);
+        length = page_line(page, i + 1, number, T_ROWS[i]);
+    }
+    return length;
+}
+
+static size_t label_page(uint8_t *page) {
+    char number[4];
+    size_t length = page_line(page, 0, "L03", "");
+    for (size_t k = 0; k < 48; k++) {
+        snprintf(number, sizeof number, "%02zu ", k);
+        length = page_line(page, k + 1, number, k < 2 ? T_LABELS[k] : "...");
+    }
+    return length;
+}
+
+static void pages(void) {
+    static uint8_t page[ZAMIATHEN_PAGE_BYTES], labels[ZAMIATHEN_PAGE_BYTES];
+    size_t length = arrow_page(page), label_length = label_page(labels);
+    start();
+    measured("arrow page", zamiathen_print_arrow(sheet, whole, 0, scratch, room), ZAMIATHEN_DONE, 0, length);
+    left("arrow page", page, length);
+    memset(scratch, FILL, room);
+    measured("label page", zamiathen_print_labels(sheet, whole, scratch, room), ZAMIATHEN_DONE, 0, label_length);
+    left("label page", labels, label_length);
+    memset(scratch, FILL, room);
+    measured("no such kind", zamiathen_print_arrow(sheet, whole, 16, scratch, room), ZAMIATHEN_OUT_OF_RANGE, 0, 0);
+    measured("kind of any size", zamiathen_print_arrow(sheet, whole, SIZE_MAX, scratch, room), ZAMIATHEN_OUT_OF_RANGE, 0, 0);
+    measured("short output", zamiathen_print_arrow(sheet, whole, 15, scratch, length - 1), ZAMIATHEN_ROOM, length, 0);
+    measured("short output", zamiathen_print_labels(sheet, whole, scratch, label_length - 1), ZAMIATHEN_ROOM, label_length, 0);
+    answered("own page", zamiathen_type_page(sheet, whole, page, length), ZAMIATHEN_DONE, 0);
+    answered("own label page", zamiathen_type_page(sheet, whole, labels, label_length), ZAMIATHEN_DONE, 0);
+    left_alone("pages of its own");
+    answered("page cut short", zamiathen_type_page(sheet, whole, page, length - 1), ZAMIATHEN_PAGE, 0);
+    page[64 * 2 + 3 + 3] = '.';
+    answered("mark behind column n", zamiathen_type_page(sheet, whole, page, length), ZAMIATHEN_PAGE, 2);
+    memcpy(page, "A16", 3);
+    answered("head of no kind", zamiathen_type_page(sheet, whole, page, length), ZAMIATHEN_PAGE, 0);
+    left_alone("refused pages");
 }
 
 static void refused_sheets(void) {
@@ -390,6 +449,8 @@ static void empty_buffers(void) {
     judged("no sheet", zamiathen_judge(NULL, 0, NULL, 0), (zamiathen_judged){ZAMIATHEN_SHEET_LENGTH, 0, 0, 0});
     judged("no book", zamiathen_judge(sheet, whole, NULL, 0), (zamiathen_judged){0, 0, 0, 0});
     answered("no sheet, no edit", zamiathen_apply(NULL, 0, NULL, 0), ZAMIATHEN_SHEET_LENGTH, 0);
+    measured("no output", zamiathen_print_labels(sheet, whole, NULL, 0), ZAMIATHEN_ROOM, 3136, 0);
+    answered("no page", zamiathen_type_page(sheet, whole, NULL, 0), ZAMIATHEN_PAGE, 0);
     answered("no edit", zamiathen_apply(sheet, whole, NULL, 0), ZAMIATHEN_EDIT_ENDS, 0);
     measured("no edit", zamiathen_carry_back(NULL, 0, NULL, 0, NULL, 0), ZAMIATHEN_EDIT_ENDS, 0, 0);
     measured("nothing to carry", zamiathen_carry_back(NULL, 0, END, 1, NULL, 0), ZAMIATHEN_DONE, 0, 0);
@@ -405,6 +466,7 @@ int main(void) {
     blanks();
     bits();
     rules();
+    pages();
     refused_sheets();
     refused_books();
     refused_edits();

@@ -1,4 +1,4 @@
-//! Document 01 written a second time, in plain Rust, from the papers alone.
+//! Document 01 and the landed items of document 02 written a second time, in plain Rust, from the papers alone.
 //!
 //! The proved library is compared with this one by the programs in `tests/differential`. It is meant to be read
 //! beside the papers: a set has one `bool` for each node, a relation one for each pair, texts are read into trees, and an edit is
@@ -10,6 +10,7 @@ pub mod carry;
 pub mod clerk;
 pub mod graph;
 pub mod meaning;
+pub mod pages;
 pub mod reader;
 pub mod sheet;
 pub mod steps;

@@ -1,9 +1,10 @@
-//! The marked examples of document 01 and some of its remarks, asked of the reference itself.
+//! The marked examples of document 01, some of its remarks and pages of its sheet T, asked of the reference itself.
 
 use reference::answer::{Answer, DONE};
 use reference::calls::{carry_back, enter, judge, Judged};
 use reference::graph::{Graph, Pairs};
 use reference::meaning::nodes;
+use reference::pages::{page, type_page, Shown};
 use reference::syntax::{Node, Rule};
 use reference::{reader, sheet};
 
@@ -159,6 +160,23 @@ fn sheets(tally: &mut Tally) {
     tally.same("stored as one sheet", sheet::store(&read), sheet_t());
 }
 
+/// The pages of sheet T, by document 02's words.
+fn pages_of_t(tally: &mut Tally) {
+    let line = |start: &str| format!("{start:63}\n");
+    let arrow_page = [line("A00"), line("00 ..#"), line("01 ..#"), line("02 ...")].concat().into_bytes();
+    let graph = sheet::read(&sheet_t());
+    tally.same("arrow page", page(&graph, Shown::Arrow(0)), arrow_page.clone());
+    let labels = page(&graph, Shown::Labels);
+    let start = [line("L03"), line("00 ##."), line("01 ..#"), line("02 ...")].concat().into_bytes();
+    tally.same("label page", (labels.len(), &labels[..256]), (64 * 49, &start[..]));
+    let mut bytes = sheet_t();
+    tally.same("typed back", (type_page(&mut bytes, &arrow_page), bytes), (DONE, sheet_t()));
+    let mut wrong = arrow_page.clone();
+    wrong[64 * 3 + 6] = b'.';
+    tally.same("a mark behind column n", type_page(&mut sheet_t(), &wrong), Answer { number: 51, place: 3 });
+    tally.same("cut short", type_page(&mut sheet_t(), &wrong[1..]), Answer { number: 51, place: 0 });
+}
+
 /// None of these may take exponential time.
 fn explosions(tally: &mut Tally) {
     let rule = hex("23 00 03 00");
@@ -182,6 +200,7 @@ fn main() {
     reading(&mut tally);
     check_bytes(&mut tally);
     sheets(&mut tally);
+    pages_of_t(&mut tally);
     explosions(&mut tally);
     println!("{} passed, {} failed", tally.passed, tally.failed);
     std::process::exit(i32::from(tally.failed > 0));

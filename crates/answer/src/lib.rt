@@ -44,10 +44,18 @@ pub enum Refusal {
     OutputLength { place: usize },
     // 41: a rule does not hold; the place is the first such rule, from 0
     RuleBroken { place: usize },
+    // 51: a page that printing a sheet of this n could not give; the place is the first such line, from 0
+    PageLine { place: usize },
 }
 
 pub enum Answer {
     Done,
+    Refused(Refusal),
+}
+
+// The answer of a call that writes at the start of an output: how many bytes, or why none.
+pub enum Written {
+    Length(usize),
     Refused(Refusal),
 }
 
@@ -78,6 +86,7 @@ pub fn refusal_number(r: Refusal) -> usize
         Refusal::CarriedLevels { place: _ } => 32,
         Refusal::OutputLength { place: _ } => 33,
         Refusal::RuleBroken { place: _ } => 41,
+        Refusal::PageLine { place: _ } => 51,
     }
 }
 
@@ -108,6 +117,7 @@ pub fn refusal_place(r: Refusal) -> usize
         Refusal::CarriedLevels { place } => place,
         Refusal::OutputLength { place } => place,
         Refusal::RuleBroken { place } => place,
+        Refusal::PageLine { place } => place,
     }
 }
 

@@ -11,6 +11,8 @@ use Rattle.answer.specs.Asked.{Asked, passed, refused, _>>_, is, after}
 use Rattle.answer.specs.Answers.{refusalNumber, refusalPlace}
 use Rattle.answer.specs.declared.Refusal.{Refusal}
 use Rattle.answer.specs.declared.Refusal.the-variants.{CarriedLength, CarriedLevels, OutputLength}
+use Rattle.answer.specs.declared.Written.the-variants.{Length, Refused}
+use Rattle.answer.specs.Outputs.{writtenAtStart}
 use Rattle.logic.specs.Syntax.{rule, Expr, Edit}
 use Rattle.logic.specs.Carry.{carriedBook}
 use Rattle.text.specs.Code.{bookCode, bookLevels}
@@ -25,8 +27,7 @@ use Rattle.measure.proofs.Rules.{no-book}
 use Rattle.write.specs.Laid.{Wrote}
 use Rattle.write.specs.Rules.{SomeBookFits}
 use Rattle.write.proofs.Laying.{laid-fits}
-use Rattle.carry.specs.declared.Carried.the-variants.{Length, Refused}
-use Rattle.carry.specs.Carrying.{askSize, writtenAtStart}
+use Rattle.carry.specs.Carrying.{askSize}
 use Rattle.carry.specs.Into.{Into}
 
 module _ (carried : List (Expr rule)) (out : List ℕ) where

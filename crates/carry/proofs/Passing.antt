@@ -6,7 +6,11 @@ use lib.ListN.{length}
 use Rattle.answer.specs.Asked.{Asked, passed, refused, _>>=_, _>>_, after, outcome}
 use Rattle.answer.specs.Answers.{refusalNumber, refusalPlace}
 use Rattle.answer.specs.declared.Refusal.{Refusal}
+use Rattle.answer.specs.declared.Written.{Written}
+use Rattle.answer.specs.declared.Written.the-variants.{Refused}
+use Rattle.answer.specs.Outputs.{writtenAsked, writtenAtStart, writtenLength, writtenOutput}
 use Rattle.answer.proofs.AnswerLaws.{Learned, learned, not-learned}
+use Rattle.answer.proofs.OutputLaws.{not-written}
 use Rattle.logic.specs.Syntax.{rule, Expr, Edit}
 use Rattle.logic.specs.Carry.{carriedBook}
 use Rattle.logic.specs.Limits.{maxNodes}
@@ -16,10 +20,7 @@ use Rattle.text.specs.Questions.{askBook, askEdit}
 use Rattle.text.proofs.Books.{rules-in-range, book-is-spelled, edit-is-spelled}
 use Rattle.ends.specs.Edits.{EditAt, SomeEdit}
 use Rattle.ends.specs.Books.{BookIs, SomeBook}
-use Rattle.carry.specs.declared.Carried.{Carried}
-use Rattle.carry.specs.declared.Carried.the-variants.{Refused}
-use Rattle.carry.specs.Carrying.{askSize, askCarry, carryAnswer, carryOutput, writtenAtStart}
-use Rattle.carry.specs.Answers.{carriedAsked}
+use Rattle.carry.specs.Carrying.{askSize, askCarry, carryAnswer, carryOutput}
 use Rattle.carry.specs.Into.{Into}
 
 -- a book and an edit that have passed, whatever n
@@ -43,12 +44,12 @@ output-of (refused n p) bytes out = refl
 
 -- Carry back, by its answer.
 module _ (book edit out : List ℕ) where
-  abbrev Back : Carried → List ℕ → Type 0
-  Back r out′ = (carriedAsked r ≡ carryAnswer book edit (length out)) × (out′ ≡ carryOutput book edit out)
+  abbrev Back : Written → List ℕ → Type 0
+  Back r out′ = (writtenAsked r ≡ carryAnswer book edit (length out)) × (out′ ≡ carryOutput book edit out)
 
   refused-back : (r : Refusal) → askCarry book edit (length out) ≡ refused (refusalNumber r) (refusalPlace r) → Back (Refused r) out
-  unfolding carryAnswer carryOutput _>>=_ after
-  refused-back r e = (sym (ap (λ (q : Asked (List ℕ)). q >>= (λ bytes. passed (length bytes))) e), sym (ap (λ (q : Asked (List ℕ)). after q (λ bytes. writtenAtStart bytes out) out) e))
+  unfolding carryAnswer carryOutput
+  refused-back r e = not-written (askCarry book edit (length out)) out (refusalNumber r) (refusalPlace r) e
 
   pub book-refused : (r : Refusal) → refused (refusalNumber r) (refusalPlace r) ≡ outcome (askBook (textLimits maxNodes) book) → Back (Refused r) out
   unfolding askCarry _>>=_
@@ -73,8 +74,8 @@ module _ (book edit out : List ℕ) where
       unfolding askCarry _>>=_
       asks = rw (rules .is, Z .is)
 
-      pub into-back : {r : Carried} {out′ : List ℕ} → ((rules : List (Expr rule)) (Z : Edit) → BookIs book rules → EditAt edit 0 Z → Into (carriedBook Z rules) r out out′) → Back r out′
-      unfolding carryAnswer carryOutput
+      pub into-back : {r : Written} {out′ : List ℕ} → ((rules : List (Expr rule)) (Z : Edit) → BookIs book rules → EditAt edit 0 Z → Into (carriedBook Z rules) r out out′) → Back r out′
+      unfolding carryAnswer carryOutput writtenLength writtenOutput
       into-back f =
           let i = f (rules .what) (Z .what) (book-passed maxNodes (rules .is)) (edit-passed maxNodes (Z .is) .0) in
           let q = askSize (carriedBook (Z .what) (rules .what)) (length out) in

@@ -1,9 +1,10 @@
 -- Carrying a book back into an output: its size, its questions 31 to 33, and the bytes ("Carrying back" and "The questions" of document 01).
-use mathlib.Core.List.{List, _++_}
+use mathlib.Core.List.{List}
 use Prim.Native.Nat.{ℕ}
 use lib.Dec.{leb}
-use lib.ListN.{length, drop}
-use Rattle.answer.specs.Asked.{Asked, passed, _>>=_, _>>_, is, after}
+use lib.ListN.{length}
+use Rattle.answer.specs.Asked.{Asked, passed, _>>=_, _>>_, is}
+use Rattle.answer.specs.Outputs.{writtenLength, writtenOutput}
 use Rattle.logic.specs.Syntax.{Expr, rule}
 pub use Rattle.logic.specs.Carry.{carriedBook}
 use Rattle.logic.specs.Limits.{maxNodes}
@@ -27,16 +28,10 @@ askCarry bookText editText room = do
   askSize (carriedBook Z book) room
   passed (bookCode (carriedBook Z book))
 
--- A buffer with bytes written at its start, the rest of it unchanged.
-abbrev pub writtenAtStart : List ℕ → List ℕ → List ℕ
-writtenAtStart bytes buffer = bytes ++ drop (length bytes) buffer
-
 -- Its answer: the length of those bytes.
 unfoldable pub carryAnswer : (book edit : List ℕ) (room : ℕ) → Asked ℕ
-carryAnswer book edit room = do
-  bytes ← askCarry book edit room
-  passed (length bytes)
+carryAnswer book edit room = writtenLength (askCarry book edit room)
 
 -- The output after it.
 unfoldable pub carryOutput : (book edit output : List ℕ) → List ℕ
-carryOutput book edit output = after (askCarry book edit (length output)) (λ bytes. writtenAtStart bytes output) output
+carryOutput book edit output = writtenOutput (askCarry book edit (length output)) output

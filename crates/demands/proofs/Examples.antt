@@ -24,7 +24,8 @@ use Rattle.text.specs.Reading as reading
 use Rattle.text.specs.Questions.{whole, readRules, askBook, askEdit}
 use Rattle.text.specs.Marked.{sheetT, B}
 use Rattle.judge.specs.Questions.{askRules}
-use Rattle.carry.specs.Carrying.{askSize, writtenAtStart}
+use Rattle.answer.specs.Outputs.{writtenAtStart}
+use Rattle.carry.specs.Carrying.{askSize}
 use Rattle.demands.specs.Enter.{StepsAndCarried, askBefore41, askEnter, enterSheet, enterScratch}
 use Rattle.demands.specs.Examples.{Result, scratchOf, enteredOnT, calls, results}
 use Rattle.demands.proofs.OneCall.{asked-of-stored}

@@ -13,7 +13,7 @@ use Rattle.logic.specs.Meaning.{value}
 use Rattle.sheet.specs.Sheet.{graphOf}
 use Rattle.text.specs.Code.{bookCode}
 use Rattle.judge.specs.Questions.{askSheetAndBook, askRules}
-use Rattle.carry.specs.Carrying.{writtenAtStart}
+use Rattle.answer.specs.Outputs.{writtenAtStart}
 use Rattle.apply.specs.Apply.{afterSteps}
 use Rattle.demands.specs.Enter.{StepsAndCarried, askBefore41, askEnter, enterAnswer, enterSheet, enterScratch}
 use Rattle.demands.specs.Run.{Call, log}

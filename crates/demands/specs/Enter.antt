@@ -10,7 +10,8 @@ use Rattle.text.specs.Code.{bookCode}
 use Rattle.text.specs.Reading.{textLimits}
 use Rattle.text.specs.Questions.{askEdit}
 use Rattle.judge.specs.Questions.{askSheetAndBook, askRules}
-use Rattle.carry.specs.Carrying.{askSize, writtenAtStart}
+use Rattle.answer.specs.Outputs.{writtenAtStart}
+use Rattle.carry.specs.Carrying.{askSize}
 use Rattle.apply.specs.Apply.{afterSteps}
 
 -- What is learned before 41: the steps of the edit, and the rules of the book carried back through them.

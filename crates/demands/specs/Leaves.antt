@@ -8,7 +8,7 @@ use lib.ListN.{length}
 use Rattle.answer.specs.Asked.{passed, refused}
 use Rattle.text.specs.Code.{bookCode}
 use Rattle.judge.specs.Questions.{askSheetAndBook}
-use Rattle.carry.specs.Carrying.{writtenAtStart}
+use Rattle.answer.specs.Outputs.{writtenAtStart}
 use Rattle.demands.specs.Enter.{StepsAndCarried, askBefore41, enterAnswer, enterSheet, enterScratch}
 use Rattle.demands.specs.Run.{Call, log}
 use Rattle.demands.specs.Demand3.{Each}

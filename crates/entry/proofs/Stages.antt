@@ -22,11 +22,11 @@ use Rattle.text.proofs.Books.{EachAllowed, book-is-spelled, edit-is-spelled}
 use Rattle.text.proofs.Carried.{carry-in}
 use Rattle.judge.specs.Questions.{askRules, askSheetAndBook}
 use Rattle.judge.specs.Judging.{RulesStand}
-use Rattle.carry.specs.Carrying.{askSize, writtenAtStart}
+use Rattle.carry.specs.Carrying.{askSize}
 use Rattle.carry.specs.Into.{Into}
-use Rattle.carry.specs.Answers.{carriedAsked}
-use Rattle.carry.specs.declared.Carried as into
-use Rattle.carry.specs.declared.Carried.the-variants as into-case
+use Rattle.answer.specs.declared.Written as into
+use Rattle.answer.specs.declared.Written.the-variants as into-case
+use Rattle.answer.specs.Outputs.{writtenAsked, writtenAtStart}
 use Rattle.answer.proofs.AnswerLaws.{not-learned}
 use Rattle.apply.specs.Apply.{afterSteps}
 use Rattle.demands.specs.Enter.{StepsAndCarried, askBefore41, askEnter, enterAnswer, enterSheet, enterScratch}
@@ -108,17 +108,17 @@ module _ (s b e scratch : List ℕ) where
         unfolding _>>=_
         from-size = from-edit ∙ ap (_>>= then-size rules) steps
 
-        pub size-stops : (c : into.Carried) (r : Refusal) (scratch′ : List ℕ) → Into (carriedBook Z rules) c scratch scratch′ → c ≡ into-case.Refused r → Left (Refused r) s scratch′
+        pub size-stops : (c : into.Written) (r : Refusal) (scratch′ : List ℕ) → Into (carriedBook Z rules) c scratch scratch′ → c ≡ into-case.Refused r → Left (Refused r) s scratch′
         unfolding _>>_ after
         size-stops c r scratch′ i p =
-            let q : askSize (carriedBook Z rules) (length scratch) ≡ refused (refusalNumber r) (refusalPlace r) = size-refused _ _ _ _ (sym (ap carriedAsked p) ∙ i .answer-is) in
+            let q : askSize (carriedBook Z rules) (length scratch) ≡ refused (refusalNumber r) (refusalPlace r) = size-refused _ _ _ _ (sym (ap writtenAsked p) ∙ i .answer-is) in
             let l = stops (Refused r) r refl (from-size ∙ ap (_>> passed (record { steps = Z; carried = carriedBook Z rules })) q) in
             let same : scratch′ ≡ scratch = i .output-is ∙ ap (λ x. after x (λ u. writtenAtStart (bookCode (carriedBook Z rules)) scratch) scratch) q in
             (l .0, (l .1 .0, same ∙ l .1 .1))
 
-        module _ (c : into.Carried) (size : ℕ) (scratch′ : List ℕ) (i : Into (carriedBook Z rules) c scratch scratch′) (p : c ≡ into-case.Length size) where
+        module _ (c : into.Written) (size : ℕ) (scratch′ : List ℕ) (i : Into (carriedBook Z rules) c scratch scratch′) (p : c ≡ into-case.Length size) where
           fits : (askSize (carriedBook Z rules) (length scratch) ≡ passed tt) × (size ≡ length (bookCode (carriedBook Z rules)))
-          fits = size-passed _ _ _ (sym (ap carriedAsked p) ∙ i .answer-is)
+          fits = size-passed _ _ _ (sym (ap writtenAsked p) ∙ i .answer-is)
 
           written : scratch′ ≡ writtenAtStart (bookCode (carriedBook Z rules)) scratch
           unfolding after

@@ -12,7 +12,7 @@ ghost use Rattle.demands.specs.Enter.{enterAnswer, enterSheet, enterScratch};
 ghost use Rattle.entry.specs.Settled.{Settled};
 ghost use Rattle.judge.specs.Judging.{RulesStand, SomeRulesStand};
 use answer::Answer;
-use carry::Carried;
+use answer::Written;
 use sheet::Sheet;
 use text::Text;
 
@@ -59,7 +59,7 @@ pub fn enter(sheet: &mut [u8], book: &[u8], edit: &[u8], scratch: &mut [u8]) -> 
         return steps;
     };
     match carry::carry_into(book, edit, scratch) {
-        Carried::Refused(r) => Answer::Refused(r),
-        Carried::Length(size) => settle(sheet, edit, scratch, size),
+        Written::Refused(r) => Answer::Refused(r),
+        Written::Length(size) => settle(sheet, edit, scratch, size),
     }
 }

@@ -4,7 +4,7 @@ use mathlib.Core.List.{List, [], _∷_, _++_, append-assoc, append-nil}
 use Prim.Native.Nat.{ℕ, zero, suc, _+_, _-_, _/_, _%_, _≤_, _<_}
 use native.Mathlib.Omega.{arith}
 use native.Mathlib.Numerals.{sub-one}
-use lib.ListN.{length, set, take, drop, replicate}
+use lib.ListN.{length, set, take, drop, replicate, length-append}
 use lib.Seq.{drop-cons, drop-set-lt, drop-length, getD-set-same, lt-length-set}
 use Rattle.line.specs.Line.{digits, answerLine, earlyLine}
 
@@ -33,6 +33,12 @@ pub all-written : (o : List ℕ) {l : List ℕ} (at rest : ℕ) → at ≤ 0 →
 unfolding digits
 all-written o zero rest h e = e
 all-written o (suc k) rest h e = absurd (omega arith)
+
+-- How many they are.
+pub digits-length : (w n : ℕ) → length (digits w n) ≡ w
+unfolding digits
+digits-length zero n = refl
+digits-length (suc w) n = length-append (digits w (n / 10)) ((48 + n % 10) ∷ []) ∙ omega (arith, digits-length w (n / 10))
 
 -- A line: the number is written over the first two of nine blanks, the place over the five behind the third, then the line feed.
 module _ (number place : ℕ) (ys : List ℕ) (first : ys ≡ digits 2 number) where

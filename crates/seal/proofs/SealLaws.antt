@@ -43,12 +43,12 @@ getD-sealed body p h = List·getD-append body (seal body) 0 p h
 so : (b : Bool) → T b → b ≡ true
 so true h = refl
 
-same-refl : (k : List ℕ) → sameBytes k k ≡ true
+pub same-refl : (k : List ℕ) → sameBytes k k ≡ true
 unfolding sameBytes
 same-refl [] = refl
 same-refl (x ∷ k) = ap₂ _&&_ (so (eqb x x) (eqb-refl x)) (same-refl k)
 
-same-is : (a b : List ℕ) → sameBytes a b ≡ true → a ≡ b
+pub same-is : (a b : List ℕ) → sameBytes a b ≡ true → a ≡ b
 unfolding sameBytes
 same-is [] [] e = refl
 same-is [] (y ∷ b) e = let z : _≡_ {A = ℕ} 0 1 = cc in absurd (omega arith)

@@ -102,7 +102,7 @@ module _ (g : Graph) (w : Within g) where
       inside p i l u s = go p i l (omega arith) (decLt ((p - 16) / 8) (g .n)) (decLt (p % 8 * 8 + i) (g .n))
 
 -- the blocks of the stored sheet
-take-chunk : (w : ℕ) (f : ℕ → List ℕ) → ((i : ℕ) → length (f i) ≡ w) → (m i k : ℕ) → k < m → take w (drop (w * k) (chunks m i f)) ≡ f (i + k)
+pub take-chunk : (w : ℕ) (f : ℕ → List ℕ) → ((i : ℕ) → length (f i) ≡ w) → (m i k : ℕ) → k < m → take w (drop (w * k) (chunks m i f)) ≡ f (i + k)
 unfolding chunks
 take-chunk w f len zero i k h = absurd (omega arith)
 take-chunk w f len (suc m) i zero h = ap (λ p. take w (drop p (f i ++ chunks m (suc i) f))) (mul-zero w) ∙ take-at (f i) (chunks m (suc i) f) w (len i) ∙ ap f (omega arith)
@@ -111,11 +111,11 @@ take-chunk w f len (suc m) i (suc k) h =
     ap (λ p. take w (drop p (f i ++ chunks m (suc i) f))) e
     ∙ ap (take w) (drop-append-add (f i) (chunks m (suc i) f) (w * k)) ∙ take-chunk w f len m (suc i) k (omega arith) ∙ ap f (omega arith)
 
-first-block : (g : Graph) → blockOf (store g) 0 ≡ labelBlock g
+pub first-block : (g : Graph) → blockOf (store g) 0 ≡ labelBlock g
 unfolding store
 first-block g = take-at (labelBlock g) (chunks arrowCount 0 (arrowBlock g)) blockBytes (length-labelBlock g)
 
-later-block : (g : Graph) (a : ℕ) → a < arrowCount → blockOf (store g) (suc a) ≡ arrowBlock g a
+pub later-block : (g : Graph) (a : ℕ) → a < arrowCount → blockOf (store g) (suc a) ≡ arrowBlock g a
 unfolding store
 later-block g a h =
     let e : blockBytes * suc a ≡ length (labelBlock g) + blockBytes * a = omega (arith, length-labelBlock g) in

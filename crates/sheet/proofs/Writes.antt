@@ -19,7 +19,7 @@ use Rattle.words.specs.Words.{setOf, bytes, putWord}
 use Rattle.words.proofs.SetLaws.{setOf-cong}
 use Rattle.words.proofs.WordLaws.{length-bytes}
 use Rattle.seal.specs.Seal.{bodyBytes, seal, sealed, reseal, blockBytes}
-use Rattle.sheet.specs.Sheet.{chunks, block, labelBlock, arrowBlock, store, Rows, padding}
+use Rattle.sheet.specs.Sheet.{chunks, block, labelBlock, arrowBlock, store, relabelAll, Rows, padding}
 use Rattle.sheet.specs.Writes.{putRows}
 use Rattle.sheet.proofs.Blocks.{wordsOf, bodyOf, length-words, length-body, length-chunks, labelHead, labelWord, arrowHead, rowWord, length-labelBlock, length-arrowBlock, labels-fit, rows-fit}
 
@@ -30,7 +30,7 @@ put-mid A B D at x a b =
     ap₂ (λ y z. y ++ bytes 8 x ++ z) (take-at A (B ++ D) at a) (ap (drop (at + 8)) (sym (append-assoc A B D)) ∙ drop-at (A ++ B) D (at + 8) (length-append A B ∙ omega arith))
     ∙ append-assoc A (bytes 8 x) D
 
-chunks-same : (m i : ℕ) (f h : ℕ → List ℕ) → ((j : ℕ) → i ≤ j → j < i + m → f j ≡ h j) → chunks m i f ≡ chunks m i h
+pub chunks-same : (m i : ℕ) (f h : ℕ → List ℕ) → ((j : ℕ) → i ≤ j → j < i + m → f j ≡ h j) → chunks m i f ≡ chunks m i h
 unfolding chunks
 chunks-same zero i f h e = refl
 chunks-same (suc m) i f h e = ap₂ _++_ (e i (omega arith) (omega arith)) (chunks-same m (suc i) f h (λ j l u. e j (omega arith) (omega arith)))
@@ -95,16 +95,16 @@ module _ (head : List ℕ) (h3 : length head ≡ 3) (m : ℕ) (c : List ℕ) whe
       go j q (no a) = ap (λ b. cond b (getD rows j 0) (f j)) (le-ltb j i (omega arith) ∙ sym (le-ltb j (suc i) (omega (arith, q))))
 
   -- a block with its first n rows replaced, and sealed
-  put-rows-block : (f h : ℕ → ℕ) (rows : List ℕ) (n : ℕ) → n ≤ m → 16 + 8 * m ≤ bodyBytes → ((i : ℕ) → i < n → getD rows i 0 ≡ h i) → ((i : ℕ) → n ≤ i → f i ≡ h i)
+  put-rows-block : (f h : ℕ → ℕ) (rows : List ℕ) (n : ℕ) → n ≤ m → 16 + 8 * m ≤ bodyBytes → ((i : ℕ) → i < n → getD rows i 0 ≡ h i) → ((i : ℕ) → n ≤ i → i < m → f i ≡ h i)
       → reseal (putRows n rows (raw head m f c)) ≡ block head m h
   unfolding mixed block
   put-rows-block f h rows n l fits new old =
       ap reseal (put-rows-raw f rows n l) ∙ seal-raw (mixed n rows f) fits
-      ∙ ap (λ w. sealed (head ++ replicate 13 0 ++ w ++ replicate (padding m) 0)) (chunks-same m 0 _ _ (λ j a b. ap (bytes 8) (go j (decLt j n))))
+      ∙ ap (λ w. sealed (head ++ replicate 13 0 ++ w ++ replicate (padding m) 0)) (chunks-same m 0 _ _ (λ j a b. ap (bytes 8) (go j (omega arith) (decLt j n))))
     where
-      go : (j : ℕ) → Dec (j < n) → cond (ltb j n) (getD rows j 0) (f j) ≡ h j
-      go j (yes a) = ap (λ b. cond b (getD rows j 0) (f j)) (lt-ltb j n a) ∙ new j a
-      go j (no a) = ap (λ b. cond b (getD rows j 0) (f j)) (le-ltb j n (omega arith)) ∙ old j (omega arith)
+      go : (j : ℕ) → j < m → Dec (j < n) → cond (ltb j n) (getD rows j 0) (f j) ≡ h j
+      go j u (yes a) = ap (λ b. cond b (getD rows j 0) (f j)) (lt-ltb j n a) ∙ new j a
+      go j u (no a) = ap (λ b. cond b (getD rows j 0) (f j)) (le-ltb j n (omega arith)) ∙ old j (omega arith) u
 
 -- what stands before, in and behind the block of arrow a
 module _ (g : Graph) where
@@ -152,6 +152,22 @@ relabelled g v k x t h e q =
     (ap (take blockBytes) e ∙ take-at (labelBlock g) (chunks arrowCount 0 (arrowBlock g)) blockBytes (length-labelBlock g)) (ap (drop blockBytes) e ∙ drop-at (labelBlock g) (chunks arrowCount 0 (arrowBlock g)) blockBytes (length-labelBlock g))
     ∙ ap (_++ chunks arrowCount 0 (arrowBlock g)) (label-put g v k x h q)
 
+-- All labels: in the sheet that stores g, the words of block 0 replaced, and the block sealed.
+module _ (g : Graph) (v : ℕ → Nodes) (rows : List ℕ) (new : (k : ℕ) → k < labelCount → getD rows k 0 ≡ setOf (g .n) (v k)) where
+  labels-put : reseal (putRows labelCount rows (labelBlock g)) ≡ labelBlock (relabelAll g v)
+  unfolding labelBlock
+  labels-put =
+      ap (λ y. reseal (putRows labelCount rows y)) (label-raw g)
+      ∙ put-rows-block (labelHead g) refl labelCount (seal (bodyOf (labelHead g) labelCount (labelWord g))) (labelWord g) (labelWord (relabelAll g v)) rows labelCount (omega arith) labels-fit
+      new (λ k l u. absurd (omega arith))
+
+  pub all-relabelled : (t : List ℕ) → t ≡ store g → reseal (putRows labelCount rows (take blockBytes t)) ++ drop blockBytes t ≡ store (relabelAll g v)
+  unfolding store arrowBlock
+  all-relabelled t e =
+      ap₂ (λ y z. reseal (putRows labelCount rows y) ++ z)
+      (ap (take blockBytes) e ∙ take-at (labelBlock g) (chunks arrowCount 0 (arrowBlock g)) blockBytes (length-labelBlock g)) (ap (drop blockBytes) e ∙ drop-at (labelBlock g) (chunks arrowCount 0 (arrowBlock g)) blockBytes (length-labelBlock g))
+      ∙ ap (_++ chunks arrowCount 0 (arrowBlock g)) labels-put
+
 module _ (g : Graph) (w : Within g) (v : Pairs) (inside : PairsIn g v) (a : ℕ) (rows : List ℕ) (r : Rows (g .n) v rows) where
   arrow-put : reseal (putRows (g .n) rows (arrowBlock g a)) ≡ arrowBlock (rejoin g a v) a
   unfolding arrowBlock
@@ -159,7 +175,7 @@ module _ (g : Graph) (w : Within g) (v : Pairs) (inside : PairsIn g v) (a : ℕ)
       ap (λ y. reseal (putRows (g .n) rows y)) (arrow-raw g a)
       ∙ put-rows-block (arrowHead a) refl maxNodes (seal (bodyOf (arrowHead a) maxNodes (rowWord g a))) (rowWord g a) (rowWord (rejoin g a v) a) rows (g .n) (w .few-nodes) rows-fit
       (λ i l. r .row i l ∙ ap (λ u. setOf (g .n) (u i)) (sym (update-same (g .joined) a v)))
-      (λ i l. setOf-cong (g .n) _ _ (λ j b. w .arrows-in a .starts i j (no-node g i l) ∙ sym (inside .starts i j (no-node g i l))) ∙ ap (λ u. setOf (g .n) (u i)) (sym (update-same (g .joined) a v)))
+      (λ i l u. setOf-cong (g .n) _ _ (λ j b. w .arrows-in a .starts i j (no-node g i l) ∙ sym (inside .starts i j (no-node g i l))) ∙ ap (λ u. setOf (g .n) (u i)) (sym (update-same (g .joined) a v)))
 
   other-block : (b : ℕ) → b ≢ a → arrowBlock g b ≡ arrowBlock (rejoin g a v) b
   unfolding arrowBlock

@@ -59,6 +59,10 @@ graphOf t =
 abbrev pub blank : ℕ → Graph
 blank n = record { n = n; labelled = λ k i. false; joined = λ a i j. false }
 
+-- The graph with the nodes v k for each label k.
+abbrev pub relabelAll : Graph → (ℕ → Nodes) → Graph
+relabelAll g v = record { n = g .n; labelled = v; joined = g .joined }
+
 -- Words that hold the rows of a set of pairs: row i is the word of v i, for i below n. What lies behind is free.
 pub record Rows (n : ℕ) (v : Pairs) (rows : List ℕ) : Type 0 where
   pub row : (i : ℕ) → i < n → getD rows i 0 ≡ setOf n (v i)

@@ -1,14 +1,14 @@
 // The sheet: 17 blocks of 512 bytes that store a graph ("The sheet" of document 01).
 ghost use mathlib.Core.Path.{_≡_};
-ghost use Prim.Native.Nat.{_<_, _≤_};
-ghost use lib.ListN.{length};
+ghost use Prim.Native.Nat.{ℕ, _<_, _≤_};
+ghost use lib.ListN.{length, getD};
 ghost use Rattle.answer.specs.Answers.{asked};
 ghost use Rattle.answer.specs.Asked.{after};
 ghost use Rattle.logic.specs.Graph.{Nodes, Pairs, isNode};
 ghost use Rattle.logic.specs.Limits.{maxNodes, labelCount, arrowCount, PairsIn};
 ghost use Rattle.logic.specs.Steps.{relabel, rejoin};
 ghost use Rattle.words.specs.Words.{setOf};
-ghost use Rattle.sheet.specs.Sheet.{store, graphOf, blank, Rows};
+ghost use Rattle.sheet.specs.Sheet.{store, graphOf, blank, relabelAll, Rows};
 ghost use Rattle.sheet.specs.Questions.{askSheet, Sound, askBlank, askLabelBit, askArrowBit};
 ghost use Rattle.sheet.specs.BitReads.{bitAsked};
 use answer::Answer;
@@ -165,6 +165,14 @@ impl Sheet {
         ensures { λ _. ⌜ ((v : Nodes) → x ≡ setOf (graphOf (now (sheet .entry)) .n) v → now (sheet .exit) ≡ store (relabel (graphOf (now (sheet .entry))) (k .0) v)) ⌝ }
     {
         block::put_word(&mut sheet[0..Sheet::BLOCK], index(k.0), x);
+    }
+
+    // Gives each label the nodes of its word. Inner: the sheet is sound.
+    pub fn put_labels(sheet: &mut [u8], sets: [u64; 64])
+        requires { ⌜ Sound (now sheet) ⌝ }
+        ensures { λ _. ⌜ ((v : ℕ → Nodes) → ((k : ℕ) → k < labelCount → getD sets k 0 ≡ setOf (graphOf (now (sheet .entry)) .n) (v k)) → now (sheet .exit) ≡ store (relabelAll (graphOf (now (sheet .entry))) v)) ⌝ }
+    {
+        block::put_words(&mut sheet[0..512], Sheet::LABELS, sets);
     }
 
     // Gives arrow a the pairs whose rows are given; only the rows of nodes are read. Inner: the sheet is sound and has that arrow.

@@ -2,13 +2,11 @@
 ghost use mathlib.Core.Path.{_≡_};
 ghost use lib.ListN.{length};
 ghost use Rattle.apply.specs.Apply.{askApply, appliedSheet};
-ghost use Rattle.carry.specs.Answers.{carriedAsked};
 ghost use Rattle.carry.specs.Carrying.{carryAnswer, carryOutput};
 ghost use Rattle.demands.specs.Enter.{enterAnswer, enterSheet, enterScratch};
 ghost use Rattle.suite.specs.Numbers.{numbers, lengthNumbers};
 use crate::LengthNumbers;
 use crate::Numbers;
-use carry::Carried;
 
 #[no_mangle]
 pub extern "C" fn zamiathen_apply(sheet: &mut [u8], edit: &[u8]) -> Numbers
@@ -18,29 +16,12 @@ pub extern "C" fn zamiathen_apply(sheet: &mut [u8], edit: &[u8]) -> Numbers
     crate::answer_numbers(apply::apply(sheet, edit))
 }
 
-fn carried_numbers(carried: Carried) -> LengthNumbers
-    ensures { λ r. ⌜ r ≡ lengthNumbers (carriedAsked carried) ⌝ }
-{
-    match carried {
-        Carried::Length(n) => LengthNumbers {
-            number: 0,
-            place: 0,
-            length: n,
-        },
-        Carried::Refused(r) => LengthNumbers {
-            number: answer::refusal_number(r),
-            place: answer::refusal_place(r),
-            length: 0,
-        },
-    }
-}
-
 #[no_mangle]
 pub extern "C" fn zamiathen_carry_back(book: &[u8], edit: &[u8], output: &mut [u8]) -> LengthNumbers
     ensures { λ r. ⌜ r ≡ lengthNumbers (carryAnswer (now (book .entry)) (now (edit .entry)) (length (now (output .entry)))) ⌝ }
     ensures { λ _. ⌜ now (output .exit) ≡ carryOutput (now (book .entry)) (now (edit .entry)) (now (output .entry)) ⌝ }
 {
-    carried_numbers(carry::carry_back(book, edit, output))
+    crate::written_numbers(carry::carry_back(book, edit, output))
 }
 
 #[no_mangle]

@@ -1,10 +1,13 @@
 // What a C program calls: numbers and byte slices, thin over the proved library. Each exported function stands in include/zamiathen.h.
 ghost use mathlib.Core.Path.{_≡_};
 ghost use Rattle.answer.specs.Answers.{asked};
-ghost use Rattle.suite.specs.Numbers.{numbers};
+ghost use Rattle.answer.specs.Outputs.{writtenAsked};
+ghost use Rattle.suite.specs.Numbers.{numbers, lengthNumbers};
 use answer::Answer;
+use answer::Written;
 
 mod edits;
+mod paper;
 mod rules;
 mod sheets;
 
@@ -46,5 +49,22 @@ fn answer_numbers(a: Answer) -> Numbers
     Numbers {
         number: answer::number(a),
         place: answer::place(a),
+    }
+}
+
+fn written_numbers(written: Written) -> LengthNumbers
+    ensures { λ r. ⌜ r ≡ lengthNumbers (writtenAsked written) ⌝ }
+{
+    match written {
+        Written::Length(n) => LengthNumbers {
+            number: 0,
+            place: 0,
+            length: n,
+        },
+        Written::Refused(r) => LengthNumbers {
+            number: answer::refusal_number(r),
+            place: answer::refusal_place(r),
+            length: 0,
+        },
     }
 }

@@ -1,0 +1,19 @@
+-- A call that writes an output, by its questions.
+use mathlib.Core.Path.{_≡_, refl, sym, _∙_, ap}
+use mathlib.Core.List.{List}
+use Prim.Native.Nat.{ℕ}
+use lib.ListN.{length}
+use Rattle.answer.specs.Asked.{Asked, passed, refused, _>>=_, after}
+use Rattle.answer.specs.Outputs.{writtenLength, writtenAtStart, writtenOutput}
+
+module _ (q : Asked (List ℕ)) (output : List ℕ) where
+  -- a refusal writes nothing
+  pub not-written : (n p : ℕ) → q ≡ refused n p → (refused n p ≡ writtenLength q) × (output ≡ writtenOutput q output)
+  unfolding writtenLength writtenOutput _>>=_ after
+  not-written n p e = (sym (ap (λ (x : Asked (List ℕ)). x >>= (λ bytes. passed (length bytes))) e), sym (ap (λ (x : Asked (List ℕ)). after x (λ bytes. writtenAtStart bytes output) output) e))
+
+  -- what was learned is written
+  pub is-written : (bytes : List ℕ) (size : ℕ) → q ≡ passed bytes → size ≡ length bytes → (passed size ≡ writtenLength q) × (writtenAtStart bytes output ≡ writtenOutput q output)
+  unfolding writtenLength writtenOutput _>>=_ after
+  is-written bytes size e s =
+      (ap passed s ∙ sym (ap (λ (x : Asked (List ℕ)). x >>= (λ bytes. passed (length bytes))) e), sym (ap (λ (x : Asked (List ℕ)). after x (λ bytes. writtenAtStart bytes output) output) e))

@@ -1,0 +1,27 @@
+-- A call that writes into an output: its questions learn the bytes, which it writes at the output's start. It answers their length.
+use mathlib.Core.List.{List, _++_}
+use Prim.Native.Nat.{ℕ}
+use lib.ListN.{length, drop}
+use Rattle.answer.specs.declared.Written.{Written}
+use Rattle.answer.specs.declared.Written.the-variants.{Length, Refused}
+use Rattle.answer.specs.Asked.{Asked, passed, refused, _>>=_, after}
+use Rattle.answer.specs.Answers.{refusalNumber, refusalPlace}
+
+-- What its answer says of the questions: the length, or the number and place of the refusal.
+abbrev pub writtenAsked : Written → Asked ℕ
+writtenAsked (Length n) = passed n
+writtenAsked (Refused r) = refused (refusalNumber r) (refusalPlace r)
+
+-- The answer that is due.
+unfoldable pub writtenLength : Asked (List ℕ) → Asked ℕ
+writtenLength questions = do
+  bytes ← questions
+  passed (length bytes)
+
+-- A buffer with bytes written at its start, the rest of it unchanged.
+abbrev pub writtenAtStart : List ℕ → List ℕ → List ℕ
+writtenAtStart bytes buffer = bytes ++ drop (length bytes) buffer
+
+-- The output after the call.
+unfoldable pub writtenOutput : Asked (List ℕ) → List ℕ → List ℕ
+writtenOutput questions output = after questions (λ bytes. writtenAtStart bytes output) output

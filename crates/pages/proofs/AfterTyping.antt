@@ -1,0 +1,80 @@
+-- After typing, the sheet stores the graph with just that relation or those labels changed, is sound, and prints the page that was typed.
+use mathlib.Core.Logic.{_≢_}
+use mathlib.Core.Path.{_≡_, refl, sym, _∙_, ap}
+use mathlib.Core.List.{List, [], _∷_}
+use Prim.Native.Nat.{ℕ, zero, suc, _<_}
+use native.Mathlib.Omega.{arith}
+use mathlib.Core.Bool.{Bool, _&&_, cond}
+use borrow.Author.Tests.{ne-eqb}
+use lib.ListN.{getD}
+use Rattle.answer.specs.Asked.{Asked, passed, refused, _>>_, after}
+use Rattle.logic.specs.Graph.{Graph, isNode}
+use Rattle.logic.specs.Limits.{Within, maxNodes}
+use Rattle.logic.specs.Steps.{update}
+use Rattle.words.specs.Words.{setOf}
+use Rattle.sheet.specs.Sheet.{store, graphOf, block, labelBlock, arrowBlock, blockCount}
+use Rattle.sheet.specs.Questions.{blockOf, askSheet, Sound}
+use Rattle.sheet.proofs.Opening.{opening}
+use Rattle.sheet.proofs.Passes.{stored-passes, first-block, later-block}
+use Rattle.sheet.proofs.ReadBack.{read-back}
+use Rattle.pages.specs.Typed.{Block, arrows, labels, askPage, marked, typed, askType, typedSheet}
+use Rattle.pages.specs.Prints.{pageOf}
+use Rattle.pages.proofs.Accepted.{accepted-right, accepted-page, typed-within}
+
+-- The number of a block in the sheet.
+abbrev pub blockNumber : Block → ℕ
+blockNumber (arrows a) = suc a
+blockNumber labels = 0
+
+-- its other blocks are those of the graph as it was
+other-labels : (g : Graph) (page : List ℕ) (a : ℕ) → labelBlock (typed g page (arrows a)) ≡ labelBlock g
+unfolding labelBlock typed
+other-labels g page a = refl
+
+other-arrows : (g : Graph) (page : List ℕ) (b : Block) (c : ℕ) → suc c ≢ blockNumber b → arrowBlock (typed g page b) c ≡ arrowBlock g c
+unfolding arrowBlock typed update
+other-arrows g page (arrows a) c d =
+    ap (λ (x : Bool). block (2 ∷ suc c ∷ 0 ∷ []) maxNodes (λ i. setOf (g .n) (cond x (λ i j. isNode g i && marked g page i j) (g .joined c) i))) (ne-eqb c a (λ e. d (ap suc e)))
+other-arrows g page labels c d = refl
+
+module _ (sheet page : List ℕ) (are-bytes : (p : ℕ) → getD sheet p 0 < 256) (b : Block) (done : askType sheet page ≡ passed b) where
+  abbrev g : Graph
+  g = graphOf sheet
+
+  both : (x : Asked (Unit {0})) (r : Asked Block) → (x >> r) ≡ passed b → (x ≡ passed tt) × (r ≡ passed b)
+  unfolding _>>_
+  both (passed u) r e = (refl, e)
+  both (refused q p) r e = let z : _≡_ {A = ℕ} 0 1 = cc in absurd (omega arith)
+
+  asked : Sound sheet × (askPage (g .n) page ≡ passed b)
+  unfolding askType
+  asked = both (askSheet sheet) (askPage (g .n) page) done
+
+  within : Within g
+  within = opening sheet are-bytes (asked .0) .within
+
+  whole : Within (typed g page b)
+  whole = typed-within g within page b (accepted-page g within page b (accepted-right (g .n) page b (asked .1)) .0)
+
+  pub sheet-after : typedSheet sheet page ≡ store (typed g page b)
+  unfolding typedSheet after
+  sheet-after = ap (λ x. after x (λ c. store (typed g page c)) sheet) done
+
+  pub sound-after : Sound (typedSheet sheet page)
+  sound-after = ap askSheet sheet-after ∙ stored-passes (typed g page b) whole
+
+  pub graph-after : graphOf (typedSheet sheet page) ≡ typed g page b
+  graph-after = ap graphOf sheet-after ∙ read-back (typed g page b) whole
+
+  -- The block has become the page.
+  pub page-after : pageOf (graphOf (typedSheet sheet page)) b ≡ page
+  page-after = ap (λ h. pageOf h b) graph-after ∙ sym (accepted-page g within page b (accepted-right (g .n) page b (asked .1)) .1)
+
+  -- Every other block is as it was.
+  pub others-after : (c : ℕ) → c < blockCount → c ≢ blockNumber b → blockOf (typedSheet sheet page) c ≡ blockOf sheet c
+  others-after c l d = ap (λ t. blockOf t c) sheet-after ∙ same c b l d ∙ ap (λ t. blockOf t c) (sym (opening sheet are-bytes (asked .0) .stored))
+    where
+      same : (c : ℕ) (b : Block) → c < blockCount → c ≢ blockNumber b → blockOf (store (typed g page b)) c ≡ blockOf (store g) c
+      same zero (arrows a) l d = first-block (typed g page (arrows a)) ∙ other-labels g page a ∙ sym (first-block g)
+      same zero labels l d = absurd (d refl)
+      same (suc c) b l d = later-block (typed g page b) c (omega arith) ∙ other-arrows g page b c d ∙ sym (later-block g c (omega arith))

@@ -1,0 +1,10 @@
+pub mod LineLaws
+pub mod PageLaws
+pub mod PrintLaws
+pub mod TypeLaws
+pub mod RightLines
+pub mod PageParts
+pub mod Accepted
+pub mod ComesBack
+pub mod PlaceOf51
+pub mod AfterTyping

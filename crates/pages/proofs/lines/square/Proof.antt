@@ -1,0 +1,29 @@
+use mathlib.Core.Path.{_≡_, sym, ap, _∙_}
+use mathlib.Core.Bool.{Bool, cond}
+use lib.Dec.{ltb}
+use borrow.Author.Needs.{needs}
+use borrow.Author.Tests.{lt-ltb, le-ltb}
+use native.Mathlib.Omega.{arith}
+use Rattle.words.specs.Words.{member}
+use Rattle.pages.specs.Page.{square}
+use Rattle.pages.proofs.lines.square.Statement.{statement}
+use Rattle.pages.proofs.lines.square.Tie as tie
+
+returns : tie.Need-returns
+unfolding square
+returns c = rw (le-ltb _ _ (c .if1 .taken))
+
+returns-2 : tie.Need-returns-2
+unfolding square
+returns-2 c =
+    let s = c .before .before .before .args in
+    rw (lt-ltb (s .j) (s .n) (omega (arith, c .before .before .if1 .left)), sym (c .before .member .ensures) ∙ c .if2 .taken)
+
+returns-3 : tie.Need-returns-3
+unfolding square
+returns-3 c =
+    let s = c .before .before .before .args in
+    rw (lt-ltb (s .j) (s .n) (omega (arith, c .before .before .if1 .left)), sym (c .before .member .ensures) ∙ c .if2 .left)
+
+pub square-spec : {M : Type 1} → statement M
+square-spec = tie.close (tie.spec returns (λ c κs. search needs) returns-2 returns-3)

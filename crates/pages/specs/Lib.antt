@@ -1,0 +1,5 @@
+pub mod Page
+pub mod Print
+pub mod Typed
+pub mod Prints
+pub mod Places

@@ -1,0 +1,40 @@
+-- The squared sheet on paper (document 02, item 1): pages of lines of 64 bytes, the line feed included. Bytes are ASCII: 20 blank, 0A line feed,
+-- 23 #, 2E ., 41 A, 4C L.
+use mathlib.Core.Bool.{cond}
+use mathlib.Core.List.{List, [], _∷_, _++_}
+use Prim.Native.Nat.{ℕ}
+use lib.Dec.{ltb}
+use lib.ListN.{replicate}
+use Rattle.logic.specs.Graph.{Graph, Nodes}
+use Rattle.logic.specs.Limits.{maxNodes, labelCount}
+use Rattle.line.specs.Line.{digits}
+use Rattle.sheet.specs.Sheet.{chunks}
+
+abbrev pub lineBytes : ℕ
+lineBytes = 64
+
+-- The first line: a letter, two digits, 60 blanks.
+unfoldable pub headLine : (letter x : ℕ) → List ℕ
+headLine letter x = letter ∷ digits 2 x ++ replicate maxNodes 0x20 ++ (0x0A ∷ [])
+
+-- A square of a sheet of n: # where the set has the column's node, . where not, blank for columns n and above.
+unfoldable pub square : (n : ℕ) → Nodes → ℕ → ℕ
+square n v j = cond (ltb j n) (cond (v j) 0x23 0x2E) 0x20
+
+-- A line: two digits, a blank, 60 squares.
+unfoldable pub setLine : (n x : ℕ) → Nodes → List ℕ
+setLine n x v = digits 2 x ++ (0x20 ∷ chunks maxNodes 0 (λ j. square n v j ∷ []) ++ (0x0A ∷ []))
+
+-- The page of an arrow kind: A, two digits of the kind; then one line for each node.
+unfoldable pub rowLines : Graph → ℕ → List ℕ
+rowLines g a = chunks (g .n) 0 (λ i. setLine (g .n) i (g .joined a i))
+
+unfoldable pub arrowPage : Graph → ℕ → List ℕ
+arrowPage g a = headLine 0x41 a ++ rowLines g a
+
+-- The label page: L, two digits of n; then 48 such lines, one per label.
+unfoldable pub labelLines : Graph → List ℕ
+labelLines g = chunks labelCount 0 (λ k. setLine (g .n) k (g .labelled k))
+
+unfoldable pub labelPage : Graph → List ℕ
+labelPage g = headLine 0x4C (g .n) ++ labelLines g

@@ -1,0 +1,91 @@
+// One line of a page: written, and read back. Inner: each function is lent a whole line of 64 bytes.
+ghost use mathlib.Core.Path.{_≡_};
+ghost use Prim.Native.Nat.{_<_, _≤_};
+ghost use lib.ListN.{length};
+ghost use Rattle.logic.specs.Limits.{maxNodes};
+ghost use Rattle.words.specs.Words.{setOf, member};
+ghost use Rattle.seal.specs.Seal.{sameBytes};
+ghost use Rattle.pages.specs.Page.{lineBytes, headLine, square, setLine};
+ghost use Rattle.pages.specs.Typed.{marks, lineRight};
+
+// The square of column j in the row of a set. Inner: j is the number of a bit.
+fn square(n: usize, row: u64, j: usize) -> u8
+    requires { ⌜ j < 64 ⌝ }
+    ensures { λ r. ⌜ r ≡ square n (member row) j ⌝ }
+{
+    if j >= n {
+        return b' ';
+    }
+    if words::member(row, j) { b'#' } else { b'.' }
+}
+
+// Makes the line that of number x of a set.
+pub fn put_line(line: &mut [u8], n: usize, x: usize, row: u64)
+    requires { ⌜ length (now line) ≡ lineBytes ⌝ }
+    ensures { λ _. ⌜ now (line .exit) ≡ setLine n x (member row) ⌝ }
+{
+    line::write_digits(&mut line[0..2], x);
+    line[2] = b' ';
+    let mut j = 0;
+    while j < 60 {
+        line[3 + j] = square(n, row, j);
+        j += 1;
+    }
+    line[63] = b'\n';
+}
+
+// Makes the line a head.
+pub fn put_head(line: &mut [u8], letter: u8, x: usize)
+    requires { ⌜ length (now line) ≡ lineBytes ⌝ }
+    ensures { λ _. ⌜ now (line .exit) ≡ headLine letter x ⌝ }
+{
+    line[0] = letter;
+    line::write_digits(&mut line[1..3], x);
+    let mut j = 0;
+    while j < 60 {
+        line[3 + j] = b' ';
+        j += 1;
+    }
+    line[63] = b'\n';
+}
+
+// The set of a line's marks. Inner: n is a sheet's.
+pub fn marks_of(line: &[u8], n: usize) -> u64
+    requires { ⌜ (length (now line) ≡ lineBytes) × (n ≤ maxNodes) ⌝ }
+    ensures { λ r. ⌜ r ≡ setOf n (marks (now (line .entry))) ⌝ }
+{
+    let mut r: u64 = 0;
+    let mut j = 0;
+    while j < n {
+        if line[3 + j] == b'#' {
+            r |= 1 << j;
+        }
+        j += 1;
+    }
+    r
+}
+
+// Whether two lines are the same.
+pub fn same(a: &[u8], b: &[u8]) -> bool
+    requires { ⌜ (length (now a) ≡ lineBytes) × (length (now b) ≡ lineBytes) ⌝ }
+    ensures { λ r. ⌜ r ≡ sameBytes (now (a .entry)) (now (b .entry)) ⌝ }
+{
+    let mut i = 0;
+    while i < 64 {
+        if a[i] != b[i] {
+            return false;
+        }
+        i += 1;
+    }
+    true
+}
+
+// Whether the line is what printing could give as that of number x: the line of its own marks, whose set is given.
+pub fn line_is(line: &[u8], n: usize, x: usize, set: u64) -> bool
+    requires { ⌜ (length (now line) ≡ lineBytes) × (set ≡ setOf n (marks (now line))) ⌝ }
+    ensures { λ r. ⌜ r ≡ lineRight n x (now (line .entry)) ⌝ }
+{
+    let mut wanted = [0u8; 64];
+    put_line(&mut wanted, n, x, set);
+    same(line, &wanted)
+}

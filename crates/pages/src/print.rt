@@ -1,0 +1,98 @@
+// Pages printed into an output, line by line.
+ghost use mathlib.Core.Path.{_≡_};
+ghost use Prim.Native.Nat.{suc, _*_, _<_, _≤_};
+ghost use lib.ListN.{length};
+ghost use Rattle.answer.specs.Outputs.{writtenAsked, writtenLength, writtenAtStart, writtenOutput};
+ghost use Rattle.logic.specs.Limits.{maxNodes, arrowCount, labelCount};
+ghost use Rattle.sheet.specs.Sheet.{graphOf};
+ghost use Rattle.sheet.specs.Questions.{Sound};
+ghost use Rattle.pages.specs.Page.{lineBytes, rowLines, labelLines};
+ghost use Rattle.pages.specs.Print.{askPrintArrow, askPrintLabels};
+use crate::lines::put_head;
+use crate::lines::put_line;
+use answer::Answer;
+use answer::Refusal;
+use answer::Written;
+use logic::Arrow;
+use logic::Label;
+use logic::Node;
+use sheet::Sheet;
+
+// Writes a line for each node, the row of an arrow kind, at the output's start. Inner: the sheet is sound with these n nodes, and there is room.
+fn put_rows(sheet: &[u8], n: usize, a: Arrow, out: &mut [u8])
+    requires { ⌜ Sound (now sheet) × (n ≡ graphOf (now sheet) .n) × (n ≤ maxNodes) × (a .0 < arrowCount) × (lineBytes * n ≤ length (now out)) ⌝ }
+    ensures { λ _. ⌜ now (out .exit) ≡ writtenAtStart (rowLines (graphOf (now (sheet .entry))) (a .0)) (now (out .entry)) ⌝ }
+{
+    let mut i = 0;
+    while i < n {
+        let from = 64 * i;
+        let to = from + 64;
+        put_line(
+            &mut out[from..to],
+            n,
+            i,
+            Sheet::row_word(sheet, a, Node(i as u8)),
+        );
+        i += 1;
+    }
+}
+
+// A line for each label likewise.
+fn put_labels(sheet: &[u8], n: usize, out: &mut [u8])
+    requires { ⌜ Sound (now sheet) × (n ≡ graphOf (now sheet) .n) × (n ≤ maxNodes) × (lineBytes * labelCount ≤ length (now out)) ⌝ }
+    ensures { λ _. ⌜ now (out .exit) ≡ writtenAtStart (labelLines (graphOf (now (sheet .entry)))) (now (out .entry)) ⌝ }
+{
+    let mut k = 0;
+    while k < Sheet::LABELS {
+        let from = 64 * k;
+        let to = from + 64;
+        put_line(
+            &mut out[from..to],
+            n,
+            k,
+            Sheet::label_word(sheet, Label(k as u8)),
+        );
+        k += 1;
+    }
+}
+
+// Prints the page of an arrow kind at the output's start: 1 to 4 of the sheet, 7, 33. Answers its length.
+pub fn print_arrow(sheet: &[u8], arrow: usize, out: &mut [u8]) -> Written
+    ensures { λ r. ⌜ writtenAsked r ≡ writtenLength (askPrintArrow (now (sheet .entry)) arrow (length (now (out .entry)))) ⌝ }
+    ensures { λ _. ⌜ now (out .exit) ≡ writtenOutput (askPrintArrow (now (sheet .entry)) arrow (length (now (out .entry)))) (now (out .entry)) ⌝ }
+{
+    let answer = Sheet::check(sheet);
+    if let Answer::Refused(r) = answer {
+        return Written::Refused(r);
+    }
+    if arrow >= Sheet::ARROWS {
+        return Written::Refused(Refusal::BitRange { place: 0 });
+    }
+    let n = Sheet::node_count(sheet);
+    let size = 64 * n + 64;
+    if out.len() < size {
+        return Written::Refused(Refusal::OutputLength { place: size });
+    }
+    put_head(&mut out[0..64], b'A', arrow);
+    put_rows(sheet, n, Arrow(arrow as u8), &mut out[64..]);
+    Written::Length(size)
+}
+
+// Prints the label page likewise: 1 to 4 of the sheet, 33.
+pub fn print_labels(sheet: &[u8], out: &mut [u8]) -> Written
+    ensures { λ r. ⌜ writtenAsked r ≡ writtenLength (askPrintLabels (now (sheet .entry)) (length (now (out .entry)))) ⌝ }
+    ensures { λ _. ⌜ now (out .exit) ≡ writtenOutput (askPrintLabels (now (sheet .entry)) (length (now (out .entry)))) (now (out .entry)) ⌝ }
+{
+    let answer = Sheet::check(sheet);
+    if let Answer::Refused(r) = answer {
+        return Written::Refused(r);
+    }
+    let size = 64 * Sheet::LABELS + 64;
+    if out.len() < size {
+        return Written::Refused(Refusal::OutputLength { place: size });
+    }
+    let n = Sheet::node_count(sheet);
+    put_head(&mut out[0..64], b'L', n);
+    put_labels(sheet, n, &mut out[64..]);
+    Written::Length(size)
+}
