@@ -86,7 +86,12 @@ def explained(file, number, place):
         of = "the labels" if place == layout.LABEL_BLOCK else f"arrow {place - layout.arrow_block(0)}"
         return [f"{IN_A_BLOCK[number]}: block {place}, {of}"]
     if number == 33:
-        return [f"scratch or output is too short: the carried book has {place} bytes"]
+        return [f"scratch or output is too short: {place} bytes are needed"]
+    if number == 51:
+        if place > layout.NODES:
+            fault(file, f"a page has no line {place}")
+        where = "its length or its head" if place == 0 else f"line {place}, counted from 0"
+        return [f"the page is not one that a sheet of this n prints: {where}"]
     if number not in WITHOUT_PLACE:
         fault(file, f"no call answers {number:02}")
     if place != 0:
