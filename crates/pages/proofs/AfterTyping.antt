@@ -7,7 +7,7 @@ use native.Mathlib.Omega.{arith}
 use mathlib.Core.Bool.{Bool, _&&_, cond}
 use borrow.Author.Tests.{ne-eqb}
 use lib.ListN.{getD}
-use Rattle.answer.specs.Asked.{Asked, passed, refused, _>>_, after}
+use Rattle.answer.specs.Asked.{passed, after}
 use Rattle.logic.specs.Graph.{Graph, isNode}
 use Rattle.logic.specs.Limits.{Within, maxNodes}
 use Rattle.logic.specs.Steps.{update}
@@ -19,6 +19,7 @@ use Rattle.sheet.proofs.Passes.{stored-passes, first-block, later-block}
 use Rattle.sheet.proofs.ReadBack.{read-back}
 use Rattle.pages.specs.Typed.{Block, arrows, labels, askPage, marked, typed, askType, typedSheet}
 use Rattle.pages.specs.Prints.{pageOf}
+use Rattle.pages.proofs.TypeLaws.{both-passed}
 use Rattle.pages.proofs.Accepted.{accepted-right, accepted-page, typed-within}
 
 -- The number of a block in the sheet.
@@ -41,14 +42,9 @@ module _ (sheet page : List ℕ) (are-bytes : (p : ℕ) → getD sheet p 0 < 256
   abbrev g : Graph
   g = graphOf sheet
 
-  both : (x : Asked (Unit {0})) (r : Asked Block) → (x >> r) ≡ passed b → (x ≡ passed tt) × (r ≡ passed b)
-  unfolding _>>_
-  both (passed u) r e = (refl, e)
-  both (refused q p) r e = let z : _≡_ {A = ℕ} 0 1 = cc in absurd (omega arith)
-
   asked : Sound sheet × (askPage (g .n) page ≡ passed b)
   unfolding askType
-  asked = both (askSheet sheet) (askPage (g .n) page) done
+  asked = both-passed (askSheet sheet) (askPage (g .n) page) b done
 
   within : Within g
   within = opening sheet are-bytes (asked .0) .within

@@ -8,7 +8,7 @@ use native.Mathlib.Decide.{decLt}
 use borrow.Author.Tests.{lt-ltb, le-ltb, ltb-true, eqb-true}
 use lib.Dec.{eqb, ltb, leb}
 use lib.ListN.{length, getD}
-use Rattle.answer.specs.Asked.{Asked, passed, refused, _>>_, is, after}
+use Rattle.answer.specs.Asked.{passed, _>>_, is, after}
 use Rattle.logic.specs.Graph.{Graph, Pairs, isNode}
 use Rattle.logic.specs.Limits.{Within, labelCount, arrowCount}
 use Rattle.logic.specs.Steps.{update}
@@ -19,6 +19,7 @@ use Rattle.pages.specs.Page.{arrowPage, labelPage}
 use Rattle.pages.specs.Print.{askRoom, askPrintArrow, askPrintLabels}
 use Rattle.pages.specs.Typed.{lineOf, marks, Block, arrows, labels, askPage, marked, typed, askType, typedSheet}
 use Rattle.pages.specs.Prints.{pageOf, HasBlock}
+use Rattle.pages.proofs.TypeLaws.{both-passed}
 use Rattle.pages.proofs.RightLines.{marks-of-line}
 use Rattle.pages.proofs.Accepted.{arrow-line, label-line, printed-right, right-accepted}
 
@@ -91,24 +92,19 @@ module _ (sheet : List ℕ) (are-bytes : (p : ℕ) → getD sheet p 0 < 256) (ro
   back : (b : Block) → HasBlock b → Sound sheet → page ≡ pageOf (graphOf sheet) b → Back b
   back b h s e = (ap (askType sheet) e ∙ page-accepted sheet are-bytes s b h, ap (typedSheet sheet) e ∙ sheet-back sheet are-bytes s b h)
 
-  passes : {A : Type 0} (x : Asked (Unit {0})) (r : Asked A) (v : A) → (x >> r) ≡ passed v → (x ≡ passed tt) × (r ≡ passed v)
-  unfolding _>>_
-  passes (passed u) r v e = (refl, e)
-  passes (refused q p) r v e = let z : _≡_ {A = ℕ} 0 1 = cc in absurd (omega arith)
-
   room-page : (p : List ℕ) → askRoom p room ≡ passed page → page ≡ p
   unfolding askRoom
-  room-page p e = let f : passed p ≡ passed page = passes (is (leb (length p) room) 33 (length p)) (passed p) page e .1 in cc
+  room-page p e = let f : passed p ≡ passed page = both-passed (is (leb (length p) room) 33 (length p)) (passed p) page e .1 in cc
 
   pub arrow-page-back : (a : ℕ) → askPrintArrow sheet a room ≡ passed page → Back (arrows a)
   unfolding askPrintArrow
   arrow-page-back a e =
-      let r = passes (askSheet sheet) (is (ltb a arrowCount) 7 0 >> askRoom (arrowPage (graphOf sheet) a) room) page e in
-      let q = passes (is (ltb a arrowCount) 7 0) (askRoom (arrowPage (graphOf sheet) a) room) page (r .1) in
+      let r = both-passed (askSheet sheet) (is (ltb a arrowCount) 7 0 >> askRoom (arrowPage (graphOf sheet) a) room) page e in
+      let q = both-passed (is (ltb a arrowCount) 7 0) (askRoom (arrowPage (graphOf sheet) a) room) page (r .1) in
       back (arrows a) (ltb-true a arrowCount (is-yes (ltb a arrowCount) 7 0 (q .0))) (r .0) (room-page (arrowPage (graphOf sheet) a) (q .1))
 
   pub label-page-back : askPrintLabels sheet room ≡ passed page → Back labels
   unfolding askPrintLabels
   label-page-back e =
-      let r = passes (askSheet sheet) (askRoom (labelPage (graphOf sheet)) room) page e in
+      let r = both-passed (askSheet sheet) (askRoom (labelPage (graphOf sheet)) room) page e in
       back labels tt (r .0) (room-page (labelPage (graphOf sheet)) (r .1))

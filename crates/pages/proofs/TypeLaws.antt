@@ -26,6 +26,12 @@ use Rattle.seal.specs.Seal.{sameBytes}
 use Rattle.pages.specs.Page.{headLine}
 use Rattle.pages.specs.Typed.{lineOf, marks, lineRight, Block, arrows, labels, linesOf, headIs, headNumber, askHead, askLines, askPage, marked, typed, askType, typedSheet}
 
+-- two questions that have passed
+pub both-passed : {A : Type 0} (x : Asked (Unit {0})) (r : Asked A) (v : A) → (x >> r) ≡ passed v → (x ≡ passed tt) × (r ≡ passed v)
+unfolding _>>_
+both-passed (passed u) r v e = (refl, e)
+both-passed (refused q p) r v e = let z : _≡_ {A = ℕ} 0 1 = cc in absurd (omega arith)
+
 -- the head, by the page's length
 pub head-other : (page : List ℕ) (letter x lines : ℕ) → length page ≢ 64 * lines + 64 → headIs page letter x lines ≡ false
 unfolding headIs

@@ -7,6 +7,10 @@ ghost use Rattle.words.specs.Words.{setOf, member};
 ghost use Rattle.seal.specs.Seal.{sameBytes};
 ghost use Rattle.pages.specs.Page.{lineBytes, headLine, square, setLine};
 ghost use Rattle.pages.specs.Typed.{marks, lineRight};
+use sheet::Sheet;
+
+// The bytes of a line, its line feed included.
+pub const LINE: usize = 64;
 
 // The square of column j in the row of a set. Inner: j is the number of a bit.
 fn square(n: usize, row: u64, j: usize) -> u8
@@ -27,7 +31,7 @@ pub fn put_line(line: &mut [u8], n: usize, x: usize, row: u64)
     line::write_digits(&mut line[0..2], x);
     line[2] = b' ';
     let mut j = 0;
-    while j < 60 {
+    while j < Sheet::NODES {
         line[3 + j] = square(n, row, j);
         j += 1;
     }
@@ -42,7 +46,7 @@ pub fn put_head(line: &mut [u8], letter: u8, x: usize)
     line[0] = letter;
     line::write_digits(&mut line[1..3], x);
     let mut j = 0;
-    while j < 60 {
+    while j < Sheet::NODES {
         line[3 + j] = b' ';
         j += 1;
     }
@@ -71,7 +75,7 @@ pub fn same(a: &[u8], b: &[u8]) -> bool
     ensures { λ r. ⌜ r ≡ sameBytes (now (a .entry)) (now (b .entry)) ⌝ }
 {
     let mut i = 0;
-    while i < 64 {
+    while i < LINE {
         if a[i] != b[i] {
             return false;
         }
@@ -85,7 +89,7 @@ pub fn line_is(line: &[u8], n: usize, x: usize, set: u64) -> bool
     requires { ⌜ (length (now line) ≡ lineBytes) × (set ≡ setOf n (marks (now line))) ⌝ }
     ensures { λ r. ⌜ r ≡ lineRight n x (now (line .entry)) ⌝ }
 {
-    let mut wanted = [0u8; 64];
+    let mut wanted = [0u8; LINE];
     put_line(&mut wanted, n, x, set);
     same(line, &wanted)
 }

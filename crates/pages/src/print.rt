@@ -1,6 +1,6 @@
 // Pages printed into an output, line by line.
 ghost use mathlib.Core.Path.{_≡_};
-ghost use Prim.Native.Nat.{suc, _*_, _<_, _≤_};
+ghost use Prim.Native.Nat.{_*_, _<_, _≤_};
 ghost use lib.ListN.{length};
 ghost use Rattle.answer.specs.Outputs.{writtenAsked, writtenLength, writtenAtStart, writtenOutput};
 ghost use Rattle.logic.specs.Limits.{maxNodes, arrowCount, labelCount};
@@ -8,6 +8,7 @@ ghost use Rattle.sheet.specs.Sheet.{graphOf};
 ghost use Rattle.sheet.specs.Questions.{Sound};
 ghost use Rattle.pages.specs.Page.{lineBytes, rowLines, labelLines};
 ghost use Rattle.pages.specs.Print.{askPrintArrow, askPrintLabels};
+use crate::lines::LINE;
 use crate::lines::put_head;
 use crate::lines::put_line;
 use answer::Answer;
@@ -25,8 +26,8 @@ fn put_row_lines(sheet: &[u8], n: usize, a: Arrow, out: &mut [u8])
 {
     let mut i = 0;
     while i < n {
-        let from = 64 * i;
-        let to = from + 64;
+        let from = LINE * i;
+        let to = from + LINE;
         put_line(
             &mut out[from..to],
             n,
@@ -44,8 +45,8 @@ fn put_label_lines(sheet: &[u8], n: usize, out: &mut [u8])
 {
     let mut k = 0;
     while k < Sheet::LABELS {
-        let from = 64 * k;
-        let to = from + 64;
+        let from = LINE * k;
+        let to = from + LINE;
         put_line(
             &mut out[from..to],
             n,
@@ -69,12 +70,12 @@ pub fn print_arrow(sheet: &[u8], arrow: usize, out: &mut [u8]) -> Written
         return Written::Refused(Refusal::BitRange { place: 0 });
     }
     let n = Sheet::node_count(sheet);
-    let size = 64 * n + 64;
+    let size = LINE * n + LINE;
     if out.len() < size {
         return Written::Refused(Refusal::OutputLength { place: size });
     }
-    put_head(&mut out[0..64], b'A', arrow);
-    put_row_lines(sheet, n, Arrow(arrow as u8), &mut out[64..]);
+    put_head(&mut out[0..LINE], b'A', arrow);
+    put_row_lines(sheet, n, Arrow(arrow as u8), &mut out[LINE..]);
     Written::Length(size)
 }
 
@@ -87,12 +88,12 @@ pub fn print_labels(sheet: &[u8], out: &mut [u8]) -> Written
     if let Answer::Refused(r) = answer {
         return Written::Refused(r);
     }
-    let size = 64 * Sheet::LABELS + 64;
+    let size = LINE * Sheet::LABELS + LINE;
     if out.len() < size {
         return Written::Refused(Refusal::OutputLength { place: size });
     }
     let n = Sheet::node_count(sheet);
-    put_head(&mut out[0..64], b'L', n);
-    put_label_lines(sheet, n, &mut out[64..]);
+    put_head(&mut out[0..LINE], b'L', n);
+    put_label_lines(sheet, n, &mut out[LINE..]);
     Written::Length(size)
 }

@@ -1,6 +1,5 @@
 // A page typed back into a sheet.
 ghost use mathlib.Core.Path.{_≡_};
-ghost use mathlib.Core.Bool.{_&&_};
 ghost use Prim.Native.Nat.{ℕ, suc, _+_, _*_, _<_, _≤_};
 ghost use lib.ListN.{length, getD};
 ghost use Rattle.answer.specs.Answers.{asked};
@@ -11,6 +10,7 @@ ghost use Rattle.sheet.specs.Sheet.{store, graphOf};
 ghost use Rattle.sheet.specs.Questions.{Sound};
 ghost use Rattle.pages.specs.Page.{lineBytes};
 ghost use Rattle.pages.specs.Typed.{lineOf, marks, headIs, headAsked, askHead, askLines, arrows, labels, typed, askType, typedSheet};
+use crate::lines::LINE;
 use crate::lines::line_is;
 use crate::lines::marks_of;
 use crate::lines::put_head;
@@ -32,12 +32,12 @@ fn head_is(page: &[u8], letter: u8, x: usize, lines: usize) -> bool
     requires { ⌜ lines ≤ maxNodes ⌝ }
     ensures { λ r. ⌜ r ≡ headIs (now (page .entry)) letter x lines ⌝ }
 {
-    if page.len() != 64 * lines + 64 {
+    if page.len() != LINE * lines + LINE {
         return false;
     }
-    let mut wanted = [0u8; 64];
+    let mut wanted = [0u8; LINE];
     put_head(&mut wanted, letter, x);
-    same(&page[0..64], &wanted)
+    same(&page[0..LINE], &wanted)
 }
 
 // What the head names, 51 at 0 when it is none of a sheet of this n. Inner: n is a sheet's.
@@ -48,7 +48,7 @@ fn head_of(page: &[u8], n: usize) -> Head
     if head_is(page, b'L', n, Sheet::LABELS) {
         return Head::Labels;
     }
-    if page.len() < 64 {
+    if page.len() < LINE {
         return Head::Wrong;
     }
     let kind = 10 * (page[1] % 16) as usize + (page[2] % 16) as usize;
@@ -68,8 +68,8 @@ fn read_lines(page: &[u8], n: usize, m: usize, sets: &mut [u64]) -> Answer
 {
     let mut x = 0;
     while x < m {
-        let from = 64 * (x + 1);
-        let to = from + 64;
+        let from = LINE * (x + 1);
+        let to = from + LINE;
         let set = marks_of(&page[from..to], n);
         if !line_is(&page[from..to], n, x, set) {
             return Answer::Refused(Refusal::PageLine { place: x + 1 });
