@@ -46,6 +46,10 @@ pub enum Refusal {
     RuleBroken { place: usize },
     // 51: a page that printing a sheet of this n could not give; the place is the first such line, from 0
     PageLine { place: usize },
+    // 52: the sums of a log's block are wrong; the place of this and the next is the block
+    LogSums { place: usize },
+    // 53: its fields are wrong, its number is above 65,534, it is cut short, or the log ends inside an edit
+    LogBlock { place: usize },
 }
 
 pub enum Answer {
@@ -87,6 +91,8 @@ pub fn refusal_number(r: Refusal) -> usize
         Refusal::OutputLength { place: _ } => 33,
         Refusal::RuleBroken { place: _ } => 41,
         Refusal::PageLine { place: _ } => 51,
+        Refusal::LogSums { place: _ } => 52,
+        Refusal::LogBlock { place: _ } => 53,
     }
 }
 
@@ -118,6 +124,8 @@ pub fn refusal_place(r: Refusal) -> usize
         Refusal::OutputLength { place } => place,
         Refusal::RuleBroken { place } => place,
         Refusal::PageLine { place } => place,
+        Refusal::LogSums { place } => place,
+        Refusal::LogBlock { place } => place,
     }
 }
 
