@@ -18,12 +18,11 @@ use Rattle.log.specs.Log.{isLast, count, content, fieldsRight, isWhole, 
 use Rattle.log.specs.Taken.{kept, keptBehind, Says, goesOn, finished, askTaken}
 
 -- the questions, when the answers to them are known
-asks : (number : ℕ) (whole sums low fields : Bool) → Asked (Unit {0})
-unfolding is _>>_
+unfoldable pub asks : (number : ℕ) (whole sums low fields : Bool) → Asked (Unit {0})
 asks number whole sums low fields = is (implies whole sums) 52 number >> is (whole && (low && fields)) 53 number
 
 module _ (begun : Bool) (number : ℕ) (k : List ℕ) where
-  are : (whole sums low fields : Bool) → eqb (length k) 512 ≡ whole → sealRight modulo257 k ≡ sums → leb number 65534 ≡ low → fieldsRight begun k ≡ fields
+  pub are : (whole sums low fields : Bool) → eqb (length k) 512 ≡ whole → sealRight modulo257 k ≡ sums → leb number 65534 ≡ low → fieldsRight begun k ≡ fields
       → askLogBlock begun number k ≡ asks number whole sums low fields
   unfolding askLogBlock asks
   are whole sums low fields a b c d =

@@ -1,3 +1,4 @@
 pub mod Log
 pub mod Making
+pub mod Stops
 pub mod Taken

@@ -75,14 +75,17 @@ ends q = record { edits = []; ending = q }
 abbrev pub follows : List ℕ → Recorded → Recorded
 follows edit r = record { edits = edit ∷ r .edits; ending = r .ending }
 
+-- Behind a bad block nothing is read.
+unfoldable pub unlessBad : Asked (Unit {0}) → Recorded → Recorded
+unlessBad (passed u) r = r
+unlessBad (refused q p) r = ends (refused q p)
+
 -- Blocks of which the first has this number, behind blocks that left so much gathered.
 unfoldable pub recorded : (number : ℕ) (gathered : List ℕ) → List (List ℕ) → Recorded
 recorded number gathered [] = ends (askLogEnd (isBegun gathered) number)
 recorded number gathered (k ∷ ks) =
-    elim (askLogBlock (isBegun gathered) number k) [
-      | passed u ↦ cond (isLast k) (follows (gathered ++ content k) (recorded (suc number) [] ks)) (recorded (suc number) (gathered ++ content k) ks)
-      | refused q p ↦ ends (refused q p)
-    ]
+    unlessBad (askLogBlock (isBegun gathered) number k)
+    (cond (isLast k) (follows (gathered ++ content k) (recorded (suc number) [] ks)) (recorded (suc number) (gathered ++ content k) ks))
 
 -- The blocks of a log's bytes: the last may be cut short. There are no more blocks than bytes.
 unfoldable pub cut : (most : ℕ) → List ℕ → List (List ℕ)

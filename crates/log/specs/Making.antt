@@ -1,7 +1,7 @@
 -- The log of edits: each cut into blocks.
 use mathlib.Core.Bool.{cond}
 use mathlib.Core.List.{List, [], _∷_, _++_}
-use Prim.Native.Nat.{ℕ, zero, suc, _+_, _-_}
+use Prim.Native.Nat.{ℕ, zero, suc, _+_, _-_, _<_}
 use lib.Dec.{leb}
 use lib.ListN.{length, take, drop, replicate}
 use Rattle.words.specs.Words.{bytes}
@@ -27,6 +27,11 @@ logBlocks (edit ∷ edits) = editBlocks (length edit) 1 edit ++ logBlocks edits
 unfoldable pub joined : List (List ℕ) → List ℕ
 joined [] = []
 joined (k ∷ ks) = k ++ joined ks
+
+-- A log can hold an edit that has a byte at least.
+unfoldable pub CanHold : List (List ℕ) → Type 0
+CanHold [] = Unit {0}
+CanHold (edit ∷ edits) = (0 < length edit) × CanHold edits
 
 abbrev pub logOf : List (List ℕ) → List ℕ
 logOf edits = joined (logBlocks edits)
