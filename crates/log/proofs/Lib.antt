@@ -5,3 +5,5 @@ pub mod StopLaws
 pub mod CutLaws
 pub mod MakeLaws
 pub mod ReadBack
+pub mod OneLog
+pub mod Logs

@@ -1,17 +1,17 @@
 -- The block of a part of an edit passes its questions and holds that part.
 use mathlib.Core.Path.{_≡_, refl, sym, _∙_, ap, ap₂}
-use mathlib.Core.Bool.{Bool, true, false, _&&_, _||_, cond}
-use mathlib.Core.List.{List, [], _∷_, _++_, append-assoc}
-use Prim.Native.Nat.{ℕ, zero, suc, _+_, _-_, _*_, _/_, _%_, _≤_, _<_}
+use mathlib.Core.Bool.{Bool, true, _||_}
+use mathlib.Core.List.{List, _∷_, _++_, append-assoc}
+use Prim.Native.Nat.{ℕ, zero, suc, _+_, _-_, _/_, _%_, _≤_}
 use native.Mathlib.Omega.{arith}
 use lib.Dec.{eqb}
 use lib.ListN.{length, getD, take, drop, replicate, length-append, length-replicate}
 use lib.Seq.{take-at, drop-at, drop-drop}
 use Rattle.answer.specs.Asked.{passed}
 use Rattle.words.specs.Words.{bytes}
-use Rattle.seal.specs.Seal.{Form, modulo257, seal, sealed, sealRight}
+use Rattle.seal.specs.Seal.{modulo257, seal, sealed, sealRight}
 use Rattle.seal.proofs.SealLaws.{sealed-right, length-sealed}
-use Rattle.log.specs.Log.{isLast, markRight, count, countRight, content, allZero, zerosBehind, fieldsRight, askLogBlock}
+use Rattle.log.specs.Log.{isLast, markRight, count, countRight, content, allZero, zerosBehind, askLogBlock}
 use Rattle.log.specs.Making.{block}
 use Rattle.log.proofs.FieldLaws.{zeros-left}
 use Rattle.log.proofs.TakeLaws.{good}

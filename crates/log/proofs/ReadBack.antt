@@ -1,20 +1,19 @@
 -- Edits cut into blocks and read back are the same edits.
 use mathlib.Core.Path.{_≡_, refl, sym, _∙_, ap, ap₂, subst}
 use mathlib.Core.Bool.{Bool, true, false, _||_, cond}
-use mathlib.Core.List.{List, [], _∷_, _++_, append-assoc, append-nil}
+use mathlib.Core.List.{List, [], _∷_, _++_, append-assoc}
 use Prim.Native.Nat.{ℕ, zero, suc, _+_, _-_, _≤_, _<_}
 use native.Mathlib.Omega.{arith}
 use borrow.Author.Tests.{leb-true, leb-false, le-leb, lt-leb, lt-ltb, eq-eqb}
-use lib.Dec.{eqb, leb, ltb}
+use lib.Dec.{eqb, leb}
 use lib.ListN.{length, take, drop, take-append-drop, length-append, length-drop}
 use lib.Seq.{length-take-le}
 use Rattle.answer.specs.Asked.{passed, is}
-use Rattle.log.specs.Log.{isLast, markRight, countRight, content, isBegun, askLogBlock, askLogEnd, Recorded, ends, follows, recorded}
-use Rattle.log.specs.Making.{block, editBlocks, logBlocks, joined, CanHold}
+use Rattle.log.specs.Log.{markRight, countRight, isBegun, askLogBlock, askLogEnd, follows, recorded}
+use Rattle.log.specs.Making.{block, editBlocks, logBlocks, CanHold}
 use Rattle.log.proofs.FieldLaws.{counted}
 use Rattle.log.proofs.ReadLaws.{read-last, read-more}
-use Rattle.log.proofs.CutLaws.{blocks-nil, blocks-at}
-use Rattle.log.proofs.MakeLaws.{block-passes, last-is, content-is, block-whole}
+use Rattle.log.proofs.MakeLaws.{block-passes, last-is, content-is}
 
 -- Byte 1 of a block that is not the last, behind an edit begun or not begun.
 abbrev pub first : Bool → ℕ

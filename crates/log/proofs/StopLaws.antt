@@ -1,12 +1,12 @@
 -- Stopping behind an edit's last block: what was read before it, and what is read behind it.
-use mathlib.Core.Path.{_≡_, refl, sym, _∙_, ap, ap₂}
+use mathlib.Core.Path.{_≡_, refl, sym, _∙_, ap}
 use mathlib.Core.Bool.{Bool, true, false, cond}
 use mathlib.Core.List.{List, [], _∷_, _++_}
-use Prim.Native.Nat.{ℕ, zero, suc, _+_, _≤_, _<_}
+use Prim.Native.Nat.{ℕ, zero, suc, _+_, _≤_}
 use native.Mathlib.Omega.{arith}
 use lib.ListN.{length, take, drop}
-use Rattle.answer.specs.Asked.{Asked, passed, refused, is}
-use Rattle.log.specs.Log.{isLast, content, isBegun, askLogBlock, askLogEnd, Recorded, ends, follows, recorded}
+use Rattle.answer.specs.Asked.{passed, is}
+use Rattle.log.specs.Log.{isLast, content, isBegun, askLogBlock, askLogEnd, Recorded, follows, recorded}
 use Rattle.log.specs.Stops.{blocksTo}
 use Rattle.log.proofs.ReadLaws.{read-bad, read-last, read-more, Block, bad, last, more, block-is}
 

@@ -1,8 +1,8 @@
 -- A block taken behind what is kept: the questions in turn, and the bytes kept then.
 use mathlib.Core.Path.{_≡_, refl, sym, _∙_, ap, ap₂}
 use mathlib.Core.Bool.{Bool, true, false, _&&_, cond}
-use mathlib.Core.List.{List, [], _∷_, _++_}
-use Prim.Native.Nat.{ℕ, suc, _+_, _-_, _≤_, _<_, min}
+use mathlib.Core.List.{List, _++_}
+use Prim.Native.Nat.{ℕ, _+_, _-_, _≤_, _<_, min}
 use native.Mathlib.Numerals.{add-one}
 use native.Mathlib.Omega.{arith}
 use native.Mathlib.Decide.{decLt}
@@ -14,8 +14,8 @@ use Rattle.answer.specs.Asked.{Asked, passed, refused, _>>_, is, after}
 use Rattle.answer.specs.Outputs.{writtenAtStart}
 use Rattle.logic.specs.Graph.{implies}
 use Rattle.seal.specs.Seal.{modulo257, sealRight}
-use Rattle.log.specs.Log.{isLast, count, content, fieldsRight, isWhole, isBegun, askLogBlock}
-use Rattle.log.specs.Taken.{kept, keptBehind, Says, goesOn, finished, askTaken}
+use Rattle.log.specs.Log.{isLast, count, content, fieldsRight, isBegun, askLogBlock}
+use Rattle.log.specs.Taken.{kept, keptBehind, goesOn, finished, askTaken}
 
 -- the questions, when the answers to them are known
 unfoldable pub asks : (number : ℕ) (whole sums low fields : Bool) → Asked (Unit {0})

@@ -1,4 +1,5 @@
 pub mod Log
 pub mod Making
 pub mod Stops
+pub mod Logs
 pub mod Taken

@@ -6,7 +6,7 @@ use lib.Dec.{eqb, leb, ltb}
 use lib.ListN.{length, getD, take, drop}
 use Rattle.answer.specs.Asked.{Asked, passed, refused, _>>_, is}
 use Rattle.logic.specs.Graph.{implies}
-use Rattle.seal.specs.Seal.{blockBytes, Form, modulo257, sealRight}
+use Rattle.seal.specs.Seal.{blockBytes, modulo257, sealRight}
 
 -- A block's fields fill its first four bytes; edit bytes and zeros fill the rest of its body, bytes 4 to 507. Item 2's sums follow.
 abbrev pub fieldBytes : ℕ

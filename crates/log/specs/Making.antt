@@ -5,7 +5,7 @@ use Prim.Native.Nat.{ℕ, zero, suc, _+_, _-_, _<_}
 use lib.Dec.{leb}
 use lib.ListN.{length, take, drop, replicate}
 use Rattle.words.specs.Words.{bytes}
-use Rattle.seal.specs.Seal.{Form, modulo257, sealed}
+use Rattle.seal.specs.Seal.{modulo257, sealed}
 use Rattle.log.specs.Log.{contentBytes}
 
 -- The block with this byte 1 and these edit bytes.

@@ -1,7 +1,7 @@
 -- What the code keeps of an edit while it reads the edit's blocks, and what it says of a block.
-use mathlib.Core.Bool.{Bool, cond}
+use mathlib.Core.Bool.{cond}
 use mathlib.Core.List.{List, _++_}
-use Prim.Native.Nat.{ℕ, suc}
+use Prim.Native.Nat.{ℕ}
 use lib.ListN.{length, take}
 use Rattle.answer.specs.Asked.{Asked, passed, refused, _>>_}
 use Rattle.answer.specs.Answers.{refusalNumber, refusalPlace}

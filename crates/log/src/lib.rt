@@ -1,6 +1,5 @@
 // A log of edits (document 02, item 4), block by block: what a block is to the edit begun before it.
 ghost use mathlib.Core.Path.{_≡_};
-ghost use mathlib.Core.Bool.{Bool};
 ghost use Prim.Native.Nat.{_+_, _-_, _*_, _≤_, min};
 ghost use lib.Dec.{ltb};
 ghost use lib.ListN.{length, take, drop};

@@ -1,5 +1,4 @@
 use mathlib.Core.Path.{sym, _∙_}
-use native.Mathlib.Omega.{arith}
 use borrow.Author.Tests.{eq-eqb, ne-eqb}
 use Rattle.log.proofs.FieldLaws.{or-yes, or-no, none-counted, too-many-counted, counted}
 use Rattle.log.proofs.count_right.Statement.{statement}

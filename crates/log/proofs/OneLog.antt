@@ -1,0 +1,231 @@
+-- A log that ends well is the log of its edits.
+use mathlib.Core.Path.{_≡_, refl, sym, _∙_, ap, ap₂, subst}
+use mathlib.Core.Logic.{_⊎_, inl, inr, ⊎-elim}
+use mathlib.Core.Bool.{Bool, true, false, _&&_, _||_}
+use mathlib.Core.List.{List, [], _∷_, _++_, append-assoc}
+use Prim.Native.Nat.{ℕ, zero, suc, _+_, _-_, _*_, _/_, _%_, _≤_, _<_}
+use native.Mathlib.Omega.{arith}
+use borrow.Author.Tests.{eqb-true, leb-true, leb-false, lt-ltb}
+use lib.Dec.{eqb, leb}
+use lib.ListN.{length, getD, take, drop, replicate, take-append-drop, length-append, length-drop}
+use lib.Seq.{length-take-le, take-take, drop-drop, drop-cons, getD-take, take-at, drop-at, length-slice}
+use Rattle.answer.specs.Asked.{passed, _>>_, is}
+use Rattle.seal.specs.Seal.{modulo257, sealed, sealRight}
+use Rattle.seal.proofs.SealLaws.{and-yes, right-sealed}
+use Rattle.log.specs.Log.{isLast, markRight, count, countRight, content, allZero, zerosBehind, fieldsRight, isBegun, askLogBlock, askLogEnd, Recorded, ends, recorded}
+use Rattle.log.specs.Making.{block, editBlocks, logBlocks, CanHold}
+use Rattle.log.proofs.FieldLaws.{Right, right, count-small}
+use Rattle.log.proofs.TakeLaws.{asks, are}
+use Rattle.log.proofs.ReadLaws.{read-bad, read-last, read-more, Block, bad, last, more, block-is}
+use Rattle.log.proofs.CutLaws.{drop-take}
+use Rattle.log.proofs.MakeLaws.{body}
+use Rattle.log.proofs.MakeLaws as make
+use Rattle.log.proofs.ReadBack.{first, one-block, more-blocks}
+
+-- what the questions that passed say
+pub record Passed (begun : Bool) (number : ℕ) (k : List ℕ) : Type 0 where
+  pub whole : length k ≡ 512
+  pub sums : sealRight modulo257 k ≡ true
+  pub fields : Right begun k
+
+pub passes : (begun : Bool) (number : ℕ) (k : List ℕ) → askLogBlock begun number k ≡ passed tt → Passed begun number k
+unfolding asks is _>>_
+passes begun number k e = go (eqb (length k) 512) (sealRight modulo257 k) (leb number 65534) (fieldsRight begun k) refl refl refl refl
+  where
+    go : (w s l f : Bool) → eqb (length k) 512 ≡ w → sealRight modulo257 k ≡ s → leb number 65534 ≡ l → fieldsRight begun k ≡ f → Passed begun number k
+    go true true true true a b c d = record { whole = eqb-true (length k) 512 a; sums = b; fields = right begun k d }
+    go true true true false a b c d = let z : _≡_ {A = ℕ} 0 1 = cc (are begun number k true true true false a b c d) in absurd (omega arith)
+    go true true false f a b c d = let z : _≡_ {A = ℕ} 0 1 = cc (are begun number k true true false f a b c d) in absurd (omega arith)
+    go true false l f a b c d = let z : _≡_ {A = ℕ} 0 1 = cc (are begun number k true false l f a b c d) in absurd (omega arith)
+    go false s l f a b c d = let z : _≡_ {A = ℕ} 0 1 = cc (are begun number k false s l f a b c d) in absurd (omega arith)
+
+-- zeros, and nothing else
+all-zero : (l : List ℕ) → allZero l ≡ true → l ≡ replicate (length l) 0
+unfolding allZero
+all-zero [] e = refl
+all-zero (x ∷ l) e =
+    let a = and-yes (eqb x 0) (allZero l) e in
+    ap₂ _∷_ (eqb-true x 0 (a .0)) (all-zero l (a .1))
+
+two-bytes : (a b c : ℕ) → a < 256 → b < 256 → c ≡ a + 256 * b → (a ≡ c % 256) × (b ≡ c / 256 % 256)
+two-bytes a b c h k e =
+    let q : c / 256 ≡ b = omega arith in
+    let r : b ≡ b % 256 = omega arith in
+    (omega arith, r ∙ ap (_% 256) (sym q))
+
+-- a block that passed is the block of its content
+module _ (begun : Bool) (number : ℕ) (k : List ℕ) (bytes : (p : ℕ) → getD k p 0 < 256) (p : Passed begun number k) where
+  few : count k ≤ 504
+  few = count-small (isLast k) (count k) (p .fields .few)
+
+  pub length-content : length (content k) ≡ count k
+  unfolding content
+  length-content = length-take-le (count k) (drop 4 k) (omega (arith, few, p .whole, length-drop 4 k))
+
+  first-four : take 508 k ≡ getD k 0 0 ∷ getD k 1 0 ∷ getD k 2 0 ∷ getD k 3 0 ∷ drop 4 (take 508 k)
+  first-four =
+      let h : length (take 508 k) ≡ 508 = length-take-le 508 k (omega (arith, p .whole)) in
+      drop-cons (take 508 k) 0 0 (omega arith)
+      ∙ ap₂ _∷_ (getD-take 508 k 0 0 (omega arith)) (drop-cons (take 508 k) 1 0 (omega arith)
+      ∙ ap₂ _∷_ (getD-take 508 k 1 0 (omega arith)) (drop-cons (take 508 k) 2 0 (omega arith)
+      ∙ ap₂ _∷_ (getD-take 508 k 2 0 (omega arith)) (drop-cons (take 508 k) 3 0 (omega arith) ∙ ap (_∷ drop 4 (take 508 k)) (getD-take 508 k 3 0 (omega arith)))))
+
+  inner : drop 4 (take 508 k) ≡ content k ++ replicate (504 - length (content k)) 0
+  unfolding content zerosBehind
+  inner =
+      let z : List ℕ = drop (4 + count k) (take 508 k) in
+      let n : length z ≡ 508 - (4 + count k) = length-slice (4 + count k) 508 k (omega (arith, p .whole)) in
+      let m : length z ≡ 504 - length (content k) = omega (arith, n, length-content) in
+      sym (take-append-drop (count k) (drop 4 (take 508 k)))
+      ∙ ap₂ _++_ (ap (take (count k)) (drop-take 4 504 k) ∙ take-take (count k) 504 (drop 4 k) few) (drop-drop (count k) 4 (take 508 k) ∙ all-zero z (p .fields .zeros) ∙ ap (λ n. replicate n 0) m)
+
+  body-is : take 508 k ≡ body (getD k 1 0) (content k)
+  unfolding body count
+  body-is =
+      let c : length (content k) ≡ getD k 2 0 + 256 * getD k 3 0 = length-content in
+      let two = two-bytes (getD k 2 0) (getD k 3 0) (length (content k)) (bytes 2) (bytes 3) c in
+      first-four ∙ ap₂ (λ x y. x ∷ getD k 1 0 ∷ y) (p .fields .three) (ap₂ _∷_ (two .0) (ap₂ _∷_ (two .1) inner))
+
+  pub is-block : k ≡ block (getD k 1 0) (content k)
+  is-block = right-sealed modulo257 k (p .sums) ∙ ap (sealed modulo257) body-is ∙ sym (make.block-is (getD k 1 0) (content k))
+
+-- its byte 1
+one-of : (a b : Bool) → (a || b) ≡ true → (a ≡ true) ⊎ (b ≡ true)
+one-of true b e = inl refl
+one-of false b e = inr e
+
+none-of : (a b : Bool) → (a || b) ≡ false → (a ≡ false) × (b ≡ false)
+none-of false b e = (refl, e)
+none-of true b e = let z : _≡_ {A = ℕ} 0 1 = cc in absurd (omega arith)
+
+of-last : (begun : Bool) (m : ℕ) → markRight begun m ≡ true → (eqb m 2 || eqb m 3) ≡ true → m ≡ first begun + 2
+unfolding markRight
+of-last true m a b =
+    ⊎-elim (λ x. ⊎-elim (λ y. absurd (omega (arith, eqb-true m 0 x, eqb-true m 2 y))) (λ y. absurd (omega (arith, eqb-true m 0 x, eqb-true m 3 y))) (one-of (eqb m 2) (eqb m 3) b))
+    (λ x. eqb-true m 2 x) (one-of (eqb m 0) (eqb m 2) a)
+of-last false m a b =
+    ⊎-elim (λ x. ⊎-elim (λ y. absurd (omega (arith, eqb-true m 1 x, eqb-true m 2 y))) (λ y. absurd (omega (arith, eqb-true m 1 x, eqb-true m 3 y))) (one-of (eqb m 2) (eqb m 3) b))
+    (λ x. eqb-true m 3 x) (one-of (eqb m 1) (eqb m 3) a)
+
+of-more : (begun : Bool) (m : ℕ) → markRight begun m ≡ true → (eqb m 2 || eqb m 3) ≡ false → m ≡ first begun
+unfolding markRight
+of-more true m a b =
+    ⊎-elim (λ x. eqb-true m 0 x) (λ x. let z : _≡_ {A = ℕ} 0 1 = cc (none-of (eqb m 2) (eqb m 3) b .0) in absurd (omega arith)) (one-of (eqb m 0) (eqb m 2) a)
+of-more false m a b =
+    ⊎-elim (λ x. eqb-true m 1 x) (λ x. let z : _≡_ {A = ℕ} 0 1 = cc (none-of (eqb m 2) (eqb m 3) b .1) in absurd (omega arith)) (one-of (eqb m 1) (eqb m 3) a)
+
+-- its count
+some : (l : Bool) (c : ℕ) → countRight l c ≡ true → 0 < c
+unfolding countRight
+some l c e = leb-true 1 c (and-yes (leb 1 c) (leb c 504 && (eqb c 504 || l)) e .0)
+
+all-of : (c : ℕ) → countRight false c ≡ true → c ≡ 504
+unfolding countRight
+all-of c e =
+    let a = and-yes (leb c 504) (eqb c 504 || false) (and-yes (leb 1 c) (leb c 504 && (eqb c 504 || false)) e .1) in
+    ⊎-elim (λ x. eqb-true c 504 x) (λ x. let z : _≡_ {A = ℕ} 0 1 = cc in absurd (omega arith)) (one-of (eqb c 504) false (a .1))
+
+-- how many blocks are allowed does not matter, when there are enough
+enough : (f h mark : ℕ) (e : List ℕ) → 0 < length e → length e ≤ f → length e ≤ h → editBlocks f mark e ≡ editBlocks h mark e
+unfolding editBlocks
+enough zero h mark e s a b = absurd (omega arith)
+enough (suc f) zero mark e s a b = absurd (omega arith)
+enough (suc f) (suc h) mark e s a b = go (leb (length e) 504) refl (λ t. enough f h 0 (drop 504 e) t (omega (arith, length-drop 504 e)) (omega (arith, length-drop 504 e)))
+  where
+    go : (y : Bool) → leb (length e) 504 ≡ y → (0 < length (drop 504 e) → editBlocks f 0 (drop 504 e) ≡ editBlocks h 0 (drop 504 e)) → editBlocks (suc f) mark e ≡ editBlocks (suc h) mark e
+    go true y on = one-block f mark e (leb-true (length e) 504 y) ∙ sym (one-block h mark e (leb-true (length e) 504 y))
+    go false y on =
+        let many : 504 < length e = leb-false (length e) 504 y in
+        more-blocks f mark e many ∙ ap (block mark (take 504 e) ∷_) (on (omega (arith, length-drop 504 e))) ∙ sym (more-blocks h mark e many)
+
+-- Blocks of bytes.
+unfoldable pub EachBytes : List (List ℕ) → Type 0
+EachBytes [] = Unit {0}
+EachBytes (k ∷ ks) = ((p : ℕ) → getD k p 0 < 256) × EachBytes ks
+
+-- What blocks that end well are, behind what is gathered: nothing more, or the rest of an edit and the log of others.
+data Rest (begun : Bool) (g : List ℕ) (edits ks : List (List ℕ)) : Type 0 where
+  none : begun ≡ false → edits ≡ [] → ks ≡ [] → Rest begun g edits ks
+  edit : (part : List ℕ) (es : List (List ℕ)) → edits ≡ (g ++ part) ∷ es → 0 < length part → ks ≡ editBlocks (length part) (first begun) part ++ logBlocks es → CanHold es → Rest begun g edits ks
+
+of-rest : (edits ks : List (List ℕ)) → Rest false [] edits ks → (ks ≡ logBlocks edits) × CanHold edits
+unfolding logBlocks CanHold
+of-rest edits ks (none b e k) = (k ∙ sym (ap logBlocks e), subst CanHold (sym e) tt)
+of-rest edits ks (edit part es e s k c) = (k ∙ sym (ap logBlocks e), subst CanHold (sym e) (s, c))
+
+module _ (number : ℕ) (g : List ℕ) (k : List ℕ) (ks : List (List ℕ)) (bytes : (p : ℕ) → getD k p 0 < 256) (e : askLogBlock (isBegun g) number k ≡ passed tt) where
+  it : Passed (isBegun g) number k
+  it = passes (isBegun g) number k e
+
+  abbrev c : ℕ
+  c = length (content k)
+
+  counts : c ≡ count k
+  counts = length-content (isBegun g) number k bytes it
+
+  has-some : 0 < c
+  has-some = omega (arith, counts, some (isLast k) (count k) (it .fields .few))
+
+  the-block : (mark : ℕ) → getD k 1 0 ≡ mark → k ≡ block mark (content k)
+  the-block mark m = is-block (isBegun g) number k bytes it ∙ ap (λ x. block x (content k)) m
+
+  rest-last : isLast k ≡ true → (es : List (List ℕ)) → ks ≡ logBlocks es → CanHold es → Rest (isBegun g) g ((g ++ content k) ∷ es) (k ∷ ks)
+  unfolding isLast
+  rest-last l es r h =
+      let n : c ≡ suc (c - 1) = omega (arith, has-some) in
+      edit (content k) es refl has-some
+      (ap₂ _∷_ (the-block (first (isBegun g) + 2) (of-last (isBegun g) (getD k 1 0) (it .fields .marked) l)) r
+      ∙ ap (_++ logBlocks es) (sym (ap (λ x. editBlocks x (first (isBegun g)) (content k)) n
+      ∙ one-block (c - 1) (first (isBegun g)) (content k) (omega (arith, counts, few (isBegun g) number k bytes it))))) h
+
+  rest-more : isLast k ≡ false → (part : List ℕ) (es : List (List ℕ)) → 0 < length part → ks ≡ editBlocks (length part) 0 part ++ logBlocks es → CanHold es
+      → Rest (isBegun g) g (((g ++ content k) ++ part) ∷ es) (k ∷ ks)
+  unfolding isLast
+  rest-more l part es s r h =
+      let full : c ≡ 504 = counts ∙ all-of (count k) (subst (λ (x : Bool). countRight x (count k) ≡ true) l (it .fields .few)) in
+      let size : length (content k ++ part) ≡ 504 + length part = length-append (content k) part ∙ ap (_+ length part) full in
+      let n : length (content k ++ part) ≡ suc (503 + length part) = size ∙ omega arith in
+      let whole : editBlocks (length (content k ++ part)) (first (isBegun g)) (content k ++ part) ≡ block (first (isBegun g)) (content k) ∷ editBlocks (length part) 0 part =
+      ap (λ x. editBlocks x (first (isBegun g)) (content k ++ part)) n
+      ∙ more-blocks (503 + length part) (first (isBegun g)) (content k ++ part) (omega (arith, size))
+      ∙ ap₂ (λ x y. block (first (isBegun g)) x ∷ editBlocks (503 + length part) 0 y) (take-at (content k) part 504 full) (drop-at (content k) part 504 full)
+      ∙ ap (block (first (isBegun g)) (content k) ∷_) (enough (503 + length part) (length part) 0 part s (omega arith) (omega arith)) in
+      edit (content k ++ part) es (ap (_∷ es) (append-assoc g (content k) part)) (omega (arith, size))
+      (ap₂ _∷_ (the-block (first (isBegun g)) (of-more (isBegun g) (getD k 1 0) (it .fields .marked) l)) r ∙ ap (_++ logBlocks es) (sym whole)) h
+
+  still-begun : isBegun (g ++ content k) ≡ true
+  still-begun = lt-ltb 0 (length (g ++ content k)) (omega (arith, has-some, length-append g (content k)))
+
+  rest-on : isLast k ≡ false → (edits : List (List ℕ)) → Rest (isBegun (g ++ content k)) (g ++ content k) edits ks → Rest (isBegun g) g edits (k ∷ ks)
+  rest-on l edits r = go (subst (λ (x : Bool). Rest x (g ++ content k) edits ks) still-begun r)
+    where
+      go : Rest true (g ++ content k) edits ks → Rest (isBegun g) g edits (k ∷ ks)
+      go (none b i j) = let z : _≡_ {A = ℕ} 0 1 = cc in absurd (omega arith)
+      go (edit part es i s r h) = subst (λ (x : List (List ℕ)). Rest (isBegun g) g x (k ∷ ks)) (sym i) (rest-more l part es s r h)
+
+module _ (number : ℕ) (g : List ℕ) (k : List ℕ) (ks : List (List ℕ)) (bytes : (p : ℕ) → getD k p 0 < 256) where
+  rest-behind : Block number g k → recorded number g (k ∷ ks) .ending ≡ passed tt
+      → (recorded (suc number) [] ks .ending ≡ passed tt → Rest false [] (recorded (suc number) [] ks .edits) ks)
+      → (recorded (suc number) (g ++ content k) ks .ending ≡ passed tt → Rest (isBegun (g ++ content k)) (g ++ content k) (recorded (suc number) (g ++ content k) ks .edits) ks)
+      → Rest (isBegun g) g (recorded number g (k ∷ ks) .edits) (k ∷ ks)
+  rest-behind (bad q p f) d new on = let z : _≡_ {A = ℕ} 0 1 = cc (ap (λ (x : Recorded). x .ending) (read-bad number g k ks q p f)) in absurd (omega arith)
+  rest-behind (last f l) d new on =
+      let whole = read-last number g k ks f l in
+      let r = of-rest (recorded (suc number) [] ks .edits) ks (new (sym (ap (λ (x : Recorded). x .ending) whole) ∙ d)) in
+      subst (λ (x : Recorded). Rest (isBegun g) g (x .edits) (k ∷ ks)) (sym whole) (rest-last number g k ks bytes f l (recorded (suc number) [] ks .edits) (r .0) (r .1))
+  rest-behind (more f l) d new on =
+      let whole = read-more number g k ks f l in
+      subst (λ (x : Recorded). Rest (isBegun g) g (x .edits) (k ∷ ks)) (sym whole)
+      (rest-on number g k ks bytes f l (recorded (suc number) (g ++ content k) ks .edits) (on (sym (ap (λ (x : Recorded). x .ending) whole) ∙ d)))
+
+rest-of : (number : ℕ) (g : List ℕ) (ks : List (List ℕ)) → EachBytes ks → recorded number g ks .ending ≡ passed tt → Rest (isBegun g) g (recorded number g ks .edits) ks
+unfolding recorded EachBytes askLogEnd is
+rest-of number g [] b e = go (isBegun g) refl e
+  where
+    go : (y : Bool) → isBegun g ≡ y → askLogEnd y number ≡ passed tt → Rest (isBegun g) g [] []
+    go false y f = none y refl refl
+    go true y f = let z : _≡_ {A = ℕ} 0 1 = cc in absurd (omega arith)
+rest-of number g (k ∷ ks) b e = rest-behind number g k ks (b .0) (block-is number g k) e (λ d. rest-of (suc number) [] ks (b .1) d) (λ d. rest-of (suc number) (g ++ content k) ks (b .1) d)
+
+pub log-is : (number : ℕ) (ks : List (List ℕ)) → EachBytes ks → recorded number [] ks .ending ≡ passed tt → (ks ≡ logBlocks (recorded number [] ks .edits)) × CanHold (recorded number [] ks .edits)
+log-is number ks b e = of-rest (recorded number [] ks .edits) ks (rest-of number [] ks b e)
