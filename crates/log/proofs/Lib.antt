@@ -7,3 +7,4 @@ pub mod MakeLaws
 pub mod ReadBack
 pub mod OneLog
 pub mod Logs
+pub mod KeptLaws

@@ -51,6 +51,11 @@ module _ (begun : Bool) (number : ℕ) (k : List ℕ) where
         unfolding asks is _>>_
         good e = are true true true true (eq-eqb (length k) 512 whole) right (le-leb number 65534 low) e
 
+-- what is kept is never more
+pub kept-few : (before k : List ℕ) → length (keptBehind before k) ≤ 4097
+unfolding keptBehind kept
+kept-few before k = omega (arith, length-take 4097 (before ++ content k))
+
 -- what is answered and kept then
 module _ (edit : List ℕ) (n number : ℕ) (k : List ℕ) where
   abbrev before : List ℕ
@@ -59,10 +64,10 @@ module _ (edit : List ℕ) (n number : ℕ) (k : List ℕ) where
   abbrev keptThen : List ℕ
   keptThen = after (askLogBlock (isBegun before) number k) (λ _. writtenAtStart (keptBehind before k) edit) edit
 
-  pub not-taken : (q p : ℕ) → askLogBlock (isBegun before) number k ≡ refused q p → (refused q p ≡ askTaken before number k) × (edit ≡ keptThen)
+  pub not-taken : (q p : ℕ) → askLogBlock (isBegun before) number k ≡ refused q p → ((refused q p ≡ askTaken before number k) × (0 ≤ 4097)) × (edit ≡ keptThen)
   unfolding askTaken _>>_ after
   not-taken q p e = (
-    sym (ap (λ (x : Asked (Unit {0})). x >> passed (cond (isLast k) (finished (length (keptBehind before k))) (goesOn (length (keptBehind before k))))) e),
+    (sym (ap (λ (x : Asked (Unit {0})). x >> passed (cond (isLast k) (finished (length (keptBehind before k))) (goesOn (length (keptBehind before k))))) e), omega arith),
     sym (ap (λ (x : Asked (Unit {0})). after x (λ _. writtenAtStart (keptBehind before k) edit) edit) e),
   )
 
@@ -76,11 +81,11 @@ module _ (edit : List ℕ) (n number : ℕ) (k : List ℕ) where
     says last l =
         sym (ap₂ (λ (x : Asked (Unit {0})) (y : Bool). x >> passed (cond y (finished (length (keptBehind before k))) (goesOn (length (keptBehind before k))))) e l)
 
-    pub ends-edit : isLast k ≡ true → (m : ℕ) → m ≡ length (keptBehind before k) → passed (finished m) ≡ askTaken before number k
-    ends-edit l m d = ap (λ (x : ℕ). passed (finished x)) d ∙ says true l
+    pub ends-edit : isLast k ≡ true → (m : ℕ) → m ≡ length (keptBehind before k) → (passed (finished m) ≡ askTaken before number k) × (m ≤ 4097)
+    ends-edit l m d = (ap (λ (x : ℕ). passed (finished x)) d ∙ says true l, omega (arith, kept-few before k))
 
-    pub goes-on : isLast k ≡ false → (m : ℕ) → m ≡ length (keptBehind before k) → passed (goesOn m) ≡ askTaken before number k
-    goes-on l m d = ap (λ (x : ℕ). passed (goesOn x)) d ∙ says false l
+    pub goes-on : isLast k ≡ false → (m : ℕ) → m ≡ length (keptBehind before k) → (passed (goesOn m) ≡ askTaken before number k) × (m ≤ 4097)
+    goes-on l m d = (ap (λ (x : ℕ). passed (goesOn x)) d ∙ says false l, omega (arith, kept-few before k))
 
 -- an edit is begun when bytes of it are kept
 pub begun-kept : (edit : List ℕ) (n : ℕ) → n ≤ length edit → ltb 0 n ≡ isBegun (take n edit)

@@ -1,17 +1,18 @@
 -- What the code keeps of an edit while it reads the edit's blocks, and what it says of a block.
 use mathlib.Core.Bool.{cond}
 use mathlib.Core.List.{List, _++_}
-use Prim.Native.Nat.{ℕ}
+use Prim.Native.Nat.{ℕ, _+_}
 use lib.ListN.{length, take}
 use Rattle.answer.specs.Asked.{Asked, passed, refused, _>>_}
 use Rattle.answer.specs.Answers.{refusalNumber, refusalPlace}
+use Rattle.text.specs.Reading.{longestText}
 use Rattle.log.specs.Log.{isLast, content, isBegun, askLogBlock}
 use Rattle.log.specs.declared.Taken.{Taken}
 use Rattle.log.specs.declared.Taken.the-variants.{GoesOn, Finished, Refused}
 
 -- The first bytes of an edit, one more than the longest text has: enough to answer it.
 abbrev pub keptBytes : ℕ
-keptBytes = 4097
+keptBytes = longestText + 1
 
 unfoldable pub kept : List ℕ → List ℕ
 kept edit = take keptBytes edit
@@ -34,3 +35,9 @@ abbrev pub takenAsked : Taken → Asked Says
 takenAsked (GoesOn n) = passed (goesOn n)
 takenAsked (Finished n) = passed (finished n)
 takenAsked (Refused r) = refused (refusalNumber r) (refusalPlace r)
+
+-- How many bytes are kept then.
+abbrev pub takenLength : Taken → ℕ
+takenLength (GoesOn n) = n
+takenLength (Finished n) = n
+takenLength (Refused r) = 0

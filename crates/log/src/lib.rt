@@ -8,7 +8,7 @@ ghost use Rattle.answer.specs.Asked.{after};
 ghost use Rattle.answer.specs.Outputs.{writtenAtStart};
 ghost use Rattle.seal.specs.Seal.{blockBytes};
 ghost use Rattle.log.specs.Log.{isLast, markRight, count, countRight, contentBytes, allZero, fieldsRight, isBegun, askLogBlock, askLogEnd};
-ghost use Rattle.log.specs.Taken.{keptBytes, keptBehind, askTaken, takenAsked};
+ghost use Rattle.log.specs.Taken.{keptBytes, keptBehind, askTaken, takenAsked, takenLength};
 use answer::Answer;
 use answer::Refusal;
 use seal::BLOCK;
@@ -142,7 +142,7 @@ fn keep(block: &[u8], c: usize, n: usize, edit: &mut [u8]) -> usize
 // Takes the next block of a log, whole or cut short, behind n kept bytes of the edit begun before it; n is 0 where none is begun. Inner: the buffer has room for what is kept.
 pub fn take_block(block: &[u8], number: usize, n: usize, edit: &mut [u8]) -> Taken
     requires { ⌜ (length (now edit) ≡ keptBytes) × (n ≤ keptBytes) ⌝ }
-    ensures { λ r. ⌜ takenAsked r ≡ askTaken (take n (now (edit .entry))) number (now (block .entry)) ⌝ }
+    ensures { λ r. ⌜ (takenAsked r ≡ askTaken (take n (now (edit .entry))) number (now (block .entry))) × (takenLength r ≤ keptBytes) ⌝ }
     ensures { λ _. ⌜ now (edit .exit) ≡ after (askLogBlock (isBegun (take n (now (edit .entry)))) number (now (block .entry))) (λ _. writtenAtStart (keptBehind (take n (now (edit .entry))) (now (block .entry))) (now (edit .entry))) (now (edit .entry)) ⌝ }
 {
     if block.len() != BLOCK {
