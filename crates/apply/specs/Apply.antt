@@ -1,7 +1,7 @@
 -- Carrying out an edit: the sheet that its steps leave; and the call for it, without a book.
 use mathlib.Core.List.{List}
 use Prim.Native.Nat.{ℕ}
-use Rattle.answer.specs.Asked.{Asked, after}
+use Rattle.answer.specs.Asked.{Asked, _>>_, after}
 use Rattle.logic.specs.Syntax.{Edit}
 use Rattle.logic.specs.Steps.{run}
 use Rattle.sheet.specs.Sheet.{store, graphOf}

@@ -2,7 +2,7 @@
 -- of its scratch; never an answer.
 use mathlib.Core.List.{List, [], _∷_}
 use Prim.Native.Nat.{ℕ}
-use Rattle.answer.specs.Asked.{Asked, passed, after, outcome}
+use Rattle.answer.specs.Asked.{Asked, passed, _>>=_, _>>_, after, outcome}
 use Rattle.logic.specs.Syntax.{Expr, rule}
 use Rattle.logic.specs.Graph.{Graph}
 use Rattle.logic.specs.Steps.{run}

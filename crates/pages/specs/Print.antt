@@ -3,7 +3,7 @@ use mathlib.Core.List.{List}
 use Prim.Native.Nat.{ℕ}
 use lib.Dec.{ltb, leb}
 use lib.ListN.{length}
-use Rattle.answer.specs.Asked.{Asked, passed, is}
+use Rattle.answer.specs.Asked.{Asked, passed, _>>_, is}
 use Rattle.logic.specs.Limits.{arrowCount}
 use Rattle.sheet.specs.Sheet.{graphOf}
 use Rattle.sheet.specs.Questions.{askSheet}

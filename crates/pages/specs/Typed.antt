@@ -5,7 +5,7 @@ use mathlib.Core.List.{List}
 use Prim.Native.Nat.{ℕ, zero, suc, _+_, _*_, _%_}
 use lib.Dec.{eqb, ltb}
 use lib.ListN.{length, getD, take, drop}
-use Rattle.answer.specs.Asked.{Asked, passed, refused, _>>_, is, after}
+use Rattle.answer.specs.Asked.{Asked, passed, refused, _>>=_, _>>_, is, after}
 use Rattle.logic.specs.Graph.{Graph, Nodes, isNode}
 use Rattle.logic.specs.Limits.{labelCount, arrowCount}
 use Rattle.logic.specs.Steps.{rejoin}

@@ -1,4 +1,5 @@
 -- Each call that lends a sheet asks the sheet first (blank is lent none), so what `Noticed` of `sheet` says of every caller holds of it.
+use mathlib.Core.Path.{_≡_}
 use mathlib.Core.List.{List}
 use Prim.Native.Nat.{ℕ}
 use Rattle.answer.specs.Asked.{_>>=_, _>>_, outcome}

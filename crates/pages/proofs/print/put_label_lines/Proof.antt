@@ -1,8 +1,9 @@
-use mathlib.Core.Path.{sym, ap, _∙_}
-use Prim.Native.Nat.{_-_, _≤_}
+use mathlib.Core.Path.{_≡_, sym, ap, _∙_}
+use Prim.Native.Nat.{_-_, _*_, _+_, _≤_}
 use native.Mathlib.Omega.{arith}
 use borrow.Author.Needs.{needs}
 use denote.Ref.{now}
+use lib.ListN.{length}
 use Rattle.answer.specs.Outputs.{writtenAtStart}
 use Rattle.logic.specs.Limits.{labelCount}
 use Rattle.sheet.specs.Sheet.{graphOf, chunks}
