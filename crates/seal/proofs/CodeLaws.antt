@@ -1,18 +1,18 @@
 -- The check bytes as the code tests and stores them.
 use mathlib.Core.Path.{_≡_, refl, sym, ap, ap₂, _∙_}
-use mathlib.Core.Bool.{Bool, true, false, _&&_, and-true}
+use mathlib.Core.Bool.{Bool, true, false, _&&_, and-true, and-eq-true-iff}
 use mathlib.Core.List.{List, [], _∷_, _++_, append-nil}
-use Prim.Native.Nat.{ℕ, zero, suc, _+_, _-_, _*_, _/_, _%_, _≤_, _<_}
+use Prim.Native.Nat.{ℕ, _+_, _-_, _*_, _/_, _%_, _<_}
 use native.Mathlib.Omega.{arith}
 use borrow.Author.Tests.{eqb-true, eqb-false, eq-eqb, ne-eqb}
 use lib.Dec.{eqb}
-use lib.ListN.{length, getD, take, drop, drop-of-length-le, set, length-set}
-use lib.Seq.{drop-cons, take-set-lt, getD-take, sets-eq}
+use lib.ListN.{length, getD, take, drop, drop-of-length-le, set}
+use lib.Seq.{drop-cons, sets-eq}
 use Rattle.words.specs.Words.{bytes}
-use Rattle.seal.specs.Seal.{blockBytes, modulo255, modulo257, Sums, sums, stored, sealed, sameBytes, sealRight, reseal}
+use Rattle.seal.specs.Seal.{blockBytes, modulo255, modulo257, sums, stored, sameBytes, sealRight}
 use Rattle.seal.specs.Lanes.{total, weighed}
-use Rattle.seal.proofs.TotalLaws.{sums-total, sums-weighed, modulo-255, modulo-257, s-moves, t-moves}
-use Rattle.seal.proofs.SealLaws.{and-yes, length-body, s-low, t-low}
+use Rattle.seal.proofs.TotalLaws.{sums-total, sums-weighed, modulo-255, modulo-257}
+use Rattle.seal.proofs.SealLaws.{s-low, t-low}
 
 -- the sums from totals that are right modulo 65535
 pub sums-257 : (l : List ℕ) (s t : ℕ) → s % 65535 ≡ total l % 65535 → t % 65535 ≡ weighed l % 65535 → (s % 257 ≡ sums modulo257 l .s) × (t % 257 ≡ sums modulo257 l .t)
@@ -71,5 +71,5 @@ module _ (k : List ℕ) (h : length k ≡ blockBytes) where
     check-bytes =
         let s : ℕ = sums modulo257 (take 508 k) .s in
         let t : ℕ = sums modulo257 (take 508 k) .t in
-        let both = and-yes _ _ (sym (right-257 small s t (s-low modulo257 (take 508 k)) (t-low modulo257 (take 508 k)) refl refl) ∙ right) in
+        let both = and-eq-true-iff _ _ .0 (sym (right-257 small s t (s-low modulo257 (take 508 k)) (t-low modulo257 (take 508 k)) refl refl) ∙ right) in
         (eqb-true _ _ (both .0), eqb-true _ _ (both .1))

@@ -1,14 +1,13 @@
 -- A word put into a block's body byte by byte, and the sums of the body meanwhile: i bytes are put, and `rest` is what is left of the word.
-use mathlib.Core.Path.{_≡_, refl, sym, ap, ap₂, _∙_}
-use mathlib.Core.Bool.{true}
+use mathlib.Core.Path.{_≡_, sym, ap, ap₂, _∙_}
 use mathlib.Core.List.{List, _++_}
 use Prim.Native.Nat.{ℕ, suc, _+_, _-_, _*_, _/_, _%_, _≤_, _<_}
 use native.Mathlib.Nat.{mod-add-mod}
 use native.Mathlib.Omega.{arith}
-use lib.ListN.{length, getD, set, take, length-set}
+use lib.ListN.{length, getD, set, take}
 use lib.Seq.{sets, sets-eq, take-set-lt, getD-take}
 use Rattle.words.specs.Words.{bytes, putWord}
-use Rattle.seal.specs.Seal.{blockBytes, Form, sums, stored, sealed, sealRight, reseal}
+use Rattle.seal.specs.Seal.{blockBytes, Form, sums, stored, sealed, reseal}
 use Rattle.seal.proofs.SealLaws.{length-body}
 use Rattle.seal.proofs.TotalLaws.{s-moves, t-moves}
 

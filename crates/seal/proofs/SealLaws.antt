@@ -1,13 +1,13 @@
 -- The check bytes behind a body, in any form.
 use mathlib.Core.Path.{_≡_, refl, sym, ap, ap₂, _∙_}
-use mathlib.Core.Bool.{Bool, true, false, _&&_}
+use mathlib.Core.Bool.{Bool, true, _&&_, and-eq-true-iff}
 use mathlib.Core.List.{List, [], _∷_, _++_}
-use Prim.Native.Nat.{ℕ, zero, suc, _+_, _-_, _*_, _/_, _%_, _^_, _≤_, _<_}
+use Prim.Native.Nat.{ℕ, _+_, _-_, _<_}
 use native.Mathlib.Nat.{mod-lt, mod-eq-of-lt, lt-of-lt-of-le}
 use native.Mathlib.Omega.{arith}
 use lib.Dec.{T, eqb, eqb-refl, eqb→eq}
-use lib.ListN.{length, getD, take, drop, set, take-append-drop, length-append, List·getD-append}
-use lib.Seq.{length-take-le, take-at, drop-at, take-set-lt, sets}
+use lib.ListN.{length, getD, take, drop, take-append-drop, length-append, List·getD-append}
+use lib.Seq.{length-take-le, take-at, drop-at}
 use Rattle.words.specs.Words.{bytes, numberOf}
 use Rattle.words.proofs.WordLaws.{length-bytes, numberOf-bytes}
 use Rattle.seal.specs.Seal.{blockBytes, Form, Sums, sums, stored, seal, sealed, sameBytes, sealRight, reseal}
@@ -22,16 +22,12 @@ unfolding sameBytes
 same-refl [] = refl
 same-refl (x ∷ k) = ap₂ _&&_ (so (eqb x x) (eqb-refl x)) (same-refl k)
 
-pub and-yes : (a b : Bool) → (a && b) ≡ true → (a ≡ true) × (b ≡ true)
-and-yes true b e = (refl, e)
-and-yes false b e = let z : _≡_ {A = ℕ} 0 1 = cc in absurd (omega arith)
-
 pub same-is : (a b : List ℕ) → sameBytes a b ≡ true → a ≡ b
 unfolding sameBytes
 same-is [] [] e = refl
 same-is [] (y ∷ b) e = let z : _≡_ {A = ℕ} 0 1 = cc in absurd (omega arith)
 same-is (x ∷ a) [] e = let z : _≡_ {A = ℕ} 0 1 = cc in absurd (omega arith)
-same-is (x ∷ a) (y ∷ b) e = ap₂ _∷_ (eqb→eq x y (rw (and-yes (eqb x y) (sameBytes a b) e .0) tt)) (same-is a b (and-yes (eqb x y) (sameBytes a b) e .1))
+same-is (x ∷ a) (y ∷ b) e = ap₂ _∷_ (eqb→eq x y (rw (and-eq-true-iff (eqb x y) (sameBytes a b) .0 e .0) tt)) (same-is a b (and-eq-true-iff (eqb x y) (sameBytes a b) .0 e .1))
 
 module _ (f : Form) where
   pub length-stored : (u : Sums) → length (stored f u) ≡ f .sumBytes + f .sumBytes
@@ -97,14 +93,3 @@ module _ (f : Form) where
 
   pub t-low : (l : List ℕ) → sums f l .t < f .modulus
   t-low l = rw (sums-weighed f l) (mod-lt (weighed l) (f .nonzero))
-
-  -- Bytes put into the body one behind the other: the check bytes in between make no difference.
-  pub reseal-sets : (vs k : List ℕ) (p : ℕ) → p + length vs ≤ f .bodyBytes → length k ≡ blockBytes → reseal f (sets (reseal f k) p vs) ≡ reseal f (sets k p vs)
-  unfolding reseal sealed
-  reseal-sets vs k p l h = ap (sealed f) (same vs (reseal f k) k p l (take-at (take (f .bodyBytes) k) (seal f (take (f .bodyBytes) k)) (f .bodyBytes) (length-body k h)))
-    where
-      same : (vs a b : List ℕ) (p : ℕ) → p + length vs ≤ f .bodyBytes → take (f .bodyBytes) a ≡ take (f .bodyBytes) b → take (f .bodyBytes) (sets a p vs) ≡ take (f .bodyBytes) (sets b p vs)
-      same [] a b p l e = e
-      same (v ∷ vs) a b p l e =
-          same vs (set a p v) (set b p v) (suc p) (omega arith)
-          (take-set-lt (f .bodyBytes) a p v (omega arith) ∙ ap (λ y. set y p v) e ∙ sym (take-set-lt (f .bodyBytes) b p v (omega arith)))

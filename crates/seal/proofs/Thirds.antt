@@ -6,7 +6,7 @@ use native.Mathlib.Nat.{add-mul-mod-self-right}
 use native.Mathlib.Omega.{arith}
 use lib.ListN.{length, getD, take}
 use Rattle.seal.specs.Lanes.{pack, oddsAt, pairsAt, fold, upTo, total, weighed}
-use Rattle.seal.proofs.WordSums.{S, T, eight, placed, word, places, counted, x0, x1, x2, x3, odd, more, words-total, words-weighed, packed, lanes-low, odds-more, word-lanes, place-lanes}
+use Rattle.seal.proofs.WordSums.{S, T, eight, placed, x0, x1, x2, x3, odd, more, words-total, words-weighed, packed, lanes-low, odds-more, word-lanes, place-lanes}
 
 -- numbers that differ by multiples of m leave the same
 alike : (m x y a b : ℕ) → x + a * m ≡ y + b * m → x % m ≡ y % m

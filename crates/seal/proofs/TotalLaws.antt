@@ -1,5 +1,5 @@
 -- The sums of any form are the remainders of plain totals: along a body, and after one byte of it changes.
-use mathlib.Core.Path.{_≡_, refl, sym, ap, ap₂, _∙_}
+use mathlib.Core.Path.{_≡_, sym, ap, ap₂, _∙_}
 use mathlib.Core.List.{List, [], _∷_}
 use Prim.Native.Nat.{ℕ, zero, suc, _+_, _-_, _*_, _%_, _≤_, _<_}
 use native.Mathlib.Nat.{mod-add-mod, add-mod, mod-eq-of-lt, add-mul-mod-self-right, mul-le-mul-left}

@@ -1,12 +1,11 @@
 -- The plain totals of bytes taken by words of 8.
-use mathlib.Core.Path.{_≡_, refl, sym, ap, _∙_}
+use mathlib.Core.Path.{_≡_, refl, ap, _∙_}
 use mathlib.Core.List.{List, [], _∷_, _++_}
-use Prim.Native.Nat.{ℕ, zero, suc, _+_, _-_, _*_, _/_, _%_, _≤_, _<_}
-use native.Mathlib.Nat.{add-mul-mod-self-right}
+use Prim.Native.Nat.{ℕ, zero, suc, _+_, _-_, _*_, _≤_, _<_}
 use native.Mathlib.Omega.{arith}
 use lib.ListN.{length, getD, take, length-append}
 use lib.Seq.{take-suc}
-use Rattle.seal.specs.Lanes.{pack, oddsAt, pairsAt, fold, upTo, total, weighed}
+use Rattle.seal.specs.Lanes.{pack, oddsAt, pairsAt, upTo, total, weighed}
 
 -- one byte more
 total-more : (l : List ℕ) (b : ℕ) → total (l ++ b ∷ []) ≡ total l + b

@@ -14,11 +14,10 @@ use Rattle.answer.specs.declared.Answer.the-variants.{Done, Refused}
 use Rattle.answer.specs.Answers.{asked}
 use Rattle.answer.specs.Asked.{passed, refused, _>>_, is}
 use Rattle.logic.specs.Limits.{maxNodes}
-use Rattle.seal.specs.Seal.{sealRight, blockBytes}
+use Rattle.seal.specs.Seal.{sealRight, blockBytes, Form}
 use Rattle.sheet.specs.Sheet.{sheetBytes, blockCount}
 use Rattle.sheet.specs.Questions.{blockOf, nodeCountRight, headRight, zeroRight, askBlock, askBlocks, askSheetIn}
 use Rattle.sheet.proofs.Opening.{n-range, block-ok}
-use Rattle.seal.specs.Seal.{Form}
 
 -- 3, of block 0 and of a later block
 pub head-first : (k : List ℕ) (b : ℕ) → b ≡ 0 → headRight b k ≡ (eqb (getD k 0 0) 1 && (eqb (getD k 1 0) 0 && nodeCountRight (getD k 2 0)))

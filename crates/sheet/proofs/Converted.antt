@@ -1,20 +1,20 @@
 -- A sheet of one form made one of a form with a shorter body: each block is sealed anew.
 use mathlib.Core.Path.{_≡_, refl, sym, ap, ap₂, _∙_}
-use mathlib.Core.List.{List, [], _∷_, _++_, append-assoc, append-nil}
+use mathlib.Core.List.{List, _++_, append-assoc, append-nil}
 use Prim.Native.Nat.{ℕ, zero, suc, _+_, _-_, _*_, _≤_, _<_}
 use native.Mathlib.Omega.{arith}
 use lib.Dec.{lit≤}
 use lib.ListN.{length, getD, take, drop, replicate, replicate-append-replicate, length-drop, length-append, drop-of-length-le}
 use lib.Seq.{take-at, drop-at, take-add, drop-drop, take-all, length-take-le}
-use Rattle.answer.specs.Asked.{Asked, passed, refused, after}
+use Rattle.answer.specs.Asked.{Asked, refused, after}
 use Rattle.logic.specs.Graph.{Graph}
-use Rattle.logic.specs.Limits.{maxNodes, labelCount, arrowCount}
+use Rattle.logic.specs.Limits.{maxNodes, labelCount}
 use Rattle.seal.specs.Seal.{blockBytes, Form, modulo255, seal, sealed, reseal}
 use Rattle.sheet.specs.Sheet.{present, sheetBytes, blockCount, padding, block, labelBlock, arrowBlock, storeIn, store, graphOf}
 use Rattle.sheet.specs.Questions.{blockOf, askSheetIn, SoundIn, Sound}
 use Rattle.sheet.specs.Converted.{askConvert, converted}
-use Rattle.sheet.proofs.Blocks.{wordsOf, bodyOf, labels-fit, rows-fit, labelHead, labelWord, arrowHead, rowWord, length-store}
-use Rattle.sheet.proofs.Writes.{raw, seal-raw}
+use Rattle.sheet.proofs.Blocks.{wordsOf, bodyOf, labels-fit, rows-fit, labelHead, labelWord, arrowHead, rowWord}
+use Rattle.sheet.proofs.Writes.{seal-raw}
 use Rattle.sheet.proofs.Opening.{opening}
 use Rattle.sheet.proofs.Passes.{stored-passes, first-block, later-block}
 use Rattle.sheet.proofs.ReadBack.{read-back}

@@ -15,12 +15,11 @@ use Rattle.logic.specs.Limits.{Within, maxNodes, labelCount, arrowCount}
 use Rattle.words.specs.Words.{setOf, wordAt}
 use Rattle.words.proofs.SetLaws.{setOf-lt, setOf-cong, setOf-lowest}
 use Rattle.words.proofs.WordLaws.{wordAt-of}
-use Rattle.seal.specs.Seal.{sealRight, blockBytes}
+use Rattle.seal.specs.Seal.{sealRight, blockBytes, Form}
 use Rattle.sheet.specs.Sheet.{sheetBytes, storeIn, graphOf, blockCount}
 use Rattle.sheet.specs.Questions.{blockOf, askBlock, askBlocks, askSheetIn, SoundIn}
 use Rattle.sheet.proofs.Blocks.{labelWord, rowWord, label-byte, arrow-byte, length-store}
 use Rattle.sheet.proofs.Opening.{is-yes, both-yes, block-ok, opening}
-use Rattle.seal.specs.Seal.{Form}
 
 small : (n : ℕ) (v : Nodes) → n ≤ maxNodes → setOf n v < 2 ^ 64
 small n v h = let m : n ≤ 64 = omega arith in lt-of-lt-of-le (setOf-lt n v) (pow-mono m)

@@ -1,19 +1,19 @@
 -- The words of a block against one mask after the other, all that lies outside together.
 use mathlib.Core.Path.{_≡_, refl, sym, ap, ap₂, _∙_}
-use mathlib.Core.Bool.{Bool, true, false, not, _&&_, cond, and-eq-true-iff}
+use mathlib.Core.Bool.{true, not, _&&_, cond, and-eq-true-iff}
 use mathlib.Core.List.{List}
-use mathlib.Core.Logic.{_⊎_, inl, inr, ⊎-elim}
-use Prim.Native.Nat.{ℕ, suc, _+_, _*_, _≤_, _<_}
-use native.Mathlib.Nat.{eq-or-lt-of-le, le-of-suc-le-suc}
+use mathlib.Core.Logic.{_⊎_, ⊎-elim}
+use Prim.Native.Nat.{ℕ, _+_, _*_, _≤_, _<_}
+use native.Mathlib.Nat.{eq-or-lt-of-le}
 use native.Mathlib.Omega.{arith}
 use native.Mathlib.Decide.{decLt}
 use borrow.Author.Tests.{eq-eqb, eqb-true, lt-ltb, le-ltb}
 use lib.Bits.{bitOr, or-add-and, and-le-l, and-le-r}
 use lib.Dec.{eqb, ltb}
-use Rattle.logic.specs.Graph.{Nodes, allBelow}
+use Rattle.logic.specs.Graph.{allBelow}
 use Rattle.logic.specs.Limits.{maxNodes}
 use Rattle.logic.proofs.Below.{all-true, all-each}
-use Rattle.words.specs.Words.{setOf, member, combined, wordAt}
+use Rattle.words.specs.Words.{setOf, combined, wordAt}
 use Rattle.words.proofs.SetLaws.{member-setOf}
 use Rattle.sheet.specs.Masks.{wordCount, zerosAt, within, masked, zeroBut, Outside, Edges}
 use Rattle.sheet.specs.Sheet.{padding}

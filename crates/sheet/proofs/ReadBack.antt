@@ -12,10 +12,9 @@ use Rattle.logic.specs.Limits.{NodesIn, Within, maxNodes, labelCount, arrowCoun
 use Rattle.logic.proofs.Inside.{no-node}
 use Rattle.words.specs.Words.{setOf, member}
 use Rattle.words.proofs.SetLaws.{member-setOf, member-beyond}
-use Rattle.seal.specs.Seal.{blockBytes}
+use Rattle.seal.specs.Seal.{blockBytes, Form}
 use Rattle.sheet.specs.Sheet.{storeIn, bitIn, graphOf}
 use Rattle.sheet.proofs.Blocks.{byteOf, bit-of-byte, n-is, label-byte, arrow-byte}
-use Rattle.seal.specs.Seal.{Form}
 
 -- where a test fails, the set it guards has nothing
 guarded : (i m : ℕ) (b c : Bool) → (i < m → b ≡ c) → (m ≤ i → c ≡ false) → (ltb i m && b) ≡ c

@@ -18,11 +18,10 @@ use Rattle.logic.proofs.Inside.{no-node}
 use Rattle.words.specs.Words.{setOf, bytes, putWord}
 use Rattle.words.proofs.SetLaws.{setOf-cong}
 use Rattle.words.proofs.WordLaws.{length-bytes}
-use Rattle.seal.specs.Seal.{seal, sealed, reseal, blockBytes}
+use Rattle.seal.specs.Seal.{seal, sealed, reseal, blockBytes, Form}
 use Rattle.sheet.specs.Sheet.{chunks, block, labelBlock, arrowBlock, storeIn, relabelAll, Rows, padding}
 use Rattle.sheet.specs.Writes.{putRows}
 use Rattle.sheet.proofs.Blocks.{wordsOf, bodyOf, length-words, length-body, length-chunks, labelHead, labelWord, arrowHead, rowWord, length-labelBlock, length-arrowBlock, labels-fit, rows-fit}
-use Rattle.seal.specs.Seal.{Form}
 
 -- a word is put where 8 bytes stand
 put-mid : (A B D : List ℕ) (at x : ℕ) → length A ≡ at → length B ≡ 8 → putWord (A ++ (B ++ D)) at x ≡ A ++ (bytes 8 x ++ D)

@@ -1,7 +1,7 @@
 use mathlib.Core.Path.{_≡_, refl, sym, ap, ap₂, _∙_}
 use mathlib.Core.List.{List}
-use Prim.Native.Nat.{ℕ, suc, _≤_, _<_, _-_, _*_, _%_, _+_, _/_}
-use native.Mathlib.Nat.{mul-le-mul, add-le-add, lt-of-le-of-lt, le-trans, le-add-left, le-antisymm}
+use Prim.Native.Nat.{ℕ, _≤_, _<_, _-_, _*_, _%_, _+_, _/_}
+use native.Mathlib.Nat.{mul-le-mul, lt-of-le-of-lt, le-trans, le-add-left, le-antisymm}
 use lib.Dec.{lit<}
 use native.Mathlib.Numerals.{add-one}
 use native.Mathlib.Omega.{arith}

@@ -1,14 +1,11 @@
-use mathlib.Core.Path.{sym, ap, ap₂, _∙_}
+use mathlib.Core.Path.{sym, ap, _∙_}
 use mathlib.Core.Bool.{_&&_}
-use mathlib.Core.List.{List, _++_}
-use Prim.Native.Nat.{ℕ, _+_, _-_, _*_, _%_, _<_, _≤_}
+use Prim.Native.Nat.{ℕ, _-_, _%_, _<_}
 use native.Mathlib.Nat.{mod-lt}
-use native.Mathlib.Omega.{arith}
 use borrow.Author.Needs.{needs}
 use borrow.Author.Tests.{eq-eqb, ne-eqb}
 use lib.Dec.{eqb, lit<}
-use lib.ListN.{length, getD, set, take, length-set}
-use Rattle.seal.specs.Seal.{sums, stored, modulo257, reseal, sealed}
+use lib.ListN.{getD, take}
 use Rattle.seal.proofs.CodeLaws.{right-255, sums-255}
 use Rattle.seal.proofs.right_255.Statement.{statement}
 use Rattle.seal.proofs.right_255.Tie as tie

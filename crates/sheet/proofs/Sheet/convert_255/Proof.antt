@@ -7,14 +7,13 @@ use borrow.Author.Needs.{needs}
 use lib.ListN.{length, getD, take, drop, length-drop}
 use lib.Seq.{length-take-le}
 use Rattle.answer.specs.Answers.{asked}
-use Rattle.answer.specs.Asked.{passed}
 use Rattle.seal.specs.Seal.{blockBytes, modulo255, reseal}
 use Rattle.sheet.specs.Sheet.{present, blockCount, sheetBytes, store, graphOf}
 use Rattle.sheet.specs.Questions.{SoundIn}
 use Rattle.sheet.specs.Converted.{converted}
 use Rattle.sheet.proofs.Blocks.{length-store}
 use Rattle.sheet.proofs.Loads.{sound-length}
-use Rattle.sheet.proofs.Converted.{Made, made-none, made-length, made-more, made-all, card-resealed, converted-is, refused-stays}
+use Rattle.sheet.proofs.Converted.{made-length, made-more, made-all, card-resealed, converted-is, refused-stays}
 use Rattle.sheet.proofs.Sheet.convert_255.Statement.{statement}
 use Rattle.sheet.proofs.Sheet.convert_255.Tie as tie
 
