@@ -22,10 +22,16 @@ fn text_length(low: u8, high: u8) -> usize
     low as usize + 256 * (high as usize)
 }
 
+// Reads into the buffer as far as the input goes, and says how many bytes came.
+pub fn read_up_to(buf: &mut [u8]) -> usize
+    ensures { λ r. ⌜ r ≤ length (now (buf .exit)) ⌝ }
+{
+    io::read_full(STDIN_FILENO, buf)
+}
+
 // Fills the buffer; false when the input ends before it is full.
 pub fn fill(buf: &mut [u8]) -> bool {
-    let got = io::read_full(STDIN_FILENO, buf);
-    got == buf.len()
+    read_up_to(buf) == buf.len()
 }
 
 // Reads a two-byte length and as many bytes, to the start of a buffer that has room for every such length.

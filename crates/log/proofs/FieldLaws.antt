@@ -1,6 +1,6 @@
 -- The fields of a block, as the code asks them.
 use mathlib.Core.Path.{_≡_, refl, _∙_, ap, ap₂}
-use mathlib.Core.Bool.{Bool, true, false, _&&_, _||_, cond}
+use mathlib.Core.Bool.{Bool, true, false, _&&_, _||_, cond, and-eq-true-iff}
 use mathlib.Core.List.{List}
 use Prim.Native.Nat.{ℕ, _+_, _≤_, _<_}
 use native.Mathlib.Numerals.{add-one}
@@ -9,7 +9,6 @@ use borrow.Author.Tests.{leb-true, eqb-true, le-leb, lt-leb, eq-eqb, ne-eqb}
 use lib.Dec.{eqb, leb}
 use lib.ListN.{length, getD, take, drop, drop-of-length-le}
 use lib.Seq.{slice-cons, length-take-le}
-use Rattle.seal.proofs.SealLaws.{and-yes}
 use Rattle.log.specs.Log.{isLast, markRight, count, countRight, allZero, zerosBehind, fieldsRight}
 
 -- a question with two yeses, asked one after the other
@@ -91,9 +90,9 @@ pub record Right (begun : Bool) (k : List ℕ) : Type 0 where
 pub right : (begun : Bool) (k : List ℕ) → fieldsRight begun k ≡ true → Right begun k
 unfolding fieldsRight
 right begun k e =
-    let a = and-yes (eqb (getD k 0 0) 3) (markRight begun (getD k 1 0) && (countRight (isLast k) (count k) && zerosBehind k)) e in
-    let b = and-yes (markRight begun (getD k 1 0)) (countRight (isLast k) (count k) && zerosBehind k) (a .1) in
-    let c = and-yes (countRight (isLast k) (count k)) (zerosBehind k) (b .1) in
+    let a = and-eq-true-iff (eqb (getD k 0 0) 3) (markRight begun (getD k 1 0) && (countRight (isLast k) (count k) && zerosBehind k)) .0 e in
+    let b = and-eq-true-iff (markRight begun (getD k 1 0)) (countRight (isLast k) (count k) && zerosBehind k) .0 (a .1) in
+    let c = and-eq-true-iff (countRight (isLast k) (count k)) (zerosBehind k) .0 (b .1) in
     record { three = eqb-true (getD k 0 0) 3 (a .0); marked = b .0; few = c .0; zeros = c .1 }
 
 pub count-fits : (begun : Bool) (k : List ℕ) → fieldsRight begun k ≡ true → count k ≤ 504

@@ -1,17 +1,15 @@
 -- The first 4,097 bytes of an edit answer as the whole does: one with more than 4,096 bytes is 21, whatever they are.
-use mathlib.Core.Path.{_≡_, refl, sym, _∙_, ap, ap₂}
-use mathlib.Core.Bool.{Bool, true, false}
+use mathlib.Core.Path.{_≡_, refl, sym, _∙_, ap}
+use mathlib.Core.Bool.{Bool}
 use mathlib.Core.List.{List, [], _∷_, _++_}
-use Prim.Native.Nat.{ℕ, _+_, _-_, _≤_, _<_}
+use Prim.Native.Nat.{ℕ, _+_, _-_, _<_}
 use native.Mathlib.Omega.{arith}
 use native.Mathlib.Decide.{decLt}
-use borrow.Author.Tests.{lt-leb, lt-ltb, le-ltb}
-use lib.Dec.{leb, ltb}
-use lib.ListN.{length, take, length-take, length-append}
-use lib.Seq.{take-all, take-take, take-append-le, take-append-add, length-take-le}
-use Rattle.answer.specs.Asked.{Asked, refused, _>>_, is}
-use Rattle.logic.specs.Syntax.{Edit}
-use Rattle.text.specs.Reading.{Limits, textLimits, edit, readAs}
+use borrow.Author.Tests.{lt-leb, lt-ltb}
+use lib.ListN.{length, take, length-take}
+use lib.Seq.{take-all, take-take, take-append-le, length-take-le}
+use Rattle.answer.specs.Asked.{refused, _>>_, is}
+use Rattle.text.specs.Reading.{textLimits, edit, readAs}
 use Rattle.text.specs.Questions.{whole, askEdit}
 use Rattle.log.specs.Log.{isBegun}
 use Rattle.log.specs.Taken.{kept}

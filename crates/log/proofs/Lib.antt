@@ -8,3 +8,5 @@ pub mod ReadBack
 pub mod OneLog
 pub mod Logs
 pub mod KeptLaws
+pub mod Answering
+pub mod Replays

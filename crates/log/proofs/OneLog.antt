@@ -1,7 +1,7 @@
 -- A log that ends well is the log of its edits.
 use mathlib.Core.Path.{_≡_, refl, sym, _∙_, ap, ap₂, subst}
 use mathlib.Core.Logic.{_⊎_, inl, inr, ⊎-elim}
-use mathlib.Core.Bool.{Bool, true, false, _&&_, _||_}
+use mathlib.Core.Bool.{Bool, true, false, _&&_, _||_, and-eq-true-iff, or-false}
 use mathlib.Core.List.{List, [], _∷_, _++_, append-assoc}
 use Prim.Native.Nat.{ℕ, zero, suc, _+_, _-_, _*_, _/_, _%_, _≤_, _<_}
 use native.Mathlib.Omega.{arith}
@@ -11,7 +11,7 @@ use lib.ListN.{length, getD, take, drop, replicate, take-append-drop, length-app
 use lib.Seq.{length-take-le, take-take, drop-drop, drop-cons, getD-take, take-at, drop-at, length-slice}
 use Rattle.answer.specs.Asked.{passed, _>>_, is}
 use Rattle.seal.specs.Seal.{modulo257, sealed, sealRight}
-use Rattle.seal.proofs.SealLaws.{and-yes, right-sealed}
+use Rattle.seal.proofs.SealLaws.{right-sealed}
 use Rattle.log.specs.Log.{isLast, markRight, count, countRight, content, allZero, zerosBehind, fieldsRight, isBegun, askLogBlock, askLogEnd, Recorded, ends, recorded}
 use Rattle.log.specs.Making.{block, editBlocks, logBlocks, CanHold}
 use Rattle.log.proofs.FieldLaws.{Right, right, count-small}
@@ -44,7 +44,7 @@ all-zero : (l : List ℕ) → allZero l ≡ true → l ≡ replicate (length l) 
 unfolding allZero
 all-zero [] e = refl
 all-zero (x ∷ l) e =
-    let a = and-yes (eqb x 0) (allZero l) e in
+    let a = and-eq-true-iff (eqb x 0) (allZero l) .0 e in
     ap₂ _∷_ (eqb-true x 0 (a .0)) (all-zero l (a .1))
 
 two-bytes : (a b c : ℕ) → a < 256 → b < 256 → c ≡ a + 256 * b → (a ≡ c % 256) × (b ≡ c / 256 % 256)
@@ -117,13 +117,13 @@ of-more false m a b =
 -- its count
 some : (l : Bool) (c : ℕ) → countRight l c ≡ true → 0 < c
 unfolding countRight
-some l c e = leb-true 1 c (and-yes (leb 1 c) (leb c 504 && (eqb c 504 || l)) e .0)
+some l c e = leb-true 1 c (and-eq-true-iff (leb 1 c) (leb c 504 && (eqb c 504 || l)) .0 e .0)
 
 all-of : (c : ℕ) → countRight false c ≡ true → c ≡ 504
 unfolding countRight
 all-of c e =
-    let a = and-yes (leb c 504) (eqb c 504 || false) (and-yes (leb 1 c) (leb c 504 && (eqb c 504 || false)) e .1) in
-    ⊎-elim (λ x. eqb-true c 504 x) (λ x. let z : _≡_ {A = ℕ} 0 1 = cc in absurd (omega arith)) (one-of (eqb c 504) false (a .1))
+    let a = and-eq-true-iff (leb c 504) (eqb c 504 || false) .0 (and-eq-true-iff (leb 1 c) (leb c 504 && (eqb c 504 || false)) .0 e .1) in
+    eqb-true c 504 (sym (or-false (eqb c 504)) ∙ a .1)
 
 -- how many blocks are allowed does not matter, when there are enough
 enough : (f h mark : ℕ) (e : List ℕ) → 0 < length e → length e ≤ f → length e ≤ h → editBlocks f mark e ≡ editBlocks h mark e

@@ -1,6 +1,6 @@
 -- Edits cut into blocks and read back are the same edits.
 use mathlib.Core.Path.{_≡_, refl, sym, _∙_, ap, ap₂, subst}
-use mathlib.Core.Bool.{Bool, true, false, _||_, cond}
+use mathlib.Core.Bool.{Bool, true, false, _||_, cond, or-true}
 use mathlib.Core.List.{List, [], _∷_, _++_, append-assoc}
 use Prim.Native.Nat.{ℕ, zero, suc, _+_, _-_, _≤_, _<_}
 use native.Mathlib.Omega.{arith}
@@ -36,10 +36,6 @@ more-not-last false = refl
 last-last : (begun : Bool) → (eqb (first begun + 2) 2 || eqb (first begun + 2) 3) ≡ true
 last-last true = refl
 last-last false = refl
-
-or-true : (b : Bool) → (b || true) ≡ true
-or-true true = refl
-or-true false = refl
 
 -- the two shapes of an edit's blocks
 module _ (most mark : ℕ) (edit : List ℕ) where

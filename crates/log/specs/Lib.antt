@@ -3,3 +3,5 @@ pub mod Making
 pub mod Stops
 pub mod Logs
 pub mod Taken
+pub mod Replay
+pub mod Replays

@@ -1,6 +1,7 @@
 // A log of edits (document 02, item 4), block by block: what a block is to the edit begun before it.
 ghost use mathlib.Core.Path.{_≡_};
-ghost use Prim.Native.Nat.{_+_, _-_, _*_, _≤_, min};
+ghost use mathlib.Core.List.{List};
+ghost use Prim.Native.Nat.{ℕ, _+_, _-_, _*_, _≤_, min};
 ghost use lib.Dec.{ltb};
 ghost use lib.ListN.{length, take, drop};
 ghost use Rattle.answer.specs.Answers.{asked};
@@ -8,7 +9,8 @@ ghost use Rattle.answer.specs.Asked.{after};
 ghost use Rattle.answer.specs.Outputs.{writtenAtStart};
 ghost use Rattle.seal.specs.Seal.{blockBytes};
 ghost use Rattle.log.specs.Log.{isLast, markRight, count, countRight, contentBytes, allZero, fieldsRight, isBegun, askLogBlock, askLogEnd};
-ghost use Rattle.log.specs.Taken.{keptBytes, keptBehind, askTaken, takenAsked, takenLength};
+ghost use Rattle.printed.specs.Printed.{printedLine, printedSheet};
+ghost use Rattle.log.specs.Taken.{keptBytes, kept, keptBehind, askTaken, takenAsked, takenLength};
 use answer::Answer;
 use answer::Refusal;
 use seal::BLOCK;
@@ -172,4 +174,12 @@ pub fn take_end(blocks: usize, n: usize) -> Answer
         return Answer::Refused(Refusal::LogBlock { place: blocks });
     }
     Answer::Done
+}
+
+// Answers a finished edit on the sheet, from the bytes kept of it: the line that `enter` would print for the whole edit, and the sheet that it leaves.
+pub fn answer_edit(sheet: &mut [u8], book: &[u8], part: &[u8]) -> [u8; line::BYTES]
+    ensures { λ r. ⌜ ((edit : List ℕ) → kept edit ≡ now (part .entry) → r ≡ printedLine (now (sheet .entry)) (now (book .entry)) edit) ⌝ }
+    ensures { λ _. ⌜ ((edit : List ℕ) → kept edit ≡ now (part .entry) → now (sheet .exit) ≡ printedSheet (now (sheet .entry)) (now (book .entry)) edit) ⌝ }
+{
+    printed::enter_line(sheet, book, part)
 }

@@ -1,0 +1,41 @@
+-- What is kept of an edit is answered as the whole edit is.
+use mathlib.Core.Path.{_≡_, ap}
+use mathlib.Core.List.{List}
+use Prim.Native.Nat.{ℕ}
+use Rattle.answer.specs.Asked.{Asked, passed, _>>=_, _>>_, after, outcome}
+use Rattle.logic.specs.Syntax.{Edit}
+use Rattle.logic.specs.Carry.{carriedBook}
+use Rattle.sheet.specs.Sheet.{graphOf}
+use Rattle.judge.specs.Questions.{askSheetAndBook, askRules}
+use Rattle.carry.specs.Carrying.{askSize}
+use Rattle.apply.specs.Apply.{afterSteps}
+use Rattle.demands.specs.Enter.{StepsAndCarried, askBefore41, askEnter, enterSheet}
+use Rattle.line.specs.Line.{askedLine}
+use Rattle.printed.specs.Printed.{scratchBytes, printedLine, printedSheet}
+use Rattle.log.specs.Taken.{kept}
+use Rattle.log.proofs.KeptLaws.{kept-asked}
+
+-- the questions, by what the edit's own answer
+before-41 : (sheet book : List ℕ) (room : ℕ) → Asked Edit → Asked StepsAndCarried
+before-41 sheet book room q = do
+  rules ← askSheetAndBook sheet book
+  Z ← q
+  askSize (carriedBook Z rules) room
+  passed (record { steps = Z; carried = carriedBook Z rules })
+
+module _ (sheet book edit : List ℕ) (room : ℕ) where
+  kept-before : askBefore41 sheet book (kept edit) room ≡ askBefore41 sheet book edit room
+  unfolding askBefore41 before-41
+  kept-before = ap (before-41 sheet book room) (kept-asked (graphOf sheet .n) edit)
+
+  kept-enter : askEnter sheet book (kept edit) room ≡ askEnter sheet book edit room
+  unfolding askEnter
+  kept-enter = ap (λ (q : Asked StepsAndCarried). q >>= (λ c. askRules (graphOf sheet) (c .carried) 0 >> passed (c .steps))) kept-before
+
+module _ (sheet book edit : List ℕ) where
+  pub kept-line : printedLine sheet book (kept edit) ≡ printedLine sheet book edit
+  kept-line = ap (λ (q : Asked Edit). askedLine (outcome q)) (kept-enter sheet book edit scratchBytes)
+
+  pub kept-sheet : printedSheet sheet book (kept edit) ≡ printedSheet sheet book edit
+  unfolding enterSheet
+  kept-sheet = ap (λ (q : Asked Edit). after q (λ Z. afterSteps Z sheet) sheet) (kept-enter sheet book edit scratchBytes)

@@ -1,0 +1,154 @@
+-- A replay is the run of its edits; stopping and going on; block by block.
+use mathlib.Core.Path.{_≡_, refl, sym, _∙_, ap, ap₂, subst}
+use mathlib.Core.Bool.{Bool, true, false, cond}
+use mathlib.Core.List.{List, [], _∷_, _++_, append-assoc}
+use Prim.Native.Nat.{ℕ, suc, _≤_}
+use lib.ListN.{length, take, drop, length-replicate, take-append-drop}
+use Rattle.answer.specs.Asked.{passed, refused}
+use Rattle.line.specs.Line.{askedLine}
+use Rattle.demands.specs.Clerk.{Line}
+use Rattle.demands.specs.Enter.{enterAnswer, enterSheet}
+use Rattle.demands.specs.Run.{Keeps, Call, log, Bytes}
+use Rattle.demands.specs.Demand3.{Each}
+use Rattle.demands.proofs.Demand3.{demand-3}
+use Rattle.printed.specs.Printed.{scratchBytes, printedLine, printedSheet}
+use Rattle.log.specs.Log.{isLast, content, isBegun, askLogBlock, askLogEnd, Recorded, follows, recorded, blocksOf, readLog}
+use Rattle.log.specs.Stops.{partOf, restOf}
+use Rattle.log.specs.Taken.{kept, keptBehind}
+use Rattle.log.specs.Replay.{editLines, sheetHeld, stopLine, replayLines, replaySheet}
+use Rattle.log.specs.Replays.{programScratch, calls, printedLog, lastSheet, unlessStopped, written, Replays}
+use Rattle.log.proofs.ReadLaws.{read-bad, read-last, read-more, Block, bad, last, more, block-is}
+use Rattle.log.proofs.KeptLaws.{kept-begun, kept-append}
+use Rattle.log.proofs.Answering.{kept-line, kept-sheet}
+use Rattle.log.proofs.Logs.{logs}
+
+-- the program's scratch has the room that the lines speak of
+room : length programScratch ≡ scratchBytes
+unfolding programScratch
+room = length-replicate {A = ℕ} scratchBytes 0
+
+abbrev call : List ℕ → Call
+call edit = record { edit = edit; scratch = programScratch }
+
+pub lines-of : (sheet book : List ℕ) (edits : List (List ℕ)) → editLines sheet book edits ≡ printedLog (log book sheet (calls edits))
+unfolding editLines printedLog log
+lines-of sheet book [] = refl
+lines-of sheet book (edit ∷ edits) =
+    ap (printedLine sheet book edit ++_) (lines-of (printedSheet sheet book edit) book edits)
+    ∙ ap (λ n. askedLine (enterAnswer sheet book edit n) ++ printedLog (log book (enterSheet sheet book edit n) (calls edits))) (sym room)
+
+pub held-is : (sheet book : List ℕ) (edits : List (List ℕ)) → sheetHeld sheet book edits ≡ lastSheet sheet (log book sheet (calls edits))
+unfolding sheetHeld lastSheet log
+held-is sheet book [] = refl
+held-is sheet book (edit ∷ edits) =
+    held-is (printedSheet sheet book edit) book edits ∙ ap (λ n. lastSheet (enterSheet sheet book edit n) (log book (enterSheet sheet book edit n) (calls edits))) (sym room)
+
+-- the last of sheets that all keep the book
+last-keeps : (book sheet : List ℕ) (ls : List Line) → Keeps book sheet → Each (λ l. Keeps book (l .sheet)) ls → Keeps book (lastSheet sheet ls)
+unfolding lastSheet Each
+last-keeps book sheet [] k e = k
+last-keeps book sheet (l ∷ ls) k e = last-keeps book (l .sheet) ls (e .0) (e .1)
+
+-- edits in two parts
+held-parts : (sheet book : List ℕ) (a b : List (List ℕ)) → sheetHeld (sheetHeld sheet book a) book b ≡ sheetHeld sheet book (a ++ b)
+unfolding sheetHeld
+held-parts sheet book [] b = refl
+held-parts sheet book (edit ∷ a) b = held-parts (printedSheet sheet book edit) book a b
+
+stop-and-go : (sheet book bytes : List ℕ) (i : ℕ) → i ≤ length (readLog bytes .edits) → length (blocksOf bytes) ≤ 65535
+    → replaySheet (replaySheet sheet book (partOf i bytes)) book (restOf i bytes) ≡ replaySheet sheet book bytes
+unfolding replaySheet
+stop-and-go sheet book bytes i h few =
+    ap₂ (λ a b. sheetHeld (sheetHeld sheet book a) book b)
+    (ap (λ (r : Recorded). r .edits) (logs .part-read bytes i h))
+    (ap (λ (r : Recorded). r .edits) (logs .rest-read bytes i h few))
+    ∙ held-parts sheet book (take i (readLog bytes .edits)) (drop i (readLog bytes .edits))
+    ∙ ap (sheetHeld sheet book) (take-append-drop i (readLog bytes .edits))
+
+-- block by block
+regroup : (a b c d : List ℕ) → ((a ++ b) ++ c) ++ d ≡ a ++ ((b ++ c) ++ d)
+regroup a b c d = simp append-assoc
+
+module _ (book : List ℕ) where
+  all : List ℕ → Recorded → List ℕ
+  all sheet r = editLines sheet book (r .edits) ++ stopLine (r .ending) ++ sheetHeld sheet book (r .edits)
+
+  follows-all : (sheet edit : List ℕ) (r : Recorded) → all sheet (follows edit r) ≡ printedLine sheet book edit ++ all (printedSheet sheet book edit) r
+  unfolding all editLines sheetHeld
+  follows-all sheet edit r = regroup (printedLine sheet book edit) (editLines (printedSheet sheet book edit) book (r .edits)) (stopLine (r .ending)) (sheetHeld (printedSheet sheet book edit) book (r .edits))
+
+  module _ (number : ℕ) (part sheet : List ℕ) (k : List ℕ) (ks : List (List ℕ)) where
+    abbrev onward : Bool → List ℕ
+    onward l =
+        cond l (printedLine sheet book (keptBehind part k) ++ written (suc number) [] (printedSheet sheet book (keptBehind part k)) book ks) (written (suc number) (keptBehind part k) sheet book ks)
+
+    written-stop : (q p : ℕ) → askLogBlock (isBegun part) number k ≡ refused q p → written number part sheet book (k ∷ ks) ≡ stopLine (refused q p) ++ sheet
+    unfolding written unlessStopped
+    written-stop q p e = ap (λ x. unlessStopped x sheet (onward (isLast k))) e
+
+    written-last : askLogBlock (isBegun part) number k ≡ passed tt → isLast k ≡ true
+        → written number part sheet book (k ∷ ks) ≡ printedLine sheet book (keptBehind part k) ++ written (suc number) [] (printedSheet sheet book (keptBehind part k)) book ks
+    unfolding written unlessStopped
+    written-last e l = ap₂ (λ x y. unlessStopped x sheet (onward y)) e l
+
+    written-more : askLogBlock (isBegun part) number k ≡ passed tt → isLast k ≡ false → written number part sheet book (k ∷ ks) ≡ written (suc number) (keptBehind part k) sheet book ks
+    unfolding written unlessStopped
+    written-more e l = ap₂ (λ x y. unlessStopped x sheet (onward y)) e l
+
+  module _ (number : ℕ) (g sheet : List ℕ) (k : List ℕ) (ks : List (List ℕ)) where
+    asked-alike : askLogBlock (isBegun (kept g)) number k ≡ askLogBlock (isBegun g) number k
+    asked-alike = ap (λ b. askLogBlock b number k) (kept-begun g)
+
+    kept-alike : keptBehind (kept g) k ≡ kept (g ++ content k)
+    unfolding keptBehind
+    kept-alike = kept-append g (content k)
+
+    block-behind : Block number g k
+        → ((s : List ℕ) → written (suc number) [] s book ks ≡ all s (recorded (suc number) [] ks))
+        → written (suc number) (kept (g ++ content k)) sheet book ks ≡ all sheet (recorded (suc number) (g ++ content k) ks)
+        → written number (kept g) sheet book (k ∷ ks) ≡ all sheet (recorded number g (k ∷ ks))
+    unfolding all editLines sheetHeld
+    block-behind (bad q p e) new on = written-stop number (kept g) sheet k ks q p (asked-alike ∙ e) ∙ ap (all sheet) (sym (read-bad number g k ks q p e))
+    block-behind (last e l) new on =
+        let edit : List ℕ = g ++ content k in
+        written-last number (kept g) sheet k ks (asked-alike ∙ e) l
+        ∙ ap (λ x. printedLine sheet book x ++ written (suc number) [] (printedSheet sheet book x) book ks) kept-alike
+        ∙ ap₂ (λ x y. x ++ written (suc number) [] y book ks) (kept-line sheet book edit) (kept-sheet sheet book edit)
+        ∙ ap (printedLine sheet book edit ++_) (new (printedSheet sheet book edit))
+        ∙ sym (follows-all sheet edit (recorded (suc number) [] ks)) ∙ ap (all sheet) (sym (read-last number g k ks e l))
+    block-behind (more e l) new on =
+        written-more number (kept g) sheet k ks (asked-alike ∙ e) l ∙ ap (λ x. written (suc number) x sheet book ks) kept-alike ∙ on
+        ∙ ap (all sheet) (sym (read-more number g k ks e l))
+
+  block-by-block : (number : ℕ) (g sheet : List ℕ) (ks : List (List ℕ)) → written number (kept g) sheet book ks ≡ all sheet (recorded number g ks)
+  unfolding written recorded all editLines sheetHeld kept
+  block-by-block number g sheet [] = ap (λ b. stopLine (askLogEnd b number) ++ sheet) (kept-begun g)
+  block-by-block number g sheet (k ∷ ks) = block-behind number g sheet k ks (block-is number g k) (λ s. block-by-block (suc number) [] s ks) (block-by-block (suc number) (g ++ content k) sheet ks)
+
+module _ (sheet book bytes : List ℕ) where
+  lines-run : replayLines sheet book bytes ≡ printedLog (log book sheet (calls (readLog bytes .edits))) ++ stopLine (readLog bytes .ending)
+  unfolding replayLines
+  lines-run = ap (_++ stopLine (readLog bytes .ending)) (lines-of sheet book (readLog bytes .edits))
+
+  sheet-run : replaySheet sheet book bytes ≡ lastSheet sheet (log book sheet (calls (readLog bytes .edits)))
+  unfolding replaySheet
+  sheet-run = held-is sheet book (readLog bytes .edits)
+
+  sheet-keeps : Bytes sheet → Keeps book sheet → Keeps book (replaySheet sheet book bytes)
+  sheet-keeps b k =
+      subst (Keeps book) (sym sheet-run)
+      (last-keeps book sheet (log book sheet (calls (readLog bytes .edits))) k (demand-3 .every-run sheet book (calls (readLog bytes .edits)) b k .kept))
+
+  in-blocks : written 0 [] sheet book (blocksOf bytes) ≡ replayLines sheet book bytes ++ replaySheet sheet book bytes
+  unfolding replayLines replaySheet all kept
+  in-blocks = block-by-block book 0 [] sheet (blocksOf bytes)
+
+pub replays : Replays
+replays = record {
+  lines-run = lines-run;
+  sheet-run = sheet-run;
+  run-right = λ sheet book bytes b k. demand-3 .every-run sheet book (calls (readLog bytes .edits)) b k;
+  sheet-keeps = sheet-keeps;
+  stop-and-go-on = stop-and-go;
+  block-by-block = in-blocks;
+}

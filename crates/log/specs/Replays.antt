@@ -1,0 +1,59 @@
+-- What a replay promises. proofs/Replays proves it.
+use mathlib.Core.Path.{_≡_}
+use mathlib.Core.Bool.{cond}
+use mathlib.Core.List.{List, [], _∷_, _++_, map}
+use Prim.Native.Nat.{ℕ, suc, _≤_}
+use lib.ListN.{length, replicate}
+use Rattle.answer.specs.Asked.{Asked, passed, refused}
+use Rattle.line.specs.Line.{askedLine}
+use Rattle.demands.specs.Clerk.{Line}
+use Rattle.demands.specs.Run.{Keeps, Call, log, Bytes}
+use Rattle.demands.specs.Demand3.{RunRight}
+use Rattle.printed.specs.Printed.{scratchBytes, printedLine, printedSheet}
+use Rattle.log.specs.Log.{isLast, isBegun, askLogBlock, askLogEnd, lastNumber, blocksOf, readLog}
+use Rattle.log.specs.Stops.{partOf, restOf}
+use Rattle.log.specs.Taken.{keptBehind}
+use Rattle.log.specs.Replay.{stopLine, replayLines, replaySheet}
+
+-- The calls of enter for edits, each with the program's scratch.
+unfoldable pub programScratch : List ℕ
+programScratch = replicate scratchBytes 0
+
+abbrev pub calls : List (List ℕ) → List Call
+calls edits = map (λ edit. record { edit = edit; scratch = programScratch }) edits
+
+-- The printed lines of a run's log, and the sheet that it ends in.
+unfoldable pub printedLog : List Line → List ℕ
+printedLog [] = []
+printedLog (l ∷ ls) = askedLine (l .answer) ++ printedLog ls
+
+unfoldable pub lastSheet : List ℕ → List Line → List ℕ
+lastSheet sheet [] = sheet
+lastSheet sheet (l ∷ ls) = lastSheet (l .sheet) ls
+
+-- What the program writes, block by block, when it reads these blocks. It holds the sheet and what it keeps of one edit, and no more of the log.
+unfoldable pub unlessStopped : Asked (Unit {0}) → (sheet onward : List ℕ) → List ℕ
+unlessStopped (passed u) sheet onward = onward
+unlessStopped (refused q p) sheet onward = stopLine (refused q p) ++ sheet
+
+unfoldable pub written : (number : ℕ) (part sheet book : List ℕ) → List (List ℕ) → List ℕ
+written number part sheet book [] = stopLine (askLogEnd (isBegun part) number) ++ sheet
+written number part sheet book (k ∷ ks) =
+    unlessStopped (askLogBlock (isBegun part) number k) sheet
+    (cond (isLast k)
+    (printedLine sheet book (keptBehind part k) ++ written (suc number) [] (printedSheet sheet book (keptBehind part k)) book ks)
+    (written (suc number) (keptBehind part k) sheet book ks))
+
+pub record Replays : Type 0 where
+  -- The lines and the sheet are those of the run of the log's edits,
+  pub lines-run : (sheet book bytes : List ℕ) → replayLines sheet book bytes ≡ printedLog (log book sheet (calls (readLog bytes .edits))) ++ stopLine (readLog bytes .ending)
+  pub sheet-run : (sheet book bytes : List ℕ) → replaySheet sheet book bytes ≡ lastSheet sheet (log book sheet (calls (readLog bytes .edits)))
+  -- so that demand 3 holds of them: from a sheet that keeps the book,
+  pub run-right : (sheet book bytes : List ℕ) → Bytes sheet → Keeps book sheet → RunRight sheet book (calls (readLog bytes .edits))
+  -- and the sheet last written keeps it.
+  pub sheet-keeps : (sheet book bytes : List ℕ) → Bytes sheet → Keeps book sheet → Keeps book (replaySheet sheet book bytes)
+  -- In a log of at most 65,535 blocks, stopping after any edit it has answered and starting again from the sheet then held, with the rest of the log, ends in the same sheet.
+  pub stop-and-go-on : (sheet book bytes : List ℕ) (i : ℕ) → i ≤ length (readLog bytes .edits) → length (blocksOf bytes) ≤ suc lastNumber
+      → replaySheet (replaySheet sheet book (partOf i bytes)) book (restOf i bytes) ≡ replaySheet sheet book bytes
+  -- Kept bytes suffice: what is written block by block is the lines and the sheet.
+  pub block-by-block : (sheet book bytes : List ℕ) → written 0 [] sheet book (blocksOf bytes) ≡ replayLines sheet book bytes ++ replaySheet sheet book bytes
