@@ -80,3 +80,8 @@ def hexadecimal(files):
                 fault(line.where, f"{word[0]} is not two hexadecimal digits")
             found.append(Byte(int(word[0], 16), line, word.start()))
     return found
+
+
+def text(file):
+    """A book or an edit: commented hexadecimal in a file whose name ends in .hex, else the file's bytes."""
+    return bytes(byte.value for byte in hexadecimal([file])) if file.endswith(".hex") else content(file)
