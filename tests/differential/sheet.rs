@@ -362,6 +362,7 @@ fn cards(tally: &mut Tally) {
 
 fn main() {
     let mut tally = Tally::new();
+    cards(&mut tally);
     noticed_changes(&mut tally);
     mended_bytes(&mut tally);
     sums_at_the_ends(&mut tally);
@@ -369,6 +370,5 @@ fn main() {
     all_bits(&mut tally);
     random_sheets(&mut tally, 11_000);
     random_bytes(&mut tally);
-    cards(&mut tally);
     tally.finish(&[0, 1, 2, 3, 4, 5, 7]);
 }
