@@ -110,9 +110,15 @@ fn full_sheet() -> Vec<u8> {
     sheet
 }
 
-/// Inputs that are not measured: each edit of the station on each of its sheets, of which `clash` breaks a rule.
+/// Inputs that are not measured: each edit of the station on each of its sheets, of which `clash` breaks a rule, and its
+/// sheet with a byte of each block changed.
 pub fn compared_only() -> Vec<Row> {
     let mut rows = vec![];
+    for block in 0..17 {
+        let mut row = Row::new(&format!("damaged block {block}"), on_station("sheet", "move"), ENTER);
+        row.buffers.opening[512 * block + 29 * block] ^= 255;
+        rows.push(row);
+    }
     for sheet in ["sheet", "sheet_after", "clash"] {
         for edit in ["move", "move_back", "crowd", "swap", "repair"] {
             rows.push(Row::new(&format!("{sheet} and {edit}"), on_station(sheet, edit), ENTER));

@@ -71,8 +71,21 @@ fn head_sums(head: [u8; 3]) -> (u32, u32) {
     (a + b + c, 508 * a + 507 * b + 506 * c)
 }
 
-/// Vectors of two rows that are taken in one turn of a loop: a block has five times as many, the labels four times.
-const TURN: usize = 6;
+/// Half of the vectors of two rows that a block has: in a column of so many bytes, its totals up to each byte add up to
+/// less than 2^15.
+const HALF: usize = 15;
+
+/// How often the bytes of the last vector of a half count in t, those at even places and those at odd ones.
+static WEIGHTS: [[[i16; 8]; 2]; 2] = {
+    let mut weights = [[[0; 8]; 2]; 2];
+    let mut i = 0;
+    while i < 32 {
+        let (half, parity, pair) = (i / 16, i % 2, i / 2 % 8);
+        weights[half][parity][pair] = 508 - 16 * (HALF * (half + 1)) as i16 - (i % 16) as i16;
+        i += 1;
+    }
+    weights
+};
 
 #[inline(always)]
 fn vectors(block: &Block) -> &[[u8; 16]; 32] {
@@ -85,42 +98,58 @@ fn load(vector: &[u8; 16]) -> __m128i {
     unsafe { _mm_loadu_si128(vector.as_ptr() as *const __m128i) }
 }
 
-/// What the first rows add to s and to t, and all bits of them. Each byte is taken once and nothing is divided.
 #[inline(always)]
-fn row_sums(block: &Block, turns: usize) -> (u32, u32, __m128i) {
+fn load_weights(weights: &[i16; 8]) -> __m128i {
+    // SAFETY: 16 bytes are read. SSE2 is part of x86_64.
+    unsafe { _mm_loadu_si128(weights.as_ptr() as *const __m128i) }
+}
+
+/// What the first 30 or 60 rows add to s and to t, and all bits of them. Each byte is taken once and nothing is divided.
+#[inline(always)]
+fn row_sums(block: &Block, halves: usize) -> (u32, u32, __m128i) {
     // SAFETY: SSE2 is part of x86_64.
     unsafe {
         let none = _mm_setzero_si128();
-        let (mut s, mut before, mut pairs, mut odd, mut any) = (none, none, none, none, none);
-        for turn in vectors(block)[1..1 + TURN * turns].as_chunks::<TURN>().0 {
-            for vector in turn {
+        let (mut s, mut t, mut any) = (none, none, none);
+        for (half, weights) in vectors(block)[1..31].as_chunks::<HALF>().0.iter().zip(&WEIGHTS).take(halves) {
+            // Totals of two columns of bytes, the high one 256 times, and of the high one alone; what they were at
+            // each vector, added up, has a vector's bytes once for each vector behind it.
+            let (mut pairs, mut odd, mut pairs_before, mut odd_before) = (none, none, none, none);
+            for vector in half {
                 let v = load(vector);
                 any = _mm_or_si128(any, v);
-                before = _mm_add_epi32(before, s);
-                s = _mm_add_epi32(s, _mm_sad_epu8(v, none));
+                pairs_before = _mm_add_epi16(pairs_before, pairs);
+                odd_before = _mm_add_epi16(odd_before, odd);
                 pairs = _mm_add_epi16(pairs, v);
                 odd = _mm_add_epi16(odd, _mm_srli_epi16::<8>(v));
             }
+            let even = _mm_sub_epi16(pairs, _mm_slli_epi16::<8>(odd));
+            let even_before = _mm_sub_epi16(pairs_before, _mm_slli_epi16::<8>(odd_before));
+            s = _mm_add_epi32(s, _mm_madd_epi16(_mm_add_epi16(even, odd), _mm_set1_epi16(1)));
+            t = _mm_add_epi32(t, _mm_madd_epi16(even_before, _mm_set1_epi16(16)));
+            t = _mm_add_epi32(t, _mm_madd_epi16(odd_before, _mm_set1_epi16(16)));
+            t = _mm_add_epi32(t, _mm_madd_epi16(even, load_weights(&weights[0])));
+            t = _mm_add_epi32(t, _mm_madd_epi16(odd, load_weights(&weights[1])));
         }
-        // Each column of bytes has a total below 2^13, so the even ones are what 256 times the odd ones leave.
-        let even = _mm_sub_epi16(pairs, _mm_slli_epi16::<8>(odd));
-        let even = _mm_madd_epi16(even, _mm_set_epi16(14, 12, 10, 8, 6, 4, 2, 0));
-        let odd = _mm_madd_epi16(odd, _mm_set_epi16(15, 13, 11, 9, 7, 5, 3, 1));
-        // Byte j of vector v counts 508 - 16v - j times; `before` has a vector's bytes once for each one behind it.
-        let t = _mm_sub_epi32(_mm_slli_epi32::<4>(before), _mm_add_epi32(even, odd));
-        let t = _mm_add_epi32(t, _mm_shuffle_epi32::<0b01_00_11_10>(t));
-        let t = _mm_add_epi32(t, _mm_shuffle_epi32::<0b10_11_00_01>(t));
-        let s = _mm_add_epi32(s, _mm_shuffle_epi32::<0b01_00_11_10>(s));
-        let s = _mm_cvtsi128_si32(s) as u32;
-        let last = 16 * TURN as u32 * turns as u32;
-        (s, (_mm_cvtsi128_si32(t) as u32).wrapping_add((508 - last) * s), any)
+        (total(s), total(t), any)
+    }
+}
+
+/// The sum of four numbers.
+#[inline(always)]
+fn total(v: __m128i) -> u32 {
+    // SAFETY: SSE2 is part of x86_64.
+    unsafe {
+        let v = _mm_add_epi32(v, _mm_shuffle_epi32::<0b01_00_11_10>(v));
+        let v = _mm_add_epi32(v, _mm_shuffle_epi32::<0b10_11_00_01>(v));
+        _mm_cvtsi128_si32(v) as u32
     }
 }
 
 /// Writes the check bytes of a block whose other bytes are right.
 pub fn seal(block: &mut Block) {
     let (head_s, head_t) = head_sums(block[..3].try_into().unwrap());
-    let (s, t, _) = row_sums(block, 5);
+    let (s, t, _) = row_sums(block, 2);
     block[508..].copy_from_slice(&reduced(head_s + s, head_t + t).to_le_bytes());
 }
 
@@ -160,7 +189,7 @@ fn sound(block: &Block, head: [u8; 3], rows: usize, n: usize) -> bool {
     if stored_sums(block) == reduced(head_s, head_t) && is_none(outside(block, 0)) {
         return true;
     }
-    let (s, t, bits) = row_sums(block, rows.div_ceil(2 * TURN));
+    let (s, t, bits) = row_sums(block, rows.div_ceil(2 * HALF));
     // SAFETY: SSE2 is part of x86_64.
     let stray =
         unsafe { _mm_or_si128(_mm_andnot_si128(_mm_set1_epi64x(all_nodes(n) as i64), bits), outside(block, rows)) };
