@@ -15,7 +15,7 @@ use Rattle.logic.proofs.Inside.{value-in, run-within}
 use Rattle.words.specs.Words.{setOf, combined}
 use Rattle.words.proofs.SetLaws.{combined-sets}
 use Rattle.rows.specs.Operations.{arrowOperation}
-use Rattle.sheet.specs.Sheet.{sheetBytes, store, graphOf, Rows}
+use Rattle.sheet.specs.Sheet.{present, sheetBytes, store, graphOf, Rows}
 use Rattle.sheet.specs.Questions.{Sound}
 use Rattle.sheet.proofs.Blocks.{length-store}
 use Rattle.sheet.proofs.ReadBack.{read-back}
@@ -31,16 +31,16 @@ use Rattle.apply.proofs.Cases.{labelMade, arrowMade, IsStep, IsChoose, 
 
 -- the graph of the sheet that stores a graph
 graph-again : (g : Graph) (t : List ℕ) → Within g → t ≡ store g → graphOf t ≡ g
-graph-again g t w e = ap graphOf e ∙ read-back g w
+graph-again g t w e = ap graphOf e ∙ read-back present g w
 
 -- A sound sheet, once its n and its nodes are loaded, is ready.
 pub ready-first : (t : List ℕ) (n all : ℕ) → ((p : ℕ) → getD t p 0 < 256) → Sound t → n ≡ graphOf t .n → all ≡ setOf (graphOf t .n) (isNode (graphOf t)) → Ready t n all
 ready-first t n all small sound c a =
-    let o = opening t small sound in
+    let o = opening present t small sound in
     record { stored = o .stored; within = o .within; count = c; nodes = a ∙ ap (λ (m : ℕ). setOf m (isNode (graphOf t))) (sym c) }
 
 pub ready-length : (t : List ℕ) (n all : ℕ) → Ready t n all → length t ≡ sheetBytes
-ready-length t n all r = ap length (r .stored) ∙ length-store (graphOf t)
+ready-length t n all r = ap length (r .stored) ∙ length-store present (graphOf t)
 
 -- from one law for each edit that stands there
 pub each-made : (n all : ℕ) (edit : List ℕ) (at next : ℕ) (t t′ : List ℕ) → SomeEditStands (ranges n) edit at → ((Z : Edit) → EditStands (ranges n) edit at Z → Ready t′ n all × StepMade n edit at Z next t t′)
@@ -49,7 +49,7 @@ each-made n all edit at next t t′ s f = (f (s .what) (s .stands) .0, λ Z h. f
 
 module _ (t : List ℕ) (n all : ℕ) (r : Ready t n all) where
   pub opened : Opened t n all
-  opened = record { sound = subst Sound (sym (r .stored)) (stored-passes (graphOf t) (r .within)); count = r .count; few = omega (arith, r .count, r .within .few-nodes); nodes = r .nodes }
+  opened = record { sound = subst Sound (sym (r .stored)) (stored-passes present (graphOf t) (r .within)); count = r .count; few = omega (arith, r .count, r .within .few-nodes); nodes = r .nodes }
 
   -- a sheet that stores another graph of as many nodes
   ready-again : (g : Graph) (t′ : List ℕ) → Within g → g .n ≡ graphOf t .n → t′ ≡ store g → Ready t′ n all

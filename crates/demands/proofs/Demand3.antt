@@ -12,7 +12,7 @@ use Rattle.logic.specs.Carry.{carry, carriedBook}
 use Rattle.logic.specs.Limits.{Within}
 use Rattle.logic.proofs.Theorem.{carried}
 use Rattle.logic.proofs.Inside.{run-n}
-use Rattle.sheet.specs.Sheet.{graphOf}
+use Rattle.sheet.specs.Sheet.{present, graphOf}
 use Rattle.sheet.proofs.ReadBack.{read-back}
 use Rattle.sheet.proofs.Opening.{Opened, opening}
 use Rattle.text.specs.Reading.{textLimits}
@@ -31,10 +31,10 @@ use Rattle.demands.proofs.Runs.{steps-within, Kept, keeps, kept-each, l
 module _ {book edit sheet : List ℕ} (i : Given book edit sheet) where
   -- The sheet that the steps leave stores the graph that they leave.
   within : Within (run (i .steps) (graphOf sheet))
-  within = steps-within (graphOf sheet) edit (i .steps) (opening sheet (i .are-bytes) (i .sound) .within) (i .edit-read)
+  within = steps-within (graphOf sheet) edit (i .steps) (opening present sheet (i .are-bytes) (i .sound) .within) (i .edit-read)
 
   left : graphOf (afterSteps (i .steps) sheet) ≡ run (i .steps) (graphOf sheet)
-  left = read-back (run (i .steps) (graphOf sheet)) within
+  left = read-back present (run (i .steps) (graphOf sheet)) within
 
   carried-before-after : (K : Expr rule) → value (graphOf sheet) (carry (i .steps) K) ≡ value (graphOf (afterSteps (i .steps) sheet)) K
   carried-before-after K = carried (i .steps) K (graphOf sheet) ∙ ap (λ g. value g K) (sym left)
@@ -84,7 +84,7 @@ module _ {book edit sheet : List ℕ} (i : Given book edit sheet) where
 run-right : (sheet book : List ℕ) (calls : List Call) → Bytes sheet → Keeps book sheet → RunRight sheet book calls
 unfolding clerk rulesOf after madeInOrder
 run-right sheet book calls bytes k =
-    let o : Opened sheet = opening sheet bytes (k .sound) in
+    let o : Opened present sheet = opening present sheet bytes (k .sound) in
     let kept : Kept book (k .rules) (graphOf sheet) = record { within = o .within; book-read = k .book-read; hold = k .hold } in
     let same : log book sheet calls ≡ clerkLog (k .rules) (graphOf sheet) (map fed calls) = ap (λ s. log book s calls) (o .stored) ∙ log-clerk book (k .rules) (graphOf sheet) calls kept in
     record {

@@ -15,8 +15,8 @@ use Rattle.logic.specs.Steps.{update, run}
 use Rattle.logic.specs.Carry.{replace, putLabel, putArrow, carry, carriedBook}
 use Rattle.logic.specs.Limits.{Within}
 use Rattle.words.specs.Words.{setOf, bytes}
-use Rattle.seal.specs.Seal.{sealed, seal, sumsFrom}
-use Rattle.sheet.specs.Sheet.{store, graphOf, block, labelBlock, arrowBlock, chunks}
+use Rattle.seal.specs.Seal.{sealed, stored, sumsFrom}
+use Rattle.sheet.specs.Sheet.{present, storeIn, store, graphOf, block, labelBlock, arrowBlock, chunks}
 use Rattle.sheet.proofs.ReadBack.{read-back}
 use Rattle.text.specs.Code.{code, levels, bookCode, bookLevels}
 use Rattle.text.specs.Reading.{textLimits, codes, choice, follow}
@@ -59,7 +59,7 @@ askOf g book edit room = do
 
 carried-of : (g : Graph) (book edit : List ℕ) (room : ℕ) → Within g → askBefore41 (store g) book edit room ≡ askOf g book edit room
 unfolding askBefore41 askOf
-carried-of g book edit room w = ap (_>>= size (graphOf (store g))) (asked-of-stored g book w) ∙ ap (λ h. askBook (textLimits (g .n)) book >>= size h) (read-back g w)
+carried-of g book edit room w = ap (_>>= size (graphOf (store g))) (asked-of-stored g book w) ∙ ap (λ h. askBook (textLimits (g .n)) book >>= size h) (read-back present g w)
   where
     size : Graph → List (Expr rule) → Asked StepsAndCarried
     size h rules = askEdit (textLimits (h .n)) edit >>= (λ Z. askSize (carriedBook Z rules) room >> passed (record { steps = Z; carried = carriedBook Z rules }))
@@ -76,8 +76,8 @@ resultOf g a b room =
 
 on-graph : (edit : List ℕ) (room : ℕ) → enteredOnT edit room ≡ resultOf sheetT (askOf sheetT B edit room) (askOf sheetT B edit (length (scratchOf room))) room
 unfolding enteredOnT enterSheet enterScratch askEnter resultOf
-on-graph edit room = λ t. resultOf (read-back sheetT T-within t) (carried-of sheetT B edit room T-within t) (carried-of sheetT B edit (length (scratchOf room)) T-within t) room
+on-graph edit room = λ t. resultOf (read-back present sheetT T-within t) (carried-of sheetT B edit room T-within t) (carried-of sheetT B edit (length (scratchOf room)) T-within t) room
 
 pub examples : calls enteredOnT ≡ results
-unfolding calls results resultOf askOf sheetT store block labelBlock arrowBlock chunks setOf bytes sealed seal sumsFrom value isNode anyBelow allBelow countBelow update run replace putLabel putArrow carry code bookCode levels bookLevels askSize whole readRules askBook askEdit askRules after outcome _>>=_ _>>_ is codes choice follow reading._>>=_
+unfolding calls results resultOf askOf sheetT storeIn block labelBlock arrowBlock chunks setOf bytes sealed stored sumsFrom value isNode anyBelow allBelow countBelow update run replace putLabel putArrow carry code bookCode levels bookLevels askSize whole readRules askBook askEdit askRules after outcome _>>=_ _>>_ is codes choice follow reading._>>=_
 examples = (λ t. calls (λ edit room. on-graph edit room t)) ∙ refl

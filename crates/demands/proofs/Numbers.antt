@@ -6,8 +6,8 @@ use native.Mathlib.Omega.{arith}
 use Rattle.answer.specs.Asked.{Asked, passed, refused, _>>=_, _>>_, is}
 use Rattle.logic.specs.Syntax.{Expr, rule}
 use Rattle.logic.specs.Carry.{carriedBook}
-use Rattle.sheet.specs.Sheet.{graphOf}
-use Rattle.sheet.specs.Questions.{askBlock, askBlocks, askSheet}
+use Rattle.sheet.specs.Sheet.{present, graphOf}
+use Rattle.sheet.specs.Questions.{askBlock, askBlocks, askSheetIn, askSheet}
 use Rattle.text.specs.Reading.{Limits, textLimits, expr, Fault, missing, wrongSort, tooDeep, outOfRange, Read, got, fault, readAs}
 use Rattle.text.specs.Questions.{faultNumber, mostRules, whole, readRules, askBook, askEdit}
 use Rattle.judge.specs.Questions.{askSheetAndBook}
@@ -34,11 +34,11 @@ unfolding _>>=_
 bind-below (passed a) f h i = i a
 bind-below (refused n p) f h i = h
 
-blocks-below : (t : List ℕ) (m b : ℕ) → Below41 (askBlocks t m b)
+blocks-below : (t : List ℕ) (m b : ℕ) → Below41 (askBlocks present t m b)
 unfolding askBlocks askBlock
 blocks-below t zero b = tt
 blocks-below t (suc m) b =
-    then-below _ (askBlocks t m (suc b)) (then-below (is _ 2 b) _ (is-below _ 2 b (omega arith)) (then-below (is _ 3 b) _ (is-below _ 3 b (omega arith)) (is-below _ 4 b (omega arith)))) (blocks-below t m (suc b))
+    then-below _ (askBlocks present t m (suc b)) (then-below (is _ 2 b) _ (is-below _ 2 b (omega arith)) (then-below (is _ 3 b) _ (is-below _ 3 b (omega arith)) (is-below _ 4 b (omega arith)))) (blocks-below t m (suc b))
 
 fault-below : (base : ℕ) (why : Fault) → base ≤ 20 → faultNumber base why < 41
 fault-below base missing h = omega arith
@@ -64,7 +64,7 @@ whole-below (got a (x ∷ t) p) = omega arith
 whole-below (fault why p) = fault-below 20 why (omega arith)
 
 sheet-below : (t : List ℕ) → Below41 (askSheet t)
-unfolding askSheet
+unfolding askSheetIn
 sheet-below t = then-below (is _ 1 0) _ (is-below _ 1 0 (omega arith)) (blocks-below t 17 0)
 
 book-below : (l : Limits) (t : List ℕ) → Below41 (askBook l t)

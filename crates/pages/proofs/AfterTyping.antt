@@ -12,7 +12,7 @@ use Rattle.logic.specs.Graph.{Graph, isNode}
 use Rattle.logic.specs.Limits.{Within, maxNodes}
 use Rattle.logic.specs.Steps.{update}
 use Rattle.words.specs.Words.{setOf}
-use Rattle.sheet.specs.Sheet.{store, graphOf, block, labelBlock, arrowBlock, blockCount}
+use Rattle.sheet.specs.Sheet.{present, store, graphOf, block, labelBlock, arrowBlock, blockCount}
 use Rattle.sheet.specs.Questions.{blockOf, askSheet, Sound}
 use Rattle.sheet.proofs.Opening.{opening}
 use Rattle.sheet.proofs.Passes.{stored-passes, first-block, later-block}
@@ -28,14 +28,14 @@ blockNumber (arrows a) = suc a
 blockNumber labels = 0
 
 -- its other blocks are those of the graph as it was
-other-labels : (g : Graph) (page : List ℕ) (a : ℕ) → labelBlock (typed g page (arrows a)) ≡ labelBlock g
+other-labels : (g : Graph) (page : List ℕ) (a : ℕ) → labelBlock present (typed g page (arrows a)) ≡ labelBlock present g
 unfolding labelBlock typed
 other-labels g page a = refl
 
-other-arrows : (g : Graph) (page : List ℕ) (b : Block) (c : ℕ) → suc c ≢ blockNumber b → arrowBlock (typed g page b) c ≡ arrowBlock g c
+other-arrows : (g : Graph) (page : List ℕ) (b : Block) (c : ℕ) → suc c ≢ blockNumber b → arrowBlock present (typed g page b) c ≡ arrowBlock present g c
 unfolding arrowBlock typed update
 other-arrows g page (arrows a) c d =
-    ap (λ (x : Bool). block (2 ∷ suc c ∷ 0 ∷ []) maxNodes (λ i. setOf (g .n) (cond x (λ i j. isNode g i && marked g page i j) (g .joined c) i))) (ne-eqb c a (λ e. d (ap suc e)))
+    ap (λ (x : Bool). block present (2 ∷ suc c ∷ 0 ∷ []) maxNodes (λ i. setOf (g .n) (cond x (λ i j. isNode g i && marked g page i j) (g .joined c) i))) (ne-eqb c a (λ e. d (ap suc e)))
 other-arrows g page labels c d = refl
 
 module _ (sheet page : List ℕ) (are-bytes : (p : ℕ) → getD sheet p 0 < 256) (b : Block) (done : askType sheet page ≡ passed b) where
@@ -47,7 +47,7 @@ module _ (sheet page : List ℕ) (are-bytes : (p : ℕ) → getD sheet p 0 < 256
   asked = both-passed (askSheet sheet) (askPage (g .n) page) b done
 
   within : Within g
-  within = opening sheet are-bytes (asked .0) .within
+  within = opening present sheet are-bytes (asked .0) .within
 
   whole : Within (typed g page b)
   whole = typed-within g within page b (accepted-page g within page b (accepted-right (g .n) page b (asked .1)) .0)
@@ -57,10 +57,10 @@ module _ (sheet page : List ℕ) (are-bytes : (p : ℕ) → getD sheet p 0 < 256
   sheet-after = ap (λ x. after x (λ c. store (typed g page c)) sheet) done
 
   pub sound-after : Sound (typedSheet sheet page)
-  sound-after = ap askSheet sheet-after ∙ stored-passes (typed g page b) whole
+  sound-after = ap askSheet sheet-after ∙ stored-passes present (typed g page b) whole
 
   pub graph-after : graphOf (typedSheet sheet page) ≡ typed g page b
-  graph-after = ap graphOf sheet-after ∙ read-back (typed g page b) whole
+  graph-after = ap graphOf sheet-after ∙ read-back present (typed g page b) whole
 
   -- The block has become the page.
   pub page-after : pageOf (graphOf (typedSheet sheet page)) b ≡ page
@@ -68,9 +68,9 @@ module _ (sheet page : List ℕ) (are-bytes : (p : ℕ) → getD sheet p 0 < 256
 
   -- Every other block is as it was.
   pub others-after : (c : ℕ) → c < blockCount → c ≢ blockNumber b → blockOf (typedSheet sheet page) c ≡ blockOf sheet c
-  others-after c l d = ap (λ t. blockOf t c) sheet-after ∙ same c b l d ∙ ap (λ t. blockOf t c) (sym (opening sheet are-bytes (asked .0) .stored))
+  others-after c l d = ap (λ t. blockOf t c) sheet-after ∙ same c b l d ∙ ap (λ t. blockOf t c) (sym (opening present sheet are-bytes (asked .0) .stored))
     where
       same : (c : ℕ) (b : Block) → c < blockCount → c ≢ blockNumber b → blockOf (store (typed g page b)) c ≡ blockOf (store g) c
-      same zero (arrows a) l d = first-block (typed g page (arrows a)) ∙ other-labels g page a ∙ sym (first-block g)
+      same zero (arrows a) l d = first-block present (typed g page (arrows a)) ∙ other-labels g page a ∙ sym (first-block present g)
       same zero labels l d = absurd (d refl)
-      same (suc c) b l d = later-block (typed g page b) c (omega arith) ∙ other-arrows g page b c d ∙ sym (later-block g c (omega arith))
+      same (suc c) b l d = later-block present (typed g page b) c (omega arith) ∙ other-arrows g page b c d ∙ sym (later-block present g c (omega arith))

@@ -12,7 +12,7 @@ use Rattle.answer.specs.Asked.{passed, _>>_, is, after}
 use Rattle.logic.specs.Graph.{Graph, Pairs, isNode}
 use Rattle.logic.specs.Limits.{Within, labelCount, arrowCount}
 use Rattle.logic.specs.Steps.{update}
-use Rattle.sheet.specs.Sheet.{store, graphOf}
+use Rattle.sheet.specs.Sheet.{present, store, graphOf}
 use Rattle.sheet.specs.Questions.{askSheet, Sound}
 use Rattle.sheet.proofs.Opening.{opening, is-yes}
 use Rattle.pages.specs.Page.{arrowPage, labelPage}
@@ -76,12 +76,12 @@ module _ (sheet : List ℕ) (are-bytes : (p : ℕ) → getD sheet p 0 < 256) (so
 
   pub page-accepted : (b : Block) → HasBlock b → askType sheet (pageOf g b) ≡ passed b
   unfolding askType _>>_
-  page-accepted b h = ap (λ x. x >> askPage (g .n) (pageOf g b)) sound ∙ right-accepted (g .n) (pageOf g b) b (printed-right g (opening sheet are-bytes sound .within) b h)
+  page-accepted b h = ap (λ x. x >> askPage (g .n) (pageOf g b)) sound ∙ right-accepted (g .n) (pageOf g b) b (printed-right g (opening present sheet are-bytes sound .within) b h)
 
   pub sheet-back : (b : Block) → HasBlock b → typedSheet sheet (pageOf g b) ≡ sheet
   unfolding typedSheet after
   sheet-back b h =
-      let o = opening sheet are-bytes sound in
+      let o = opening present sheet are-bytes sound in
       ap (λ x. after x (λ c. store (typed g (pageOf g b) c)) sheet) (page-accepted b h) ∙ ap store (same-graph g (o .within) b) ∙ sym (o .stored)
 
 -- EVERY PAGE PRINTED: what either call writes is typed back as the block it came from, and the sheet is as it was.

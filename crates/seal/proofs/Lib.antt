@@ -1,3 +1,8 @@
-pub mod SumLaws
+pub mod LaneLaws
+pub mod WordSums
+pub mod Thirds
 pub mod TotalLaws
 pub mod SealLaws
+pub mod Noticed
+pub mod CodeLaws
+pub mod PutLaws

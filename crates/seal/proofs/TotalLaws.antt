@@ -1,70 +1,104 @@
--- The sums after one byte of a body changes: in plain totals, of any length; then in their remainders, by any number m.
-use mathlib.Core.Path.{_≡_, sym, ap, ap₂, _∙_}
+-- The sums of any form are the remainders of plain totals: along a body, and after one byte of it changes.
+use mathlib.Core.Path.{_≡_, refl, sym, ap, ap₂, _∙_}
 use mathlib.Core.List.{List, [], _∷_}
-use Prim.Native.Nat.{ℕ, zero, suc, _+_, _-_, _*_, _%_, _<_}
-use native.Mathlib.Nat.{mod-add-mod, add-mul-mod-self-right}
+use Prim.Native.Nat.{ℕ, zero, suc, _+_, _-_, _*_, _%_, _≤_, _<_}
+use native.Mathlib.Nat.{mod-add-mod, add-mod, mod-eq-of-lt, add-mul-mod-self-right, mul-le-mul-left}
 use native.Mathlib.Omega.{arith}
 use lib.ListN.{length, getD, set, length-set}
-use Rattle.seal.specs.Seal.{Sums, sums, sumsFrom}
+use Rattle.seal.specs.Seal.{Form, Sums, sums, sumsFrom}
+use Rattle.seal.specs.Lanes.{total, weighed}
 
--- The plain total of n bytes; and the total of the plain totals after each byte, in which byte p counts n - p times.
-unfoldable pub total : List ℕ → ℕ
-total [] = 0
-total (b ∷ l) = b + total l
+-- the sums are the remainders of the totals
+sums-from : (m : ℕ) (l : List ℕ) (s t : ℕ) → sumsFrom m (s % m) (t % m) l ≡ record { s = (s + total l) % m; t = (t + (length l * s + weighed l)) % m }
+unfolding sumsFrom total weighed
+sums-from m [] s t =
+    let e : s ≡ s + 0 = omega arith in
+    let f : t ≡ t + (0 * s + 0) = omega arith in
+    ap₂ (λ x y. record { s = x % m; t = y % m }) e f
+sums-from m (b ∷ l) s t =
+    let e : s + b + total l ≡ s + (b + total l) = omega arith in
+    let f : t + (s + b) + (length l * (s + b) + weighed l) ≡ t + (suc (length l) * s + (suc (length l) * b + weighed l)) = omega arith in
+    ap₂ (λ x y. sumsFrom m x y l) (mod-add-mod s m b) (ap (λ x. (t % m + x) % m) (mod-add-mod s m b) ∙ sym (add-mod t (s + b) m))
+    ∙ sums-from m l (s + b) (t + (s + b)) ∙ ap₂ (λ x y. record { s = x % m; t = y % m }) e f
 
-unfoldable pub weighed : List ℕ → ℕ
-weighed [] = 0
-weighed (b ∷ l) = suc (length l) * b + weighed l
+module _ (f : Form) (l : List ℕ) where
+  from-zero : sums f l ≡ record { s = total l % f .modulus; t = weighed l % f .modulus }
+  from-zero =
+      let z : 0 + total l ≡ total l = omega arith in
+      let w : 0 + (length l * 0 + weighed l) ≡ weighed l = omega arith in
+      ap₂ (λ x y. sumsFrom (f .modulus) x y l) (sym (mod-eq-of-lt (f .nonzero))) (sym (mod-eq-of-lt (f .nonzero)))
+      ∙ sums-from (f .modulus) l 0 0 ∙ ap₂ (λ x y. record { s = x % f .modulus; t = y % f .modulus }) z w
+
+  pub sums-total : sums f l .s ≡ total l % f .modulus
+  sums-total = ap (λ (u : Sums). u .s) from-zero
+
+  pub sums-weighed : sums f l .t ≡ weighed l % f .modulus
+  sums-weighed = ap (λ (u : Sums). u .t) from-zero
+
+-- what leaves the same modulo 65535 leaves the same modulo 255 and 257
+pub modulo-255 : (x y : ℕ) → x % 65535 ≡ y % 65535 → x % 255 ≡ y % 255
+modulo-255 x y e = let d : x % 65535 % 255 ≡ x % 255 = omega arith in let f : y % 65535 % 255 ≡ y % 255 = omega arith in sym d ∙ ap (_% 255) e ∙ f
+
+pub modulo-257 : (x y : ℕ) → x % 65535 ≡ y % 65535 → x % 257 ≡ y % 257
+modulo-257 x y e = let d : x % 65535 % 257 ≡ x % 257 = omega arith in let f : y % 65535 % 257 ≡ y % 257 = omega arith in sym d ∙ ap (_% 257) e ∙ f
 
 -- byte p changes from what it was to x
-total-set : (l : List ℕ) (p x : ℕ) → p < length l → total (set l p x) + getD l p 0 ≡ total l + x
+pub total-set : (l : List ℕ) (p x : ℕ) → p < length l → total (set l p x) + getD l p 0 ≡ total l + x
 unfolding total
 total-set [] p x h = absurd (omega arith)
 total-set (b ∷ l) zero x h = omega arith
 total-set (b ∷ l) (suc p) x h = omega (arith, total-set l p x (omega arith))
 
-weighed-set : (l : List ℕ) (p x : ℕ) → p < length l → weighed (set l p x) + (length l - p) * getD l p 0 ≡ weighed l + (length l - p) * x
+pub weighed-set : (l : List ℕ) (p x : ℕ) → p < length l → weighed (set l p x) + (length l - p) * getD l p 0 ≡ weighed l + (length l - p) * x
 unfolding weighed
 weighed-set [] p x h = absurd (omega arith)
 weighed-set (b ∷ l) zero x h = let w : suc (length l) - 0 ≡ suc (length l) = omega arith in rw w (omega arith)
 weighed-set (b ∷ l) (suc p) x h = let w : suc (length l) - suc p ≡ length l - p = omega arith in rw w (omega (arith, weighed-set l p x (omega arith), ap (_* b) (length-set l p x)))
 
-module _ (m : ℕ) where
-  -- a total in which a byte counts w times, when that byte changes from b to x: d is x - b, and m more so that it is a number
-  remainder-moves : (before after w b x d : ℕ) → after + w * b ≡ before + w * x → d + b ≡ x + m → (before % m + w * d) % m ≡ after % m
-  remainder-moves before after w b x d e f =
-      let g : before + w * d ≡ after + w * m = omega (arith, ap (w *_) f) in
-      mod-add-mod before m (w * d) ∙ ap (_% m) g ∙ add-mul-mod-self-right after w m
-
-  module _ (l : List ℕ) (p x d : ℕ) (h : p < length l) (f : d + getD l p 0 ≡ x + m) where
-    pub total-moves : (total l % m + d) % m ≡ total (set l p x) % m
-    total-moves =
-        let one : d ≡ 1 * d = omega arith in
-        ap (λ y. (total l % m + y) % m) one
-        ∙ remainder-moves (total l) (total (set l p x)) 1 (getD l p 0) x d (omega (arith, total-set l p x h)) f
-
-    pub weighed-moves : (weighed l % m + (length l - p) * d) % m ≡ weighed (set l p x) % m
-    weighed-moves = remainder-moves (weighed l) (weighed (set l p x)) (length l - p) (getD l p 0) x d (weighed-set l p x h) f
-
--- the sums are the remainders of the totals
-sums-from : (l : List ℕ) (s t : ℕ) → sumsFrom (s % 255) (t % 255) l ≡ record { s = (s + total l) % 255; t = (t + (length l * s + weighed l)) % 255 }
-unfolding sumsFrom total weighed
-sums-from [] s t = ap₂ (λ x y. record { s = x; t = y }) (omega arith) (omega arith)
-sums-from (b ∷ l) s t =
-    let e : s + b + total l ≡ s + (b + total l) = omega arith in
-    let f : t + (s + b) + (length l * (s + b) + weighed l) ≡ t + (suc (length l) * s + (suc (length l) * b + weighed l)) = omega arith in
-    ap₂ (λ x y. sumsFrom x y l) (omega arith) (omega arith) ∙ sums-from l (s + b) (t + (s + b)) ∙ ap₂ (λ x y. record { s = x % 255; t = y % 255 }) e f
-
-sums-total : (l : List ℕ) → sums l .s ≡ total l % 255
-sums-total l = let z : 0 + total l ≡ total l = omega arith in ap (λ (u : Sums). u .s) (sums-from l 0 0) ∙ ap (_% 255) z
-
-sums-weighed : (l : List ℕ) → sums l .t ≡ weighed l % 255
-sums-weighed l = let z : 0 + (length l * 0 + weighed l) ≡ weighed l = omega arith in ap (λ (u : Sums). u .t) (sums-from l 0 0) ∙ ap (_% 255) z
+-- a total in which a byte counts w times, when that byte changes from b to x: d is x - b, and m more so that it is a number
+remainder-moves : (m before after w b x d : ℕ) → after + w * b ≡ before + w * x → d + b ≡ x + m → (before % m + w * d) % m ≡ after % m
+remainder-moves m before after w b x d e f =
+    let g : before + w * d ≡ after + w * m = omega (arith, ap (w *_) f) in
+    mod-add-mod before m (w * d) ∙ ap (_% m) g ∙ add-mul-mod-self-right after w m
 
 -- The sums of a body with byte p changed to x, from the sums of the body.
-module _ (l : List ℕ) (p x d : ℕ) (h : p < length l) (f : d + getD l p 0 ≡ x + 255) where
-  pub s-moves : (sums l .s + d) % 255 ≡ sums (set l p x) .s
-  s-moves = ap (λ y. (y + d) % 255) (sums-total l) ∙ total-moves 255 l p x d h f ∙ sym (sums-total (set l p x))
+module _ (f : Form) (l : List ℕ) (p x d : ℕ) (h : p < length l) (e : d + getD l p 0 ≡ x + f .modulus) where
+  pub s-moves : (sums f l .s + d) % f .modulus ≡ sums f (set l p x) .s
+  s-moves =
+      let one : d ≡ 1 * d = omega arith in
+      ap₂ (λ y z. (y + z) % f .modulus) (sums-total f l) one
+      ∙ remainder-moves (f .modulus) (total l) (total (set l p x)) 1 (getD l p 0) x d (omega (arith, total-set l p x h)) e
+      ∙ sym (sums-total f (set l p x))
 
-  pub t-moves : (sums l .t + (length l - p) * d) % 255 ≡ sums (set l p x) .t
-  t-moves = ap (λ y. (y + (length l - p) * d) % 255) (sums-weighed l) ∙ weighed-moves 255 l p x d h f ∙ sym (sums-weighed (set l p x))
+  pub t-moves : (sums f l .t + (length l - p) * d) % f .modulus ≡ sums f (set l p x) .t
+  t-moves =
+      ap (λ y. (y + (length l - p) * d) % f .modulus) (sums-weighed f l)
+      ∙ remainder-moves (f .modulus) (weighed l) (weighed (set l p x)) (length l - p) (getD l p 0) x d (weighed-set l p x h) e
+      ∙ sym (sums-weighed f (set l p x))
+
+-- two sums whose parts leave the same leave the same
+pub add-alike : (m x y u v : ℕ) → x % m ≡ y % m → u % m ≡ v % m → (x + u) % m ≡ (y + v) % m
+add-alike m x y u v e f = add-mod x u m ∙ ap₂ (λ a b. (a + b) % m) e f ∙ sym (add-mod y v m)
+
+-- The plain totals of bytes: of 508 they are at most 129,540 and 32,967,930.
+total-low : (l : List ℕ) → ((p : ℕ) → getD l p 0 < 256) → total l ≤ 255 * length l
+unfolding total
+total-low [] small = omega arith
+total-low (b ∷ l) small = omega (arith, small 0, total-low l (λ p. small (suc p)))
+
+weighed-low : (l : List ℕ) → ((p : ℕ) → getD l p 0 < 256) → 2 * weighed l ≤ 255 * (length l * suc (length l))
+unfolding weighed
+weighed-low [] small = omega arith
+weighed-low (b ∷ l) small = step b (length l) (weighed l) (mul-le-mul-left {m = b} {n = 255} (suc (length l)) (below (small 0))) (weighed-low l (λ p. small (suc p)))
+  where
+    below : {x : ℕ} → x < 256 → x ≤ 255
+    below h = omega arith
+
+    step : (b n w : ℕ) → suc n * b ≤ suc n * 255 → 2 * w ≤ 255 * (n * suc n) → 2 * (suc n * b + w) ≤ 255 * (suc n * suc (suc n))
+    step b n w h k = omega arith
+
+pub plain-totals : (l : List ℕ) → length l ≡ 508 → ((p : ℕ) → getD l p 0 < 256) → (total l ≤ 129540) × (weighed l ≤ 32967930)
+plain-totals l h small = (omega (arith, total-low l small), weigh (length l) (weighed l) h (weighed-low l small))
+  where
+    weigh : (n w : ℕ) → n ≡ 508 → 2 * w ≤ 255 * (n * suc n) → w ≤ 32967930
+    weigh n w e k = let g : 2 * w ≤ 255 * (508 * 509) = rw e at k in omega arith

@@ -1,1 +1,3 @@
 pub mod Seal
+pub mod Forms
+pub mod Lanes

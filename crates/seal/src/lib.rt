@@ -1,85 +1,236 @@
-// The check bytes of a block.
+// The check bytes of a block, in two forms: item 2's, and document 01's for old cards. Both are taken by words of 8 bytes.
 ghost use mathlib.Core.Path.{_≡_};
 ghost use mathlib.Core.Bool.{true};
-ghost use Prim.Native.Nat.{_<_, _≤_};
-ghost use lib.ListN.{length, take, set};
-ghost use Rattle.seal.specs.Seal.{blockBytes, bodyBytes, sums, sealRight, reseal};
+ghost use Prim.Native.Nat.{_<_, _≤_, _+_, _*_, _%_};
+ghost use mathlib.Core.List.{_++_};
+ghost use lib.ListN.{length, getD, take};
+ghost use Rattle.words.specs.Words.{putWord};
+ghost use Rattle.seal.specs.Seal.{blockBytes, modulo255, modulo257, sums, stored, sealRight, reseal};
+ghost use Rattle.seal.specs.Forms.{formOf};
+ghost use Rattle.seal.specs.Lanes.{oddsAt, pairsAt, fold, total, weighed};
 
 // A block's bytes, and those of its body: the check bytes fill what is left.
 pub const BLOCK: usize = 512;
 
-pub const BODY: usize = 510;
+pub const BODY: usize = 508;
 
 // Where s and t stand in a block.
 const S: usize = BODY;
 
-const T: usize = BODY + 1;
+const T: usize = BODY + 2;
 
-// The sums s and t of document 01, each below 255.
-pub struct Sums {
-    pub s: u32,
-    pub t: u32,
+const MODULUS: u64 = 257;
+
+// The same of an old card.
+const FORMER_BODY: usize = 510;
+
+const FORMER_S: usize = FORMER_BODY;
+
+const FORMER_T: usize = FORMER_BODY + 1;
+
+const FORMER_MODULUS: u64 = 255;
+
+// What the sums are taken modulo: 257, or 255 on old cards.
+pub enum Modulo {
+    M257,
+    M255,
 }
 
-// A byte as a number to sum. Inner: says beside its value that it is below 256.
-fn wide(x: u8) -> u32
+// The sums s and t of a body, each below the modulus.
+pub struct Sums {
+    pub s: u64,
+    pub t: u64,
+}
+
+// A byte as a word. Inner: says beside its value that it is below 256.
+fn wide(x: u8) -> u64
     ensures { λ r. ⌜ (r ≡ x) × (r < 256) ⌝ }
 {
-    x as u32
+    x as u64
 }
 
-// The sums of a block's body: plain totals, and one remainder each at the end. Inner: the body is there.
-pub fn sums_of(block: &[u8]) -> Sums
-    requires { ⌜ bodyBytes ≤ length (now block) ⌝ }
-    ensures { λ r. ⌜ (r .s ≡ sums (take bodyBytes (now (block .entry))) .s) × (r .t ≡ sums (take bodyBytes (now (block .entry))) .t) ⌝ }
-    ensures { λ r. ⌜ (r .s < 255) × (r .t < 255) ⌝ }
+// The bytes of a word in lanes of 16 bits: each two bytes added, and those at odd places.
+struct Word {
+    pairs: u64,
+    odds: u64,
+}
+
+// The lanes of the 8 bytes from `at` on. Inner: they are there.
+fn lanes(s: &[u8], at: usize) -> Word
+    requires { ⌜ at + 8 ≤ length (now s) ⌝ }
+    ensures { λ r. ⌜ (r .pairs ≡ pairsAt (now (s .entry)) at) × (r .odds ≡ oddsAt (now (s .entry)) at) ⌝ }
+    ensures { λ r. ⌜ (r .pairs ≤ 0x01FE01FE01FE01FE) × (r .odds ≤ 0x00FF00FF00FF00FF) ⌝ }
 {
-    let mut s = 0;
-    let mut t = 0;
-    let mut i = 0;
-    while i < BODY {
+    let w = words::load(s, at);
+    let odds = w / 0x100 & 0x00FF00FF00FF00FF;
+    Word {
+        pairs: (w & 0x00FF00FF00FF00FF) + odds,
+        odds: odds,
+    }
+}
+
+// The halves of a word added.
+fn folded(x: u64) -> u64
+    ensures { λ r. ⌜ (r ≡ fold x) × (r ≤ 0x1FFFFFFFE) ⌝ }
+{
+    x % 0x100000000 + x / 0x100000000
+}
+
+// The totals of a block's first 504 bytes, as far as their remainders by 65535 go: 65535 is 255 times 257, so they serve both forms.
+struct Totals {
+    s: u64,
+    t: u64,
+}
+
+// Three thirds of 21 words side by side: their lanes added as whole words, for t each word as often as words follow it in its third, itself counted,
+// in halves of 32 bits, which the compiler multiplies two at a time.
+// 65536 leaves 1, so a sum of lanes is the number itself; a byte's place in its word is taken off once, by shifts. Inner: the bytes are there.
+fn front(block: &[u8]) -> Totals
+    requires { ⌜ 504 ≤ length (now block) ⌝ }
+    ensures { λ r. ⌜ (r .s % 65535 ≡ total (take 504 (now (block .entry))) % 65535) × (r .t % 65535 ≡ weighed (take 504 (now (block .entry))) % 65535) ⌝ }
+    ensures { λ r. ⌜ (r .s ≤ 0x1FFFFFFFE) × (r .t < 0x10000000000000) ⌝ }
+{
+    let mut a = 0;
+    let mut b = 0;
+    let mut c = 0;
+    let mut odds = 0;
+    let mut low = 0;
+    let mut high = 0;
+    let mut j = 0;
+    while j < 21 {
+        let x = lanes(block, 8 * j);
+        let y = lanes(block, 8 * j + 168);
+        let u = lanes(block, 8 * j + 336);
+        a += x.pairs;
+        b += y.pairs;
+        c += u.pairs;
+        odds += x.odds + y.odds + u.odds;
+        let three = x.pairs + y.pairs + u.pairs;
+        let v = 21 - j as u64;
+        low += three % 0x100000000 * v;
+        high += three / 0x100000000 * v;
+        j += 1;
+    }
+    let all = a + b + c;
+    let places = folded(odds) + 2 * (all / 0x10000 + all / 0x100000000 + all / 0x1000000000000);
+    Totals {
+        s: folded(all),
+        t: 8 * (low + high + 42 * folded(a) + 21 * folded(b)) + 0x7FFF800000000 - places,
+    }
+}
+
+// The same of the first `end` bytes: those behind the 504 one by one. Inner: they are there, and are few.
+fn totals_to(block: &[u8], end: usize) -> Totals
+    requires { ⌜ (504 ≤ end) × (end ≤ 512) × (end ≤ length (now block)) ⌝ }
+    ensures { λ r. ⌜ (r .s % 65535 ≡ total (take end (now (block .entry))) % 65535) × (r .t % 65535 ≡ weighed (take end (now (block .entry))) % 65535) ⌝ }
+{
+    let f = front(block);
+    let mut s = f.s;
+    let mut t = f.t;
+    let mut i = 504;
+    while i < end {
         s += wide(block[i]);
         t += s;
         i += 1;
     }
+    Totals { s: s, t: t }
+}
+
+// The sums of a block's body. Inner: the body is there.
+pub fn sums_of(block: &[u8]) -> Sums
+    requires { ⌜ modulo257 .bodyBytes ≤ length (now block) ⌝ }
+    ensures { λ r. ⌜ (r .s ≡ sums modulo257 (take (modulo257 .bodyBytes) (now (block .entry))) .s) × (r .t ≡ sums modulo257 (take (modulo257 .bodyBytes) (now (block .entry))) .t) ⌝ }
+    ensures { λ r. ⌜ (r .s < modulo257 .modulus) × (r .t < modulo257 .modulus) ⌝ }
+{
+    let all = totals_to(block, BODY);
     Sums {
-        s: s % 255,
-        t: t % 255,
+        s: all.s % MODULUS,
+        t: all.t % MODULUS,
     }
 }
 
-// Whether a block's check bytes are right. Inner: it is a block.
-pub fn seal_right(block: &[u8]) -> bool
+// A number below 65,536 in two bytes from `at` on, the lowest first. Inner: they are there.
+fn pair(block: &[u8], at: usize) -> u64
+    requires { ⌜ at + 2 ≤ length (now block) ⌝ }
+    ensures { λ r. ⌜ (r ≡ getD (now (block .entry)) at 0 + getD (now (block .entry)) (at + 1) 0 * 256) × (r < 65536) ⌝ }
+{
+    wide(block[at]) + wide(block[at + 1]) * 256
+}
+
+// Whether the check bytes modulo 257 are right. Inner: it is a block.
+fn right_257(block: &[u8]) -> bool
     requires { ⌜ length (now block) ≡ blockBytes ⌝ }
-    ensures { λ r. ⌜ r ≡ sealRight (now (block .entry)) ⌝ }
+    ensures { λ r. ⌜ r ≡ sealRight modulo257 (now (block .entry)) ⌝ }
 {
     let c = sums_of(block);
-    if wide(block[S]) == c.s {
-        return wide(block[T]) == c.t;
+    if pair(block, S) == c.s {
+        return pair(block, T) == c.t;
     }
     false
+}
+
+// Whether the check bytes modulo 255 are right, those of an old card. Inner: it is a block.
+fn right_255(block: &[u8]) -> bool
+    requires { ⌜ length (now block) ≡ blockBytes ⌝ }
+    ensures { λ r. ⌜ r ≡ sealRight modulo255 (now (block .entry)) ⌝ }
+{
+    let all = totals_to(block, FORMER_BODY);
+    if wide(block[FORMER_S]) == all.s % FORMER_MODULUS {
+        return wide(block[FORMER_T]) == all.t % FORMER_MODULUS;
+    }
+    false
+}
+
+// Whether a block's check bytes are right, in one form or the other. Inner: it is a block.
+pub fn seal_right(form: Modulo, block: &[u8]) -> bool
+    requires { ⌜ length (now block) ≡ blockBytes ⌝ }
+    ensures { λ r. ⌜ r ≡ sealRight (formOf form) (now (block .entry)) ⌝ }
+{
+    match form {
+        Modulo::M257 => right_257(block),
+        Modulo::M255 => right_255(block),
+    }
+}
+
+// Puts sums behind a block's body. Inner: it is a block, and they are sums.
+fn put_sums(block: &mut [u8], s: u64, t: u64)
+    requires { ⌜ (length (now block) ≡ blockBytes) × (s < modulo257 .modulus) × (t < modulo257 .modulus) ⌝ }
+    ensures { λ _. ⌜ now (block .exit) ≡ take (modulo257 .bodyBytes) (now (block .entry)) ++ stored modulo257 (record { s = s; t = t }) ⌝ }
+{
+    block[S] = (s % 256) as u8;
+    block[S + 1] = (s / 256) as u8;
+    block[T] = (t % 256) as u8;
+    block[T + 1] = (t / 256) as u8;
 }
 
 // Makes a block's check bytes right. Inner: it is a block.
 pub fn seal(block: &mut [u8])
     requires { ⌜ length (now block) ≡ blockBytes ⌝ }
-    ensures { λ _. ⌜ now (block .exit) ≡ reseal (now (block .entry)) ⌝ }
+    ensures { λ _. ⌜ now (block .exit) ≡ reseal modulo257 (now (block .entry)) ⌝ }
 {
     let c = sums_of(block);
-    block[S] = c.s as u8;
-    block[T] = c.t as u8;
+    put_sums(block, c.s, c.t);
 }
 
-// Puts x at place p of a block's body and keeps its check bytes right, from what they were: no other byte is read.
-// Inner: the check bytes are right.
-pub fn put_byte(block: &mut [u8], p: usize, x: u8)
-    requires { ⌜ (length (now block) ≡ blockBytes) × (p < bodyBytes) × (sealRight (now block) ≡ true) ⌝ }
-    ensures { λ _. ⌜ now (block .exit) ≡ reseal (set (now (block .entry)) p x) ⌝ }
+// Puts x into the 8 bytes of a block's body from `at` on and keeps its check bytes right, from what they were: no other byte is read.
+// A byte that changes by d changes s by d, and t by d once for each byte from it to the body's end.
+// Inner: the bytes are there, and the check bytes are right.
+pub fn put_word(block: &mut [u8], at: usize, x: u64)
+    requires { ⌜ (length (now block) ≡ blockBytes) × (at + 8 ≤ modulo257 .bodyBytes) × (sealRight modulo257 (now block) ≡ true) ⌝ }
+    ensures { λ _. ⌜ now (block .exit) ≡ reseal modulo257 (putWord (now (block .entry)) at x) ⌝ }
 {
-    let d = wide(x) + 255 - wide(block[p]);
-    let s = (wide(block[S]) + d) % 255;
-    let t = (wide(block[T]) + (BODY - p) as u32 * d) % 255;
-    block[p] = x;
-    block[S] = s as u8;
-    block[T] = t as u8;
+    let mut s = pair(block, S);
+    let mut t = pair(block, T);
+    let mut rest = x;
+    let mut i = 0;
+    while i < 8 {
+        let byte = rest % 0x100;
+        let d = byte + MODULUS - wide(block[at + i]);
+        s += d;
+        t += (BODY - at - i) as u64 * d;
+        block[at + i] = byte as u8;
+        rest /= 0x100;
+        i += 1;
+    }
+    put_sums(block, s % MODULUS, t % MODULUS);
 }

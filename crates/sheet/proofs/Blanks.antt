@@ -12,8 +12,8 @@ use Rattle.answer.specs.Asked.{passed, refused, _>>_, is}
 use Rattle.logic.specs.Limits.{maxNodes, labelCount, arrowCount}
 use Rattle.words.specs.Words.{setOf, bytes}
 use Rattle.words.proofs.SetLaws.{setOf-none}
-use Rattle.seal.specs.Seal.{bodyBytes, sumsFrom, seal, sealed, reseal, blockBytes}
-use Rattle.sheet.specs.Sheet.{sheetBytes, chunks, labelBlock, arrowBlock, store, blank}
+use Rattle.seal.specs.Seal.{sumsFrom, stored, sealed, reseal, blockBytes}
+use Rattle.sheet.specs.Sheet.{present, sheetBytes, chunks, labelBlock, arrowBlock, storeIn, store, blank}
 use Rattle.sheet.specs.Questions.{askBlank}
 use Rattle.sheet.specs.Writes.{bareBlock}
 use Rattle.sheet.proofs.Blocks.{labelHead, arrowHead, length-arrowBlock, length-labelBlock, labels-fit, rows-fit}
@@ -36,50 +36,50 @@ heads l m x y z e q = ap (λ k. set (set (set k 0 x) 1 y) 2 z) (e ∙ ap (λ k. 
 
 -- an empty block is a bare one, whose check bytes are zero
 abbrev unsealed : List ℕ
-unsealed = replicate (blockBytes - bodyBytes) 0
+unsealed = replicate (blockBytes - (present .bodyBytes)) 0
 
-blank-labels : (n : ℕ) → reseal (bareBlock 1 0 n) ≡ labelBlock (blank n)
+blank-labels : (n : ℕ) → reseal present (bareBlock 1 0 n) ≡ labelBlock present (blank n)
 unfolding labelBlock chunks bytes bareBlock
 blank-labels n =
-    ap reseal (sym (ap (λ w. raw (labelHead (blank n)) labelCount (λ k. w) unsealed) (setOf-none n)))
-    ∙ seal-raw (labelHead (blank n)) refl labelCount unsealed (λ k. setOf n (λ i. false)) labels-fit
+    ap (reseal present) (sym (ap (λ w. raw present (labelHead (blank n)) labelCount (λ k. w) unsealed) (setOf-none n)))
+    ∙ seal-raw present (labelHead (blank n)) refl labelCount unsealed (λ k. setOf n (λ i. false)) (labels-fit present)
 
-blank-arrows : (n a : ℕ) → reseal (bareBlock 2 (a + 1) 0) ≡ arrowBlock (blank n) a
+blank-arrows : (n a : ℕ) → reseal present (bareBlock 2 (a + 1) 0) ≡ arrowBlock present (blank n) a
 unfolding arrowBlock chunks bytes bareBlock
 blank-arrows n a =
-    ap (λ x. reseal (bareBlock 2 x 0)) (add-one a)
-    ∙ ap reseal (sym (ap (λ w. raw (arrowHead a) maxNodes (λ k. w) unsealed) (setOf-none n)))
-    ∙ seal-raw (arrowHead a) refl maxNodes unsealed (λ i. setOf n (λ i. false)) rows-fit
+    ap (λ x. reseal present (bareBlock 2 x 0)) (add-one a)
+    ∙ ap (reseal present) (sym (ap (λ w. raw present (arrowHead a) maxNodes (λ k. w) unsealed) (setOf-none n)))
+    ∙ seal-raw present (arrowHead a) refl maxNodes unsealed (λ i. setOf n (λ i. false)) (rows-fit present)
 
 -- the buffer is blank up to the block of arrow a
 abbrev pub Begun : ℕ → ℕ → List ℕ → Type 0
-Begun n a t = take (blockBytes * a + blockBytes) t ≡ labelBlock (blank n) ++ chunks a 0 (arrowBlock (blank n))
+Begun n a t = take (blockBytes * a + blockBytes) t ≡ labelBlock present (blank n) ++ chunks a 0 (arrowBlock present (blank n))
 
-pub begun-first : (n : ℕ) (k t : List ℕ) → k ≡ reseal (bareBlock 1 0 n) → Begun n 0 (k ++ t)
+pub begun-first : (n : ℕ) (k t : List ℕ) → k ≡ reseal present (bareBlock 1 0 n) → Begun n 0 (k ++ t)
 unfolding chunks
 begun-first n k t e =
-    let q : k ≡ labelBlock (blank n) = e ∙ blank-labels n in
-    take-at k t blockBytes (ap length q ∙ length-labelBlock (blank n)) ∙ q ∙ sym (append-nil (labelBlock (blank n)))
+    let q : k ≡ labelBlock present (blank n) = e ∙ blank-labels n in
+    take-at k t blockBytes (ap length q ∙ length-labelBlock present (blank n)) ∙ q ∙ sym (append-nil (labelBlock present (blank n)))
 
-pub begun-more : (n a : ℕ) (k t r : List ℕ) → k ≡ reseal (bareBlock 2 (a + 1) 0) → Begun n a t → blockBytes * a + blockBytes ≤ length t → Begun n (a + 1) (take (blockBytes * a + blockBytes) t ++ (k ++ r))
+pub begun-more : (n a : ℕ) (k t r : List ℕ) → k ≡ reseal present (bareBlock 2 (a + 1) 0) → Begun n a t → blockBytes * a + blockBytes ≤ length t → Begun n (a + 1) (take (blockBytes * a + blockBytes) t ++ (k ++ r))
 begun-more n a k t r e h l =
-    let q : k ≡ arrowBlock (blank n) a = e ∙ blank-arrows n a in
+    let q : k ≡ arrowBlock present (blank n) a = e ∙ blank-arrows n a in
     ap (take (blockBytes * (a + 1) + blockBytes)) (sym (append-assoc (take (blockBytes * a + blockBytes) t) k r))
-    ∙ take-at (take (blockBytes * a + blockBytes) t ++ k) r (blockBytes * (a + 1) + blockBytes) (length-append (take (blockBytes * a + blockBytes) t) k ∙ omega (arith, length-take-le (blockBytes * a + blockBytes) t l, ap length q, length-arrowBlock (blank n) a))
-    ∙ ap₂ _++_ h q ∙ append-assoc (labelBlock (blank n)) (chunks a 0 (arrowBlock (blank n))) (arrowBlock (blank n) a)
-    ∙ ap (labelBlock (blank n) ++_) (sym (chunks-more a (arrowBlock (blank n))))
+    ∙ take-at (take (blockBytes * a + blockBytes) t ++ k) r (blockBytes * (a + 1) + blockBytes) (length-append (take (blockBytes * a + blockBytes) t) k ∙ omega (arith, length-take-le (blockBytes * a + blockBytes) t l, ap length q, length-arrowBlock present (blank n) a))
+    ∙ ap₂ _++_ h q ∙ append-assoc (labelBlock present (blank n)) (chunks a 0 (arrowBlock present (blank n))) (arrowBlock present (blank n) a)
+    ∙ ap (labelBlock present (blank n) ++_) (sym (chunks-more a (arrowBlock present (blank n))))
 
-pub first-length : (n : ℕ) (k t : List ℕ) → k ≡ reseal (bareBlock 1 0 n) → length t ≡ sheetBytes → length (k ++ drop blockBytes t) ≡ sheetBytes
-first-length n k t e h = length-append k (drop blockBytes t) ∙ omega (arith, ap length (e ∙ blank-labels n), length-labelBlock (blank n), length-drop blockBytes t)
+pub first-length : (n : ℕ) (k t : List ℕ) → k ≡ reseal present (bareBlock 1 0 n) → length t ≡ sheetBytes → length (k ++ drop blockBytes t) ≡ sheetBytes
+first-length n k t e h = length-append k (drop blockBytes t) ∙ omega (arith, ap length (e ∙ blank-labels n), length-labelBlock present (blank n), length-drop blockBytes t)
 
-pub more-length : (n a : ℕ) (k t : List ℕ) (y : ℕ) → k ≡ reseal (bareBlock 2 (a + 1) 0) → a < arrowCount → y ≡ blockBytes → length t ≡ sheetBytes → length (take (blockBytes * a + blockBytes) t ++ (k ++ drop y (drop (blockBytes * a + blockBytes) t))) ≡ sheetBytes
+pub more-length : (n a : ℕ) (k t : List ℕ) (y : ℕ) → k ≡ reseal present (bareBlock 2 (a + 1) 0) → a < arrowCount → y ≡ blockBytes → length t ≡ sheetBytes → length (take (blockBytes * a + blockBytes) t ++ (k ++ drop y (drop (blockBytes * a + blockBytes) t))) ≡ sheetBytes
 more-length n a k t y e l q h =
     length-append (take (blockBytes * a + blockBytes) t) (k ++ drop y (drop (blockBytes * a + blockBytes) t))
-    ∙ omega (arith, length-take-le (blockBytes * a + blockBytes) t (omega arith), length-append k (drop y (drop (blockBytes * a + blockBytes) t)), ap length (e ∙ blank-arrows n a), length-arrowBlock (blank n) a, length-drop y (drop (blockBytes * a + blockBytes) t), length-drop (blockBytes * a + blockBytes) t)
+    ∙ omega (arith, length-take-le (blockBytes * a + blockBytes) t (omega arith), length-append k (drop y (drop (blockBytes * a + blockBytes) t)), ap length (e ∙ blank-arrows n a), length-arrowBlock present (blank n) a, length-drop y (drop (blockBytes * a + blockBytes) t), length-drop (blockBytes * a + blockBytes) t)
 
 pub begun-all : (n a : ℕ) (t : List ℕ) → a ≡ arrowCount → length t ≡ sheetBytes → Begun n a t → t ≡ store (blank n)
-unfolding store
-begun-all n a t q l h = sym (take-all (blockBytes * a + blockBytes) t (omega arith)) ∙ h ∙ ap (λ x. labelBlock (blank n) ++ chunks x 0 (arrowBlock (blank n))) q
+unfolding storeIn
+begun-all n a t q l h = sym (take-all (blockBytes * a + blockBytes) t (omega arith)) ∙ h ∙ ap (λ x. labelBlock present (blank n) ++ chunks x 0 (arrowBlock present (blank n))) q
 
 -- 5, then 1
 module _ (n len : ℕ) where
@@ -100,7 +100,7 @@ module _ (n len : ℕ) where
     unfolding askBlank is _>>_
     room h = rw (le-leb 1 n l, le-leb n maxNodes u, eq-eqb _ _ h)
 
--- Block 1 without arrows has 3 and 254.
-pub block-1-without-arrows : (n : ℕ) → drop bodyBytes (arrowBlock (blank n) 0) ≡ 3 ∷ 254 ∷ []
-unfolding reseal sealed seal sumsFrom bareBlock
-block-1-without-arrows n = ap (drop bodyBytes) (sym (blank-arrows n 0))
+-- Block 1 without arrows has s 3 and t 238, each in two bytes.
+pub block-1-without-arrows : (n : ℕ) → drop (present .bodyBytes) (arrowBlock present (blank n) 0) ≡ 3 ∷ 0 ∷ 238 ∷ 0 ∷ []
+unfolding reseal sealed stored bytes sumsFrom bareBlock
+block-1-without-arrows n = ap (drop (present .bodyBytes)) (sym (blank-arrows n 0))

@@ -12,9 +12,9 @@ use Rattle.words.specs.Words.{setOf, member, bytes}
 use Rattle.words.proofs.SetLaws.{member-low}
 use Rattle.words.proofs.BitLaws.{member-shr}
 use Rattle.words.proofs.WordLaws.{length-bytes, getD-bytes}
-use Rattle.seal.specs.Seal.{blockBytes, bodyBytes}
+use Rattle.seal.specs.Seal.{blockBytes, Form}
 use Rattle.seal.proofs.SealLaws.{length-sealed, getD-sealed}
-use Rattle.sheet.specs.Sheet.{sheetBytes, chunks, block, labelBlock, arrowBlock, store, padding}
+use Rattle.sheet.specs.Sheet.{sheetBytes, chunks, block, labelBlock, arrowBlock, storeIn, padding}
 
 module _ (w : ℕ) (f : ℕ → List ℕ) (len : (i : ℕ) → length (f i) ≡ w) where
   pub length-chunks : (m i : ℕ) → length (chunks m i f) ≡ w * m
@@ -37,9 +37,6 @@ module _ (w : ℕ) (f : ℕ → List ℕ) (len : (i : ℕ) → length (f i) ≡ 
 abbrev pub wordsOf : ℕ → (ℕ → ℕ) → List ℕ
 wordsOf m f = chunks m 0 (λ k. bytes 8 (f k))
 
-abbrev pub bodyOf : List ℕ → (m : ℕ) → (ℕ → ℕ) → List ℕ
-bodyOf head m f = head ++ replicate 13 0 ++ wordsOf m f ++ replicate (padding m) 0
-
 -- byte j of a word
 abbrev pub byteOf : ℕ → ℕ → ℕ
 byteOf x j = x / 2 ^ (8 * j) % 2 ^ 8
@@ -57,65 +54,6 @@ getD-words m f k j h l =
     getD-chunks 8 (λ k. bytes 8 (f k)) (λ k. length-bytes 8 (f k)) m 0 k j h l
     ∙ getD-bytes 8 (f (0 + k)) j l ∙ ap (λ a. byteOf (f a) j) (zero-add k)
 
--- A block whose head has 3 bytes and whose m words and zeros fill the body.
-module _ (head : List ℕ) (m : ℕ) (f : ℕ → ℕ) (h : length head ≡ 3) (fits : 16 + 8 * m ≤ bodyBytes) where
-  pub length-body : length (bodyOf head m f) ≡ bodyBytes
-  length-body = simp (length-append, length-replicate) (omega (arith, length-words m f))
-
-  length-block : length (block head m f) ≡ blockBytes
-  unfolding block
-  length-block = length-sealed (bodyOf head m f) length-body
-
-  pub body-at : (p : ℕ) → p < bodyBytes → getD (block head m f) p 0 ≡ getD (bodyOf head m f) p 0
-  unfolding block
-  body-at p l = getD-sealed (bodyOf head m f) p (omega (arith, length-body))
-
-  -- a byte before the zeros that fill the body
-  before-pad : (p : ℕ) → p < 16 + 8 * m → getD (block head m f) p 0 ≡ getD (head ++ replicate 13 0 ++ wordsOf m f) p 0
-  before-pad p l =
-      body-at p (omega arith)
-      ∙ List·getD-append (head ++ replicate 13 0 ++ wordsOf m f) (replicate (padding m) 0) 0 p (simp (length-append, length-replicate) (omega (arith, length-words m f)))
-
-  -- a byte before the words
-  before-words : (p : ℕ) → p < 16 → getD (block head m f) p 0 ≡ getD (head ++ replicate 13 0) p 0
-  before-words p l = before-pad p (omega arith) ∙ List·getD-append (head ++ replicate 13 0) (wordsOf m f) 0 p (simp (length-append, length-replicate) (omega arith))
-
-  pub head-at : (p : ℕ) → p < 3 → getD (block head m f) p 0 ≡ getD head p 0
-  head-at p l = before-words p (omega arith) ∙ List·getD-append head (replicate 13 0) 0 p (omega arith)
-
-  pub front-zero : (p : ℕ) → 3 ≤ p → p < 16 → getD (block head m f) p 0 ≡ 0
-  front-zero p l u =
-      before-words p u ∙ ap (λ q. getD (head ++ replicate 13 0) q 0) (omega arith)
-      ∙ getD-append-add head (replicate 13 0) (p - 3) 0 ∙ getD-replicate 13 (p - 3) 0 0 (omega arith)
-
-  pub pad-zero : (p : ℕ) → 16 + 8 * m ≤ p → p < bodyBytes → getD (block head m f) p 0 ≡ 0
-  pad-zero p l u =
-      let front : List ℕ = head ++ replicate 13 0 ++ wordsOf m f in
-      let len : length front ≡ 16 + 8 * m = simp (length-append, length-replicate) (omega (arith, length-words m f)) in
-      body-at p u ∙ ap (λ q. getD (front ++ replicate (padding m) 0) q 0) (omega arith)
-      ∙ getD-append-add front (replicate (padding m) 0) (p - length front) 0 ∙ getD-replicate (padding m) (p - length front) 0 0 (omega arith)
-
-  -- byte j of word k
-  pub word-byte : (k j : ℕ) → k < m → j < 8 → getD (block head m f) (16 + (8 * k + j)) 0 ≡ byteOf (f k) j
-  word-byte k j l b =
-      before-pad (16 + (8 * k + j)) (omega arith)
-      ∙ ap (λ q. getD (head ++ replicate 13 0 ++ wordsOf m f) q 0) (sym (simp (length-append, length-replicate) (omega arith)))
-      ∙ getD-append-add (head ++ replicate 13 0) (wordsOf m f) (8 * k + j) 0 ∙ getD-words m f k j l b
-
-  -- a bit of a byte of a word
-  pub word-bit : (p i : ℕ) → 16 ≤ p → p < 16 + 8 * m → i < 8 → member (getD (block head m f) p 0) i ≡ member (f ((p - 16) / 8)) (p % 8 * 8 + i)
-  word-bit p i l u b =
-      ap (λ x. member x i)
-      (ap (λ q. getD (block head m f) q 0) (omega arith) ∙ word-byte ((p - 16) / 8) (p % 8) (omega arith) (omega arith))
-      ∙ ap₂ (λ j r. member (byteOf (f ((p - 16) / 8)) j) r) (omega arith) (omega arith) ∙ bit-of-byte (f ((p - 16) / 8)) (p % 8 * 8 + i)
-
--- The blocks of a graph: their words fit, their heads, their words.
-pub labels-fit : 16 + 8 * labelCount ≤ bodyBytes
-labels-fit = omega arith
-
-pub rows-fit : 16 + 8 * maxNodes ≤ bodyBytes
-rows-fit = omega arith
-
 abbrev pub labelHead : Graph → List ℕ
 labelHead g = 1 ∷ 0 ∷ g .n ∷ []
 
@@ -128,33 +66,96 @@ arrowHead a = 2 ∷ suc a ∷ 0 ∷ []
 abbrev pub rowWord : Graph → ℕ → ℕ → ℕ
 rowWord g a i = setOf (g .n) (g .joined a i)
 
-pub length-labelBlock : (g : Graph) → length (labelBlock g) ≡ blockBytes
-unfolding labelBlock
-length-labelBlock g = length-block (labelHead g) labelCount (labelWord g) refl labels-fit
+module _ (φ : Form) where
+  abbrev pub bodyOf : List ℕ → (m : ℕ) → (ℕ → ℕ) → List ℕ
+  bodyOf head m f = head ++ replicate 13 0 ++ wordsOf m f ++ replicate (padding φ m) 0
 
-pub length-arrowBlock : (g : Graph) (a : ℕ) → length (arrowBlock g a) ≡ blockBytes
-unfolding arrowBlock
-length-arrowBlock g a = length-block (arrowHead a) maxNodes (rowWord g a) refl rows-fit
+  -- A block whose head has 3 bytes and whose m words and zeros fill the body.
+  module _ (head : List ℕ) (m : ℕ) (f : ℕ → ℕ) (h : length head ≡ 3) (fits : 16 + 8 * m ≤ φ .bodyBytes) where
+    pub length-body : length (bodyOf head m f) ≡ φ .bodyBytes
+    length-body = simp (length-append, length-replicate) (omega (arith, length-words m f))
 
-pub length-store : (g : Graph) → length (store g) ≡ sheetBytes
-unfolding store
-length-store g = length-append (labelBlock g) _ ∙ omega (arith, length-labelBlock g, length-chunks blockBytes (arrowBlock g) (length-arrowBlock g) arrowCount 0)
+    length-block : length (block φ head m f) ≡ blockBytes
+    unfolding block
+    length-block = length-sealed φ (bodyOf head m f) length-body
 
-pub n-is : (g : Graph) → getD (store g) 2 0 ≡ g .n
-unfolding store labelBlock
-n-is g = List·getD-append (labelBlock g) (chunks arrowCount 0 (arrowBlock g)) 0 2 (omega (arith, length-labelBlock g)) ∙ head-at (labelHead g) labelCount (labelWord g) refl labels-fit 2 (omega arith)
+    pub body-at : (p : ℕ) → p < φ .bodyBytes → getD (block φ head m f) p 0 ≡ getD (bodyOf head m f) p 0
+    unfolding block
+    body-at p l = getD-sealed φ (bodyOf head m f) p (omega (arith, length-body))
 
--- byte j of label k, and of row i of arrow a
-pub label-byte : (g : Graph) (k j : ℕ) → k < labelCount → j < 8 → getD (store g) (16 + 8 * k + j) 0 ≡ byteOf (labelWord g k) j
-unfolding store labelBlock
-label-byte g k j h l =
-    List·getD-append (labelBlock g) (chunks arrowCount 0 (arrowBlock g)) 0 (16 + 8 * k + j) (omega (arith, length-labelBlock g))
-    ∙ ap (λ p. getD (labelBlock g) p 0) (omega arith) ∙ word-byte (labelHead g) labelCount (labelWord g) refl labels-fit k j h l
+    -- a byte before the zeros that fill the body
+    before-pad : (p : ℕ) → p < 16 + 8 * m → getD (block φ head m f) p 0 ≡ getD (head ++ replicate 13 0 ++ wordsOf m f) p 0
+    before-pad p l =
+        body-at p (omega arith)
+        ∙ List·getD-append (head ++ replicate 13 0 ++ wordsOf m f) (replicate (padding φ m) 0) 0 p (simp (length-append, length-replicate) (omega (arith, length-words m f)))
 
-pub arrow-byte : (g : Graph) (a i j : ℕ) → a < arrowCount → i < maxNodes → j < 8 → getD (store g) (blockBytes * (a + 1) + (16 + 8 * i) + j) 0 ≡ byteOf (rowWord g a i) j
-unfolding store arrowBlock
-arrow-byte g a i j h h′ l =
-    ap (λ p. getD (store g) p 0) (omega (arith, length-labelBlock g))
-    ∙ getD-append-add (labelBlock g) (chunks arrowCount 0 (arrowBlock g)) (blockBytes * a + (16 + (8 * i + j))) 0
-    ∙ getD-chunks blockBytes (arrowBlock g) (length-arrowBlock g) arrowCount 0 a (16 + (8 * i + j)) h (omega arith)
-    ∙ ap (λ b. getD (arrowBlock g b) (16 + (8 * i + j)) 0) (zero-add a) ∙ word-byte (arrowHead a) maxNodes (rowWord g a) refl rows-fit i j h′ l
+    -- a byte before the words
+    before-words : (p : ℕ) → p < 16 → getD (block φ head m f) p 0 ≡ getD (head ++ replicate 13 0) p 0
+    before-words p l = before-pad p (omega arith) ∙ List·getD-append (head ++ replicate 13 0) (wordsOf m f) 0 p (simp (length-append, length-replicate) (omega arith))
+
+    pub head-at : (p : ℕ) → p < 3 → getD (block φ head m f) p 0 ≡ getD head p 0
+    head-at p l = before-words p (omega arith) ∙ List·getD-append head (replicate 13 0) 0 p (omega arith)
+
+    pub front-zero : (p : ℕ) → 3 ≤ p → p < 16 → getD (block φ head m f) p 0 ≡ 0
+    front-zero p l u =
+        before-words p u ∙ ap (λ q. getD (head ++ replicate 13 0) q 0) (omega arith)
+        ∙ getD-append-add head (replicate 13 0) (p - 3) 0 ∙ getD-replicate 13 (p - 3) 0 0 (omega arith)
+
+    pub pad-zero : (p : ℕ) → 16 + 8 * m ≤ p → p < φ .bodyBytes → getD (block φ head m f) p 0 ≡ 0
+    pad-zero p l u =
+        let front : List ℕ = head ++ replicate 13 0 ++ wordsOf m f in
+        let len : length front ≡ 16 + 8 * m = simp (length-append, length-replicate) (omega (arith, length-words m f)) in
+        body-at p u ∙ ap (λ q. getD (front ++ replicate (padding φ m) 0) q 0) (omega arith)
+        ∙ getD-append-add front (replicate (padding φ m) 0) (p - length front) 0 ∙ getD-replicate (padding φ m) (p - length front) 0 0 (omega arith)
+
+    -- byte j of word k
+    pub word-byte : (k j : ℕ) → k < m → j < 8 → getD (block φ head m f) (16 + (8 * k + j)) 0 ≡ byteOf (f k) j
+    word-byte k j l b =
+        before-pad (16 + (8 * k + j)) (omega arith)
+        ∙ ap (λ q. getD (head ++ replicate 13 0 ++ wordsOf m f) q 0) (sym (simp (length-append, length-replicate) (omega arith)))
+        ∙ getD-append-add (head ++ replicate 13 0) (wordsOf m f) (8 * k + j) 0 ∙ getD-words m f k j l b
+
+    -- a bit of a byte of a word
+    pub word-bit : (p i : ℕ) → 16 ≤ p → p < 16 + 8 * m → i < 8 → member (getD (block φ head m f) p 0) i ≡ member (f ((p - 16) / 8)) (p % 8 * 8 + i)
+    word-bit p i l u b =
+        ap (λ x. member x i)
+        (ap (λ q. getD (block φ head m f) q 0) (omega arith) ∙ word-byte ((p - 16) / 8) (p % 8) (omega arith) (omega arith))
+        ∙ ap₂ (λ j r. member (byteOf (f ((p - 16) / 8)) j) r) (omega arith) (omega arith) ∙ bit-of-byte (f ((p - 16) / 8)) (p % 8 * 8 + i)
+
+  -- The blocks of a graph: their words fit, their heads, their words.
+  pub labels-fit : 16 + 8 * labelCount ≤ φ .bodyBytes
+  labels-fit = omega arith
+
+  pub rows-fit : 16 + 8 * maxNodes ≤ φ .bodyBytes
+  rows-fit = omega arith
+
+  pub length-labelBlock : (g : Graph) → length (labelBlock φ g) ≡ blockBytes
+  unfolding labelBlock
+  length-labelBlock g = length-block (labelHead g) labelCount (labelWord g) refl labels-fit
+
+  pub length-arrowBlock : (g : Graph) (a : ℕ) → length (arrowBlock φ g a) ≡ blockBytes
+  unfolding arrowBlock
+  length-arrowBlock g a = length-block (arrowHead a) maxNodes (rowWord g a) refl rows-fit
+
+  pub length-store : (g : Graph) → length (storeIn φ g) ≡ sheetBytes
+  unfolding storeIn
+  length-store g = length-append (labelBlock φ g) _ ∙ omega (arith, length-labelBlock g, length-chunks blockBytes (arrowBlock φ g) (length-arrowBlock g) arrowCount 0)
+
+  pub n-is : (g : Graph) → getD (storeIn φ g) 2 0 ≡ g .n
+  unfolding storeIn labelBlock
+  n-is g = List·getD-append (labelBlock φ g) (chunks arrowCount 0 (arrowBlock φ g)) 0 2 (omega (arith, length-labelBlock g)) ∙ head-at (labelHead g) labelCount (labelWord g) refl labels-fit 2 (omega arith)
+
+  -- byte j of label k, and of row i of arrow a
+  pub label-byte : (g : Graph) (k j : ℕ) → k < labelCount → j < 8 → getD (storeIn φ g) (16 + 8 * k + j) 0 ≡ byteOf (labelWord g k) j
+  unfolding storeIn labelBlock
+  label-byte g k j h l =
+      List·getD-append (labelBlock φ g) (chunks arrowCount 0 (arrowBlock φ g)) 0 (16 + 8 * k + j) (omega (arith, length-labelBlock g))
+      ∙ ap (λ p. getD (labelBlock φ g) p 0) (omega arith) ∙ word-byte (labelHead g) labelCount (labelWord g) refl labels-fit k j h l
+
+  pub arrow-byte : (g : Graph) (a i j : ℕ) → a < arrowCount → i < maxNodes → j < 8 → getD (storeIn φ g) (blockBytes * (a + 1) + (16 + 8 * i) + j) 0 ≡ byteOf (rowWord g a i) j
+  unfolding storeIn arrowBlock
+  arrow-byte g a i j h h′ l =
+      ap (λ p. getD (storeIn φ g) p 0) (omega (arith, length-labelBlock g))
+      ∙ getD-append-add (labelBlock φ g) (chunks arrowCount 0 (arrowBlock φ g)) (blockBytes * a + (16 + (8 * i + j))) 0
+      ∙ getD-chunks blockBytes (arrowBlock φ g) (length-arrowBlock g) arrowCount 0 a (16 + (8 * i + j)) h (omega arith)
+      ∙ ap (λ b. getD (arrowBlock φ g b) (16 + (8 * i + j)) 0) (zero-add a) ∙ word-byte (arrowHead a) maxNodes (rowWord g a) refl rows-fit i j h′ l

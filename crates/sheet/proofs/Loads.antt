@@ -16,44 +16,46 @@ use Rattle.words.specs.Words.{setOf, wordAt}
 use Rattle.words.proofs.SetLaws.{setOf-lt, setOf-cong, setOf-lowest}
 use Rattle.words.proofs.WordLaws.{wordAt-of}
 use Rattle.seal.specs.Seal.{sealRight, blockBytes}
-use Rattle.sheet.specs.Sheet.{sheetBytes, store, graphOf, blockCount}
-use Rattle.sheet.specs.Questions.{blockOf, askBlock, askBlocks, askSheet, Sound}
+use Rattle.sheet.specs.Sheet.{sheetBytes, storeIn, graphOf, blockCount}
+use Rattle.sheet.specs.Questions.{blockOf, askBlock, askBlocks, askSheetIn, SoundIn}
 use Rattle.sheet.proofs.Blocks.{labelWord, rowWord, label-byte, arrow-byte, length-store}
 use Rattle.sheet.proofs.Opening.{is-yes, both-yes, block-ok, opening}
-
-pub sound-length : (t : List ℕ) → Sound t → length t ≡ sheetBytes
-unfolding askSheet
-sound-length t e = eqb-true (length t) sheetBytes (is-yes _ 1 0 (both-yes (is (eqb (length t) sheetBytes) 1 0) (askBlocks t blockCount 0) e .0))
-
--- its first block is sealed
-pub sound-seal : (t : List ℕ) → Sound t → sealRight (take blockBytes t) ≡ true
-unfolding askSheet askBlocks
-sound-seal t e =
-    let blocks : askBlocks t blockCount 0 ≡ passed tt = both-yes _ _ e .1 in
-    let first : askBlock (getD t 2 0) 0 (blockOf t 0) ≡ passed tt = both-yes _ (askBlocks t arrowCount 1) blocks .0 in
-    block-ok (getD t 2 0) 0 (blockOf t 0) first .check
+use Rattle.seal.specs.Seal.{Form}
 
 small : (n : ℕ) (v : Nodes) → n ≤ maxNodes → setOf n v < 2 ^ 64
 small n v h = let m : n ≤ 64 = omega arith in lt-of-lt-of-le (setOf-lt n v) (pow-mono m)
-
-stored-label : (g : Graph) (k : ℕ) → g .n ≤ maxNodes → k < labelCount → wordAt (store g) (16 + 8 * k) ≡ labelWord g k
-stored-label g k s h = wordAt-of (store g) (16 + 8 * k) (labelWord g k) (omega (arith, length-store g)) (small (g .n) (g .labelled k) s) (λ j l. label-byte g k j h l)
-
-stored-row : (g : Graph) (a i : ℕ) → g .n ≤ maxNodes → a < arrowCount → i < maxNodes → wordAt (store g) (blockBytes * (a + 1) + (16 + 8 * i)) ≡ rowWord g a i
-stored-row g a i s h l =
-    wordAt-of (store g) (blockBytes * (a + 1) + (16 + 8 * i)) (rowWord g a i) (omega (arith, length-store g)) (small (g .n) (g .joined a i) s) (λ j b. arrow-byte g a i j h l b)
-
-module _ (t : List ℕ) (bytes : (p : ℕ) → getD t p 0 < 256) (sound : Sound t) where
-  pub sound-n : (1 ≤ graphOf t .n) × (graphOf t .n ≤ maxNodes)
-  sound-n = let w : Within (graphOf t) = opening t bytes sound .within in (w .some-node, w .few-nodes)
-
-  pub sound-label : (k : ℕ) → k < labelCount → wordAt t (16 + 8 * k) ≡ labelWord (graphOf t) k
-  sound-label k h = ap (λ s. wordAt s (16 + 8 * k)) (opening t bytes sound .stored) ∙ stored-label (graphOf t) k (sound-n .1) h
-
-  pub sound-row : (a i : ℕ) → a < arrowCount → i < graphOf t .n → wordAt t (blockBytes * (a + 1) + (16 + 8 * i)) ≡ rowWord (graphOf t) a i
-  sound-row a i h l = ap (λ s. wordAt s (blockBytes * (a + 1) + (16 + 8 * i))) (opening t bytes sound .stored) ∙ stored-row (graphOf t) a i (sound-n .1) h (omega (arith, sound-n .1))
 
 -- the nodes below n are all nodes
 pub lowest-nodes : (g : Graph) → g .n ≤ maxNodes → setOf 64 (λ i. ltb i (g .n)) ≡ setOf (g .n) (isNode g)
 unfolding isNode
 lowest-nodes g h = setOf-lowest (g .n) 64 (omega arith) ∙ setOf-cong (g .n) (λ i. true) (λ i. ltb i (g .n)) (λ i l. sym (lt-ltb i (g .n) l))
+
+module _ (φ : Form) where
+  pub sound-length : (t : List ℕ) → SoundIn φ t → length t ≡ sheetBytes
+  unfolding askSheetIn
+  sound-length t e = eqb-true (length t) sheetBytes (is-yes _ 1 0 (both-yes (is (eqb (length t) sheetBytes) 1 0) (askBlocks φ t blockCount 0) e .0))
+
+  -- its first block is sealed
+  pub sound-seal : (t : List ℕ) → SoundIn φ t → sealRight φ (take blockBytes t) ≡ true
+  unfolding askSheetIn askBlocks
+  sound-seal t e =
+      let blocks : askBlocks φ t blockCount 0 ≡ passed tt = both-yes _ _ e .1 in
+      let first : askBlock φ (getD t 2 0) 0 (blockOf t 0) ≡ passed tt = both-yes _ (askBlocks φ t arrowCount 1) blocks .0 in
+      block-ok φ (getD t 2 0) 0 (blockOf t 0) first .check
+
+  stored-label : (g : Graph) (k : ℕ) → g .n ≤ maxNodes → k < labelCount → wordAt (storeIn φ g) (16 + 8 * k) ≡ labelWord g k
+  stored-label g k s h = wordAt-of (storeIn φ g) (16 + 8 * k) (labelWord g k) (omega (arith, length-store φ g)) (small (g .n) (g .labelled k) s) (λ j l. label-byte φ g k j h l)
+
+  stored-row : (g : Graph) (a i : ℕ) → g .n ≤ maxNodes → a < arrowCount → i < maxNodes → wordAt (storeIn φ g) (blockBytes * (a + 1) + (16 + 8 * i)) ≡ rowWord g a i
+  stored-row g a i s h l =
+      wordAt-of (storeIn φ g) (blockBytes * (a + 1) + (16 + 8 * i)) (rowWord g a i) (omega (arith, length-store φ g)) (small (g .n) (g .joined a i) s) (λ j b. arrow-byte φ g a i j h l b)
+
+  module _ (t : List ℕ) (bytes : (p : ℕ) → getD t p 0 < 256) (sound : SoundIn φ t) where
+    pub sound-n : (1 ≤ graphOf t .n) × (graphOf t .n ≤ maxNodes)
+    sound-n = let w : Within (graphOf t) = opening φ t bytes sound .within in (w .some-node, w .few-nodes)
+
+    pub sound-label : (k : ℕ) → k < labelCount → wordAt t (16 + 8 * k) ≡ labelWord (graphOf t) k
+    sound-label k h = ap (λ s. wordAt s (16 + 8 * k)) (opening φ t bytes sound .stored) ∙ stored-label (graphOf t) k (sound-n .1) h
+
+    pub sound-row : (a i : ℕ) → a < arrowCount → i < graphOf t .n → wordAt t (blockBytes * (a + 1) + (16 + 8 * i)) ≡ rowWord (graphOf t) a i
+    sound-row a i h l = ap (λ s. wordAt s (blockBytes * (a + 1) + (16 + 8 * i))) (opening φ t bytes sound .stored) ∙ stored-row (graphOf t) a i (sound-n .1) h (omega (arith, sound-n .1))

@@ -18,10 +18,11 @@ use Rattle.logic.proofs.Inside.{no-node}
 use Rattle.words.specs.Words.{setOf, bytes, putWord}
 use Rattle.words.proofs.SetLaws.{setOf-cong}
 use Rattle.words.proofs.WordLaws.{length-bytes}
-use Rattle.seal.specs.Seal.{bodyBytes, seal, sealed, reseal, blockBytes}
-use Rattle.sheet.specs.Sheet.{chunks, block, labelBlock, arrowBlock, store, relabelAll, Rows, padding}
+use Rattle.seal.specs.Seal.{seal, sealed, reseal, blockBytes}
+use Rattle.sheet.specs.Sheet.{chunks, block, labelBlock, arrowBlock, storeIn, relabelAll, Rows, padding}
 use Rattle.sheet.specs.Writes.{putRows}
 use Rattle.sheet.proofs.Blocks.{wordsOf, bodyOf, length-words, length-body, length-chunks, labelHead, labelWord, arrowHead, rowWord, length-labelBlock, length-arrowBlock, labels-fit, rows-fit}
+use Rattle.seal.specs.Seal.{Form}
 
 -- a word is put where 8 bytes stand
 put-mid : (A B D : List ℕ) (at x : ℕ) → length A ≡ at → length B ≡ 8 → putWord (A ++ (B ++ D)) at x ≡ A ++ (bytes 8 x ++ D)
@@ -52,81 +53,6 @@ chunks-more k f = chunks-at k 0 0 f ∙ ap (chunks k 0 f ++_) (append-nil (f (0 
 around : (P X B Y Z C : List ℕ) → ((P ++ (X ++ (B ++ Y))) ++ Z) ++ C ≡ (P ++ X) ++ (B ++ ((Y ++ Z) ++ C))
 around P X B Y Z C = simp append-assoc
 
--- a block with any check bytes
-abbrev pub raw : List ℕ → (m : ℕ) → (ℕ → ℕ) → List ℕ → List ℕ
-raw head m f c = bodyOf head m f ++ c
-
-module _ (head : List ℕ) (h3 : length head ≡ 3) (m : ℕ) (c : List ℕ) where
-  -- a word is put into a block
-  put-raw : (f h : ℕ → ℕ) (k x : ℕ) → k < m → h k ≡ x → ((j : ℕ) → j ≢ k → f j ≡ h j) → putWord (raw head m f c) (16 + 8 * k) x ≡ raw head m h c
-  put-raw f h k x l e same =
-      let s : k + suc (m - suc k) ≡ m = omega arith in
-      ap (λ y. putWord y (16 + 8 * k) x) (parts f s)
-      ∙ put-mid ((head ++ replicate 13 0) ++ wordsOf k f) (bytes 8 (f (0 + k))) _ (16 + 8 * k) x
-      (length-append (head ++ replicate 13 0) _ ∙ omega (arith, length-append head (replicate 13 0), length-replicate {A = ℕ} 13 0, length-words k f)) (length-bytes 8 (f (0 + k)))
-      ∙ ap₂ (λ y z. ((head ++ replicate 13 0) ++ y) ++ (bytes 8 x ++ ((z ++ replicate (padding m) 0) ++ c)))
-      (chunks-same k 0 _ _ (λ j a b. ap (bytes 8) (same j (λ q. omega arith)))) (chunks-same (m - suc k) (suc (0 + k)) _ _ (λ j a b. ap (bytes 8) (same j (λ q. omega arith))))
-      ∙ ap (λ y. ((head ++ replicate 13 0) ++ wordsOf k h) ++ (bytes 8 y ++ ((chunks (m - suc k) (suc (0 + k)) (λ x. bytes 8 (h x)) ++ replicate (padding m) 0) ++ c))) (sym e ∙ ap h (sym (zero-add k)))
-      ∙ sym (parts h s)
-    where
-      parts : (f : ℕ → ℕ) → k + suc (m - suc k) ≡ m → raw head m f c ≡ ((head ++ replicate 13 0) ++ wordsOf k f) ++ (bytes 8 (f (0 + k)) ++ ((chunks (m - suc k) (suc (0 + k)) (λ x. bytes 8 (f x)) ++ replicate (padding m) 0) ++ c))
-      parts f s =
-          ap (λ y. (head ++ replicate 13 0 ++ wordsOf y f ++ replicate (padding m) 0) ++ c) (sym s) ∙ ap (λ y. (head ++ replicate 13 0 ++ y ++ replicate (padding m) 0) ++ c) (chunks-at k (m - suc k) 0 (λ x. bytes 8 (f x)))
-          ∙ around (head ++ replicate 13 0) (wordsOf k f) (bytes 8 (f (0 + k))) (chunks (m - suc k) (suc (0 + k)) (λ x. bytes 8 (f x))) (replicate (padding m) 0) c
-
-  -- a sealed block
-  pub seal-raw : (f : ℕ → ℕ) → 16 + 8 * m ≤ bodyBytes → reseal (raw head m f c) ≡ block head m f
-  unfolding reseal block
-  seal-raw f fits = ap sealed (take-at (bodyOf head m f) c bodyBytes (length-body head m f h3 fits))
-
-  -- rows i and up are the old ones
-  mixed : ℕ → List ℕ → (ℕ → ℕ) → ℕ → ℕ
-  mixed i rows f j = cond (ltb j i) (getD rows j 0) (f j)
-
-  put-rows-raw : (f : ℕ → ℕ) (rows : List ℕ) (i : ℕ) → i ≤ m → putRows i rows (raw head m f c) ≡ raw head m (mixed i rows f) c
-  unfolding putRows mixed
-  put-rows-raw f rows zero l = sym (ap (λ w. (head ++ replicate 13 0 ++ w ++ replicate (padding m) 0) ++ c) (chunks-same m 0 _ _ (λ j a b. ap (λ d. bytes 8 (cond d (getD rows j 0) (f j))) (le-ltb j 0 (omega arith)))))
-  put-rows-raw f rows (suc i) l =
-      ap (λ y. putWord y (16 + 8 * i) (getD rows i 0)) (put-rows-raw f rows i (omega arith))
-      ∙ put-raw (mixed i rows f) (mixed (suc i) rows f) i (getD rows i 0) (omega arith) (ap (λ b. cond b (getD rows i 0) (f i)) (lt-ltb i (suc i) (omega arith))) (λ j q. go j q (decLt j i))
-    where
-      go : (j : ℕ) → j ≢ i → Dec (j < i) → cond (ltb j i) (getD rows j 0) (f j) ≡ cond (ltb j (suc i)) (getD rows j 0) (f j)
-      go j q (yes a) = ap (λ b. cond b (getD rows j 0) (f j)) (lt-ltb j i a ∙ sym (lt-ltb j (suc i) (omega arith)))
-      go j q (no a) = ap (λ b. cond b (getD rows j 0) (f j)) (le-ltb j i (omega arith) ∙ sym (le-ltb j (suc i) (omega (arith, q))))
-
-  -- a block with its first n rows replaced, and sealed
-  put-rows-block : (f h : ℕ → ℕ) (rows : List ℕ) (n : ℕ) → n ≤ m → 16 + 8 * m ≤ bodyBytes → ((i : ℕ) → i < n → getD rows i 0 ≡ h i) → ((i : ℕ) → n ≤ i → i < m → f i ≡ h i)
-      → reseal (putRows n rows (raw head m f c)) ≡ block head m h
-  unfolding mixed block
-  put-rows-block f h rows n l fits new old =
-      ap reseal (put-rows-raw f rows n l) ∙ seal-raw (mixed n rows f) fits
-      ∙ ap (λ w. sealed (head ++ replicate 13 0 ++ w ++ replicate (padding m) 0)) (chunks-same m 0 _ _ (λ j a b. ap (bytes 8) (go j (omega arith) (decLt j n))))
-    where
-      go : (j : ℕ) → j < m → Dec (j < n) → cond (ltb j n) (getD rows j 0) (f j) ≡ h j
-      go j u (yes a) = ap (λ b. cond b (getD rows j 0) (f j)) (lt-ltb j n a) ∙ new j a
-      go j u (no a) = ap (λ b. cond b (getD rows j 0) (f j)) (le-ltb j n (omega arith)) ∙ old j (omega arith) u
-
--- what stands before, in and behind the block of arrow a
-module _ (g : Graph) where
-  store-at : (a : ℕ) → a < arrowCount → store g ≡ (labelBlock g ++ chunks a 0 (arrowBlock g)) ++ (arrowBlock g a ++ chunks (arrowCount - suc a) (suc a) (arrowBlock g))
-  unfolding store
-  store-at a h =
-      let s : arrowCount ≡ a + suc (arrowCount - suc a) = omega arith in
-      ap (λ x. labelBlock g ++ chunks x 0 (arrowBlock g)) s
-      ∙ ap (labelBlock g ++_) (chunks-at a (arrowCount - suc a) 0 (arrowBlock g) ∙ ap (λ x. chunks a 0 (arrowBlock g) ++ (arrowBlock g x ++ chunks (arrowCount - suc a) (suc x) (arrowBlock g))) (zero-add a))
-      ∙ sym (append-assoc (labelBlock g) (chunks a 0 (arrowBlock g)) _)
-
-  length-before : (a : ℕ) → length (labelBlock g ++ chunks a 0 (arrowBlock g)) ≡ blockBytes * a + blockBytes
-  length-before a = length-append (labelBlock g) _ ∙ omega (arith, length-labelBlock g, length-chunks blockBytes (arrowBlock g) (length-arrowBlock g) a 0)
-
-label-raw : (g : Graph) → labelBlock g ≡ raw (labelHead g) labelCount (labelWord g) (seal (bodyOf (labelHead g) labelCount (labelWord g)))
-unfolding labelBlock block sealed
-label-raw g = refl
-
-arrow-raw : (g : Graph) (a : ℕ) → arrowBlock g a ≡ raw (arrowHead a) maxNodes (rowWord g a) (seal (bodyOf (arrowHead a) maxNodes (rowWord g a)))
-unfolding arrowBlock block sealed
-arrow-raw g a = refl
-
 update-same : {A : Type 0} (f : ℕ → A) (k : ℕ) (v : A) → update f k v k ≡ v
 unfolding update
 update-same f k v = ap (λ b. cond b v (f k)) (eq-eqb k k refl)
@@ -135,63 +61,139 @@ update-other : {A : Type 0} (f : ℕ → A) (k : ℕ) (v : A) (j : ℕ) → j �
 unfolding update
 update-other f k v j d = ap (λ b. cond b v (f j)) (sym (ne-eqb j k d))
 
--- the label block with label k replaced, and sealed
-label-put : (g : Graph) (v : Nodes) (k x : ℕ) → k < labelCount → x ≡ setOf (g .n) v → reseal (putWord (labelBlock g) (16 + 8 * k) x) ≡ labelBlock (relabel g k v)
-unfolding labelBlock
-label-put g v k x h q =
-    ap (λ y. reseal (putWord y (16 + 8 * k) x)) (label-raw g)
-    ∙ ap reseal (put-raw (labelHead g) refl labelCount (seal (bodyOf (labelHead g) labelCount (labelWord g)))
-    (labelWord g) (labelWord (relabel g k v)) k x h (ap (setOf (g .n)) (update-same (g .labelled) k v) ∙ sym q) (λ j d. ap (setOf (g .n)) (update-other (g .labelled) k v j d)))
-    ∙ seal-raw (labelHead g) refl labelCount _ (labelWord (relabel g k v)) labels-fit
+module _ (φ : Form) where
+  -- a block with any check bytes
+  abbrev pub raw : List ℕ → (m : ℕ) → (ℕ → ℕ) → List ℕ → List ℕ
+  raw head m f c = bodyOf φ head m f ++ c
 
--- Labels: in the sheet that stores g, word k of block 0 replaced, and the block sealed.
-pub relabelled : (g : Graph) (v : Nodes) (k x : ℕ) (t : List ℕ) → k < labelCount → t ≡ store g → x ≡ setOf (g .n) v → reseal (putWord (take blockBytes t) (16 + 8 * k) x) ++ drop blockBytes t ≡ store (relabel g k v)
-unfolding store arrowBlock
-relabelled g v k x t h e q =
-    ap₂ (λ y z. reseal (putWord y (16 + 8 * k) x) ++ z)
-    (ap (take blockBytes) e ∙ take-at (labelBlock g) (chunks arrowCount 0 (arrowBlock g)) blockBytes (length-labelBlock g)) (ap (drop blockBytes) e ∙ drop-at (labelBlock g) (chunks arrowCount 0 (arrowBlock g)) blockBytes (length-labelBlock g))
-    ∙ ap (_++ chunks arrowCount 0 (arrowBlock g)) (label-put g v k x h q)
+  module _ (head : List ℕ) (h3 : length head ≡ 3) (m : ℕ) (c : List ℕ) where
+    -- a word is put into a block
+    put-raw : (f h : ℕ → ℕ) (k x : ℕ) → k < m → h k ≡ x → ((j : ℕ) → j ≢ k → f j ≡ h j) → putWord (raw head m f c) (16 + 8 * k) x ≡ raw head m h c
+    put-raw f h k x l e same =
+        let s : k + suc (m - suc k) ≡ m = omega arith in
+        ap (λ y. putWord y (16 + 8 * k) x) (parts f s)
+        ∙ put-mid ((head ++ replicate 13 0) ++ wordsOf k f) (bytes 8 (f (0 + k))) _ (16 + 8 * k) x
+        (length-append (head ++ replicate 13 0) _ ∙ omega (arith, length-append head (replicate 13 0), length-replicate {A = ℕ} 13 0, length-words k f)) (length-bytes 8 (f (0 + k)))
+        ∙ ap₂ (λ y z. ((head ++ replicate 13 0) ++ y) ++ (bytes 8 x ++ ((z ++ replicate (padding φ m) 0) ++ c)))
+        (chunks-same k 0 _ _ (λ j a b. ap (bytes 8) (same j (λ q. omega arith)))) (chunks-same (m - suc k) (suc (0 + k)) _ _ (λ j a b. ap (bytes 8) (same j (λ q. omega arith))))
+        ∙ ap (λ y. ((head ++ replicate 13 0) ++ wordsOf k h) ++ (bytes 8 y ++ ((chunks (m - suc k) (suc (0 + k)) (λ x. bytes 8 (h x)) ++ replicate (padding φ m) 0) ++ c))) (sym e ∙ ap h (sym (zero-add k)))
+        ∙ sym (parts h s)
+      where
+        parts : (f : ℕ → ℕ) → k + suc (m - suc k) ≡ m → raw head m f c ≡ ((head ++ replicate 13 0) ++ wordsOf k f) ++ (bytes 8 (f (0 + k)) ++ ((chunks (m - suc k) (suc (0 + k)) (λ x. bytes 8 (f x)) ++ replicate (padding φ m) 0) ++ c))
+        parts f s =
+            ap (λ y. (head ++ replicate 13 0 ++ wordsOf y f ++ replicate (padding φ m) 0) ++ c) (sym s) ∙ ap (λ y. (head ++ replicate 13 0 ++ y ++ replicate (padding φ m) 0) ++ c) (chunks-at k (m - suc k) 0 (λ x. bytes 8 (f x)))
+            ∙ around (head ++ replicate 13 0) (wordsOf k f) (bytes 8 (f (0 + k))) (chunks (m - suc k) (suc (0 + k)) (λ x. bytes 8 (f x))) (replicate (padding φ m) 0) c
 
--- All labels: in the sheet that stores g, the words of block 0 replaced, and the block sealed.
-module _ (g : Graph) (v : ℕ → Nodes) (rows : List ℕ) (new : (k : ℕ) → k < labelCount → getD rows k 0 ≡ setOf (g .n) (v k)) where
-  labels-put : reseal (putRows labelCount rows (labelBlock g)) ≡ labelBlock (relabelAll g v)
+    -- a sealed block
+    pub seal-raw : (f : ℕ → ℕ) → 16 + 8 * m ≤ φ .bodyBytes → reseal φ (raw head m f c) ≡ block φ head m f
+    unfolding reseal block
+    seal-raw f fits = ap (sealed φ) (take-at (bodyOf φ head m f) c (φ .bodyBytes) (length-body φ head m f h3 fits))
+
+    -- rows i and up are the old ones
+    mixed : ℕ → List ℕ → (ℕ → ℕ) → ℕ → ℕ
+    mixed i rows f j = cond (ltb j i) (getD rows j 0) (f j)
+
+    put-rows-raw : (f : ℕ → ℕ) (rows : List ℕ) (i : ℕ) → i ≤ m → putRows i rows (raw head m f c) ≡ raw head m (mixed i rows f) c
+    unfolding putRows mixed
+    put-rows-raw f rows zero l = sym (ap (λ w. (head ++ replicate 13 0 ++ w ++ replicate (padding φ m) 0) ++ c) (chunks-same m 0 _ _ (λ j a b. ap (λ d. bytes 8 (cond d (getD rows j 0) (f j))) (le-ltb j 0 (omega arith)))))
+    put-rows-raw f rows (suc i) l =
+        ap (λ y. putWord y (16 + 8 * i) (getD rows i 0)) (put-rows-raw f rows i (omega arith))
+        ∙ put-raw (mixed i rows f) (mixed (suc i) rows f) i (getD rows i 0) (omega arith) (ap (λ b. cond b (getD rows i 0) (f i)) (lt-ltb i (suc i) (omega arith))) (λ j q. go j q (decLt j i))
+      where
+        go : (j : ℕ) → j ≢ i → Dec (j < i) → cond (ltb j i) (getD rows j 0) (f j) ≡ cond (ltb j (suc i)) (getD rows j 0) (f j)
+        go j q (yes a) = ap (λ b. cond b (getD rows j 0) (f j)) (lt-ltb j i a ∙ sym (lt-ltb j (suc i) (omega arith)))
+        go j q (no a) = ap (λ b. cond b (getD rows j 0) (f j)) (le-ltb j i (omega arith) ∙ sym (le-ltb j (suc i) (omega (arith, q))))
+
+    -- a block with its first n rows replaced, and sealed
+    put-rows-block : (f h : ℕ → ℕ) (rows : List ℕ) (n : ℕ) → n ≤ m → 16 + 8 * m ≤ φ .bodyBytes → ((i : ℕ) → i < n → getD rows i 0 ≡ h i) → ((i : ℕ) → n ≤ i → i < m → f i ≡ h i)
+        → reseal φ (putRows n rows (raw head m f c)) ≡ block φ head m h
+    unfolding mixed block
+    put-rows-block f h rows n l fits new old =
+        ap (reseal φ) (put-rows-raw f rows n l) ∙ seal-raw (mixed n rows f) fits
+        ∙ ap (λ w. sealed φ (head ++ replicate 13 0 ++ w ++ replicate (padding φ m) 0)) (chunks-same m 0 _ _ (λ j a b. ap (bytes 8) (go j (omega arith) (decLt j n))))
+      where
+        go : (j : ℕ) → j < m → Dec (j < n) → cond (ltb j n) (getD rows j 0) (f j) ≡ h j
+        go j u (yes a) = ap (λ b. cond b (getD rows j 0) (f j)) (lt-ltb j n a) ∙ new j a
+        go j u (no a) = ap (λ b. cond b (getD rows j 0) (f j)) (le-ltb j n (omega arith)) ∙ old j (omega arith) u
+
+  -- what stands before, in and behind the block of arrow a
+  module _ (g : Graph) where
+    store-at : (a : ℕ) → a < arrowCount → storeIn φ g ≡ (labelBlock φ g ++ chunks a 0 (arrowBlock φ g)) ++ (arrowBlock φ g a ++ chunks (arrowCount - suc a) (suc a) (arrowBlock φ g))
+    unfolding storeIn
+    store-at a h =
+        let s : arrowCount ≡ a + suc (arrowCount - suc a) = omega arith in
+        ap (λ x. labelBlock φ g ++ chunks x 0 (arrowBlock φ g)) s
+        ∙ ap (labelBlock φ g ++_) (chunks-at a (arrowCount - suc a) 0 (arrowBlock φ g) ∙ ap (λ x. chunks a 0 (arrowBlock φ g) ++ (arrowBlock φ g x ++ chunks (arrowCount - suc a) (suc x) (arrowBlock φ g))) (zero-add a))
+        ∙ sym (append-assoc (labelBlock φ g) (chunks a 0 (arrowBlock φ g)) _)
+
+    length-before : (a : ℕ) → length (labelBlock φ g ++ chunks a 0 (arrowBlock φ g)) ≡ blockBytes * a + blockBytes
+    length-before a = length-append (labelBlock φ g) _ ∙ omega (arith, length-labelBlock φ g, length-chunks blockBytes (arrowBlock φ g) (length-arrowBlock φ g) a 0)
+
+  label-raw : (g : Graph) → labelBlock φ g ≡ raw (labelHead g) labelCount (labelWord g) (seal φ (bodyOf φ (labelHead g) labelCount (labelWord g)))
+  unfolding labelBlock block sealed
+  label-raw g = refl
+
+  arrow-raw : (g : Graph) (a : ℕ) → arrowBlock φ g a ≡ raw (arrowHead a) maxNodes (rowWord g a) (seal φ (bodyOf φ (arrowHead a) maxNodes (rowWord g a)))
+  unfolding arrowBlock block sealed
+  arrow-raw g a = refl
+
+  -- the label block with label k replaced, and sealed
+  label-put : (g : Graph) (v : Nodes) (k x : ℕ) → k < labelCount → x ≡ setOf (g .n) v → reseal φ (putWord (labelBlock φ g) (16 + 8 * k) x) ≡ labelBlock φ (relabel g k v)
   unfolding labelBlock
-  labels-put =
-      ap (λ y. reseal (putRows labelCount rows y)) (label-raw g)
-      ∙ put-rows-block (labelHead g) refl labelCount (seal (bodyOf (labelHead g) labelCount (labelWord g))) (labelWord g) (labelWord (relabelAll g v)) rows labelCount (omega arith) labels-fit
-      new (λ k l u. absurd (omega arith))
+  label-put g v k x h q =
+      ap (λ y. reseal φ (putWord y (16 + 8 * k) x)) (label-raw g)
+      ∙ ap (reseal φ) (put-raw (labelHead g) refl labelCount (seal φ (bodyOf φ (labelHead g) labelCount (labelWord g)))
+      (labelWord g) (labelWord (relabel g k v)) k x h (ap (setOf (g .n)) (update-same (g .labelled) k v) ∙ sym q) (λ j d. ap (setOf (g .n)) (update-other (g .labelled) k v j d)))
+      ∙ seal-raw (labelHead g) refl labelCount _ (labelWord (relabel g k v)) (labels-fit φ)
 
-  pub all-relabelled : (t : List ℕ) → t ≡ store g → reseal (putRows labelCount rows (take blockBytes t)) ++ drop blockBytes t ≡ store (relabelAll g v)
-  unfolding store arrowBlock
-  all-relabelled t e =
-      ap₂ (λ y z. reseal (putRows labelCount rows y) ++ z)
-      (ap (take blockBytes) e ∙ take-at (labelBlock g) (chunks arrowCount 0 (arrowBlock g)) blockBytes (length-labelBlock g)) (ap (drop blockBytes) e ∙ drop-at (labelBlock g) (chunks arrowCount 0 (arrowBlock g)) blockBytes (length-labelBlock g))
-      ∙ ap (_++ chunks arrowCount 0 (arrowBlock g)) labels-put
+  -- Labels: in the sheet that stores g, word k of block 0 replaced, and the block sealed.
+  pub relabelled : (g : Graph) (v : Nodes) (k x : ℕ) (t : List ℕ) → k < labelCount → t ≡ storeIn φ g → x ≡ setOf (g .n) v → reseal φ (putWord (take blockBytes t) (16 + 8 * k) x) ++ drop blockBytes t ≡ storeIn φ (relabel g k v)
+  unfolding storeIn arrowBlock
+  relabelled g v k x t h e q =
+      ap₂ (λ y z. reseal φ (putWord y (16 + 8 * k) x) ++ z)
+      (ap (take blockBytes) e ∙ take-at (labelBlock φ g) (chunks arrowCount 0 (arrowBlock φ g)) blockBytes (length-labelBlock φ g)) (ap (drop blockBytes) e ∙ drop-at (labelBlock φ g) (chunks arrowCount 0 (arrowBlock φ g)) blockBytes (length-labelBlock φ g))
+      ∙ ap (_++ chunks arrowCount 0 (arrowBlock φ g)) (label-put g v k x h q)
 
-module _ (g : Graph) (w : Within g) (v : Pairs) (inside : PairsIn g v) (a : ℕ) (rows : List ℕ) (r : Rows (g .n) v rows) where
-  arrow-put : reseal (putRows (g .n) rows (arrowBlock g a)) ≡ arrowBlock (rejoin g a v) a
-  unfolding arrowBlock
-  arrow-put =
-      ap (λ y. reseal (putRows (g .n) rows y)) (arrow-raw g a)
-      ∙ put-rows-block (arrowHead a) refl maxNodes (seal (bodyOf (arrowHead a) maxNodes (rowWord g a))) (rowWord g a) (rowWord (rejoin g a v) a) rows (g .n) (w .few-nodes) rows-fit
-      (λ i l. r .row i l ∙ ap (λ u. setOf (g .n) (u i)) (sym (update-same (g .joined) a v)))
-      (λ i l u. setOf-cong (g .n) _ _ (λ j b. w .arrows-in a .starts i j (no-node g i l) ∙ sym (inside .starts i j (no-node g i l))) ∙ ap (λ u. setOf (g .n) (u i)) (sym (update-same (g .joined) a v)))
+  -- All labels: in the sheet that stores g, the words of block 0 replaced, and the block sealed.
+  module _ (g : Graph) (v : ℕ → Nodes) (rows : List ℕ) (new : (k : ℕ) → k < labelCount → getD rows k 0 ≡ setOf (g .n) (v k)) where
+    labels-put : reseal φ (putRows labelCount rows (labelBlock φ g)) ≡ labelBlock φ (relabelAll g v)
+    unfolding labelBlock
+    labels-put =
+        ap (λ y. reseal φ (putRows labelCount rows y)) (label-raw g)
+        ∙ put-rows-block (labelHead g) refl labelCount (seal φ (bodyOf φ (labelHead g) labelCount (labelWord g))) (labelWord g) (labelWord (relabelAll g v)) rows labelCount (omega arith) (labels-fit φ)
+        new (λ k l u. absurd (omega arith))
 
-  other-block : (b : ℕ) → b ≢ a → arrowBlock g b ≡ arrowBlock (rejoin g a v) b
-  unfolding arrowBlock
-  other-block b d = ap (λ u. block (arrowHead b) maxNodes (λ i. setOf (g .n) (u i))) (update-other (g .joined) a v b d)
+    pub all-relabelled : (t : List ℕ) → t ≡ storeIn φ g → reseal φ (putRows labelCount rows (take blockBytes t)) ++ drop blockBytes t ≡ storeIn φ (relabelAll g v)
+    unfolding storeIn arrowBlock
+    all-relabelled t e =
+        ap₂ (λ y z. reseal φ (putRows labelCount rows y) ++ z)
+        (ap (take blockBytes) e ∙ take-at (labelBlock φ g) (chunks arrowCount 0 (arrowBlock φ g)) blockBytes (length-labelBlock φ g)) (ap (drop blockBytes) e ∙ drop-at (labelBlock φ g) (chunks arrowCount 0 (arrowBlock φ g)) blockBytes (length-labelBlock φ g))
+        ∙ ap (_++ chunks arrowCount 0 (arrowBlock φ g)) labels-put
 
-  -- Arrows: in the sheet that stores g, the rows of a's block replaced, and the block sealed.
-  pub rejoined : (t : List ℕ) → a < arrowCount → t ≡ store g
-      → take (blockBytes * a + blockBytes) t ++ (reseal (putRows (g .n) rows (take blockBytes (drop (blockBytes * a + blockBytes) t))) ++ drop blockBytes (drop (blockBytes * a + blockBytes) t)) ≡ store (rejoin g a v)
-  unfolding labelBlock
-  rejoined t h e =
-      let front : List ℕ = labelBlock g ++ chunks a 0 (arrowBlock g) in
-      let back : List ℕ = chunks (arrowCount - suc a) (suc a) (arrowBlock g) in
-      let s : t ≡ front ++ (arrowBlock g a ++ back) = e ∙ store-at g a h in
-      let d : drop (blockBytes * a + blockBytes) t ≡ arrowBlock g a ++ back = ap (drop (blockBytes * a + blockBytes)) s ∙ drop-at front (arrowBlock g a ++ back) (blockBytes * a + blockBytes) (length-before g a) in
-      ap₂ (λ x y. x ++ (reseal (putRows (g .n) rows (take blockBytes y)) ++ drop blockBytes y)) (ap (take (blockBytes * a + blockBytes)) s ∙ take-at front (arrowBlock g a ++ back) (blockBytes * a + blockBytes) (length-before g a)) d
-      ∙ ap₂ (λ x y. front ++ (reseal (putRows (g .n) rows x) ++ y)) (take-at (arrowBlock g a) back blockBytes (length-arrowBlock g a)) (drop-at (arrowBlock g a) back blockBytes (length-arrowBlock g a))
-      ∙ ap (λ x. front ++ (x ++ back)) arrow-put
-      ∙ ap₂ (λ x y. (labelBlock g ++ x) ++ (arrowBlock (rejoin g a v) a ++ y)) (chunks-same a 0 _ _ (λ j l u. other-block j (λ q. omega arith))) (chunks-same (arrowCount - suc a) (suc a) _ _ (λ j l u. other-block j (λ q. omega arith)))
-      ∙ sym (store-at (rejoin g a v) a h)
+  module _ (g : Graph) (w : Within g) (v : Pairs) (inside : PairsIn g v) (a : ℕ) (rows : List ℕ) (r : Rows (g .n) v rows) where
+    arrow-put : reseal φ (putRows (g .n) rows (arrowBlock φ g a)) ≡ arrowBlock φ (rejoin g a v) a
+    unfolding arrowBlock
+    arrow-put =
+        ap (λ y. reseal φ (putRows (g .n) rows y)) (arrow-raw g a)
+        ∙ put-rows-block (arrowHead a) refl maxNodes (seal φ (bodyOf φ (arrowHead a) maxNodes (rowWord g a))) (rowWord g a) (rowWord (rejoin g a v) a) rows (g .n) (w .few-nodes) (rows-fit φ)
+        (λ i l. r .row i l ∙ ap (λ u. setOf (g .n) (u i)) (sym (update-same (g .joined) a v)))
+        (λ i l u. setOf-cong (g .n) _ _ (λ j b. w .arrows-in a .starts i j (no-node g i l) ∙ sym (inside .starts i j (no-node g i l))) ∙ ap (λ u. setOf (g .n) (u i)) (sym (update-same (g .joined) a v)))
+
+    other-block : (b : ℕ) → b ≢ a → arrowBlock φ g b ≡ arrowBlock φ (rejoin g a v) b
+    unfolding arrowBlock
+    other-block b d = ap (λ u. block φ (arrowHead b) maxNodes (λ i. setOf (g .n) (u i))) (update-other (g .joined) a v b d)
+
+    -- Arrows: in the sheet that stores g, the rows of a's block replaced, and the block sealed.
+    pub rejoined : (t : List ℕ) → a < arrowCount → t ≡ storeIn φ g
+        → take (blockBytes * a + blockBytes) t ++ (reseal φ (putRows (g .n) rows (take blockBytes (drop (blockBytes * a + blockBytes) t))) ++ drop blockBytes (drop (blockBytes * a + blockBytes) t)) ≡ storeIn φ (rejoin g a v)
+    unfolding labelBlock
+    rejoined t h e =
+        let front : List ℕ = labelBlock φ g ++ chunks a 0 (arrowBlock φ g) in
+        let back : List ℕ = chunks (arrowCount - suc a) (suc a) (arrowBlock φ g) in
+        let s : t ≡ front ++ (arrowBlock φ g a ++ back) = e ∙ store-at g a h in
+        let d : drop (blockBytes * a + blockBytes) t ≡ arrowBlock φ g a ++ back = ap (drop (blockBytes * a + blockBytes)) s ∙ drop-at front (arrowBlock φ g a ++ back) (blockBytes * a + blockBytes) (length-before g a) in
+        ap₂ (λ x y. x ++ (reseal φ (putRows (g .n) rows (take blockBytes y)) ++ drop blockBytes y)) (ap (take (blockBytes * a + blockBytes)) s ∙ take-at front (arrowBlock φ g a ++ back) (blockBytes * a + blockBytes) (length-before g a)) d
+        ∙ ap₂ (λ x y. front ++ (reseal φ (putRows (g .n) rows x) ++ y)) (take-at (arrowBlock φ g a) back blockBytes (length-arrowBlock φ g a)) (drop-at (arrowBlock φ g a) back blockBytes (length-arrowBlock φ g a))
+        ∙ ap (λ x. front ++ (x ++ back)) arrow-put
+        ∙ ap₂ (λ x y. (labelBlock φ g ++ x) ++ (arrowBlock φ (rejoin g a v) a ++ y)) (chunks-same a 0 _ _ (λ j l u. other-block j (λ q. omega arith))) (chunks-same (arrowCount - suc a) (suc a) _ _ (λ j l u. other-block j (λ q. omega arith)))
+        ∙ sym (store-at (rejoin g a v) a h)

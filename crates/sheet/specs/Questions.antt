@@ -1,4 +1,4 @@
--- The questions that a sheet is asked, 1 to 4; a blank sheet, 5 and 1; a bit read, 7 ("The questions, in order" of document 01).
+-- The questions that a sheet is asked, 1 to 4, in any form of check bytes; a blank sheet, 5 and 1; a bit read, 7 ("The questions, in order" of document 01).
 use mathlib.Core.Path.{_≡_}
 use mathlib.Core.Bool.{Bool, _&&_, _||_}
 use mathlib.Core.List.{List}
@@ -9,8 +9,8 @@ use Rattle.answer.specs.Asked.{Asked, passed, _>>_, is}
 use Rattle.logic.specs.Graph.{allBelow, implies}
 use Rattle.logic.specs.Limits.{maxNodes, labelCount, arrowCount}
 use Rattle.words.specs.Words.{member}
-use Rattle.seal.specs.Seal.{blockBytes, bodyBytes, sealRight}
-use Rattle.sheet.specs.Sheet.{blockCount, sheetBytes, graphOf}
+use Rattle.seal.specs.Seal.{blockBytes, Form, sealRight}
+use Rattle.sheet.specs.Sheet.{blockCount, sheetBytes, graphOf, present}
 
 -- Block b of a sheet.
 abbrev pub blockOf : List ℕ → ℕ → List ℕ
@@ -31,29 +31,36 @@ free n zero p i = ltb p 3 || (leb 16 p && (ltb p (16 + 8 * labelCount) && ltb (p
 free n (suc a) p i = ltb p 3 || (leb 16 p && (ltb p (16 + 8 * maxNodes) && (ltb ((p - 16) / 8) n && ltb (p % 8 * 8 + i) n)))
 
 -- All that must be zero is zero.
-unfoldable pub zeroRight : ℕ → ℕ → List ℕ → Bool
-zeroRight n b k = allBelow bodyBytes (λ p. allBelow 8 (λ i. implies (member (getD k p 0) i) (free n b p i)))
+unfoldable pub zeroRight : Form → ℕ → ℕ → List ℕ → Bool
+zeroRight φ n b k = allBelow (φ .bodyBytes) (λ p. allBelow 8 (λ i. implies (member (getD k p 0) i) (free n b p i)))
 
-unfoldable pub askBlock : ℕ → ℕ → List ℕ → Asked (Unit {0})
-askBlock n b k = do
-  is (sealRight k) 2 b
+unfoldable pub askBlock : Form → ℕ → ℕ → List ℕ → Asked (Unit {0})
+askBlock φ n b k = do
+  is (sealRight φ k) 2 b
   is (headRight b k) 3 b
-  is (zeroRight n b k) 4 b
+  is (zeroRight φ n b k) 4 b
 
 -- The m blocks from block b on, in turn.
-unfoldable pub askBlocks : List ℕ → ℕ → ℕ → Asked (Unit {0})
-askBlocks t zero b = passed tt
-askBlocks t (suc m) b = askBlock (getD t 2 0) b (blockOf t b) >> askBlocks t m (suc b)
+unfoldable pub askBlocks : Form → List ℕ → ℕ → ℕ → Asked (Unit {0})
+askBlocks φ t zero b = passed tt
+askBlocks φ t (suc m) b = askBlock φ (getD t 2 0) b (blockOf t b) >> askBlocks φ t m (suc b)
 
 -- 1 to 4
-unfoldable pub askSheet : List ℕ → Asked (Unit {0})
-askSheet t = do
+unfoldable pub askSheetIn : Form → List ℕ → Asked (Unit {0})
+askSheetIn φ t = do
   is (eqb (length t) sheetBytes) 1 0
-  askBlocks t blockCount 0
+  askBlocks φ t blockCount 0
 
 -- A sheet is sound when it passes them.
+abbrev pub SoundIn : Form → List ℕ → Type 0
+SoundIn φ t = askSheetIn φ t ≡ passed tt
+
+-- The same of today's sheets.
+abbrev pub askSheet : List ℕ → Asked (Unit {0})
+askSheet t = askSheetIn present t
+
 abbrev pub Sound : List ℕ → Type 0
-Sound t = askSheet t ≡ passed tt
+Sound t = SoundIn present t
 
 -- A blank sheet of n in a buffer of some length: 5, then 1.
 unfoldable pub askBlank : ℕ → ℕ → Asked (Unit {0})

@@ -1,4 +1,5 @@
--- The sheet: 17 blocks of 512 bytes ("The sheet" of document 01), as the bytes that store a graph and the graph that bytes store.
+-- The sheet: 17 blocks of 512 bytes ("The sheet" of document 01), as the bytes that store a graph and the graph that bytes store,
+-- in any form of check bytes; those of today's sheets are item 2's of document 02.
 use mathlib.Core.Path.{_≡_}
 use mathlib.Core.Bool.{false, _&&_}
 use mathlib.Core.List.{List, [], _∷_, _++_}
@@ -8,7 +9,7 @@ use lib.ListN.{getD, replicate}
 use Rattle.logic.specs.Graph.{Graph, Nodes, Pairs}
 use Rattle.logic.specs.Limits.{maxNodes, labelCount, arrowCount}
 use Rattle.words.specs.Words.{setOf, member, bytes}
-use Rattle.seal.specs.Seal.{blockBytes, bodyBytes, sealed}
+use Rattle.seal.specs.Seal.{blockBytes, Form, modulo257, sealed}
 
 -- A block of labels, and one for each arrow kind: 8,704 bytes.
 abbrev pub blockCount : ℕ
@@ -18,8 +19,8 @@ abbrev pub sheetBytes : ℕ
 sheetBytes = blockCount * blockBytes
 
 -- Words start at byte 16 of a block; behind m words so many zeros fill the body.
-abbrev pub padding : ℕ → ℕ
-padding m = bodyBytes - (16 + 8 * m)
+abbrev pub padding : Form → ℕ → ℕ
+padding φ m = φ .bodyBytes - (16 + 8 * m)
 
 -- f i, f (i + 1), .. one behind the other: m of them
 unfoldable pub chunks : ℕ → ℕ → (ℕ → List ℕ) → List ℕ
@@ -27,20 +28,26 @@ chunks zero i f = []
 chunks (suc m) i f = f i ++ chunks m (suc i) f
 
 -- A block: bytes 0 to 2, 13 zeros, m words, zeros, check bytes.
-unfoldable pub block : List ℕ → (m : ℕ) → (ℕ → ℕ) → List ℕ
-block head m word = sealed (head ++ replicate 13 0 ++ chunks m 0 (λ k. bytes 8 (word k)) ++ replicate (padding m) 0)
+unfoldable pub block : Form → List ℕ → (m : ℕ) → (ℕ → ℕ) → List ℕ
+block φ head m word = sealed φ (head ++ replicate 13 0 ++ chunks m 0 (λ k. bytes 8 (word k)) ++ replicate (padding φ m) 0)
 
 -- Block 0: label k is 8 bytes at 16 + 8k, little-endian; bit i is node i.
-unfoldable pub labelBlock : Graph → List ℕ
-labelBlock g = block (1 ∷ 0 ∷ g .n ∷ []) labelCount (λ k. setOf (g .n) (g .labelled k))
+unfoldable pub labelBlock : Form → Graph → List ℕ
+labelBlock φ g = block φ (1 ∷ 0 ∷ g .n ∷ []) labelCount (λ k. setOf (g .n) (g .labelled k))
 
 -- Block a + 1: row i of arrow a is 8 bytes at 16 + 8i; bit j is an arrow from i to j.
-unfoldable pub arrowBlock : Graph → ℕ → List ℕ
-arrowBlock g a = block (2 ∷ suc a ∷ 0 ∷ []) maxNodes (λ i. setOf (g .n) (g .joined a i))
+unfoldable pub arrowBlock : Form → Graph → ℕ → List ℕ
+arrowBlock φ g a = block φ (2 ∷ suc a ∷ 0 ∷ []) maxNodes (λ i. setOf (g .n) (g .joined a i))
 
--- The sheet that stores a graph.
-unfoldable pub store : Graph → List ℕ
-store g = labelBlock g ++ chunks arrowCount 0 (arrowBlock g)
+-- The sheet of a form that stores a graph; today's.
+unfoldable pub storeIn : Form → Graph → List ℕ
+storeIn φ g = labelBlock φ g ++ chunks arrowCount 0 (arrowBlock φ g)
+
+abbrev pub present : Form
+present = modulo257
+
+abbrev pub store : Graph → List ℕ
+store g = storeIn present g
 
 -- Bit i of the 8 bytes at p.
 abbrev pub bitIn : List ℕ → ℕ → Nodes

@@ -9,13 +9,16 @@ ghost use Rattle.logic.specs.Limits.{maxNodes, labelCount, arrowCount, PairsIn}
 ghost use Rattle.logic.specs.Steps.{relabel, rejoin};
 ghost use Rattle.words.specs.Words.{setOf};
 ghost use Rattle.sheet.specs.Sheet.{store, graphOf, blank, relabelAll, Rows};
-ghost use Rattle.sheet.specs.Questions.{askSheet, Sound, askBlank, askLabelBit, askArrowBit};
+ghost use Rattle.seal.specs.Forms.{formOf};
+ghost use Rattle.sheet.specs.Questions.{askSheetIn, askSheet, Sound, askBlank, askLabelBit, askArrowBit};
+ghost use Rattle.sheet.specs.Converted.{askConvert, converted};
 ghost use Rattle.sheet.specs.BitReads.{bitAsked};
 use answer::Answer;
 use answer::Refusal;
 use logic::Arrow;
 use logic::Label;
 use logic::Node;
+use seal::Modulo;
 
 mod block;
 
@@ -47,6 +50,13 @@ impl Sheet {
     pub fn check(sheet: &[u8]) -> Answer
         ensures { λ r. ⌜ asked r ≡ askSheet (now (sheet .entry)) ⌝ }
     {
+        Sheet::check_in(Modulo::M257, sheet)
+    }
+
+    // The same in one form of check bytes or the other.
+    fn check_in(form: Modulo, sheet: &[u8]) -> Answer
+        ensures { λ r. ⌜ asked r ≡ askSheetIn (formOf form) (now (sheet .entry)) ⌝ }
+    {
         if sheet.len() != Sheet::BYTES {
             return Answer::Refused(Refusal::SheetLength { place: 0 });
         }
@@ -55,7 +65,7 @@ impl Sheet {
         while b < Sheet::BLOCKS {
             let from = Sheet::BLOCK * b;
             let to = from + Sheet::BLOCK;
-            let answer = block::ask_block(&sheet[from..to], b, n);
+            let answer = block::ask_block(form, &sheet[from..to], b, n);
             let Answer::Done = answer else {
                 return answer;
             };
@@ -85,6 +95,25 @@ impl Sheet {
             let to = from + Sheet::BLOCK;
             block::blank_block(&mut buf[from..to], 2, (a + 1) as u8, 0);
             a += 1;
+        }
+        Answer::Done
+    }
+
+    // Makes an old card today's sheet of the same graph, in the card's own buffer, or leaves it as it is: questions 1 to 4 of the old form.
+    pub fn convert_255(card: &mut [u8]) -> Answer
+        ensures { λ r. ⌜ asked r ≡ askConvert (now (card .entry)) ⌝ }
+        ensures { λ _. ⌜ now (card .exit) ≡ converted (now (card .entry)) ⌝ }
+    {
+        let answer = Sheet::check_in(Modulo::M255, card);
+        let Answer::Done = answer else {
+            return answer;
+        };
+        let mut b = 0;
+        while b < Sheet::BLOCKS {
+            let from = Sheet::BLOCK * b;
+            let to = from + Sheet::BLOCK;
+            seal::seal(&mut card[from..to]);
+            b += 1;
         }
         Answer::Done
     }
@@ -164,7 +193,7 @@ impl Sheet {
         requires { ⌜ Sound (now sheet) × (k .0 < labelCount) ⌝ }
         ensures { λ _. ⌜ ((v : Nodes) → x ≡ setOf (graphOf (now (sheet .entry)) .n) v → now (sheet .exit) ≡ store (relabel (graphOf (now (sheet .entry))) (k .0) v)) ⌝ }
     {
-        block::put_word(&mut sheet[0..Sheet::BLOCK], index(k.0), x);
+        seal::put_word(&mut sheet[0..Sheet::BLOCK], 16 + 8 * index(k.0), x);
     }
 
     // Gives each label the nodes of its word. Inner: the sheet is sound.
@@ -172,7 +201,7 @@ impl Sheet {
         requires { ⌜ Sound (now sheet) ⌝ }
         ensures { λ _. ⌜ ((v : ℕ → Nodes) → ((k : ℕ) → k < labelCount → getD sets k 0 ≡ setOf (graphOf (now (sheet .entry)) .n) (v k)) → now (sheet .exit) ≡ store (relabelAll (graphOf (now (sheet .entry))) v)) ⌝ }
     {
-        block::put_words(&mut sheet[0..512], Sheet::LABELS, sets);
+        block::put_words(&mut sheet[0..Sheet::BLOCK], Sheet::LABELS, sets);
     }
 
     // Gives arrow a the pairs whose rows are given; only the rows of nodes are read. Inner: the sheet is sound and has that arrow.

@@ -142,6 +142,15 @@ sumOfBytes l at =
     getD l at 0 + getD l (at + 1) 0 * 0x100 + getD l (at + 2) 0 * 0x10000 + getD l (at + 3) 0 * 0x1000000
     + getD l (at + 4) 0 * 0x100000000 + getD l (at + 5) 0 * 0x10000000000 + getD l (at + 6) 0 * 0x1000000000000 + getD l (at + 7) 0 * 0x100000000000000
 
+pub halves : (l : List ℕ) (at : ℕ) → getD l at 0 + getD l (at + 1) 0 * 0x100 + getD l (at + 2) 0 * 0x10000 + getD l (at + 3) 0 * 0x1000000
+    + (getD l (at + 4) 0 + getD l (at + 4 + 1) 0 * 0x100 + getD l (at + 4 + 2) 0 * 0x10000 + getD l (at + 4 + 3) 0 * 0x1000000) * 0x100000000 ≡ sumOfBytes l at
+unfolding sumOfBytes
+halves l at =
+    let i1 : at + 4 + 1 ≡ at + 5 = omega arith in
+    let i2 : at + 4 + 2 ≡ at + 6 = omega arith in
+    let i3 : at + 4 + 3 ≡ at + 7 = omega arith in
+    rw (i1, i2, i3) (omega arith)
+
 bytesFrom : ℕ → List ℕ → ℕ → List ℕ
 bytesFrom zero l i = []
 bytesFrom (suc k) l i = getD l i 0 ∷ bytesFrom k l (suc i)

@@ -1,10 +1,10 @@
 // Sets of nodes as u64, a u64 in 8 bytes, and rows and columns of 64 of them exchanged.
 ghost use mathlib.Core.Path.{_≡_};
 ghost use mathlib.Core.Bool.{true, not, _&&_, _||_, cond};
-ghost use Prim.Native.Nat.{ℕ, _+_, _-_, _<_, _≤_};
+ghost use Prim.Native.Nat.{ℕ, _+_, _-_, _*_, _<_, _≤_};
 ghost use lib.Dec.{eqb, ltb};
 ghost use lib.Count.{trailingZeros};
-ghost use lib.ListN.{length};
+ghost use lib.ListN.{length, getD};
 ghost use Rattle.logic.specs.Graph.{countBelow};
 ghost use Rattle.words.specs.Words.{setOf, member, combined, wordAt, putWord};
 ghost use Rattle.words.specs.Transpose.{Transposed, lowHalf, fromRow, fromColumn, Blocks, LowFrom, Moved, MovedFrom};
@@ -91,19 +91,24 @@ fn wide(x: u8) -> u64
     x as u64
 }
 
-// The word in the 8 bytes from `at` on. Inner: they are there.
-pub fn load(s: &[u8], at: usize) -> u64
-    requires { ⌜ at + 8 ≤ length (now s) ⌝ }
-    ensures { λ r. ⌜ r ≡ wordAt (now (s .entry)) at ⌝ }
+// Four bytes from `at` on as a number, the lowest first. Inner: they are there.
+// Two of these make a word: of two halves the compiler makes one load of 8 bytes before it looks at what is done with the word.
+fn half(s: &[u8], at: usize) -> u64
+    requires { ⌜ at + 4 ≤ length (now s) ⌝ }
+    ensures { λ r. ⌜ (r ≡ getD (now (s .entry)) at 0 + getD (now (s .entry)) (at + 1) 0 * 0x100 + getD (now (s .entry)) (at + 2) 0 * 0x10000 + getD (now (s .entry)) (at + 3) 0 * 0x1000000) × (r < 0x100000000) ⌝ }
 {
     wide(s[at])
         + wide(s[at + 1]) * 0x100
         + wide(s[at + 2]) * 0x1_0000
         + wide(s[at + 3]) * 0x100_0000
-        + wide(s[at + 4]) * 0x1_0000_0000
-        + wide(s[at + 5]) * 0x100_0000_0000
-        + wide(s[at + 6]) * 0x1_0000_0000_0000
-        + wide(s[at + 7]) * 0x100_0000_0000_0000
+}
+
+// The word in the 8 bytes from `at` on. Inner: they are there.
+pub fn load(s: &[u8], at: usize) -> u64
+    requires { ⌜ at + 8 ≤ length (now s) ⌝ }
+    ensures { λ r. ⌜ r ≡ wordAt (now (s .entry)) at ⌝ }
+{
+    half(s, at) + half(s, at + 4) * 0x1_0000_0000
 }
 
 // Puts x into the 8 bytes from `at` on. Inner: they are there.

@@ -6,7 +6,7 @@ use native.Mathlib.Omega.{arith}
 use denote.Ref.{now}
 use lib.ListN.{length, length-drop}
 use Rattle.answer.proofs.OutputLaws.{not-written, is-written}
-use Rattle.sheet.specs.Sheet.{graphOf}
+use Rattle.sheet.specs.Sheet.{present, graphOf}
 use Rattle.sheet.proofs.Bits.{done-sound}
 use Rattle.pages.specs.Page.{rowLines, arrowPage}
 use Rattle.pages.specs.Print.{askPrintArrow}
@@ -33,7 +33,7 @@ returns-2 c =
 node-count-requires : tie.Need-node-count-requires
 node-count-requires c κs =
     let a = c .before .before .before .check in
-    done-sound _ (a .result) (a .ensures) (c .before .enum-told .given .1)
+    done-sound present _ (a .result) (a .ensures) (c .before .enum-told .given .1)
 
 returns-3 : tie.Need-returns-3
 returns-3 c =
@@ -52,7 +52,7 @@ put-row-lines-requires c κs =
     let head = c .before .before .before .put-head in
     let whole : length (head .last .0) ≡ 64 = ap length (head .ensures) ∙ length-headLine 0x41 (s .arrow) in
     let room : 64 * n .result + 64 ≤ length (now (s .out)) = c .before .before .before .before .before .if2 .left in (
-      done-sound _ (a .result) (a .ensures) (c .before .before .before .before .before .before .before .before .enum-told .given .1),
+      done-sound present _ (a .result) (a .ensures) (c .before .before .before .before .before .before .before .before .enum-told .given .1),
       n .ensures .0,
       n .ensures .2,
       c .before .before .before .before .before .before .before .if1 .left,

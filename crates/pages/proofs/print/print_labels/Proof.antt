@@ -6,7 +6,7 @@ use denote.Ref.{now}
 use lib.ListN.{length, length-drop}
 use Rattle.answer.specs.Outputs.{writtenAtStart}
 use Rattle.answer.proofs.OutputLaws.{not-written, is-written}
-use Rattle.sheet.specs.Sheet.{graphOf}
+use Rattle.sheet.specs.Sheet.{present, graphOf}
 use Rattle.sheet.proofs.Bits.{done-sound}
 use Rattle.pages.specs.Page.{headLine, labelLines, labelPage}
 use Rattle.pages.specs.Print.{askPrintLabels}
@@ -33,7 +33,7 @@ returns-2 c =
 node-count-requires : tie.Need-node-count-requires
 node-count-requires c κs =
     let a = c .before .before .before .check in
-    done-sound _ (a .result) (a .ensures) (c .before .enum-told .given .1)
+    done-sound present _ (a .result) (a .ensures) (c .before .enum-told .given .1)
 
 put-label-lines-requires : tie.Need-put-label-lines-requires
 put-label-lines-requires c κs =
@@ -43,7 +43,7 @@ put-label-lines-requires c κs =
     let head = c .before .before .before .put-head in
     let whole : length (head .last .0) ≡ 64 = ap length (head .ensures) ∙ length-headLine 0x4C (n .result) in
     let room : 3136 ≤ length (now (s .out)) = c .before .before .before .before .before .before .if1 .left in (
-      done-sound _ (a .result) (a .ensures) (c .before .before .before .before .before .before .before .enum-told .given .1),
+      done-sound present _ (a .result) (a .ensures) (c .before .before .before .before .before .before .before .enum-told .given .1),
       n .ensures .0,
       n .ensures .2,
       omega (arith, ap length (headed-rest (now (s .out)) (head .last .0) whole (omega arith)), length-drop 64 (now (s .out))),

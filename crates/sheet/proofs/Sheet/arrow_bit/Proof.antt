@@ -9,7 +9,7 @@ use Rattle.answer.specs.Asked.{passed}
 use Rattle.logic.specs.Limits.{arrowCount}
 use Rattle.words.specs.Words.{member}
 use Rattle.words.proofs.SetLaws.{member-setOf}
-use Rattle.sheet.specs.Sheet.{graphOf}
+use Rattle.sheet.specs.Sheet.{present, graphOf}
 use Rattle.sheet.specs.Questions.{askArrowBit}
 use Rattle.sheet.proofs.Bits.{done-sound, read-refused, read-outside, read-bit}
 use Rattle.sheet.proofs.Sheet.arrow_bit.Statement.{statement}
@@ -27,16 +27,16 @@ returns c =
     let n = graphOf t .n in
     let range : Bool = ltb a arrowCount && (ltb i n && ltb j n) in
     let x = graphOf t .joined a i j in
-    read-refused t (r .result) (r .ensures) range x _ (c .before .answer .given .1)
+    read-refused present t (r .result) (r .ensures) range x _ (c .before .answer .given .1)
 
 node-count-requires : tie.Need-node-count-requires
-node-count-requires c κs = let r = c .before .before .before .before .check in done-sound _ (r .result) (r .ensures) (c .before .before .enum-told .given .1)
+node-count-requires c κs = let r = c .before .before .before .before .check in done-sound present _ (r .result) (r .ensures) (c .before .before .enum-told .given .1)
 
 row-word-requires : tie.Need-row-word-requires
 row-word-requires c κs =
     let r = c .before .before .before .before .before .before .before .before .before .check in
     let n = c .before .before .before .before .node-count .ensures in (
-      done-sound _ (r .result) (r .ensures) (c .before .before .before .before .before .before .before .enum-told .given .1),
+      done-sound present _ (r .result) (r .ensures) (c .before .before .before .before .before .before .before .enum-told .given .1),
       omega (arith, c .before .before .before .before .before .if1 .taken, c .before .before .before .before .before .before .index .ensures),
       omega (arith, c .before .before .if2 .taken, c .before .before .before .index2 .ensures, n .0),
     )
@@ -58,7 +58,7 @@ returns-2 c =
     let lj : j < n = omega (arith, c .before .before .before .if3 .taken, c .before .before .before .before .index3 .ensures, e) in
     let f : range ≡ true = ap₂ _&&_ (lt-ltb a arrowCount (omega (arith, c .before .before .before .before .before .before .before .before .if1 .taken, c .before .before .before .before .before .before .before .before .before .index .ensures))) (ap₂ _&&_ (lt-ltb i n li) (lt-ltb j n lj)) in
     ap passed (c .member .ensures ∙ ap₂ member (c .before .before .row-word .ensures) (c .before .index4 .ensures) ∙ member-setOf n (graphOf t .joined a i) j lj)
-    ∙ read-bit t (r .result) (r .ensures) range x (c .before .before .before .before .before .before .before .before .before .before .enum-told .given .1) f
+    ∙ read-bit present t (r .result) (r .ensures) range x (c .before .before .before .before .before .before .before .before .before .before .enum-told .given .1) f
 
 returns-3 : tie.Need-returns-3
 unfolding askArrowBit
@@ -74,7 +74,7 @@ returns-3 c =
     let x = graphOf t .joined a i j in
     let l : n ≤ j = omega (arith, c .if3 .left, c .before .index3 .ensures, c .before .before .before .before .node-count .ensures .0) in
     let f : range ≡ false = ap (λ (b : Bool). ltb a arrowCount && (ltb i n && b)) (le-ltb j n l) ∙ ap (ltb a arrowCount &&_) (and-false (ltb i n)) ∙ and-false (ltb a arrowCount) in
-    read-outside t (r .result) (r .ensures) range x (c .before .before .before .before .before .before .before .enum-told .given .1) f
+    read-outside present t (r .result) (r .ensures) range x (c .before .before .before .before .before .before .before .enum-told .given .1) f
 
 returns-4 : tie.Need-returns-4
 unfolding askArrowBit
@@ -90,7 +90,7 @@ returns-4 c =
     let x = graphOf t .joined a i j in
     let l : n ≤ i = omega (arith, c .if2 .left, c .before .index2 .ensures, c .before .before .node-count .ensures .0) in
     let f : range ≡ false = ap (λ (b : Bool). ltb a arrowCount && (b && ltb j n)) (le-ltb i n l) ∙ and-false (ltb a arrowCount) in
-    read-outside t (r .result) (r .ensures) range x (c .before .before .before .before .before .enum-told .given .1) f
+    read-outside present t (r .result) (r .ensures) range x (c .before .before .before .before .before .enum-told .given .1) f
 
 returns-5 : tie.Need-returns-5
 unfolding askArrowBit
@@ -105,7 +105,7 @@ returns-5 c =
     let range : Bool = ltb a arrowCount && (ltb i n && ltb j n) in
     let x = graphOf t .joined a i j in
     let f : range ≡ false = ap (_&& (ltb i n && ltb j n)) (le-ltb a arrowCount (omega (arith, c .if1 .left, c .before .index .ensures))) in
-    read-outside t (r .result) (r .ensures) range x (c .before .before .enum-told .given .1) f
+    read-outside present t (r .result) (r .ensures) range x (c .before .before .enum-told .given .1) f
 
 pub arrow-bit-spec : {M : Type 1} → statement M
 arrow-bit-spec =

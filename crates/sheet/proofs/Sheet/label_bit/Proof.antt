@@ -9,7 +9,7 @@ use Rattle.answer.specs.Asked.{passed}
 use Rattle.logic.specs.Limits.{labelCount}
 use Rattle.words.specs.Words.{member}
 use Rattle.words.proofs.SetLaws.{member-setOf}
-use Rattle.sheet.specs.Sheet.{graphOf}
+use Rattle.sheet.specs.Sheet.{present, graphOf}
 use Rattle.sheet.specs.Questions.{askLabelBit}
 use Rattle.sheet.proofs.Bits.{done-sound, read-refused, read-outside, read-bit}
 use Rattle.sheet.proofs.Sheet.label_bit.Statement.{statement}
@@ -25,13 +25,13 @@ returns c =
     let a = c .before .before .before .check in
     let n = graphOf t .n in
     let range : Bool = ltb k labelCount && ltb i n in
-    read-refused t (a .result) (a .ensures) range (graphOf t .labelled k i) _ (c .before .answer .given .1)
+    read-refused present t (a .result) (a .ensures) range (graphOf t .labelled k i) _ (c .before .answer .given .1)
 
 node-count-requires : tie.Need-node-count-requires
-node-count-requires c κs = let a = c .before .before .before .before .before .check in done-sound _ (a .result) (a .ensures) (c .before .before .before .enum-told .given .1)
+node-count-requires c κs = let a = c .before .before .before .before .before .check in done-sound present _ (a .result) (a .ensures) (c .before .before .before .enum-told .given .1)
 
 label-word-requires : tie.Need-label-word-requires
-label-word-requires c κs = let a = c .before .before .before .before .before .before .before .check in (done-sound _ (a .result) (a .ensures) (c .before .before .before .before .before .enum-told .given .1), omega (arith, c .before .before .before .if1 .taken, c .before .before .before .before .index .ensures))
+label-word-requires c κs = let a = c .before .before .before .before .before .before .before .check in (done-sound present _ (a .result) (a .ensures) (c .before .before .before .before .before .enum-told .given .1), omega (arith, c .before .before .before .if1 .taken, c .before .before .before .before .index .ensures))
 
 returns-2 : tie.Need-returns-2
 unfolding askLabelBit
@@ -46,7 +46,7 @@ returns-2 c =
     let l : i < n = omega (arith, c .before .before .before .if2 .taken, c .before .before .before .before .before .index2 .ensures, c .before .before .before .before .node-count .ensures .0) in
     let f : range ≡ true = ap₂ _&&_ (lt-ltb k labelCount (omega (arith, c .before .before .before .before .before .before .if1 .taken, c .before .before .before .before .before .before .before .index .ensures))) (lt-ltb i n l) in
     ap passed (c .member .ensures ∙ ap₂ member (c .before .before .label-word .ensures) (c .before .index3 .ensures) ∙ member-setOf n (graphOf t .labelled k) i l)
-    ∙ read-bit t (a .result) (a .ensures) range (graphOf t .labelled k i) (c .before .before .before .before .before .before .before .before .enum-told .given .1) f
+    ∙ read-bit present t (a .result) (a .ensures) range (graphOf t .labelled k i) (c .before .before .before .before .before .before .before .before .enum-told .given .1) f
 
 returns-3 : tie.Need-returns-3
 unfolding askLabelBit
@@ -60,7 +60,7 @@ returns-3 c =
     let range : Bool = ltb k labelCount && ltb i n in
     let l : n ≤ i = omega (arith, c .if2 .left, c .before .before .index2 .ensures, c .before .node-count .ensures .0) in
     let f : range ≡ false = ap (ltb k labelCount &&_) (le-ltb i n l) ∙ and-false (ltb k labelCount) in
-    read-outside t (a .result) (a .ensures) range (graphOf t .labelled k i) (c .before .before .before .before .before .enum-told .given .1) f
+    read-outside present t (a .result) (a .ensures) range (graphOf t .labelled k i) (c .before .before .before .before .before .enum-told .given .1) f
 
 returns-4 : tie.Need-returns-4
 unfolding askLabelBit
@@ -73,7 +73,7 @@ returns-4 c =
     let n = graphOf t .n in
     let range : Bool = ltb k labelCount && ltb i n in
     let f : range ≡ false = ap (_&& ltb i n) (le-ltb k labelCount (omega (arith, c .if1 .left, c .before .index .ensures))) in
-    read-outside t (a .result) (a .ensures) range (graphOf t .labelled k i) (c .before .before .enum-told .given .1) f
+    read-outside present t (a .result) (a .ensures) range (graphOf t .labelled k i) (c .before .before .enum-told .given .1) f
 
 pub label-bit-spec : {M : Type 1} → statement M
 label-bit-spec =

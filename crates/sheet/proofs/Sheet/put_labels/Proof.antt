@@ -3,7 +3,7 @@ use mathlib.Core.List.{_++_}
 use native.Mathlib.Omega.{arith}
 use lib.ListN.{drop}
 use Rattle.seal.specs.Seal.{blockBytes}
-use Rattle.sheet.specs.Sheet.{graphOf}
+use Rattle.sheet.specs.Sheet.{present, graphOf}
 use Rattle.sheet.proofs.Opening.{opening}
 use Rattle.sheet.proofs.Loads.{sound-length}
 use Rattle.sheet.proofs.Writes.{all-relabelled}
@@ -12,14 +12,14 @@ use Rattle.sheet.proofs.Sheet.put_labels.Statement.{statement}
 use Rattle.sheet.proofs.Sheet.put_labels.Tie as tie
 
 part-put-words-end : tie.Need-part-put-words-end
-part-put-words-end c = omega (arith, sound-length (c .before .args .sheet .now) (c .before .pre))
+part-put-words-end c = omega (arith, sound-length present (c .before .args .sheet .now) (c .before .pre))
 
 returns : tie.Need-returns
 returns c = λ v new.
     let st = c .before .before .before .before .before in
     let t = st .args .sheet .now in
-    let o = opening t (λ p. omega (arith, c .before .before .before .before .slice-known .given p)) (st .pre) in
-    ap (_++ drop blockBytes t) (c .before .before .put-words .ensures) ∙ all-relabelled (graphOf t) v (st .args .sets) new t (o .stored)
+    let o = opening present t (λ p. omega (arith, c .before .before .before .before .slice-known .given p)) (st .pre) in
+    ap (_++ drop blockBytes t) (c .before .before .put-words .ensures) ∙ all-relabelled present (graphOf t) v (st .args .sets) new t (o .stored)
 
 pub put-labels-spec : {M : Type 1} → statement M
 put-labels-spec =

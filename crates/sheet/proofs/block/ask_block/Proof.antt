@@ -1,6 +1,7 @@
 use mathlib.Core.Path.{sym, _∙_}
 use borrow.Author.Needs.{needs}
 use borrow.Author.Tests.{not-true, not-false}
+use Rattle.seal.specs.Forms.{formOf}
 use Rattle.sheet.proofs.Asks.{ask-2, ask-3, ask-4}
 use Rattle.sheet.proofs.Passes.{block-right}
 use Rattle.sheet.proofs.block.ask_block.Statement.{statement}
@@ -9,12 +10,12 @@ use Rattle.sheet.proofs.block.ask_block.Tie as tie
 returns : tie.Need-returns
 returns c =
     let st = c .before .before .before in
-    sym (ask-2 (st .args .n) (st .args .b) (st .args .block .now) (sym (c .before .seal-right .ensures) ∙ not-true _ (c .if1 .taken)))
+    sym (ask-2 (formOf (st .args .form)) (st .args .n) (st .args .b) (st .args .block .now) (sym (c .before .seal-right .ensures) ∙ not-true _ (c .if1 .taken)))
 
 returns-2 : tie.Need-returns-2
 returns-2 c =
     let st = c .before .before .before .before .before in
-    sym (ask-3 (st .args .n) (st .args .b) (st .args .block .now) (sym (c .before .before .before .seal-right .ensures) ∙ not-false _ (c .before .before .if1 .left)) (sym (c .before .head-right .ensures) ∙ not-true _ (c .if2 .taken)))
+    sym (ask-3 (formOf (st .args .form)) (st .args .n) (st .args .b) (st .args .block .now) (sym (c .before .before .before .seal-right .ensures) ∙ not-false _ (c .before .before .if1 .left)) (sym (c .before .head-right .ensures) ∙ not-true _ (c .if2 .taken)))
 
 zero-right-requires : tie.Need-zero-right-requires
 zero-right-requires c κs = let st = c .before .before .before .before .before in (st .pre .1 (sym (c .before .head-right .ensures) ∙ not-false _ (c .if2 .left)), st .pre .0)
@@ -22,12 +23,12 @@ zero-right-requires c κs = let st = c .before .before .before .before .before i
 returns-3 : tie.Need-returns-3
 returns-3 c =
     let st = c .before .before .before .before .before .before .before in
-    sym (ask-4 (st .args .n) (st .args .b) (st .args .block .now) (sym (c .before .before .before .before .before .seal-right .ensures) ∙ not-false _ (c .before .before .before .before .if1 .left)) (sym (c .before .before .before .head-right .ensures) ∙ not-false _ (c .before .before .if2 .left)) (sym (c .before .zero-right .ensures) ∙ not-true _ (c .if3 .taken)))
+    sym (ask-4 (formOf (st .args .form)) (st .args .n) (st .args .b) (st .args .block .now) (sym (c .before .before .before .before .before .seal-right .ensures) ∙ not-false _ (c .before .before .before .before .if1 .left)) (sym (c .before .before .before .head-right .ensures) ∙ not-false _ (c .before .before .if2 .left)) (sym (c .before .zero-right .ensures) ∙ not-true _ (c .if3 .taken)))
 
 returns-4 : tie.Need-returns-4
 returns-4 c =
     let st = c .before .before .before .before .before .before .before in
-    sym (block-right (st .args .n) (st .args .b) (st .args .block .now) (sym (c .before .before .before .before .before .seal-right .ensures) ∙ not-false _ (c .before .before .before .before .if1 .left)) (sym (c .before .before .before .head-right .ensures) ∙ not-false _ (c .before .before .if2 .left)) (sym (c .before .zero-right .ensures) ∙ not-false _ (c .if3 .left)))
+    sym (block-right (formOf (st .args .form)) (st .args .n) (st .args .b) (st .args .block .now) (sym (c .before .before .before .before .before .seal-right .ensures) ∙ not-false _ (c .before .before .before .before .if1 .left)) (sym (c .before .before .before .head-right .ensures) ∙ not-false _ (c .before .before .if2 .left)) (sym (c .before .zero-right .ensures) ∙ not-false _ (c .if3 .left)))
 
 pub ask-block-spec : {M : Type 1} → statement M
 ask-block-spec =

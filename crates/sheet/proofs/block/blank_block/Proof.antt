@@ -5,6 +5,7 @@ use Rattle.seal.specs.Seal.{reseal}
 use Rattle.sheet.proofs.Blanks.{heads}
 use Rattle.sheet.proofs.block.blank_block.Statement.{statement}
 use Rattle.sheet.proofs.block.blank_block.Tie as tie
+use Rattle.sheet.specs.Sheet.{present}
 
 seal-requires : tie.Need-seal-requires
 seal-requires c κs = simp length-set (ap length (c .before .before .before .wipe .ensures) ∙ length-replicate _ 0 ∙ c .before .before .before .before .before .before .pre)
@@ -20,7 +21,7 @@ same-length c =
 returns : tie.Need-returns
 returns c =
     let st = c .before .before .before .before .before .before .before .before .before in
-    c .before .before .seal .ensures ∙ ap reseal (heads _ _ (st .args .x) (st .args .y) (st .args .z) (c .before .before .before .before .before .before .wipe .ensures) (st .pre))
+    c .before .before .seal .ensures ∙ ap (reseal present) (heads _ _ (st .args .x) (st .args .y) (st .args .z) (c .before .before .before .before .before .before .wipe .ensures) (st .pre))
 
 pub blank-block-spec : {M : Type 1} → statement M
 blank-block-spec =

@@ -11,6 +11,7 @@ use Rattle.seal.specs.Seal.{blockBytes, reseal}
 use Rattle.sheet.specs.Writes.{putRows}
 use Rattle.sheet.proofs.block.put_words.Statement.{statement}
 use Rattle.sheet.proofs.block.put_words.Tie as tie
+use Rattle.sheet.specs.Sheet.{present}
 
 abbrev Inv-loop : tie.InvT-loop
 Inv-loop block₀ n rows i₀ block i = (i ≤ n) × (length block ≡ blockBytes) × (block ≡ putRows i rows block₀)
@@ -38,7 +39,7 @@ returns c =
     let st = c .before .before .before .before .before .before .before in
     let l = c .before .before .before .before .before .loop in
     let e : l .i ≡ st .args .n = omega (arith, l .inv .0, c .before .before .before .before .loop-test .left) in
-    c .before .before .seal .ensures ∙ ap reseal (l .inv .2 ∙ ap (λ (x : ℕ). putRows x (st .args .t3) (st .args .block .now)) e)
+    c .before .before .seal .ensures ∙ ap (reseal present) (l .inv .2 ∙ ap (λ (x : ℕ). putRows x (st .args .t3) (st .args .block .now)) e)
 
 pub put-words-spec : {M : Type 1} → statement M
 put-words-spec =

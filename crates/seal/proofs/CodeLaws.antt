@@ -1,0 +1,75 @@
+-- The check bytes as the code tests and stores them.
+use mathlib.Core.Path.{_≡_, refl, sym, ap, ap₂, _∙_}
+use mathlib.Core.Bool.{Bool, true, false, _&&_, and-true}
+use mathlib.Core.List.{List, [], _∷_, _++_, append-nil}
+use Prim.Native.Nat.{ℕ, zero, suc, _+_, _-_, _*_, _/_, _%_, _≤_, _<_}
+use native.Mathlib.Omega.{arith}
+use borrow.Author.Tests.{eqb-true, eqb-false, eq-eqb, ne-eqb}
+use lib.Dec.{eqb}
+use lib.ListN.{length, getD, take, drop, drop-of-length-le, set, length-set}
+use lib.Seq.{drop-cons, take-set-lt, getD-take, sets-eq}
+use Rattle.words.specs.Words.{bytes}
+use Rattle.seal.specs.Seal.{blockBytes, modulo255, modulo257, Sums, sums, stored, sealed, sameBytes, sealRight, reseal}
+use Rattle.seal.specs.Lanes.{total, weighed}
+use Rattle.seal.proofs.TotalLaws.{sums-total, sums-weighed, modulo-255, modulo-257, s-moves, t-moves}
+use Rattle.seal.proofs.SealLaws.{and-yes, length-body, s-low, t-low}
+
+-- the sums from totals that are right modulo 65535
+pub sums-257 : (l : List ℕ) (s t : ℕ) → s % 65535 ≡ total l % 65535 → t % 65535 ≡ weighed l % 65535 → (s % 257 ≡ sums modulo257 l .s) × (t % 257 ≡ sums modulo257 l .t)
+sums-257 l s t e f = (modulo-257 s (total l) e ∙ sym (sums-total modulo257 l), modulo-257 t (weighed l) f ∙ sym (sums-weighed modulo257 l))
+
+pub sums-255 : (l : List ℕ) (s t : ℕ) → s % 65535 ≡ total l % 65535 → t % 65535 ≡ weighed l % 65535 → (s % 255 ≡ sums modulo255 l .s) × (t % 255 ≡ sums modulo255 l .t)
+sums-255 l s t e f = (modulo-255 s (total l) e ∙ sym (sums-total modulo255 l), modulo-255 t (weighed l) f ∙ sym (sums-weighed modulo255 l))
+
+-- a number in two bytes
+two-bytes : (a b s : ℕ) (r : Bool) → a < 256 → b < 256 → s < 65536 → (eqb a (s % 256) && (eqb b (s / 256 % 256) && r)) ≡ (eqb (a + b * 256) s && r)
+two-bytes a b s r h k l = go (eqb a (s % 256)) (eqb b (s / 256 % 256)) refl refl
+  where
+    go : (x y : Bool) → eqb a (s % 256) ≡ x → eqb b (s / 256 % 256) ≡ y → (x && (y && r)) ≡ (eqb (a + b * 256) s && r)
+    go true true e f = ap (_&& r) (sym (eq-eqb (a + b * 256) s (omega (arith, eqb-true a (s % 256) e, eqb-true b (s / 256 % 256) f))))
+    go true false e f = ap (_&& r) (sym (ne-eqb (a + b * 256) s (λ g. eqb-false b (s / 256 % 256) f (omega arith))))
+    go false y e f = ap (_&& r) (sym (ne-eqb (a + b * 256) s (λ g. eqb-false a (s % 256) e (omega arith))))
+
+last-four : (k : List ℕ) → length k ≡ blockBytes → drop 508 k ≡ getD k 508 0 ∷ getD k 509 0 ∷ getD k 510 0 ∷ getD k 511 0 ∷ []
+last-four k h =
+    drop-cons k 508 0 (omega arith)
+    ∙ ap (getD k 508 0 ∷_) (drop-cons k 509 0 (omega arith)
+    ∙ ap (getD k 509 0 ∷_) (drop-cons k 510 0 (omega arith)
+    ∙ ap (getD k 510 0 ∷_) (drop-cons k 511 0 (omega arith) ∙ ap (getD k 511 0 ∷_) (drop-of-length-le k {i = 512} (omega arith)))))
+
+module _ (k : List ℕ) (h : length k ≡ blockBytes) where
+  pub right-257 : ((p : ℕ) → getD k p 0 < 256) → (s t : ℕ) → s < 257 → t < 257 → s ≡ sums modulo257 (take 508 k) .s → t ≡ sums modulo257 (take 508 k) .t
+      → sealRight modulo257 k ≡ (eqb (getD k 508 0 + getD k 509 0 * 256) s && eqb (getD k 510 0 + getD k 511 0 * 256) t)
+  unfolding sealRight sameBytes stored bytes
+  right-257 small s t l m e f =
+      ap₂ sameBytes (last-four k h) (ap₂ (λ x y. stored modulo257 (record { s = x; t = y })) (sym e) (sym f))
+      ∙ ap (λ (r : Bool). eqb (getD k 508 0) (s % 256) && (eqb (getD k 509 0) (s / 256 % 256) && r)) (two-bytes (getD k 510 0) (getD k 511 0) t true (small 510) (small 511) (omega arith) ∙ and-true _)
+      ∙ two-bytes (getD k 508 0) (getD k 509 0) s _ (small 508) (small 509) (omega arith)
+
+  pub right-255 : (s t : ℕ) → s < 255 → t < 255 → s ≡ sums modulo255 (take 510 k) .s → t ≡ sums modulo255 (take 510 k) .t → sealRight modulo255 k ≡ (eqb (getD k 510 0) s && eqb (getD k 511 0) t)
+  unfolding sealRight sameBytes stored bytes
+  right-255 s t l m e f =
+      let a : s % 256 ≡ s = omega arith in
+      let b : t % 256 ≡ t = omega arith in
+      ap₂ sameBytes
+      (drop-cons k 510 0 (omega arith) ∙ ap (getD k 510 0 ∷_) (drop-cons k 511 0 (omega arith) ∙ ap (getD k 511 0 ∷_) (drop-of-length-le k {i = 512} (omega arith))))
+      (ap₂ (λ x y. stored modulo255 (record { s = x; t = y })) (sym e) (sym f) ∙ ap₂ (λ x y. x ∷ y ∷ []) a b)
+      ∙ ap (eqb (getD k 510 0) s &&_) (and-true (eqb (getD k 511 0) t))
+
+  pub put-257 : (s t : ℕ) → s < 257 → t < 257 → set (set (set (set k 508 (s % 256)) 509 (s / 256)) 510 (t % 256)) 511 (t / 256) ≡ take 508 k ++ stored modulo257 (record { s = s; t = t })
+  unfolding stored bytes
+  put-257 s t l m =
+      let e : s / 256 ≡ s / 256 % 256 = omega arith in
+      let f : t / 256 ≡ t / 256 % 256 = omega arith in
+      let vs : List ℕ = s % 256 ∷ s / 256 % 256 ∷ t % 256 ∷ t / 256 % 256 ∷ [] in
+      ap₂ (λ x y. set (set (set (set k 508 (s % 256)) 509 x) 510 (t % 256)) 511 y) e f
+      ∙ sets-eq vs k 508 (omega arith) ∙ ap (λ y. take 508 k ++ vs ++ y) (drop-of-length-le k {i = 512} (omega arith)) ∙ append-nil (take 508 k ++ vs)
+
+  -- the check bytes of a block that is right say its sums
+  module _ (small : (p : ℕ) → getD k p 0 < 256) (right : sealRight modulo257 k ≡ true) where
+    pub check-bytes : (getD k 508 0 + getD k 509 0 * 256 ≡ sums modulo257 (take 508 k) .s) × (getD k 510 0 + getD k 511 0 * 256 ≡ sums modulo257 (take 508 k) .t)
+    check-bytes =
+        let s : ℕ = sums modulo257 (take 508 k) .s in
+        let t : ℕ = sums modulo257 (take 508 k) .t in
+        let both = and-yes _ _ (sym (right-257 small s t (s-low modulo257 (take 508 k)) (t-low modulo257 (take 508 k)) refl refl) ∙ right) in
+        (eqb-true _ _ (both .0), eqb-true _ _ (both .1))

@@ -1,0 +1,210 @@
+use mathlib.Core.Path.{_≡_, refl, sym, ap, ap₂, _∙_}
+use mathlib.Core.List.{List}
+use Prim.Native.Nat.{ℕ, suc, _≤_, _<_, _-_, _*_, _%_, _+_, _/_}
+use native.Mathlib.Nat.{mul-le-mul, add-le-add, lt-of-le-of-lt, le-trans, le-add-left, le-antisymm}
+use lib.Dec.{lit<}
+use native.Mathlib.Numerals.{add-one}
+use native.Mathlib.Omega.{arith}
+use borrow.Author.Needs.{needs}
+use lib.ListN.{getD}
+use Rattle.seal.specs.Lanes.{oddsAt, pairsAt, fold, upTo}
+use Rattle.seal.proofs.Thirds.{mixed, s-right, t-right}
+use Rattle.seal.proofs.front.Statement.{statement}
+use Rattle.seal.proofs.front.Tie as tie
+
+pub record Inv (l : List ℕ) (a b c odds low high j : ℕ) : Type 0 where
+  pub within : j ≤ 21
+  pub a-low : a ≤ 0x01FE01FE01FE01FE * j
+  pub b-low : b ≤ 0x01FE01FE01FE01FE * j
+  pub c-low : c ≤ 0x01FE01FE01FE01FE * j
+  pub odds-low : odds ≤ 0x02FD02FD02FD02FD * j
+  pub low-low : low ≤ 90194313195 * j
+  pub high-low : high ≤ 90194313195 * j
+  pub a-is : a ≡ upTo (λ i. pairsAt l (8 * i)) j
+  pub b-is : b ≡ upTo (λ i. pairsAt l (8 * i + 168)) j
+  pub c-is : c ≡ upTo (λ i. pairsAt l (8 * i + 336)) j
+  pub odds-is : odds ≡ upTo (λ i. oddsAt l (8 * i)) j + upTo (λ i. oddsAt l (8 * i + 168)) j + upTo (λ i. oddsAt l (8 * i + 336)) j
+  pub z-is : low + high ≡ upTo (mixed l) j
+
+abbrev Inv-loop : tie.InvT-loop
+Inv-loop block a₀ b₀ c₀ odds₀ low₀ high₀ j₀ a b c odds low high j = Inv block a b c odds low high j
+
+abbrev μ-loop : tie.MeasureT-loop
+μ-loop block a₀ b₀ c₀ odds₀ low₀ high₀ j₀ a b c odds low high j = 21 - j
+
+loop-holds : tie.Need-loop-holds Inv-loop μ-loop
+unfolding upTo
+loop-holds c = record { within = omega arith; a-low = omega arith; b-low = omega arith; c-low = omega arith; odds-low = omega arith; low-low = omega arith; high-low = omega arith; a-is = refl; b-is = refl; c-is = refl; odds-is = omega arith; z-is = omega arith }
+
+-- half a word counted up to 21 times
+product : (x j : ℕ) → x ≤ 0xFFFFFFFF → x * (21 - j) ≤ 90194313195
+product x j g = mul-le-mul {n₂ = 0xFFFFFFFF} {m₂ = 21} g (omega arith)
+
+low-half : (x : ℕ) → x % 0x100000000 ≤ 0xFFFFFFFF
+low-half x = omega arith
+
+high-half : (x y z : ℕ) → x ≤ 0x01FE01FE01FE01FE → y ≤ 0x01FE01FE01FE01FE → z ≤ 0x01FE01FE01FE01FE → (x + y + z) / 0x100000000 ≤ 0xFFFFFFFF
+high-half x y z f g h = omega arith
+
+more-fits : (x y j : ℕ) → j ≤ 21 → x ≤ 90194313195 * j → y ≤ 90194313195 → x + y < 0x10000000000000000
+more-fits x y j h f g = omega arith
+
+together : (lo hi a b v u : ℕ) → lo + hi ≡ u → lo + a * v + (hi + b * v) ≡ u + (a + b) * v
+together lo hi a b v u e = omega arith
+
+-- the shifts of the lanes of 63 words
+shifts-low : (x : ℕ) → x < 0x8000000000000000 → x / 0x10000 + x / 0x100000000 + x / 0x1000000000000 ≤ 0x800080008000
+shifts-low x h =
+    let e : x / 0x10000 < 0x800000000000 = omega arith in
+    let f : x / 0x100000000 < 0x80000000 = omega arith in
+    let g : x / 0x1000000000000 < 0x8000 = omega arith in
+    omega (arith, e, f, g)
+
+places-low : (a b c j fo : ℕ) → j ≤ 21 → a ≤ 0x01FE01FE01FE01FE * j → b ≤ 0x01FE01FE01FE01FE * j → c ≤ 0x01FE01FE01FE01FE * j → fo ≤ 0x1FFFFFFFE
+    → fo + 2 * ((a + b + c) / 0x10000 + (a + b + c) / 0x100000000 + (a + b + c) / 0x1000000000000) ≤ 0x7FFF800000000
+places-low a b c j fo h ha hb hc hf =
+    let k : a + b + c < 0x8000000000000000 = omega arith in
+    let e : (a + b + c) / 0x10000 + (a + b + c) / 0x100000000 + (a + b + c) / 0x1000000000000 ≤ 0x800080008000 = shifts-low (a + b + c) k in
+    atoms _ _ e hf
+  where
+    atoms : (x y : ℕ) → x ≤ 0x800080008000 → y ≤ 0x1FFFFFFFE → y + 2 * x ≤ 0x7FFF800000000
+    atoms x y g k = omega arith
+
+mul-low : tie.Need-mul-low Inv-loop μ-loop
+mul-low c = record { fits = lt-of-le-of-lt (product _ (c .before .before .before .before .before .before .before .before .before .before .before .before .before .loop .j) (low-half _)) (lit< tt) }
+
+add-low : tie.Need-add-low Inv-loop μ-loop
+add-low c = let l = c .before .before .before .before .before .before .before .before .before .before .before .before .before .loop in record { fits = more-fits (l .low) _ (l .j) (l .inv .within) (l .inv .low-low) (product _ (l .j) (low-half _)) }
+
+mul-high : tie.Need-mul-high Inv-loop μ-loop
+mul-high c = record { fits = lt-of-le-of-lt (product _ (c .before .before .before .before .before .before .before .before .before .before .before .before .before .loop .j) (high-half _ _ _ (c .before .before .before .before .before .before .before .before .before .before .before .lanes .ensures .1 .0) (c .before .before .before .before .before .before .before .before .before .before .lanes2 .ensures .1 .0) (c .before .before .before .before .before .before .before .before .before .lanes3 .ensures .1 .0))) (lit< tt) }
+
+add-high : tie.Need-add-high Inv-loop μ-loop
+add-high c =
+    let l = c .before .before .before .before .before .before .before .before .before .before .before .before .before .loop in
+    record { fits = more-fits (l .high) _ (l .j) (l .inv .within) (l .inv .high-low) (product _ (l .j) (high-half _ _ _ (c .before .before .before .before .before .before .before .before .before .before .before .lanes .ensures .1 .0) (c .before .before .before .before .before .before .before .before .before .before .lanes2 .ensures .1 .0) (c .before .before .before .before .before .before .before .before .before .lanes3 .ensures .1 .0))) }
+
+loop-again : tie.Need-loop-again Inv-loop μ-loop
+unfolding upTo
+loop-again c =
+    let l = c .before .before .before .before .before .before .before .before .before .before .before .before .before .loop in
+    let x = c .before .before .before .before .before .before .before .before .before .before .before .lanes in
+    let y = c .before .before .before .before .before .before .before .before .before .before .lanes2 in
+    let u = c .before .before .before .before .before .before .before .before .before .lanes3 in
+    let three = x .result .pairs + y .result .pairs + u .result .pairs in
+    rw (add-one (l .j))
+    (record {
+      within = c .before .before .before .before .before .before .before .before .before .before .before .before .loop-test .taken;
+      a-low = omega (arith, l .inv .a-low, x .ensures .1 .0);
+      b-low = omega (arith, l .inv .b-low, y .ensures .1 .0);
+      c-low = omega (arith, l .inv .c-low, u .ensures .1 .0);
+      odds-low = omega (arith, l .inv .odds-low, x .ensures .1 .1, y .ensures .1 .1, u .ensures .1 .1);
+      low-low = omega (arith, l .inv .low-low, product (three % 0x100000000) (l .j) (low-half three));
+      high-low = omega (arith, l .inv .high-low, product (three / 0x100000000) (l .j) (high-half _ _ _ (x .ensures .1 .0) (y .ensures .1 .0) (u .ensures .1 .0)));
+      a-is = ap₂ _+_ (l .inv .a-is) (x .ensures .0 .0);
+      b-is = ap₂ _+_ (l .inv .b-is) (y .ensures .0 .0);
+      c-is = ap₂ _+_ (l .inv .c-is) (u .ensures .0 .0);
+      odds-is = omega (arith, l .inv .odds-is, x .ensures .0 .1, y .ensures .0 .1, u .ensures .0 .1);
+      z-is = together (l .low) (l .high) (three % 0x100000000) (three / 0x100000000) (21 - l .j) _ (l .inv .z-is)
+          ∙ ap (λ (w : ℕ). upTo (mixed (c .before .before .before .before .before .before .before .before .before .before .before .before .before .before .before .args .block .now)) (l .j) + fold w * (21 - l .j)) (ap₂ _+_ (ap₂ _+_ (x .ensures .0 .0) (y .ensures .0 .0)) (u .ensures .0 .0));
+    })
+
+add-places : tie.Need-add-places-3 Inv-loop μ-loop
+add-places c =
+    let l = c .before .before .loop in
+    record { fits = lt-of-le-of-lt (places-low (l .a) (l .b) (l .c) (l .j) _ (l .inv .within) (l .inv .a-low) (l .inv .b-low) (l .inv .c-low) (c .folded .ensures .1)) (lit< tt) }
+
+sub-t31 : tie.Need-sub-t31 Inv-loop μ-loop
+sub-t31 c =
+    let l = c .before .before .before .before .before .loop in
+    le-trans (places-low (l .a) (l .b) (l .c) (l .j) _ (l .inv .within) (l .inv .a-low) (l .inv .b-low) (l .inv .c-low) (c .before .before .before .folded .ensures .1)) (le-add-left _ _)
+
+whole : (fo odds z fa a fb b p : ℕ) → fo ≡ fold odds → fa ≡ fold a → fb ≡ fold b → fo + 2 * p ≤ 0x7FFF800000000
+    → 8 * (z + 42 * fa + 21 * fb) + 0x7FFF800000000 - (fo + 2 * p) + (fold odds + 2 * p) ≡ 8 * (z + 42 * fold a + 21 * fold b) + 0x7FFF800000000
+whole fo odds z fa a fb b p e f g h = rw (sym e, sym f, sym g) (atoms (8 * (z + 42 * fa + 21 * fb)) (fo + 2 * p) h)
+  where
+    atoms : (x y : ℕ) → y ≤ 0x7FFF800000000 → x + 0x7FFF800000000 - y + y ≡ x + 0x7FFF800000000
+    atoms x y k = omega arith
+
+t-low : (z fa fb j y : ℕ) → z ≤ 180388626390 * j → j ≤ 21 → fa ≤ 0x1FFFFFFFE → fb ≤ 0x1FFFFFFFE → 8 * (z + 42 * fa + 21 * fb) + 0x7FFF800000000 - y < 0x10000000000000
+t-low z fa fb j y h k l m = omega arith
+
+halves-low : (x y j : ℕ) → x ≤ 90194313195 * j → y ≤ 90194313195 * j → x + y ≤ 180388626390 * j
+halves-low x y j f g = omega arith
+
+returns : tie.Need-returns Inv-loop μ-loop
+returns c =
+    let l = c .before .before .before .before .before .loop in
+    let v = l .inv in
+    let k = c .before .before .before .before .before .before .before .args .block .now in
+    let small : (p : ℕ) → getD k p 0 < 256 = λ p. omega (arith, c .before .before .before .before .before .before .shared-slice-known .given p) in
+    let e : l .j ≡ 21 = le-antisymm (v .within) (c .before .before .before .before .loop-test .left) in
+    let a-is = v .a-is ∙ ap (upTo (λ i. pairsAt k (8 * i))) e in
+    let b-is = v .b-is ∙ ap (upTo (λ i. pairsAt k (8 * i + 168))) e in
+    let c-is = v .c-is ∙ ap (upTo (λ i. pairsAt k (8 * i + 336))) e in
+    let odds-is = v .odds-is ∙ ap (λ n. upTo (λ i. oddsAt k (8 * i)) n + upTo (λ i. oddsAt k (8 * i + 168)) n + upTo (λ i. oddsAt k (8 * i + 336)) n) e in
+    let z-is = v .z-is ∙ ap (upTo (mixed k)) e in
+    let fo = c .before .before .before .folded in
+    let fs = c .before .before .folded2 in
+    let fa = c .before .folded3 in
+    let fb = c .folded4 in (
+      (
+        ap (_% 65535) (fs .ensures .0) ∙ s-right k small (c .before .before .before .before .before .before .before .pre) (l .a) (l .b) (l .c) (l .odds) (l .low + l .high) a-is b-is c-is odds-is z-is,
+        t-right k small (c .before .before .before .before .before .before .before .pre) (l .a) (l .b) (l .c) (l .odds) (l .low + l .high) a-is b-is c-is odds-is z-is _
+            (whole (fo .result) (l .odds) (l .low + l .high) (fa .result) (l .a) (fb .result) (l .b) ((l .a + l .b + l .c) / 0x10000 + (l .a + l .b + l .c) / 0x100000000 + (l .a + l .b + l .c) / 0x1000000000000)
+            (fo .ensures .0) (fa .ensures .0) (fb .ensures .0)
+            (places-low (l .a) (l .b) (l .c) (l .j) _ (v .within) (v .a-low) (v .b-low) (v .c-low) (fo .ensures .1))),
+      ),
+      (fs .ensures .1, t-low (l .low + l .high) (fa .result) (fb .result) (l .j) _ (halves-low (l .low) (l .high) (l .j) (v .low-low) (v .high-low)) (v .within) (fa .ensures .1) (fb .ensures .1)),
+    )
+
+pub front-spec : {M : Type 1} → statement M
+front-spec =
+    tie.close
+    (tie.spec
+    Inv-loop
+    μ-loop
+    loop-holds
+    (λ c. search needs)
+    (λ c κs. search needs)
+    (λ c. search needs)
+    (λ c. search needs)
+    (λ c κs. search needs)
+    (λ c. search needs)
+    (λ c. search needs)
+    (λ c κs. search needs)
+    (λ c. search needs)
+    (λ c. search needs)
+    (λ c. search needs)
+    (λ c. search needs)
+    (λ c. search needs)
+    (λ c. search needs)
+    (λ c. search needs)
+    (λ c. search needs)
+    (λ c. search needs)
+    mul-low
+    add-low
+    mul-high
+    add-high
+    (λ c. search needs)
+    (λ c. search needs)
+    loop-again
+    (λ c. search needs)
+    (λ c. search needs)
+    (λ c κs. search needs)
+    (λ c. search needs)
+    (λ c. search needs)
+    (λ c. search needs)
+    add-places
+    (λ c κs. search needs)
+    (λ c. search needs)
+    (λ c κs. search needs)
+    (λ c. search needs)
+    (λ c. search needs)
+    (λ c κs. search needs)
+    (λ c. search needs)
+    (λ c. search needs)
+    (λ c. search needs)
+    (λ c. search needs)
+    sub-t31
+    returns)

@@ -1,0 +1,35 @@
+-- The bytes of a word of 8 in lanes of 16 bits: what the code adds as whole words.
+use mathlib.Core.List.{List, [], _∷_}
+use Prim.Native.Nat.{ℕ, zero, suc, _+_, _*_, _/_, _%_}
+use lib.ListN.{length, getD}
+
+-- Four lanes as one number.
+unfoldable pub pack : ℕ → ℕ → ℕ → ℕ → ℕ
+pack a b c d = a + b * 0x10000 + c * 0x100000000 + d * 0x1000000000000
+
+-- The bytes at odd places of that word, a lane each; and each two bytes added, a lane for each two.
+unfoldable pub oddsAt : List ℕ → ℕ → ℕ
+oddsAt l at = pack (getD l (at + 1) 0) (getD l (at + 3) 0) (getD l (at + 5) 0) (getD l (at + 7) 0)
+
+unfoldable pub pairsAt : List ℕ → ℕ → ℕ
+pairsAt l at =
+    pack (getD l at 0 + getD l (at + 1) 0) (getD l (at + 2) 0 + getD l (at + 3) 0)
+    (getD l (at + 4) 0 + getD l (at + 5) 0) (getD l (at + 6) 0 + getD l (at + 7) 0)
+
+-- The halves of a word added.
+abbrev pub fold : ℕ → ℕ
+fold x = x % 0x100000000 + x / 0x100000000
+
+-- The sum of f over the numbers below n.
+unfoldable pub upTo : (ℕ → ℕ) → ℕ → ℕ
+upTo f zero = 0
+upTo f (suc n) = upTo f n + f n
+
+-- The plain total of bytes; and the total of the plain totals after each byte, in which byte p of n counts n - p times.
+unfoldable pub total : List ℕ → ℕ
+total [] = 0
+total (b ∷ l) = b + total l
+
+unfoldable pub weighed : List ℕ → ℕ
+weighed [] = 0
+weighed (b ∷ l) = suc (length l) * b + weighed l

@@ -1,0 +1,44 @@
+-- Each call that lends a sheet asks the sheet first (blank is lent none), so what `Noticed` of `sheet` says of every caller holds of it.
+use mathlib.Core.Path.{_≡_}
+use mathlib.Core.List.{List}
+use Prim.Native.Nat.{ℕ}
+use Rattle.answer.specs.Asked.{_>>=_, _>>_, outcome}
+use Rattle.sheet.specs.Questions.{askLabelBit, askArrowBit}
+use Rattle.sheet.specs.Noticed.{AsksSheetFirst}
+use Rattle.judge.specs.Questions.{askSheetAndBook, askJudge}
+use Rattle.apply.specs.Apply.{askApply}
+use Rattle.demands.specs.Enter.{askBefore41, askEnter, enterAnswer}
+use Rattle.pages.specs.Print.{askPrintArrow, askPrintLabels}
+use Rattle.pages.specs.Typed.{askType}
+
+pub label-bit-first : (k i : ℕ) → AsksSheetFirst (λ sheet. askLabelBit sheet k i)
+unfolding askLabelBit _>>_
+label-bit-first k i = record { first = λ sheet q p e. rw e }
+
+pub arrow-bit-first : (a i j : ℕ) → AsksSheetFirst (λ sheet. askArrowBit sheet a i j)
+unfolding askArrowBit _>>_
+arrow-bit-first a i j = record { first = λ sheet q p e. rw e }
+
+pub print-arrow-first : (a room : ℕ) → AsksSheetFirst (λ sheet. askPrintArrow sheet a room)
+unfolding askPrintArrow _>>_
+print-arrow-first a room = record { first = λ sheet q p e. rw e }
+
+pub print-labels-first : (room : ℕ) → AsksSheetFirst (λ sheet. askPrintLabels sheet room)
+unfolding askPrintLabels _>>_
+print-labels-first room = record { first = λ sheet q p e. rw e }
+
+pub type-page-first : (page : List ℕ) → AsksSheetFirst (λ sheet. askType sheet page)
+unfolding askType _>>_
+type-page-first page = record { first = λ sheet q p e. rw e }
+
+pub judge-first : (book : List ℕ) → AsksSheetFirst (λ sheet. askJudge sheet book)
+unfolding askJudge askSheetAndBook _>>_ _>>=_
+judge-first book = record { first = λ sheet q p e. rw e }
+
+pub apply-first : (edit : List ℕ) → AsksSheetFirst (λ sheet. askApply sheet edit)
+unfolding askApply _>>_ _>>=_
+apply-first edit = record { first = λ sheet q p e. rw e }
+
+pub enter-first : (book edit : List ℕ) (room : ℕ) → AsksSheetFirst (λ sheet. enterAnswer sheet book edit room)
+unfolding askEnter askBefore41 askSheetAndBook _>>_ _>>=_ outcome
+enter-first book edit room = record { first = λ sheet q p e. rw e }
