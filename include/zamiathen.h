@@ -1,14 +1,15 @@
-/* Station sheets: make a blank sheet, read its bits, print its blocks as pages and type pages back, judge a rule book on
- * it, carry a book back through an edit, and change the sheet by an edit, with a book or without one.
+/* Station sheets: make a blank sheet, convert an old card, read a sheet's bits, print its blocks as pages and type
+ * pages back, judge a rule book on it, carry a book back through an edit, and change the sheet by an edit, with a book
+ * or without one.
  *
  * Link with libzamiathen.a:  cc program.c $(pkg-config --cflags --libs zamiathen)
  *
  * Buffers. Each buffer is a pointer and its length in bytes. A call reads no byte outside its buffers and writes only
  * where this header says so. The buffers of one call must not overlap where one of them is written: the sheet of
- * zamiathen_blank, zamiathen_type_page, zamiathen_apply and zamiathen_enter, the scratch of zamiathen_enter and the
- * output of zamiathen_print_arrow, zamiathen_print_labels and zamiathen_carry_back share no byte with any other buffer
- * of the call. A pointer may be NULL only when its length is 0. There is no other demand: any bytes, any length and any
- * number get an answer.
+ * zamiathen_blank, zamiathen_type_page, zamiathen_apply and zamiathen_enter, the card of zamiathen_convert_255, the
+ * scratch of zamiathen_enter and the output of zamiathen_print_arrow, zamiathen_print_labels and zamiathen_carry_back
+ * share no byte with any other buffer of the call. A pointer may be NULL only when its length is 0. There is no other
+ * demand: any bytes, any length and any number get an answer.
  *
  * Threads. The library keeps no state, allocates nothing and takes no lock. Calls may run at the same time in any
  * number of threads as long as no buffer that one call writes is read or written by another.
@@ -28,9 +29,10 @@ extern "C" {
 #endif
 
 /* The version. The first number moves when the form of sheets or an answer of a call changes, the second when a call is
- * added: a card written under another first number may be answered otherwise. As one number: 1000 * first + second. */
-#define ZAMIATHEN_VERSION_FIRST 1
-#define ZAMIATHEN_VERSION_SECOND 2
+ * added: a card written under another first number may be answered otherwise (one written under 1 is converted by
+ * zamiathen_convert_255). As one number: 1000 * first + second. */
+#define ZAMIATHEN_VERSION_FIRST 2
+#define ZAMIATHEN_VERSION_SECOND 0
 #define ZAMIATHEN_VERSION (1000 * ZAMIATHEN_VERSION_FIRST + ZAMIATHEN_VERSION_SECOND)
 
 /* Sizes. */
@@ -113,11 +115,23 @@ typedef struct {
 
 /*
  * Sheets
+ *
+ * A sheet is 17 blocks of 512 bytes. The last four bytes of a block are its check bytes: the sums s and t over its
+ * bytes 0 to 507. Both start at 0; for each byte, s becomes (s + byte) mod 257, then t becomes (t + s) mod 257. Each is
+ * stored in two bytes, low byte first, s at 508 and t at 510. Every call that reads a sheet asks them, and every caller
+ * may rely on this: where a single byte of a sound sheet has changed, or two unequal neighbours among the first 508
+ * bytes of a block have changed places, the answer is 2, and the place is that block.
  */
 
 /* Makes the sheet's buffer a sound sheet of n nodes, without labels and arrows. Its bytes before do not matter.
  * Answers 0, 5 or 1. Every answer but done leaves the buffer as it was. */
 zamiathen_answer zamiathen_blank(uint8_t *sheet, size_t sheet_length, size_t n);
+
+/* Makes a card that was written under version 1 a sheet, in the card's own buffer: the graph stays, and the check bytes
+ * become those of a sheet. Answers 0 or 1 to 4, asked of the old form: sums modulo 255 over bytes 0 to 509 of a block,
+ * s at 510 and t at 511 in one byte each, zeros up to byte 509. Every answer but done leaves the card as it was. A card
+ * is converted once: a sheet that is lent as a card is asked by the old form, too. */
+zamiathen_answer zamiathen_convert_255(uint8_t *card, size_t card_length);
 
 /* Has a node this label? The bit is 1 if so. Answers 0, 1 to 4, or 7 unless the label is below 48 and the node below n.
  * Writes nothing. Each call asks the whole sheet. */

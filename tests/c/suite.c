@@ -83,8 +83,23 @@ static void left(const char *what, const uint8_t *carried, size_t length) {
 
 static void left_alone(const char *what) { left(what, NULL, 0); }
 
-/* Check bytes of each block. */
+/* Check bytes of each block: sums modulo 257 over bytes 0 to 507, in two bytes each. */
 static void seal(uint8_t *bytes) {
+    for (size_t block = 0; block < 17; block++, bytes += 512) {
+        unsigned s = 0, t = 0;
+        for (size_t i = 0; i < 508; i++) {
+            s = (s + bytes[i]) % 257;
+            t = (t + s) % 257;
+        }
+        bytes[508] = (uint8_t)(s % 256);
+        bytes[509] = (uint8_t)(s / 256);
+        bytes[510] = (uint8_t)(t % 256);
+        bytes[511] = (uint8_t)(t / 256);
+    }
+}
+
+/* Check bytes of an old card: sums modulo 255 over bytes 0 to 509, in one byte each. */
+static void seal_255(uint8_t *bytes) {
     for (size_t block = 0; block < 17; block++, bytes += 512) {
         unsigned s = 0, t = 0;
         for (size_t i = 0; i < 510; i++) {
@@ -96,8 +111,8 @@ static void seal(uint8_t *bytes) {
     }
 }
 
-/* Sheet T: n = 3, label 0 = nodes 0, 1; label 1 = node 2; arrow 0 = 0 to 2, 1 to 2. */
-static void sheet_t(uint8_t *bytes) {
+/* Sheet T without check bytes: n = 3, label 0 = nodes 0, 1; label 1 = node 2; arrow 0 = 0 to 2, 1 to 2. */
+static void unsealed_t(uint8_t *bytes) {
     memset(bytes, 0, whole);
     bytes[0] = 1;
     bytes[2] = 3;
@@ -109,7 +124,17 @@ static void sheet_t(uint8_t *bytes) {
     bytes[24] = 4;
     bytes[512 + 16] = 4;
     bytes[512 + 24] = 4;
+}
+
+static void sheet_t(uint8_t *bytes) {
+    unsealed_t(bytes);
     seal(bytes);
+}
+
+/* T as it was stored before version 2. */
+static void card_t(uint8_t *bytes) {
+    unsealed_t(bytes);
+    seal_255(bytes);
 }
 
 static void start(void) {
@@ -355,9 +380,18 @@ static void refused_sheets(void) {
     start();
     refused_sheet("short sheet", whole - 1, ZAMIATHEN_SHEET_LENGTH, 0);
     refused_sheet("no sheet", 0, ZAMIATHEN_SHEET_LENGTH, 0);
-    sheet[600] ^= 1;
+    sheet[600] ^= 255;
     memcpy(kept, sheet, whole);
-    refused_sheet("check bytes of block 1", whole, ZAMIATHEN_SHEET_SUMS, 1);
+    refused_sheet("0 turned into 255 in block 1", whole, ZAMIATHEN_SHEET_SUMS, 1);
+    start();
+    sheet[512 * 5] = 5;
+    sheet[512 * 5 + 1] = 2;
+    memcpy(kept, sheet, whole);
+    refused_sheet("neighbours of block 5 exchanged", whole, ZAMIATHEN_SHEET_SUMS, 5);
+    start();
+    card_t(sheet);
+    memcpy(kept, sheet, whole);
+    refused_sheet("an old card", whole, ZAMIATHEN_SHEET_SUMS, 0);
     start();
     sheet[512 * 3 + 1] = 4;
     seal(sheet);
@@ -368,6 +402,59 @@ static void refused_sheets(void) {
     seal(sheet);
     memcpy(kept, sheet, whole);
     refused_sheet("row 3 of 3 in block 16", whole, ZAMIATHEN_SHEET_ZEROS, 16);
+}
+
+/* A card that is no sound one stays as it is. */
+static void refused_card(const char *what, size_t length, size_t number, size_t place) {
+    memcpy(kept, sheet, whole);
+    answered(what, zamiathen_convert_255(sheet, length), number, place);
+    left_alone(what);
+}
+
+/* The old card of T becomes T; each question of old cards, in each block. */
+static void cards(void) {
+    start();
+    card_t(sheet);
+    answered("card", zamiathen_convert_255(sheet, whole), ZAMIATHEN_DONE, 0);
+    left_alone("card");
+    refused_card("a sheet for a card", whole, ZAMIATHEN_SHEET_SUMS, 0);
+    card_t(sheet);
+    refused_card("short card", whole - 1, ZAMIATHEN_SHEET_LENGTH, 0);
+    for (size_t block = 0; block < 17; block++) {
+        uint8_t *const bytes = sheet + 512 * block;
+        card_t(sheet);
+        bytes[100] ^= 1;
+        refused_card("check bytes of a card", whole, ZAMIATHEN_SHEET_SUMS, block);
+        card_t(sheet);
+        bytes[1] = 17;
+        seal_255(sheet);
+        refused_card("head of a card", whole, ZAMIATHEN_SHEET_HEAD, block);
+        for (size_t zero = 507; zero < 510; zero++) {
+            card_t(sheet);
+            bytes[zero] = 1;
+            seal_255(sheet);
+            refused_card("zeros of a card", whole, ZAMIATHEN_SHEET_ZEROS, block);
+        }
+    }
+}
+
+/* A sum of 0 that an old card has as 255: n = 60, label 0 = nodes 1, 6, 7. */
+static void card_sum_of_zero(void) {
+    start();
+    for (int wrong = 0; wrong < 2; wrong++) {
+        card_t(sheet);
+        sheet[2] = 60;
+        sheet[16] = 0xC2;
+        sheet[24] = 0;
+        seal_255(sheet);
+        same("sum of 0", sheet[510] == 0);
+        memcpy(kept, sheet, whole);
+        sheet[510] = kept[510] = wrong ? 255 : 0;
+        answered("sum of 0", zamiathen_convert_255(sheet, whole), wrong ? ZAMIATHEN_SHEET_SUMS : ZAMIATHEN_DONE, 0);
+        if (!wrong)
+            seal(kept);
+        left_alone("sum of 0");
+    }
 }
 
 /* Each call that is lent a book. A text of 33 rules has a first one. */
@@ -443,6 +530,7 @@ static void node_3(void) {
 static void empty_buffers(void) {
     start();
     answered("no buffer for a blank sheet", zamiathen_blank(NULL, 0, 3), ZAMIATHEN_SHEET_LENGTH, 0);
+    answered("no card", zamiathen_convert_255(NULL, 0), ZAMIATHEN_SHEET_LENGTH, 0);
     bit_read("no sheet", zamiathen_label_bit(NULL, 0, 0, 0), ZAMIATHEN_SHEET_LENGTH, 0, 0);
     bit_read("no sheet", zamiathen_arrow_bit(NULL, 0, 0, 0, 0), ZAMIATHEN_SHEET_LENGTH, 0, 0);
     measured("no text", zamiathen_first_rule(NULL, 0), ZAMIATHEN_BOOK_ENDS, 0, 0);
@@ -469,6 +557,8 @@ int main(void) {
     rules();
     pages();
     refused_sheets();
+    cards();
+    card_sum_of_zero();
     refused_books();
     refused_edits();
     refused_sizes();
