@@ -42,7 +42,8 @@ extern "C" {
 #define ZAMIATHEN_STACK_BYTES 262144  /* measured: 196,544 at 255 levels, the deepest carried rule */
 #define ZAMIATHEN_THREAD_BYTES 393216 /* a thread's whole stack */
 
-/* Limits. A sheet has n nodes, n from 1 to ZAMIATHEN_MAX_NODES; n is its byte 2. Numbers count from 0. */
+/* Limits. A sheet has n nodes, n from 1 to ZAMIATHEN_MAX_NODES; n is its byte 2. Numbers count from 0. In books and
+ * edits the count of an 0A is from 1 to 60, that of an 0B from 0 to 59, whatever n. */
 #define ZAMIATHEN_MAX_NODES 60
 #define ZAMIATHEN_LABELS 48    /* labels of every sheet */
 #define ZAMIATHEN_ARROWS 16    /* kinds of arrows of every sheet */
@@ -68,7 +69,7 @@ enum zamiathen_number {
     ZAMIATHEN_BOOK_ENDS = 12,   /* it ends where a byte is wanted */
     ZAMIATHEN_BOOK_CODE = 13,   /* not a code of the sort wanted */
     ZAMIATHEN_BOOK_LEVEL = 14,  /* deeper than level 32 */
-    ZAMIATHEN_BOOK_NUMBER = 15, /* a label, arrow or node number out of range */
+    ZAMIATHEN_BOOK_NUMBER = 15, /* a label, arrow or node number or a count out of range */
     ZAMIATHEN_BOOK_RULES = 16,  /* more than 32 rules; place: the first byte of the 33rd */
 
     /* The edit. Places as in the book. */
@@ -76,7 +77,7 @@ enum zamiathen_number {
     ZAMIATHEN_EDIT_ENDS = 22,   /* it ends where a byte is wanted; an empty edit, too */
     ZAMIATHEN_EDIT_CODE = 23,   /* not a code of the sort wanted */
     ZAMIATHEN_EDIT_LEVEL = 24,  /* deeper than level 32 */
-    ZAMIATHEN_EDIT_NUMBER = 25, /* a label, arrow or node number out of range */
+    ZAMIATHEN_EDIT_NUMBER = 25, /* a label, arrow or node number or a count out of range */
     ZAMIATHEN_EDIT_MORE = 26,   /* bytes behind the edit; place: the first of them */
 
     /* The carried book. */

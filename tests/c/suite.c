@@ -156,6 +156,8 @@ static const struct fault book_faults[] = {
     {ZAMIATHEN_BOOK_CODE, 0, "30", 0, "", ""},
     {ZAMIATHEN_BOOK_LEVEL, 32, "", 32, "27", "21 01 01"},
     {ZAMIATHEN_BOOK_NUMBER, 1, "23 3C 01", 0, "", ""},
+    {ZAMIATHEN_BOOK_NUMBER, 3, "23 00 0A 00 11 00 02", 0, "", ""},
+    {ZAMIATHEN_BOOK_NUMBER, 3, "23 00 0B 3C 11 00 01", 0, "", ""},
     {ZAMIATHEN_BOOK_RULES, 96, "", ZAMIATHEN_MAX_RULES + 1, "21 01 01", ""},
 };
 
@@ -165,6 +167,7 @@ static const struct fault edit_faults[] = {
     {ZAMIATHEN_EDIT_CODE, 0, "21 01 01", 0, "", ""},
     {ZAMIATHEN_EDIT_LEVEL, 33, "31 00", 31, "05", "01 30"},
     {ZAMIATHEN_EDIT_NUMBER, 1, "31 30 01 30", 0, "", ""},
+    {ZAMIATHEN_EDIT_NUMBER, 3, "31 00 0A 3D 11 00 01 30", 0, "", ""},
     {ZAMIATHEN_EDIT_MORE, 1, "30 30", 0, "", ""},
 };
 

@@ -38,9 +38,9 @@ impl Tally {
     }
 }
 
-/// The node expression that stands in the text of 23 00 E.
+/// The node expression that stands in the text of 23 00 E, with any count: example 6 has one that a book may no longer have.
 fn expression(text: &str) -> Node {
-    let rules = reader::book(&hex(&format!("23 00 {text}")), 3).expect("a sound rule");
+    let rules = reader::former_book(&hex(&format!("23 00 {text}"))).expect("a sound rule");
     match &rules[0].rule {
         Rule::Member(_, e) => e.clone(),
         other => panic!("not a membership: {other:?}"),
@@ -112,6 +112,15 @@ fn refused(tally: &mut Tally, text: Vec<u8>, number: usize, place: usize) {
 
 fn reading(tally: &mut Tally) {
     refused(tally, hex("24 3C"), 15, 1);
+    // Counts: example 6 in a book, and one past each other end.
+    refused(tally, hex("23 00 0A 00 11 00 02"), 15, 3);
+    refused(tally, hex("23 00 0A 3D"), 15, 3);
+    refused(tally, hex("23 00 0B 3C"), 15, 3);
+    for count in ["0A 01", "0A 3C", "0B 00", "0B 3B"] {
+        tally.same(count, reader::first_rule(&hex(&format!("23 00 {count} 11 00 02"))), Ok(7));
+    }
+    let counted_edit = hex("31 00 0B 3C 11 00 02 30");
+    tally.same("60 in an edit", reader::edit(&counted_edit, 60).unwrap_err(), Answer { number: 25, place: 3 });
     refused(tally, vec![0; 4097], 11, 0);
     refused(tally, hex("21 01"), 12, 2);
     refused(tally, hex("21 11"), 13, 1);
