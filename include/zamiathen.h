@@ -1,14 +1,15 @@
 /* Station sheets: make a blank sheet, read its bits, print its blocks as pages and type pages back, judge a rule book on
- * it, carry a book back through an edit, and change the sheet by an edit, with a book or without one.
+ * it, rewrite a stored book, carry a book back through an edit, and change the sheet by an edit, with a book or without
+ * one.
  *
  * Link with libzamiathen.a:  cc program.c $(pkg-config --cflags --libs zamiathen)
  *
  * Buffers. Each buffer is a pointer and its length in bytes. A call reads no byte outside its buffers and writes only
  * where this header says so. The buffers of one call must not overlap where one of them is written: the sheet of
  * zamiathen_blank, zamiathen_type_page, zamiathen_apply and zamiathen_enter, the scratch of zamiathen_enter and the
- * output of zamiathen_print_arrow, zamiathen_print_labels and zamiathen_carry_back share no byte with any other buffer
- * of the call. A pointer may be NULL only when its length is 0. There is no other demand: any bytes, any length and any
- * number get an answer.
+ * output of zamiathen_print_arrow, zamiathen_print_labels, zamiathen_rewrite and zamiathen_carry_back share no byte with
+ * any other buffer of the call. A pointer may be NULL only when its length is 0. There is no other demand: any bytes, any
+ * length and any number get an answer.
  *
  * Threads. The library keeps no state, allocates nothing and takes no lock. Calls may run at the same time in any
  * number of threads as long as no buffer that one call writes is read or written by another.
@@ -168,6 +169,14 @@ size_t zamiathen_rule_start(const uint8_t *book, size_t book_length, size_t n, s
 
 /* Does each rule of the book hold on the sheet? Answers 0, 1 to 4, 11 to 16 or 41. Writes nothing. */
 zamiathen_judged zamiathen_judge(const uint8_t *sheet, size_t sheet_length, const uint8_t *book, size_t book_length);
+
+/* Rewrites a stored book, in which a count may be any byte, into one whose counts are in range: from the inside out an
+ * 0A with the count 0 becomes 01, one with a count above 60 becomes 02, an 0B with a count of 60 or more becomes 01, each
+ * with its operands, and all other bytes stay as they stand. Each rule holds as before on every sheet that the stored
+ * book's node numbers fit. The rewritten book is no longer than the stored one, and a book whose counts are in range is
+ * left as it is. Node numbers up to 59 are in range. Answers 0 with the length, 11 to 16 or 33. Done writes the rewritten
+ * book at the start of the output and leaves the rest of it; every other answer leaves the output as it was. */
+zamiathen_length zamiathen_rewrite(const uint8_t *book, size_t book_length, uint8_t *output, size_t output_length);
 
 /*
  * Edits

@@ -35,9 +35,9 @@ pub fn book(text: &[u8], n: usize) -> Asked<Vec<Placed>> {
     Reader::begin(text, n, 10)?.book()
 }
 
-/// The rules of a stored book: any count, n as 60.
-pub fn former_book(text: &[u8]) -> Asked<Vec<Placed>> {
-    Reader { counts: FORMER_COUNTS, ..Reader::begin(text, MOST_NODES, 10)? }.book()
+/// The rules of a stored book, which may have any count.
+pub fn former_book(text: &[u8], n: usize) -> Asked<Vec<Placed>> {
+    Reader { counts: FORMER_COUNTS, ..Reader::begin(text, n, 10)? }.book()
 }
 
 /// The steps of an edit.

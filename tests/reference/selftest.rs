@@ -1,10 +1,11 @@
-//! The marked examples of document 01, some of its remarks and pages of its sheet T, asked of the reference itself.
+//! The marked examples of document 01, some of its remarks, pages of its sheet T and rewritten books, asked of the reference itself.
 
 use reference::answer::{Answer, DONE};
 use reference::calls::{carry_back, enter, judge, Judged};
-use reference::graph::{Graph, Pairs};
+use reference::graph::{Graph, Pairs, MOST_NODES};
 use reference::meaning::nodes;
 use reference::pages::{page, type_page, Shown};
+use reference::rewrite::rewrite;
 use reference::syntax::{Node, Rule};
 use reference::{reader, sheet};
 
@@ -40,7 +41,7 @@ impl Tally {
 
 /// The node expression that stands in the text of 23 00 E, with any count: example 6 has one that a book may no longer have.
 fn expression(text: &str) -> Node {
-    let rules = reader::former_book(&hex(&format!("23 00 {text}"))).expect("a sound rule");
+    let rules = reader::former_book(&hex(&format!("23 00 {text}")), MOST_NODES).expect("a sound rule");
     match &rules[0].rule {
         Rule::Member(_, e) => e.clone(),
         other => panic!("not a membership: {other:?}"),
@@ -61,6 +62,29 @@ fn meanings(tally: &mut Tally) {
         let found: Vec<usize> = (0..3).filter(|i| nodes(&graph, &expression(text))[*i]).collect();
         tally.same(text, found, wanted.to_vec());
     }
+}
+
+/// Counts that say nothing, and those that say the least.
+fn rewritten(tally: &mut Tally) {
+    let examples = [
+        ("23 00 0A 00 11 00 02", "23 00 01"),
+        ("23 00 0A 01 11 00 02", "23 00 0A 01 11 00 02"),
+        ("23 00 0A 3C 11 00 02", "23 00 0A 3C 11 00 02"),
+        ("23 00 0A 3D 11 00 02", "23 00 02"),
+        ("23 00 0B 3B 11 00 02", "23 00 0B 3B 11 00 02"),
+        ("23 00 0B 3C 11 00 02", "23 00 01"),
+        ("23 00 0A 02 16 11 00 0A FF 11 00 01 0B FF 11 00 01 21 01 01", "23 00 0A 02 16 11 00 02 01 21 01 01"),
+        ("23 00 05 0A 00 11 00 0B 00 11 01 01", "23 00 05 01"),
+    ];
+    for (book, wanted) in examples {
+        let mut out = vec![0xEE; 100];
+        let found = rewrite(&hex(book), &mut out);
+        tally.same(book, (found.answer, out[..found.length].to_vec()), (DONE, hex(wanted)));
+    }
+    let answer = rewrite(&hex("21 0A 00 11 00 03 30 01"), &mut []).answer;
+    tally.same("label 48 in what is dropped", answer, Answer { number: 15, place: 6 });
+    let answer = rewrite(&hex("23 00 0A 00 11 00 02"), &mut [0; 2]).answer;
+    tally.same("a short output", answer, Answer { number: 33, place: 3 });
 }
 
 const B: &str = "21 03 00 08 11 00 03 01";
@@ -204,6 +228,7 @@ fn explosions(tally: &mut Tally) {
 fn main() {
     let mut tally = Tally { passed: 0, failed: 0 };
     meanings(&mut tally);
+    rewritten(&mut tally);
     carrying(&mut tally);
     entering(&mut tally);
     reading(&mut tally);
