@@ -36,7 +36,7 @@ extern "C" {
 
 /* Sizes. */
 #define ZAMIATHEN_SHEET_BYTES 8704    /* a sheet has just this length */
-#define ZAMIATHEN_TEXT_BYTES 4096     /* the longest book and the longest edit */
+#define ZAMIATHEN_TEXT_BYTES 4096     /* the longest book and the longest edit; suffices for a rewritten book */
 #define ZAMIATHEN_CARRIED_BYTES 16384 /* the longest carried book: an output or scratch of this length suffices */
 #define ZAMIATHEN_LINE_BYTES 64       /* a line of a page, its line feed included */
 #define ZAMIATHEN_PAGE_BYTES 3904     /* the longest page, of an arrow kind at 60 nodes; a label page has 3136 */

@@ -2,18 +2,23 @@
 use mathlib.Core.Path.{_≡_, ap}
 use mathlib.Core.Bool.{Bool, true, false, cond}
 use mathlib.Core.List.{List, [], _∷_}
-use Prim.Native.Nat.{_≤_}
+use Prim.Native.Nat.{ℕ, _≤_}
 use native.Mathlib.Omega.{arith}
 use lib.Dec.{eqb}
 use lib.ListN.{length, length-append, length-map}
+use Rattle.answer.specs.Asked.{passed}
 use Rattle.logic.specs.Syntax.{Sort, rule, Expr}
+use Rattle.logic.specs.Limits.{maxNodes}
 use Rattle.text.specs.Code.{code, levels, bookCode, bookLevels}
+use Rattle.text.specs.Reading.{longestText, formerLimits}
+use Rattle.text.proofs.Books.{book-is-spelled}
 use Rattle.tree.specs.Tree.{Tree, name, leaf, one, two, size, height, tree}
 use Rattle.tree.proofs.Trees.{height-tree}
 use Rattle.ends.proofs.Behind.{size-code}
-use Rattle.rewrite.specs.Rewritten.{rewritten, rewrittenBook}
+use Rattle.rewrite.specs.Rewritten.{rewritten, rewrittenBook, askRewritten}
 use Rattle.rewrite.specs.Trees.{headInPlace, rewrittenTree}
 use Rattle.rewrite.proofs.Trees.{tree-rewritten}
+use Rattle.rewrite.proofs.Rewriting.{rewritten-from}
 
 no-larger : (t : Tree) → size (rewrittenTree t) ≤ size t
 unfolding size rewrittenTree headInPlace
@@ -56,3 +61,10 @@ book-no-deeper (K ∷ Ks) = omega (arith, no-deeper K, book-no-deeper Ks)
 
 pub as-many-rules : (rules : List (Expr rule)) → length (rewrittenBook rules) ≡ length rules
 as-many-rules rules = length-map rules rewritten
+
+-- and of texts: an output as long as the longest book suffices
+pub text-no-longer : (t bytes : List ℕ) → askRewritten t ≡ passed bytes → (length bytes ≤ length t) × (length t ≤ longestText)
+text-no-longer t bytes h =
+    let r = rewritten-from t bytes h in
+    let s = book-is-spelled (formerLimits maxNodes) t (r .rules) (r .read) in
+    (omega (arith, ap length (r .bytes-are), ap length (s .spells .text-is), book-no-longer (r .rules)), s .short)

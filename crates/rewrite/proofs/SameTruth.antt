@@ -13,9 +13,10 @@ use Rattle.logic.specs.Meaning.{value}
 use Rattle.logic.specs.Limits.{maxNodes, Within}
 use Rattle.logic.proofs.Dual.{at-least-none}
 use Rattle.text.specs.Code.{bookCode}
-use Rattle.text.specs.Reading.{textLimits, formerLimits}
+use Rattle.text.specs.Reading.{formerLimits}
 use Rattle.text.specs.Questions.{askBook}
 use Rattle.rewrite.specs.Rewritten.{leastRewritten, mostRewritten, rewritten, rewrittenBook, askRewritten}
+use Rattle.rewrite.specs.OnSheet.{OnSheet}
 use Rattle.rewrite.proofs.Wider.{former-below, book-wider}
 use Rattle.rewrite.proofs.Passes.{rewritten-passes}
 
@@ -79,13 +80,6 @@ module _ (g : Graph) (few : g .n ≤ maxNodes) where
   pub same-truth : (rules : List (Expr rule)) → map (value g) (rewrittenBook rules) ≡ map (value g) rules
   same-truth [] = refl
   same-truth (K ∷ Ks) = ap₂ _∷_ (same-value K) (same-truth Ks)
-
--- A stored book whose numbers, by the former ranges, fit a sheet: it is rewritten, the rewritten book passes on that sheet, and each rule holds as before.
-pub record OnSheet (g : Graph) (t : List ℕ) (rules : List (Expr rule)) : Type 0 where
-  pub bytes : List ℕ
-  pub rewrites : askRewritten t ≡ passed bytes
-  pub passes : askBook (textLimits (g .n)) bytes ≡ passed (rewrittenBook rules)
-  pub same : map (value g) (rewrittenBook rules) ≡ map (value g) rules
 
 pub on-every-sheet : (g : Graph) → Within g → (t : List ℕ) (rules : List (Expr rule)) → askBook (formerLimits (g .n)) t ≡ passed rules → OnSheet g t rules
 unfolding askRewritten _>>=_
