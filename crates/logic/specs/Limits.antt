@@ -43,11 +43,11 @@ pub record Ranges : Type 0 where
   pub leastTo : ℕ
   pub mostTo : ℕ
 
--- The ranges for n nodes (document 02, item 3): the count of an 0A is 1 to 60, that of an 0B 0 to 59. Any other says nothing, on every sheet.
+-- The ranges for n nodes (document 02, item 3): the count of an 0A is 1 to 60, that of an 0B 0 to 59. Any other says nothing, whatever the sheet.
 abbrev pub ranges : ℕ → Ranges
 ranges n = record { nodes = n; leastFrom = 1; leastTo = maxNodes; mostTo = maxNodes - 1 }
 
--- Those of document 01, a count 0 to 255. They serve the rewriter of stored books only.
+-- Those of document 01, a count 0 to 255. No call but the rewriter of stored books reads by them.
 abbrev pub formerRanges : ℕ → Ranges
 formerRanges n = record { nodes = n; leastFrom = 0; leastTo = 255; mostTo = 255 }
 

@@ -14,7 +14,7 @@ use Rattle.text.specs.declared.Stop.the-variants.{Missing, OutOfRange}
 use Rattle.text.specs.declared.Step.the-variants.{Next, Stopped}
 use Rattle.text.specs.Reading.{limitsBy, number, Read, fault, outOfRange, follow}
 use Rattle.text.specs.Rows.{nothing, takes, items, itemOf, itemPlan, finished, rowPlan, numberFits, stopOf, stepOf, stepAt}
-use Rattle.text.proofs.Items.{each-below, nothing-at, is-number, level-free}
+use Rattle.text.proofs.Items.{nothing-at, is-number, level-free}
 use Rattle.text.proofs.Turns.{at-end}
 
 module _ (text : List ℕ) (ρ : Ranges) where

@@ -32,7 +32,7 @@ pub record Limits : Type 0 where
 abbrev pub limitsBy : Ranges → Limits
 limitsBy r = record { longest = longestText; deepest = deepestText; numbers = r }
 
--- For n nodes; and by the former ranges, which serve the rewriter of stored books only.
+-- For n nodes; and by the former ranges, for the rewriter of stored books.
 abbrev pub textLimits : ℕ → Limits
 textLimits n = limitsBy (ranges n)
 

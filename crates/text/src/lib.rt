@@ -174,7 +174,7 @@ fn part(text: &[u8], ranges: Ranges, item: u32, at: usize, level: usize) -> Step
 }
 
 // Reads a thing whose first code is on a level, and the steps that follow one another there, along the rows of their codes.
-// It calls itself, through `part`, one level deeper each time and no more than `Text::DEEPEST` deep, whatever the text: 144 bytes of stack a level,
+// It calls itself, through `part`, one level deeper each time and no more than `Text::DEEPEST` deep, whatever the text: 160 bytes of stack a level,
 // 5 kB in all. Steps that follow one another take no more stack.
 // Inner: the sort wanted is a digit from C to F.
 fn read(text: &[u8], ranges: Ranges, wanted: u32, at: usize, level: usize) -> Step
