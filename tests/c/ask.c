@@ -3,6 +3,7 @@
  *
  *   convert CARD        number, place and the card's bytes after the call
  *   judge BOOK          number and place
+ *   rewrite BOOK        number, place and the rewritten book
  *   carry BOOK EDIT     number, place and the carried book
  *   enter BOOK EDIT     number, place and the sheet's bytes after the call; each call begins with the sheet of the file
  */
@@ -63,6 +64,12 @@ static int call(char *line) {
     if (strcmp(name, "judge") == 0) {
         zamiathen_judged j = zamiathen_judge(sheet, sizeof sheet, book.bytes, book.length);
         printf("%02zu %05zu\n", j.number, j.place);
+        return 1;
+    }
+    if (strcmp(name, "rewrite") == 0) {
+        zamiathen_length r = zamiathen_rewrite(book.bytes, book.length, scratch, sizeof scratch);
+        printf("%02zu %05zu ", r.number, r.place);
+        print_bytes(scratch, r.length);
         return 1;
     }
     if (!read_text(&edit, strtok(NULL, " \n")))

@@ -181,7 +181,36 @@ static const struct fault book_faults[] = {
     {ZAMIATHEN_BOOK_CODE, 0, "30", 0, "", ""},
     {ZAMIATHEN_BOOK_LEVEL, 32, "", 32, "27", "21 01 01"},
     {ZAMIATHEN_BOOK_NUMBER, 1, "23 3C 01", 0, "", ""},
+    {ZAMIATHEN_BOOK_NUMBER, 3, "23 00 0A 00 11 00 02", 0, "", ""},
+    {ZAMIATHEN_BOOK_NUMBER, 3, "23 00 0B 3C 11 00 01", 0, "", ""},
     {ZAMIATHEN_BOOK_RULES, 96, "", ZAMIATHEN_MAX_RULES + 1, "21 01 01", ""},
+};
+
+/* Stored books: those faults of books that are none of counts, and a fault in what would be dropped. */
+static const struct fault stored_faults[] = {
+    {ZAMIATHEN_BOOK_LENGTH, 0, "", ZAMIATHEN_TEXT_BYTES + 1, "21", ""},
+    {ZAMIATHEN_BOOK_ENDS, 6, "23 00 0A 00 11 00", 0, "", ""},
+    {ZAMIATHEN_BOOK_CODE, 6, "23 00 0B FF 11 00 11 00", 0, "", ""},
+    {ZAMIATHEN_BOOK_LEVEL, 32, "", 32, "27", "21 01 01"},
+    {ZAMIATHEN_BOOK_NUMBER, 1, "23 3C 01", 0, "", ""},
+    {ZAMIATHEN_BOOK_NUMBER, 7, "23 00 0A 00 11 00 03 30", 0, "", ""},
+    {ZAMIATHEN_BOOK_RULES, 96, "", ZAMIATHEN_MAX_RULES + 1, "21 01 01", ""},
+};
+
+/* A stored book and what it becomes. */
+static const char *const stored_books[][2] = {
+    {"", ""},
+    {"23 00 0A 00 11 00 02", "23 00 01"},
+    {"23 00 0A 01 11 00 02", "23 00 0A 01 11 00 02"},
+    {"23 00 0A 3C 11 00 02", "23 00 0A 3C 11 00 02"},
+    {"23 00 0A 3D 11 00 02", "23 00 02"},
+    {"23 00 0A FF 11 00 02", "23 00 02"},
+    {"23 00 0B 00 11 00 02", "23 00 0B 00 11 00 02"},
+    {"23 00 0B 3B 11 00 02", "23 00 0B 3B 11 00 02"},
+    {"23 00 0B 3C 11 00 02", "23 00 01"},
+    {"23 00 0B FF 11 00 02", "23 00 01"},
+    {"21 01 01 23 3B 0A 02 16 11 0F 0B 3C 11 00 01 0A 00 11 00 01 21 01 02",
+     "21 01 01 23 3B 0A 02 16 11 0F 01 01 21 01 02"},
 };
 
 static const struct fault edit_faults[] = {
@@ -190,6 +219,7 @@ static const struct fault edit_faults[] = {
     {ZAMIATHEN_EDIT_CODE, 0, "21 01 01", 0, "", ""},
     {ZAMIATHEN_EDIT_LEVEL, 33, "31 00", 31, "05", "01 30"},
     {ZAMIATHEN_EDIT_NUMBER, 1, "31 30 01 30", 0, "", ""},
+    {ZAMIATHEN_EDIT_NUMBER, 3, "31 00 0A 3D 11 00 01 30", 0, "", ""},
     {ZAMIATHEN_EDIT_MORE, 1, "30 30", 0, "", ""},
 };
 
@@ -477,6 +507,38 @@ static void refused_books(void) {
     left_alone("refused books");
 }
 
+/* A stored book is read by any count. */
+static void rewritten(void) {
+    static struct text stored, wanted;
+    for (size_t i = 0; i < sizeof stored_books / sizeof *stored_books; i++) {
+        const char *what = stored_books[i][0];
+        stored.length = wanted.length = 0;
+        put(&stored, stored_books[i][0]);
+        put(&wanted, stored_books[i][1]);
+        start();
+        if (wanted.length > 0)
+            measured(what, zamiathen_rewrite(stored.bytes, stored.length, scratch, wanted.length - 1), ZAMIATHEN_ROOM,
+                     wanted.length, 0);
+        left_alone(what);
+        measured(what, zamiathen_rewrite(stored.bytes, stored.length, scratch, wanted.length), ZAMIATHEN_DONE, 0,
+                 wanted.length);
+        left(what, wanted.bytes, wanted.length);
+        start();
+        measured(what, zamiathen_rewrite(stored.bytes, stored.length, scratch, room), ZAMIATHEN_DONE, 0, wanted.length);
+        left(what, wanted.bytes, wanted.length);
+    }
+    start();
+    for (size_t i = 0; i < sizeof stored_faults / sizeof *stored_faults; i++) {
+        const struct fault *fault = &stored_faults[i];
+        const struct text *book = text_of(fault);
+        measured("refused stored book", zamiathen_rewrite(book->bytes, book->length, scratch, room), fault->number,
+                 fault->place, 0);
+        measured("refused without an output", zamiathen_rewrite(book->bytes, book->length, NULL, 0), fault->number,
+                 fault->place, 0);
+    }
+    left_alone("refused stored books");
+}
+
 /* Each call that is lent an edit. */
 static void refused_edits(void) {
     start();
@@ -540,6 +602,8 @@ static void empty_buffers(void) {
     answered("no sheet, no edit", zamiathen_apply(NULL, 0, NULL, 0), ZAMIATHEN_SHEET_LENGTH, 0);
     measured("no output", zamiathen_print_labels(sheet, whole, NULL, 0), ZAMIATHEN_ROOM, 3136, 0);
     answered("no page", zamiathen_type_page(sheet, whole, NULL, 0), ZAMIATHEN_PAGE, 0);
+    measured("nothing to rewrite", zamiathen_rewrite(NULL, 0, NULL, 0), ZAMIATHEN_DONE, 0, 0);
+    measured("no output", zamiathen_rewrite(B, sizeof B, NULL, 0), ZAMIATHEN_ROOM, sizeof B, 0);
     answered("no edit", zamiathen_apply(sheet, whole, NULL, 0), ZAMIATHEN_EDIT_ENDS, 0);
     measured("no edit", zamiathen_carry_back(NULL, 0, NULL, 0, NULL, 0), ZAMIATHEN_EDIT_ENDS, 0, 0);
     measured("nothing to carry", zamiathen_carry_back(NULL, 0, END, 1, NULL, 0), ZAMIATHEN_DONE, 0, 0);
@@ -560,6 +624,7 @@ int main(void) {
     cards();
     card_sum_of_zero();
     refused_books();
+    rewritten();
     refused_edits();
     refused_sizes();
     node_3();

@@ -1,11 +1,12 @@
-//! The marked examples of document 01, some of its remarks, check bytes, old cards and pages of its sheet T, asked of the
-//! reference itself.
+//! The marked examples of document 01, some of its remarks, check bytes, old cards, pages of its sheet T and rewritten
+//! books, asked of the reference itself.
 
 use reference::answer::{Answer, DONE};
 use reference::calls::{carry_back, enter, judge, Judged};
-use reference::graph::{Graph, Pairs};
+use reference::graph::{Graph, Pairs, MOST_NODES};
 use reference::meaning::nodes;
 use reference::pages::{page, type_page, Shown};
+use reference::rewrite::rewrite;
 use reference::sheet::{SUMS_255, SUMS_257};
 use reference::syntax::{Node, Rule};
 use reference::{reader, sheet};
@@ -40,9 +41,9 @@ impl Tally {
     }
 }
 
-/// The node expression that stands in the text of 23 00 E.
+/// The node expression that stands in the text of 23 00 E, with any count: example 6 has one that a book may no longer have.
 fn expression(text: &str) -> Node {
-    let rules = reader::book(&hex(&format!("23 00 {text}")), 3).expect("a sound rule");
+    let rules = reader::former_book(&hex(&format!("23 00 {text}")), MOST_NODES).expect("a sound rule");
     match &rules[0].rule {
         Rule::Member(_, e) => e.clone(),
         other => panic!("not a membership: {other:?}"),
@@ -63,6 +64,29 @@ fn meanings(tally: &mut Tally) {
         let found: Vec<usize> = (0..3).filter(|i| nodes(&graph, &expression(text))[*i]).collect();
         tally.same(text, found, wanted.to_vec());
     }
+}
+
+/// Counts that say nothing, and those that say the least.
+fn rewritten(tally: &mut Tally) {
+    let examples = [
+        ("23 00 0A 00 11 00 02", "23 00 01"),
+        ("23 00 0A 01 11 00 02", "23 00 0A 01 11 00 02"),
+        ("23 00 0A 3C 11 00 02", "23 00 0A 3C 11 00 02"),
+        ("23 00 0A 3D 11 00 02", "23 00 02"),
+        ("23 00 0B 3B 11 00 02", "23 00 0B 3B 11 00 02"),
+        ("23 00 0B 3C 11 00 02", "23 00 01"),
+        ("23 00 0A 02 16 11 00 0A FF 11 00 01 0B FF 11 00 01 21 01 01", "23 00 0A 02 16 11 00 02 01 21 01 01"),
+        ("23 00 05 0A 00 11 00 0B 00 11 01 01", "23 00 05 01"),
+    ];
+    for (book, wanted) in examples {
+        let mut out = vec![0xEE; 100];
+        let found = rewrite(&hex(book), &mut out);
+        tally.same(book, (found.answer, out[..found.length].to_vec()), (DONE, hex(wanted)));
+    }
+    let answer = rewrite(&hex("21 0A 00 11 00 03 30 01"), &mut []).answer;
+    tally.same("label 48 in what is dropped", answer, Answer { number: 15, place: 6 });
+    let answer = rewrite(&hex("23 00 0A 00 11 00 02"), &mut [0; 2]).answer;
+    tally.same("a short output", answer, Answer { number: 33, place: 3 });
 }
 
 const B: &str = "21 03 00 08 11 00 03 01";
@@ -114,6 +138,15 @@ fn refused(tally: &mut Tally, text: Vec<u8>, number: usize, place: usize) {
 
 fn reading(tally: &mut Tally) {
     refused(tally, hex("24 3C"), 15, 1);
+    // Counts: example 6 in a book, and one past each other end.
+    refused(tally, hex("23 00 0A 00 11 00 02"), 15, 3);
+    refused(tally, hex("23 00 0A 3D"), 15, 3);
+    refused(tally, hex("23 00 0B 3C"), 15, 3);
+    for count in ["0A 01", "0A 3C", "0B 00", "0B 3B"] {
+        tally.same(count, reader::first_rule(&hex(&format!("23 00 {count} 11 00 02"))), Ok(7));
+    }
+    let counted_edit = hex("31 00 0B 3C 11 00 02 30");
+    tally.same("60 in an edit", reader::edit(&counted_edit, 60).unwrap_err(), Answer { number: 25, place: 3 });
     refused(tally, vec![0; 4097], 11, 0);
     refused(tally, hex("21 01"), 12, 2);
     refused(tally, hex("21 11"), 13, 1);
@@ -237,6 +270,7 @@ fn explosions(tally: &mut Tally) {
 fn main() {
     let mut tally = Tally { passed: 0, failed: 0 };
     meanings(&mut tally);
+    rewritten(&mut tally);
     carrying(&mut tally);
     entering(&mut tally);
     reading(&mut tally);

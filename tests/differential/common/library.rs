@@ -51,6 +51,7 @@ extern "C" {
     pub fn zamiathen_first_rule(text: *const u8, text_length: usize) -> CLength;
     pub fn zamiathen_rule_start(book: *const u8, book_length: usize, n: usize, rule: usize) -> usize;
     pub fn zamiathen_judge(sheet: *const u8, sheet_length: usize, book: *const u8, book_length: usize) -> CJudged;
+    pub fn zamiathen_rewrite(book: *const u8, book_length: usize, output: *mut u8, output_length: usize) -> CLength;
     pub fn zamiathen_apply(sheet: *mut u8, sheet_length: usize, edit: *const u8, edit_length: usize) -> CAnswer;
     pub fn zamiathen_carry_back(
         book: *const u8,
