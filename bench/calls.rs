@@ -1,6 +1,8 @@
 //! The calls that are measured, made by the library and by plain Rust, and their inputs.
 
-use crate::library::{zamiathen_apply, zamiathen_carry_back, zamiathen_enter, zamiathen_judge};
+use crate::library::{
+    zamiathen_apply, zamiathen_blank, zamiathen_carry_back, zamiathen_enter, zamiathen_judge, zamiathen_type_page,
+};
 
 /// The buffers of a call, and the sheet that is copied in before it.
 pub struct Buffers {
@@ -65,10 +67,10 @@ impl Row {
 
 /// The station of `examples/station`, then the slow inputs of `bench/data`.
 pub fn rows() -> Vec<Row> {
-    // 01 is no rule: judge asks all questions of the sheet, and then of the book only 11 to 13.
-    let no_rule = Buffers::new(station("sheet"), vec![0x01], vec![]);
     let mut rows = vec![
-        Row::new("sheet questions", no_rule, JUDGE),
+        questions("sheet questions", station("sheet")),
+        questions("sheet questions, full", full_sheet()),
+        questions("sheet questions, empty", blank_sheet()),
         Row::new("judge", on_station("sheet", "move"), JUDGE),
         Row::new("carry back", on_station("sheet", "move"), CARRY_BACK),
         Row::new("enter, done", on_station("sheet", "move"), ENTER),
@@ -82,9 +84,41 @@ pub fn rows() -> Vec<Row> {
     rows
 }
 
-/// Inputs that are not measured: each edit of the station on each of its sheets, of which `clash` breaks a rule.
+/// 01 is no rule: judge asks all questions of the sheet, and then of the book only 11 to 13.
+fn questions(name: &str, sheet: Vec<u8>) -> Row {
+    Row::new(name, Buffers::new(sheet, vec![0x01], vec![]), JUDGE)
+}
+
+/// Sixty nodes without labels and arrows.
+fn blank_sheet() -> Vec<u8> {
+    let mut sheet = vec![0; 8704];
+    let answer = unsafe { zamiathen_blank(sheet.as_mut_ptr(), sheet.len(), 60) };
+    assert_eq!(answer.number, 0);
+    sheet
+}
+
+/// Sixty nodes with all labels and all arrows, made by typing pages.
+fn full_sheet() -> Vec<u8> {
+    let mut sheet = blank_sheet();
+    let heads = (0..16).map(|arrow| (format!("A{arrow:02}"), 60)).chain([("L60".to_string(), 48)]);
+    for (head, lines) in heads {
+        let mut page = format!("{head:63}\n");
+        (0..lines).for_each(|line| page += &format!("{line:02} {:#<60}\n", ""));
+        let answer = unsafe { zamiathen_type_page(sheet.as_mut_ptr(), sheet.len(), page.as_ptr(), page.len()) };
+        assert_eq!(answer.number, 0);
+    }
+    sheet
+}
+
+/// Inputs that are not measured: each edit of the station on each of its sheets, of which `clash` breaks a rule, and its
+/// sheet with a byte of each block changed.
 pub fn compared_only() -> Vec<Row> {
     let mut rows = vec![];
+    for block in 0..17 {
+        let mut row = Row::new(&format!("damaged block {block}"), on_station("sheet", "move"), ENTER);
+        row.buffers.opening[512 * block + 29 * block] ^= 255;
+        rows.push(row);
+    }
     for sheet in ["sheet", "sheet_after", "clash"] {
         for edit in ["move", "move_back", "crowd", "swap", "repair"] {
             rows.push(Row::new(&format!("{sheet} and {edit}"), on_station(sheet, edit), ENTER));

@@ -5,7 +5,8 @@ BLOCK = 512
 SHEET = BLOCK * (1 + ARROWS)
 LABEL_BLOCK = 0
 ROWS = 16
-SUMS = 510
+SUMS = 508
+MODULUS = 257
 
 
 def arrow_block(arrow):
@@ -27,9 +28,9 @@ def has(sheet, block, row, node):
 def sums(body):
     s = t = 0
     for byte in body:
-        s = (s + byte) % 255
-        t = (t + s) % 255
-    return bytes([s, t])
+        s = (s + byte) % MODULUS
+        t = (t + s) % MODULUS
+    return s.to_bytes(2, "little") + t.to_bytes(2, "little")
 
 
 def close(sheet, nodes):

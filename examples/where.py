@@ -16,7 +16,7 @@ OF_A_TEXT = {
     2: "ends where a byte is wanted",
     3: "has a byte here that is no code of the sort wanted",
     4: "is deeper than level 32 here",
-    5: "has a label, arrow or node number here that is out of range",
+    5: "has a label, arrow or node number or a count here that is out of range",
 }
 IN_A_TEXT = {10 + n: f"the book {words}" for n, words in OF_A_TEXT.items()}
 IN_A_TEXT |= {20 + n: f"the edit {words}" for n, words in OF_A_TEXT.items()}

@@ -1,14 +1,15 @@
-/* Station sheets: make a blank sheet, read its bits, print its blocks as pages and type pages back, judge a rule book on
- * it, carry a book back through an edit, and change the sheet by an edit, with a book or without one.
+/* Station sheets: make a blank sheet, convert an old card, read a sheet's bits, print its blocks as pages and type
+ * pages back, judge a rule book on it, rewrite a stored book, carry a book back through an edit, and change the sheet by
+ * an edit, with a book or without one.
  *
  * Link with libzamiathen.a:  cc program.c $(pkg-config --cflags --libs zamiathen)
  *
  * Buffers. Each buffer is a pointer and its length in bytes. A call reads no byte outside its buffers and writes only
  * where this header says so. The buffers of one call must not overlap where one of them is written: the sheet of
- * zamiathen_blank, zamiathen_type_page, zamiathen_apply and zamiathen_enter, the scratch of zamiathen_enter and the
- * output of zamiathen_print_arrow, zamiathen_print_labels and zamiathen_carry_back share no byte with any other buffer
- * of the call. A pointer may be NULL only when its length is 0. There is no other demand: any bytes, any length and any
- * number get an answer.
+ * zamiathen_blank, zamiathen_type_page, zamiathen_apply and zamiathen_enter, the card of zamiathen_convert_255, the
+ * scratch of zamiathen_enter and the output of zamiathen_print_arrow, zamiathen_print_labels, zamiathen_rewrite and
+ * zamiathen_carry_back share no byte with any other buffer of the call. A pointer may be NULL only when its length is 0.
+ * There is no other demand: any bytes, any length and any number get an answer.
  *
  * Threads. The library keeps no state, allocates nothing and takes no lock. Calls may run at the same time in any
  * number of threads as long as no buffer that one call writes is read or written by another.
@@ -28,21 +29,23 @@ extern "C" {
 #endif
 
 /* The version. The first number moves when the form of sheets or an answer of a call changes, the second when a call is
- * added: a card written under another first number may be answered otherwise. As one number: 1000 * first + second. */
-#define ZAMIATHEN_VERSION_FIRST 1
-#define ZAMIATHEN_VERSION_SECOND 2
+ * added: a card written under another first number may be answered otherwise (one written under 1 is converted by
+ * zamiathen_convert_255). As one number: 1000 * first + second. */
+#define ZAMIATHEN_VERSION_FIRST 3
+#define ZAMIATHEN_VERSION_SECOND 0
 #define ZAMIATHEN_VERSION (1000 * ZAMIATHEN_VERSION_FIRST + ZAMIATHEN_VERSION_SECOND)
 
 /* Sizes. */
 #define ZAMIATHEN_SHEET_BYTES 8704    /* a sheet has just this length */
-#define ZAMIATHEN_TEXT_BYTES 4096     /* the longest book and the longest edit */
+#define ZAMIATHEN_TEXT_BYTES 4096     /* the longest book and the longest edit; suffices for a rewritten book */
 #define ZAMIATHEN_CARRIED_BYTES 16384 /* the longest carried book: an output or scratch of this length suffices */
 #define ZAMIATHEN_LINE_BYTES 64       /* a line of a page, its line feed included */
 #define ZAMIATHEN_PAGE_BYTES 3904     /* the longest page, of an arrow kind at 60 nodes; a label page has 3136 */
-#define ZAMIATHEN_STACK_BYTES 262144  /* measured: 196,544 at 255 levels, the deepest carried rule */
+#define ZAMIATHEN_STACK_BYTES 262144  /* measured: 196,528 at 255 levels, the deepest carried rule */
 #define ZAMIATHEN_THREAD_BYTES 393216 /* a thread's whole stack */
 
-/* Limits. A sheet has n nodes, n from 1 to ZAMIATHEN_MAX_NODES; n is its byte 2. Numbers count from 0. */
+/* Limits. A sheet has n nodes, n from 1 to ZAMIATHEN_MAX_NODES; n is its byte 2. Numbers count from 0. In books and
+ * edits the count of an 0A is from 1 to 60, that of an 0B from 0 to 59, whatever n. */
 #define ZAMIATHEN_MAX_NODES 60
 #define ZAMIATHEN_LABELS 48    /* labels of every sheet */
 #define ZAMIATHEN_ARROWS 16    /* kinds of arrows of every sheet */
@@ -68,7 +71,7 @@ enum zamiathen_number {
     ZAMIATHEN_BOOK_ENDS = 12,   /* it ends where a byte is wanted */
     ZAMIATHEN_BOOK_CODE = 13,   /* not a code of the sort wanted */
     ZAMIATHEN_BOOK_LEVEL = 14,  /* deeper than level 32 */
-    ZAMIATHEN_BOOK_NUMBER = 15, /* a label, arrow or node number out of range */
+    ZAMIATHEN_BOOK_NUMBER = 15, /* a label, arrow or node number or a count out of range */
     ZAMIATHEN_BOOK_RULES = 16,  /* more than 32 rules; place: the first byte of the 33rd */
 
     /* The edit. Places as in the book. */
@@ -76,7 +79,7 @@ enum zamiathen_number {
     ZAMIATHEN_EDIT_ENDS = 22,   /* it ends where a byte is wanted; an empty edit, too */
     ZAMIATHEN_EDIT_CODE = 23,   /* not a code of the sort wanted */
     ZAMIATHEN_EDIT_LEVEL = 24,  /* deeper than level 32 */
-    ZAMIATHEN_EDIT_NUMBER = 25, /* a label, arrow or node number out of range */
+    ZAMIATHEN_EDIT_NUMBER = 25, /* a label, arrow or node number or a count out of range */
     ZAMIATHEN_EDIT_MORE = 26,   /* bytes behind the edit; place: the first of them */
 
     /* The carried book. */
@@ -117,11 +120,23 @@ typedef struct {
 
 /*
  * Sheets
+ *
+ * A sheet is 17 blocks of 512 bytes. The last four bytes of a block are its check bytes: the sums s and t over its
+ * bytes 0 to 507. Both start at 0; for each byte, s becomes (s + byte) mod 257, then t becomes (t + s) mod 257. Each is
+ * stored in two bytes, low byte first, s at 508 and t at 510. Every call that reads a sheet asks them, and every caller
+ * may rely on this: where a single byte of a sound sheet has changed, or two unequal neighbours among the first 508
+ * bytes of a block have changed places, the answer is 2, and the place is that block.
  */
 
 /* Makes the sheet's buffer a sound sheet of n nodes, without labels and arrows. Its bytes before do not matter.
  * Answers 0, 5 or 1. Every answer but done leaves the buffer as it was. */
 zamiathen_answer zamiathen_blank(uint8_t *sheet, size_t sheet_length, size_t n);
+
+/* Makes a card that was written under version 1 a sheet, in the card's own buffer: the graph stays, and the check bytes
+ * become those of a sheet. Answers 0 or 1 to 4, asked of the old form: sums modulo 255 over bytes 0 to 509 of a block,
+ * s at 510 and t at 511 in one byte each, zeros up to byte 509. Every answer but done leaves the card as it was. A card
+ * is converted once: a sheet that is lent as a card is asked by the old form, too. */
+zamiathen_answer zamiathen_convert_255(uint8_t *card, size_t card_length);
 
 /* Has a node this label? The bit is 1 if so. Answers 0, 1 to 4, or 7 unless the label is below 48 and the node below n.
  * Writes nothing. Each call asks the whole sheet. */
@@ -171,6 +186,14 @@ size_t zamiathen_rule_start(const uint8_t *book, size_t book_length, size_t n, s
 
 /* Does each rule of the book hold on the sheet? Answers 0, 1 to 4, 11 to 16 or 41. Writes nothing. */
 zamiathen_judged zamiathen_judge(const uint8_t *sheet, size_t sheet_length, const uint8_t *book, size_t book_length);
+
+/* Rewrites a stored book, in which a count may be any byte, into one whose counts are in range: from the inside out an
+ * 0A with the count 0 becomes 01, one with a count above 60 becomes 02, an 0B with a count of 60 or more becomes 01, each
+ * with its operands, and all other bytes stay as they stand. Each rule holds as before on every sheet that the stored
+ * book's node numbers fit. The rewritten book is no longer than the stored one, and a book whose counts are in range is
+ * left as it is. Node numbers up to 59 are in range. Answers 0 with the length, 11 to 16 or 33. Done writes the rewritten
+ * book at the start of the output and leaves the rest of it; every other answer leaves the output as it was. */
+zamiathen_length zamiathen_rewrite(const uint8_t *book, size_t book_length, uint8_t *output, size_t output_length);
 
 /*
  * Edits

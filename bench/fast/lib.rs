@@ -1,7 +1,8 @@
 //! Document 01 in plain Rust with SSE2, written for speed alone: the fastest that we know, to measure the proved
 //! library against. It shares nothing with the library or with the reference of the tests. A call allocates nothing.
 //!
-//! Where it saves: the sums take a block's bytes by vectors, each once; an expression is evaluated only for the nodes
+//! Where it saves: the sums take a block's bytes by vectors, each once, and a block with the check bytes of one without
+//! rows is only seen to have none; an expression is evaluated only for the nodes
 //! that still matter; reading a book or an edit leaves an index, so that carrying back looks for no end and no name
 //! again.
 

@@ -20,7 +20,9 @@ pub enum Number {
     Label,
     Arrow,
     Node,
-    Count,
+    /// The count of an 0A, from 1, and of an 0B, from 0.
+    Least,
+    Most,
 }
 
 /// What a code byte begins, and what follows it. Eight bytes, so that the table is read without multiplying.
@@ -38,7 +40,7 @@ const fn signature(sort: Sort, numbers: &[Number], operands: &[Sort]) -> Signatu
     Signature {
         sort,
         numbers: numbers.len() as u8,
-        number: pair(numbers, Number::Count),
+        number: pair(numbers, Number::Most),
         operands: operands.len() as u8,
         operand: pair(operands, Sort::None),
     }
@@ -62,7 +64,8 @@ const fn signature_of(code: u8) -> Signature {
         0x05 => signature(Node, &[], &[Node]),
         0x06 | 0x07 => signature(Node, &[], &[Node, Node]),
         0x08 | 0x09 => signature(Node, &[], &[Arrow, Node]),
-        0x0A | 0x0B => signature(Node, &[Number::Count], &[Arrow, Node]),
+        0x0A => signature(Node, &[Number::Least], &[Arrow, Node]),
+        0x0B => signature(Node, &[Number::Most], &[Arrow, Node]),
         0x11 => signature(Arrow, &[Number::Arrow], &[]),
         0x12 => signature(Arrow, &[], &[Arrow]),
         0x13..=0x15 => signature(Arrow, &[], &[Arrow, Arrow]),
@@ -121,15 +124,15 @@ pub type Occurrences = FixedVec<Occurrence, { TEXT_BYTES / 2 }>;
 pub struct Reader<'t> {
     pub text: &'t [u8],
     pub at: usize,
-    /// For each kind of number, the first that is out of range.
-    limits: [u16; 4],
+    /// For each kind, how many numbers are in range.
+    limits: [u16; 5],
     /// What is added to an answer's number: 0 for a book, 10 for an edit.
     tens: u8,
 }
 
 impl<'t> Reader<'t> {
     pub fn of_book(text: &'t [u8], n: usize) -> Self {
-        Reader { text, at: 0, limits: [48, 16, n as u16, 256], tens: 0 }
+        Reader { text, at: 0, limits: [48, 16, n as u16, 60, 60], tens: 0 }
     }
 
     pub fn of_edit(text: &'t [u8], n: usize) -> Self {
@@ -163,7 +166,8 @@ impl<'t> Reader<'t> {
         let Some(&number) = self.text.get(self.at) else {
             return Err(self.refused(12, self.text.len()));
         };
-        if u16::from(number) >= self.limits[kind as usize] {
+        let first = u8::from(matches!(kind, Number::Least));
+        if u16::from(number.wrapping_sub(first)) >= self.limits[kind as usize] {
             return Err(self.refused(15, self.at));
         }
         self.at += 1;

@@ -53,92 +53,178 @@ pub fn all_nodes(n: usize) -> u64 {
     (1 << n) - 1
 }
 
-/// How often byte i counts in t: 510 - i times. The check bytes themselves don't count.
-#[repr(align(16))]
-struct Weights([i16; 512]);
+/// s and t as they are stored, the first in the low half.
+#[inline(always)]
+fn stored_sums(block: &Block) -> u32 {
+    u32::from_le_bytes(block[508..].try_into().unwrap())
+}
 
-static WEIGHTS: Weights = {
-    let mut weights = [0; 512];
+#[inline(always)]
+fn reduced(s: u32, t: u32) -> u32 {
+    s % 257 | t % 257 << 16
+}
+
+/// What the head of a block adds to s and to t: byte i counts 508 - i times in t.
+#[inline(always)]
+fn head_sums(head: [u8; 3]) -> (u32, u32) {
+    let [a, b, c] = head.map(u32::from);
+    (a + b + c, 508 * a + 507 * b + 506 * c)
+}
+
+/// Half of the vectors of two rows that a block has: in a column of so many bytes, its totals up to each byte add up to
+/// less than 2^15.
+const HALF: usize = 15;
+
+/// How often the bytes of the last vector of a half count in t, those at even places and those at odd ones.
+static WEIGHTS: [[[i16; 8]; 2]; 2] = {
+    let mut weights = [[[0; 8]; 2]; 2];
     let mut i = 0;
-    while i < 510 {
-        weights[i] = 510 - i as i16;
+    while i < 32 {
+        let (half, parity, pair) = (i / 16, i % 2, i / 2 % 8);
+        weights[half][parity][pair] = 508 - 16 * (HALF * (half + 1)) as i16 - (i % 16) as i16;
         i += 1;
     }
-    Weights(weights)
+    weights
 };
 
-/// The two sums of a block, and whether something in `zeros` is not zero. Each byte is taken once, and nothing is
-/// divided on the way: t stays below 2^32.
-#[inline]
-fn scan(block: &Block, zeros: &[u64; 64]) -> (u8, u8, bool) {
-    let bytes = block.as_ptr() as *const __m128i;
-    let weights = WEIGHTS.0.as_ptr() as *const __m128i;
-    let zeros = zeros.as_ptr() as *const __m128i;
-    // SAFETY: SSE2 is part of x86_64. The loads stay inside 512 bytes of the block, 1,024 of the weights, which are
-    // aligned, and 512 of `zeros`.
+#[inline(always)]
+fn vectors(block: &Block) -> &[[u8; 16]; 32] {
+    block.as_chunks().0.try_into().unwrap()
+}
+
+#[inline(always)]
+fn load(vector: &[u8; 16]) -> __m128i {
+    // SAFETY: 16 bytes are read. SSE2 is part of x86_64.
+    unsafe { _mm_loadu_si128(vector.as_ptr() as *const __m128i) }
+}
+
+#[inline(always)]
+fn load_weights(weights: &[i16; 8]) -> __m128i {
+    // SAFETY: 16 bytes are read. SSE2 is part of x86_64.
+    unsafe { _mm_loadu_si128(weights.as_ptr() as *const __m128i) }
+}
+
+/// What the first 30 or 60 rows add to s and to t, and all bits of them. Each byte is taken once and nothing is divided.
+#[inline(always)]
+fn row_sums(block: &Block, halves: usize) -> (u32, u32, __m128i) {
+    // SAFETY: SSE2 is part of x86_64.
     unsafe {
         let none = _mm_setzero_si128();
-        let (mut s, mut t, mut u, mut stray) = (none, none, none, none);
-        for pair in 0..16 {
-            // Two at a time, for fewer turns of the loop.
-            for i in [2 * pair, 2 * pair + 1] {
-                let v = _mm_loadu_si128(bytes.add(i));
-                stray = _mm_or_si128(stray, _mm_and_si128(v, _mm_loadu_si128(zeros.add(i))));
-                s = _mm_add_epi32(s, _mm_sad_epu8(v, none));
-                let (low, high) = (_mm_unpacklo_epi8(v, none), _mm_unpackhi_epi8(v, none));
-                t = _mm_add_epi32(t, _mm_madd_epi16(low, _mm_load_si128(weights.add(2 * i))));
-                u = _mm_add_epi32(u, _mm_madd_epi16(high, _mm_load_si128(weights.add(2 * i + 1))));
+        let (mut s, mut t, mut any) = (none, none, none);
+        for (half, weights) in vectors(block)[1..31].as_chunks::<HALF>().0.iter().zip(&WEIGHTS).take(halves) {
+            // Totals of two columns of bytes, the high one 256 times, and of the high one alone; what they were at
+            // each vector, added up, has a vector's bytes once for each vector behind it.
+            let (mut pairs, mut odd, mut pairs_before, mut odd_before) = (none, none, none, none);
+            for vector in half {
+                let v = load(vector);
+                any = _mm_or_si128(any, v);
+                pairs_before = _mm_add_epi16(pairs_before, pairs);
+                odd_before = _mm_add_epi16(odd_before, odd);
+                pairs = _mm_add_epi16(pairs, v);
+                odd = _mm_add_epi16(odd, _mm_srli_epi16::<8>(v));
             }
+            let even = _mm_sub_epi16(pairs, _mm_slli_epi16::<8>(odd));
+            let even_before = _mm_sub_epi16(pairs_before, _mm_slli_epi16::<8>(odd_before));
+            s = _mm_add_epi32(s, _mm_madd_epi16(_mm_add_epi16(even, odd), _mm_set1_epi16(1)));
+            t = _mm_add_epi32(t, _mm_madd_epi16(even_before, _mm_set1_epi16(16)));
+            t = _mm_add_epi32(t, _mm_madd_epi16(odd_before, _mm_set1_epi16(16)));
+            t = _mm_add_epi32(t, _mm_madd_epi16(even, load_weights(&weights[0])));
+            t = _mm_add_epi32(t, _mm_madd_epi16(odd, load_weights(&weights[1])));
         }
-        // s stands in two halves of its vector, t in four quarters.
-        let s = _mm_add_epi32(s, _mm_shuffle_epi32(s, 0b01_00_11_10));
-        let t = _mm_add_epi32(t, u);
-        let t = _mm_add_epi32(t, _mm_shuffle_epi32(t, 0b01_00_11_10));
-        let t = _mm_add_epi32(t, _mm_shuffle_epi32(t, 0b10_11_00_01));
-        let s = _mm_cvtsi128_si32(s) as u32 - u32::from(block[510]) - u32::from(block[511]);
-        let t = _mm_cvtsi128_si32(t) as u32;
-        let clean = _mm_movemask_epi8(_mm_cmpeq_epi8(stray, none)) == 0xFFFF;
-        ((s % 255) as u8, (t % 255) as u8, !clean)
+        (total(s), total(t), any)
     }
 }
 
-pub fn seal(block: &mut Block) {
-    (block[510], block[511], _) = scan(block, &[0; 64]);
-}
-
-/// Questions 2 to 4 of a block.
+/// The sum of four numbers.
 #[inline(always)]
-fn ask_block(block: &Block, head_right: impl Fn() -> bool, zeros: &[u64; 64], place: usize) -> Result<(), Answer> {
-    let (s, t, stray) = scan(block, zeros);
-    if block[510] != s || block[511] != t {
-        return Err(refused(2, place));
+fn total(v: __m128i) -> u32 {
+    // SAFETY: SSE2 is part of x86_64.
+    unsafe {
+        let v = _mm_add_epi32(v, _mm_shuffle_epi32::<0b01_00_11_10>(v));
+        let v = _mm_add_epi32(v, _mm_shuffle_epi32::<0b10_11_00_01>(v));
+        _mm_cvtsi128_si32(v) as u32
     }
-    if !head_right() {
-        return Err(refused(3, place));
+}
+
+/// Writes the check bytes of a block whose other bytes are right.
+pub fn seal(block: &mut Block) {
+    let (head_s, head_t) = head_sums(block[..3].try_into().unwrap());
+    let (s, t, _) = row_sums(block, 2);
+    block[508..].copy_from_slice(&reduced(head_s + s, head_t + t).to_le_bytes());
+}
+
+/// All bits behind the first rows but the check bytes, and those of bytes 3 to 15.
+#[inline(always)]
+fn outside(block: &Block, rows: usize) -> __m128i {
+    // SAFETY: SSE2 is part of x86_64.
+    unsafe {
+        let head = _mm_andnot_si128(_mm_cvtsi32_si128(0x00FF_FFFF), load(&vectors(block)[0]));
+        let tail = _mm_and_si128(load(&vectors(block)[31]), _mm_set_epi32(0, -1, -1, -1));
+        let mut any = _mm_or_si128(head, tail);
+        let behind = 1 + rows / 2;
+        if rows % 2 == 1 {
+            any = _mm_or_si128(any, _mm_srli_si128::<8>(load(&vectors(block)[behind])));
+        }
+        for vector in &vectors(block)[behind + rows % 2..31] {
+            any = _mm_or_si128(any, load(vector));
+        }
+        any
     }
-    if stray {
-        return Err(refused(4, place));
+}
+
+#[inline(always)]
+fn is_none(bits: __m128i) -> bool {
+    // SAFETY: SSE2 is part of x86_64.
+    unsafe { _mm_movemask_epi8(_mm_cmpeq_epi8(bits, _mm_setzero_si128())) == 0xFFFF }
+}
+
+/// Whether a block passes questions 2 to 4, all at once.
+#[inline(always)]
+fn sound(block: &Block, head: [u8; 3], rows: usize, n: usize) -> bool {
+    let (head_s, head_t) = head_sums(head);
+    if block[..3] != head {
+        return false;
     }
-    Ok(())
+    // The sums of a block without rows: then there must be none, and there is nothing to sum.
+    if stored_sums(block) == reduced(head_s, head_t) && is_none(outside(block, 0)) {
+        return true;
+    }
+    let (s, t, bits) = row_sums(block, rows.div_ceil(2 * HALF));
+    // SAFETY: SSE2 is part of x86_64.
+    let stray =
+        unsafe { _mm_or_si128(_mm_andnot_si128(_mm_set1_epi64x(all_nodes(n) as i64), bits), outside(block, rows)) };
+    stored_sums(block) == reduced(head_s + s, head_t + t) && is_none(stray)
+}
+
+/// The first of questions 2 to 4 that is answered no, in a block that isn't sound.
+#[cold]
+fn fault(block: &Block, head_right: bool, place: usize) -> Answer {
+    let (mut s, mut t) = (0, 0);
+    for byte in &block[..508] {
+        s += u32::from(*byte);
+        t += s;
+    }
+    let number = match stored_sums(block) == reduced(s, t) {
+        false => 2,
+        true if !head_right => 3,
+        true => 4,
+    };
+    refused(number, place)
 }
 
 /// Questions 2 to 4 of each block in turn; answers n.
 pub fn ask(sheet: &Blocks) -> Result<usize, Answer> {
     let n = usize::from(sheet[0][2]);
-    // Any other n is refused by question 3, before this is asked.
-    let above = if n <= MOST_NODES { !all_nodes(n) } else { 0 };
-    let mut zeros = [!0; 64];
-    zeros[0] = 0xFFFF_FFFF_FF00_0000; // not bytes 0 to 2
-    zeros[63] = 0x0000_FFFF_FFFF_FFFF; // not bytes 510 and 511
-    zeros[2..50].fill(above);
-    let head_right = || sheet[0][0] == 1 && sheet[0][1] == 0 && n >= 1 && n <= MOST_NODES;
-    ask_block(&sheet[0], head_right, &zeros, 0)?;
-    zeros[2..50].fill(!0);
-    zeros[2..2 + n].fill(above);
+    let head = [1, 0, sheet[0][2]];
+    let possible = (1..=MOST_NODES).contains(&n);
+    if !possible || !sound(&sheet[0], head, 48, n) {
+        return Err(fault(&sheet[0], possible && sheet[0][..3] == head, 0));
+    }
     for k in 1..sheet.len() {
-        let block = &sheet[k];
-        let head_right = || block[0] == 2 && usize::from(block[1]) == k && block[2] == 0;
-        ask_block(block, head_right, &zeros, k)?;
+        let (block, head) = (&sheet[k], [2, k as u8, 0]);
+        if !sound(block, head, n, n) {
+            return Err(fault(block, block[..3] == head, k));
+        }
     }
     Ok(n)
 }

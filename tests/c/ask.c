@@ -1,7 +1,9 @@
 /* Asks the library, for tests in other languages. Takes a sheet's file; then reads calls from standard input, one a line, with
  * texts in hexadecimal and - for an empty one, and prints one line for each:
  *
+ *   convert CARD        number, place and the card's bytes after the call
  *   judge BOOK          number and place
+ *   rewrite BOOK        number, place and the rewritten book
  *   carry BOOK EDIT     number, place and the carried book
  *   enter BOOK EDIT     number, place and the sheet's bytes after the call; each call begins with the sheet of the file
  */
@@ -10,7 +12,7 @@
 #include <stdio.h>
 #include <string.h>
 
-enum { TEXT = 8192, LINE = 4 * TEXT };
+enum { TEXT = ZAMIATHEN_SHEET_BYTES, LINE = 4 * TEXT };
 
 struct text {
     uint8_t bytes[TEXT];
@@ -42,14 +44,32 @@ static void print_bytes(const uint8_t *bytes, size_t length) {
     printf("\n");
 }
 
+static int convert(const char *word) {
+    static struct text card;
+    if (!read_text(&card, word))
+        return 0;
+    zamiathen_answer a = zamiathen_convert_255(card.bytes, card.length);
+    printf("%02zu %05zu ", a.number, a.place);
+    print_bytes(card.bytes, card.length);
+    return 1;
+}
+
 static int call(char *line) {
     static struct text book, edit;
     const char *name = strtok(line, " \n");
+    if (name != NULL && strcmp(name, "convert") == 0)
+        return convert(strtok(NULL, " \n"));
     if (name == NULL || !read_text(&book, strtok(NULL, " \n")))
         return 0;
     if (strcmp(name, "judge") == 0) {
         zamiathen_judged j = zamiathen_judge(sheet, sizeof sheet, book.bytes, book.length);
         printf("%02zu %05zu\n", j.number, j.place);
+        return 1;
+    }
+    if (strcmp(name, "rewrite") == 0) {
+        zamiathen_length r = zamiathen_rewrite(book.bytes, book.length, scratch, sizeof scratch);
+        printf("%02zu %05zu ", r.number, r.place);
+        print_bytes(scratch, r.length);
         return 1;
     }
     if (!read_text(&edit, strtok(NULL, " \n")))

@@ -83,8 +83,23 @@ static void left(const char *what, const uint8_t *carried, size_t length) {
 
 static void left_alone(const char *what) { left(what, NULL, 0); }
 
-/* Check bytes of each block. */
+/* Check bytes of each block: sums modulo 257 over bytes 0 to 507, in two bytes each. */
 static void seal(uint8_t *bytes) {
+    for (size_t block = 0; block < 17; block++, bytes += 512) {
+        unsigned s = 0, t = 0;
+        for (size_t i = 0; i < 508; i++) {
+            s = (s + bytes[i]) % 257;
+            t = (t + s) % 257;
+        }
+        bytes[508] = (uint8_t)(s % 256);
+        bytes[509] = (uint8_t)(s / 256);
+        bytes[510] = (uint8_t)(t % 256);
+        bytes[511] = (uint8_t)(t / 256);
+    }
+}
+
+/* Check bytes of an old card: sums modulo 255 over bytes 0 to 509, in one byte each. */
+static void seal_255(uint8_t *bytes) {
     for (size_t block = 0; block < 17; block++, bytes += 512) {
         unsigned s = 0, t = 0;
         for (size_t i = 0; i < 510; i++) {
@@ -96,8 +111,8 @@ static void seal(uint8_t *bytes) {
     }
 }
 
-/* Sheet T: n = 3, label 0 = nodes 0, 1; label 1 = node 2; arrow 0 = 0 to 2, 1 to 2. */
-static void sheet_t(uint8_t *bytes) {
+/* Sheet T without check bytes: n = 3, label 0 = nodes 0, 1; label 1 = node 2; arrow 0 = 0 to 2, 1 to 2. */
+static void unsealed_t(uint8_t *bytes) {
     memset(bytes, 0, whole);
     bytes[0] = 1;
     bytes[2] = 3;
@@ -109,7 +124,17 @@ static void sheet_t(uint8_t *bytes) {
     bytes[24] = 4;
     bytes[512 + 16] = 4;
     bytes[512 + 24] = 4;
+}
+
+static void sheet_t(uint8_t *bytes) {
+    unsealed_t(bytes);
     seal(bytes);
+}
+
+/* T as it was stored before version 2. */
+static void card_t(uint8_t *bytes) {
+    unsealed_t(bytes);
+    seal_255(bytes);
 }
 
 static void start(void) {
@@ -156,7 +181,36 @@ static const struct fault book_faults[] = {
     {ZAMIATHEN_BOOK_CODE, 0, "30", 0, "", ""},
     {ZAMIATHEN_BOOK_LEVEL, 32, "", 32, "27", "21 01 01"},
     {ZAMIATHEN_BOOK_NUMBER, 1, "23 3C 01", 0, "", ""},
+    {ZAMIATHEN_BOOK_NUMBER, 3, "23 00 0A 00 11 00 02", 0, "", ""},
+    {ZAMIATHEN_BOOK_NUMBER, 3, "23 00 0B 3C 11 00 01", 0, "", ""},
     {ZAMIATHEN_BOOK_RULES, 96, "", ZAMIATHEN_MAX_RULES + 1, "21 01 01", ""},
+};
+
+/* Stored books: those faults of books that are none of counts, and a fault in what would be dropped. */
+static const struct fault stored_faults[] = {
+    {ZAMIATHEN_BOOK_LENGTH, 0, "", ZAMIATHEN_TEXT_BYTES + 1, "21", ""},
+    {ZAMIATHEN_BOOK_ENDS, 6, "23 00 0A 00 11 00", 0, "", ""},
+    {ZAMIATHEN_BOOK_CODE, 6, "23 00 0B FF 11 00 11 00", 0, "", ""},
+    {ZAMIATHEN_BOOK_LEVEL, 32, "", 32, "27", "21 01 01"},
+    {ZAMIATHEN_BOOK_NUMBER, 1, "23 3C 01", 0, "", ""},
+    {ZAMIATHEN_BOOK_NUMBER, 7, "23 00 0A 00 11 00 03 30", 0, "", ""},
+    {ZAMIATHEN_BOOK_RULES, 96, "", ZAMIATHEN_MAX_RULES + 1, "21 01 01", ""},
+};
+
+/* A stored book and what it becomes. */
+static const char *const stored_books[][2] = {
+    {"", ""},
+    {"23 00 0A 00 11 00 02", "23 00 01"},
+    {"23 00 0A 01 11 00 02", "23 00 0A 01 11 00 02"},
+    {"23 00 0A 3C 11 00 02", "23 00 0A 3C 11 00 02"},
+    {"23 00 0A 3D 11 00 02", "23 00 02"},
+    {"23 00 0A FF 11 00 02", "23 00 02"},
+    {"23 00 0B 00 11 00 02", "23 00 0B 00 11 00 02"},
+    {"23 00 0B 3B 11 00 02", "23 00 0B 3B 11 00 02"},
+    {"23 00 0B 3C 11 00 02", "23 00 01"},
+    {"23 00 0B FF 11 00 02", "23 00 01"},
+    {"21 01 01 23 3B 0A 02 16 11 0F 0B 3C 11 00 01 0A 00 11 00 01 21 01 02",
+     "21 01 01 23 3B 0A 02 16 11 0F 01 01 21 01 02"},
 };
 
 static const struct fault edit_faults[] = {
@@ -165,6 +219,7 @@ static const struct fault edit_faults[] = {
     {ZAMIATHEN_EDIT_CODE, 0, "21 01 01", 0, "", ""},
     {ZAMIATHEN_EDIT_LEVEL, 33, "31 00", 31, "05", "01 30"},
     {ZAMIATHEN_EDIT_NUMBER, 1, "31 30 01 30", 0, "", ""},
+    {ZAMIATHEN_EDIT_NUMBER, 3, "31 00 0A 3D 11 00 01 30", 0, "", ""},
     {ZAMIATHEN_EDIT_MORE, 1, "30 30", 0, "", ""},
 };
 
@@ -355,9 +410,18 @@ static void refused_sheets(void) {
     start();
     refused_sheet("short sheet", whole - 1, ZAMIATHEN_SHEET_LENGTH, 0);
     refused_sheet("no sheet", 0, ZAMIATHEN_SHEET_LENGTH, 0);
-    sheet[600] ^= 1;
+    sheet[600] ^= 255;
     memcpy(kept, sheet, whole);
-    refused_sheet("check bytes of block 1", whole, ZAMIATHEN_SHEET_SUMS, 1);
+    refused_sheet("0 turned into 255 in block 1", whole, ZAMIATHEN_SHEET_SUMS, 1);
+    start();
+    sheet[512 * 5] = 5;
+    sheet[512 * 5 + 1] = 2;
+    memcpy(kept, sheet, whole);
+    refused_sheet("neighbours of block 5 exchanged", whole, ZAMIATHEN_SHEET_SUMS, 5);
+    start();
+    card_t(sheet);
+    memcpy(kept, sheet, whole);
+    refused_sheet("an old card", whole, ZAMIATHEN_SHEET_SUMS, 0);
     start();
     sheet[512 * 3 + 1] = 4;
     seal(sheet);
@@ -368,6 +432,59 @@ static void refused_sheets(void) {
     seal(sheet);
     memcpy(kept, sheet, whole);
     refused_sheet("row 3 of 3 in block 16", whole, ZAMIATHEN_SHEET_ZEROS, 16);
+}
+
+/* A card that is no sound one stays as it is. */
+static void refused_card(const char *what, size_t length, size_t number, size_t place) {
+    memcpy(kept, sheet, whole);
+    answered(what, zamiathen_convert_255(sheet, length), number, place);
+    left_alone(what);
+}
+
+/* The old card of T becomes T; each question of old cards, in each block. */
+static void cards(void) {
+    start();
+    card_t(sheet);
+    answered("card", zamiathen_convert_255(sheet, whole), ZAMIATHEN_DONE, 0);
+    left_alone("card");
+    refused_card("a sheet for a card", whole, ZAMIATHEN_SHEET_SUMS, 0);
+    card_t(sheet);
+    refused_card("short card", whole - 1, ZAMIATHEN_SHEET_LENGTH, 0);
+    for (size_t block = 0; block < 17; block++) {
+        uint8_t *const bytes = sheet + 512 * block;
+        card_t(sheet);
+        bytes[100] ^= 1;
+        refused_card("check bytes of a card", whole, ZAMIATHEN_SHEET_SUMS, block);
+        card_t(sheet);
+        bytes[1] = 17;
+        seal_255(sheet);
+        refused_card("head of a card", whole, ZAMIATHEN_SHEET_HEAD, block);
+        for (size_t zero = 507; zero < 510; zero++) {
+            card_t(sheet);
+            bytes[zero] = 1;
+            seal_255(sheet);
+            refused_card("zeros of a card", whole, ZAMIATHEN_SHEET_ZEROS, block);
+        }
+    }
+}
+
+/* A sum of 0 that an old card has as 255: n = 60, label 0 = nodes 1, 6, 7. */
+static void card_sum_of_zero(void) {
+    start();
+    for (int wrong = 0; wrong < 2; wrong++) {
+        card_t(sheet);
+        sheet[2] = 60;
+        sheet[16] = 0xC2;
+        sheet[24] = 0;
+        seal_255(sheet);
+        same("sum of 0", sheet[510] == 0);
+        memcpy(kept, sheet, whole);
+        sheet[510] = kept[510] = wrong ? 255 : 0;
+        answered("sum of 0", zamiathen_convert_255(sheet, whole), wrong ? ZAMIATHEN_SHEET_SUMS : ZAMIATHEN_DONE, 0);
+        if (!wrong)
+            seal(kept);
+        left_alone("sum of 0");
+    }
 }
 
 /* Each call that is lent a book. A text of 33 rules has a first one. */
@@ -388,6 +505,38 @@ static void refused_books(void) {
             measured("refused text", zamiathen_first_rule(book->bytes, book->length), fault->number, fault->place, 0);
     }
     left_alone("refused books");
+}
+
+/* A stored book is read by any count. */
+static void rewritten(void) {
+    static struct text stored, wanted;
+    for (size_t i = 0; i < sizeof stored_books / sizeof *stored_books; i++) {
+        const char *what = stored_books[i][0];
+        stored.length = wanted.length = 0;
+        put(&stored, stored_books[i][0]);
+        put(&wanted, stored_books[i][1]);
+        start();
+        if (wanted.length > 0)
+            measured(what, zamiathen_rewrite(stored.bytes, stored.length, scratch, wanted.length - 1), ZAMIATHEN_ROOM,
+                     wanted.length, 0);
+        left_alone(what);
+        measured(what, zamiathen_rewrite(stored.bytes, stored.length, scratch, wanted.length), ZAMIATHEN_DONE, 0,
+                 wanted.length);
+        left(what, wanted.bytes, wanted.length);
+        start();
+        measured(what, zamiathen_rewrite(stored.bytes, stored.length, scratch, room), ZAMIATHEN_DONE, 0, wanted.length);
+        left(what, wanted.bytes, wanted.length);
+    }
+    start();
+    for (size_t i = 0; i < sizeof stored_faults / sizeof *stored_faults; i++) {
+        const struct fault *fault = &stored_faults[i];
+        const struct text *book = text_of(fault);
+        measured("refused stored book", zamiathen_rewrite(book->bytes, book->length, scratch, room), fault->number,
+                 fault->place, 0);
+        measured("refused without an output", zamiathen_rewrite(book->bytes, book->length, NULL, 0), fault->number,
+                 fault->place, 0);
+    }
+    left_alone("refused stored books");
 }
 
 /* Each call that is lent an edit. */
@@ -443,6 +592,7 @@ static void node_3(void) {
 static void empty_buffers(void) {
     start();
     answered("no buffer for a blank sheet", zamiathen_blank(NULL, 0, 3), ZAMIATHEN_SHEET_LENGTH, 0);
+    answered("no card", zamiathen_convert_255(NULL, 0), ZAMIATHEN_SHEET_LENGTH, 0);
     bit_read("no sheet", zamiathen_label_bit(NULL, 0, 0, 0), ZAMIATHEN_SHEET_LENGTH, 0, 0);
     bit_read("no sheet", zamiathen_arrow_bit(NULL, 0, 0, 0, 0), ZAMIATHEN_SHEET_LENGTH, 0, 0);
     measured("no text", zamiathen_first_rule(NULL, 0), ZAMIATHEN_BOOK_ENDS, 0, 0);
@@ -452,6 +602,8 @@ static void empty_buffers(void) {
     answered("no sheet, no edit", zamiathen_apply(NULL, 0, NULL, 0), ZAMIATHEN_SHEET_LENGTH, 0);
     measured("no output", zamiathen_print_labels(sheet, whole, NULL, 0), ZAMIATHEN_ROOM, 3136, 0);
     answered("no page", zamiathen_type_page(sheet, whole, NULL, 0), ZAMIATHEN_PAGE, 0);
+    measured("nothing to rewrite", zamiathen_rewrite(NULL, 0, NULL, 0), ZAMIATHEN_DONE, 0, 0);
+    measured("no output", zamiathen_rewrite(B, sizeof B, NULL, 0), ZAMIATHEN_ROOM, sizeof B, 0);
     answered("no edit", zamiathen_apply(sheet, whole, NULL, 0), ZAMIATHEN_EDIT_ENDS, 0);
     measured("no edit", zamiathen_carry_back(NULL, 0, NULL, 0, NULL, 0), ZAMIATHEN_EDIT_ENDS, 0, 0);
     measured("nothing to carry", zamiathen_carry_back(NULL, 0, END, 1, NULL, 0), ZAMIATHEN_DONE, 0, 0);
@@ -469,7 +621,10 @@ int main(void) {
     rules();
     pages();
     refused_sheets();
+    cards();
+    card_sum_of_zero();
     refused_books();
+    rewritten();
     refused_edits();
     refused_sizes();
     node_3();

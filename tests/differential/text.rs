@@ -110,7 +110,7 @@ fn limit_texts(tally: &mut Tally) {
         }
     }
     for n in 1..=60 {
-        for number in [0, n - 1, n, n + 1, 15, 16, 47, 48, 59, 60, 61, 255] {
+        for number in [0, 1, n - 1, n, n + 1, 15, 16, 47, 48, 59, 60, 61, 255] {
             limits::numbers(number as u8).iter().for_each(|text| all(tally, text, n));
         }
     }

@@ -12,6 +12,7 @@ pub mod graph;
 pub mod meaning;
 pub mod pages;
 pub mod reader;
+pub mod rewrite;
 pub mod sheet;
 pub mod steps;
 pub mod syntax;

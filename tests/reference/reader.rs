@@ -8,13 +8,18 @@ use std::ops::Range;
 pub const LONGEST: usize = 4096;
 const LAST_LEVEL: usize = 32;
 const MOST_RULES: usize = 32;
-const ANY_COUNT: usize = 256;
+
+/// The counts that an 0A and an 0B may have (item 3 of document 02).
+const COUNTS: [Range<usize>; 2] = [1..61, 0..60];
+/// Those of document 01.
+const FORMER_COUNTS: [Range<usize>; 2] = [0..256, 0..256];
 
 /// A text being read from left to right.
 struct Reader<'t> {
     text: &'t [u8],
     at: usize,
     n: usize,
+    counts: [Range<usize>; 2],
     /// 10 for a book and for rule end, 20 for an edit: added to the last digit of the number.
     tens: usize,
 }
@@ -27,15 +32,12 @@ pub struct Placed {
 
 /// The rules of a book.
 pub fn book(text: &[u8], n: usize) -> Asked<Vec<Placed>> {
-    let mut reader = Reader::begin(text, n, 10)?;
-    let mut rules = Vec::new();
-    while reader.at < text.len() {
-        if rules.len() == MOST_RULES {
-            return refuse(16, reader.at);
-        }
-        rules.push(reader.placed_rule()?);
-    }
-    Ok(rules)
+    Reader::begin(text, n, 10)?.book()
+}
+
+/// The rules of a stored book, which may have any count.
+pub fn former_book(text: &[u8], n: usize) -> Asked<Vec<Placed>> {
+    Reader { counts: FORMER_COUNTS, ..Reader::begin(text, n, 10)? }.book()
 }
 
 /// The steps of an edit.
@@ -56,7 +58,7 @@ pub fn first_rule(text: &[u8]) -> Asked<usize> {
 
 /// Where each rule of a text of any length starts, as far as rules can be read, and then where the last of them ends.
 pub fn rule_starts(text: &[u8], n: usize) -> Vec<usize> {
-    let mut reader = Reader { text, at: 0, n, tens: 10 };
+    let mut reader = Reader { text, at: 0, n, counts: COUNTS, tens: 10 };
     let mut starts = vec![0];
     while let Ok(placed) = reader.placed_rule() {
         starts.push(placed.part.end);
@@ -69,7 +71,7 @@ impl<'t> Reader<'t> {
         if text.len() > LONGEST {
             return refuse(tens + 1, 0);
         }
-        Ok(Reader { text, at: 0, n, tens })
+        Ok(Reader { text, at: 0, n, counts: COUNTS, tens })
     }
 
     /// The byte that is wanted now, not yet passed.
@@ -93,13 +95,29 @@ impl<'t> Reader<'t> {
         Ok(code)
     }
 
-    fn number(&mut self, below: usize) -> Asked<u8> {
+    fn number(&mut self, range: Range<usize>) -> Asked<u8> {
         let number = self.wanted()?;
-        if usize::from(number) >= below {
+        if !range.contains(&usize::from(number)) {
             return refuse(self.tens + 5, self.at);
         }
         self.at += 1;
         Ok(number)
+    }
+
+    /// The count of an 0A (0) or of an 0B (1).
+    fn count(&mut self, of: usize) -> Asked<u8> {
+        self.number(self.counts[of].clone())
+    }
+
+    fn book(&mut self) -> Asked<Vec<Placed>> {
+        let mut rules = Vec::new();
+        while self.at < self.text.len() {
+            if rules.len() == MOST_RULES {
+                return refuse(16, self.at);
+            }
+            rules.push(self.placed_rule()?);
+        }
+        Ok(rules)
     }
 
     fn placed_rule(&mut self) -> Asked<Placed> {
@@ -113,28 +131,28 @@ impl<'t> Reader<'t> {
         Ok(match self.code(0x01, 0x0B, level)? {
             0x01 => Node::All,
             0x02 => Node::Nothing,
-            0x03 => Node::Label(self.number(LABELS)?),
-            0x04 => Node::Only(self.number(self.n)?),
+            0x03 => Node::Label(self.number(0..LABELS)?),
+            0x04 => Node::Only(self.number(0..self.n)?),
             0x05 => Node::Not(Box::new(self.node(below)?)),
             0x06 => Node::And(Box::new(self.node(below)?), Box::new(self.node(below)?)),
             0x07 => Node::Or(Box::new(self.node(below)?), Box::new(self.node(below)?)),
             0x08 => Node::Some(Box::new(self.arrow(below)?), Box::new(self.node(below)?)),
             0x09 => Node::Every(Box::new(self.arrow(below)?), Box::new(self.node(below)?)),
-            0x0A => Node::AtLeast(self.number(ANY_COUNT)?, Box::new(self.arrow(below)?), Box::new(self.node(below)?)),
-            _ => Node::AtMost(self.number(ANY_COUNT)?, Box::new(self.arrow(below)?), Box::new(self.node(below)?)),
+            0x0A => Node::AtLeast(self.count(0)?, Box::new(self.arrow(below)?), Box::new(self.node(below)?)),
+            _ => Node::AtMost(self.count(1)?, Box::new(self.arrow(below)?), Box::new(self.node(below)?)),
         })
     }
 
     fn arrow(&mut self, level: usize) -> Asked<Arrow> {
         let below = level + 1;
         Ok(match self.code(0x11, 0x17, level)? {
-            0x11 => Arrow::Kind(self.number(ARROWS)?),
+            0x11 => Arrow::Kind(self.number(0..ARROWS)?),
             0x12 => Arrow::Reversed(Box::new(self.arrow(below)?)),
             0x13 => Arrow::Union(Box::new(self.arrow(below)?), Box::new(self.arrow(below)?)),
             0x14 => Arrow::Common(Box::new(self.arrow(below)?), Box::new(self.arrow(below)?)),
             0x15 => Arrow::Without(Box::new(self.arrow(below)?), Box::new(self.arrow(below)?)),
             0x16 => Arrow::EndingIn(Box::new(self.arrow(below)?), Box::new(self.node(below)?)),
-            _ => Arrow::Pair(self.number(self.n)?, self.number(self.n)?),
+            _ => Arrow::Pair(self.number(0..self.n)?, self.number(0..self.n)?),
         })
     }
 
@@ -143,8 +161,8 @@ impl<'t> Reader<'t> {
         Ok(match self.code(0x21, 0x27, level)? {
             0x21 => Rule::Nodes(self.node(below)?, self.node(below)?),
             0x22 => Rule::Pairs(self.arrow(below)?, self.arrow(below)?),
-            0x23 => Rule::Member(self.number(self.n)?, self.node(below)?),
-            0x24 => Rule::Linked(self.number(self.n)?, self.number(self.n)?, self.arrow(below)?),
+            0x23 => Rule::Member(self.number(0..self.n)?, self.node(below)?),
+            0x24 => Rule::Linked(self.number(0..self.n)?, self.number(0..self.n)?, self.arrow(below)?),
             0x25 => Rule::And(Box::new(self.rule(below)?), Box::new(self.rule(below)?)),
             0x26 => Rule::Or(Box::new(self.rule(below)?), Box::new(self.rule(below)?)),
             _ => Rule::Not(Box::new(self.rule(below)?)),
@@ -158,10 +176,10 @@ impl<'t> Reader<'t> {
         loop {
             steps.push(match self.code(0x30, 0x35, level)? {
                 0x30 => return Ok(steps),
-                0x31 => Step::AddLabel(self.number(LABELS)?, self.node(below)?),
-                0x32 => Step::TakeLabel(self.number(LABELS)?, self.node(below)?),
-                0x33 => Step::AddArrow(self.number(ARROWS)?, self.arrow(below)?),
-                0x34 => Step::TakeArrow(self.number(ARROWS)?, self.arrow(below)?),
+                0x31 => Step::AddLabel(self.number(0..LABELS)?, self.node(below)?),
+                0x32 => Step::TakeLabel(self.number(0..LABELS)?, self.node(below)?),
+                0x33 => Step::AddArrow(self.number(0..ARROWS)?, self.arrow(below)?),
+                0x34 => Step::TakeArrow(self.number(0..ARROWS)?, self.arrow(below)?),
                 _ => Step::If(self.rule(below)?, self.edit(below)?, self.edit(below)?),
             });
         }

@@ -1,10 +1,13 @@
-//! The marked examples of document 01, some of its remarks and pages of its sheet T, asked of the reference itself.
+//! The marked examples of document 01, some of its remarks, check bytes, old cards, pages of its sheet T and rewritten
+//! books, asked of the reference itself.
 
 use reference::answer::{Answer, DONE};
 use reference::calls::{carry_back, enter, judge, Judged};
-use reference::graph::{Graph, Pairs};
+use reference::graph::{Graph, Pairs, MOST_NODES};
 use reference::meaning::nodes;
 use reference::pages::{page, type_page, Shown};
+use reference::rewrite::rewrite;
+use reference::sheet::{SUMS_255, SUMS_257};
 use reference::syntax::{Node, Rule};
 use reference::{reader, sheet};
 
@@ -38,9 +41,9 @@ impl Tally {
     }
 }
 
-/// The node expression that stands in the text of 23 00 E.
+/// The node expression that stands in the text of 23 00 E, with any count: example 6 has one that a book may no longer have.
 fn expression(text: &str) -> Node {
-    let rules = reader::book(&hex(&format!("23 00 {text}")), 3).expect("a sound rule");
+    let rules = reader::former_book(&hex(&format!("23 00 {text}")), MOST_NODES).expect("a sound rule");
     match &rules[0].rule {
         Rule::Member(_, e) => e.clone(),
         other => panic!("not a membership: {other:?}"),
@@ -61,6 +64,29 @@ fn meanings(tally: &mut Tally) {
         let found: Vec<usize> = (0..3).filter(|i| nodes(&graph, &expression(text))[*i]).collect();
         tally.same(text, found, wanted.to_vec());
     }
+}
+
+/// Counts that say nothing, and those that say the least.
+fn rewritten(tally: &mut Tally) {
+    let examples = [
+        ("23 00 0A 00 11 00 02", "23 00 01"),
+        ("23 00 0A 01 11 00 02", "23 00 0A 01 11 00 02"),
+        ("23 00 0A 3C 11 00 02", "23 00 0A 3C 11 00 02"),
+        ("23 00 0A 3D 11 00 02", "23 00 02"),
+        ("23 00 0B 3B 11 00 02", "23 00 0B 3B 11 00 02"),
+        ("23 00 0B 3C 11 00 02", "23 00 01"),
+        ("23 00 0A 02 16 11 00 0A FF 11 00 01 0B FF 11 00 01 21 01 01", "23 00 0A 02 16 11 00 02 01 21 01 01"),
+        ("23 00 05 0A 00 11 00 0B 00 11 01 01", "23 00 05 01"),
+    ];
+    for (book, wanted) in examples {
+        let mut out = vec![0xEE; 100];
+        let found = rewrite(&hex(book), &mut out);
+        tally.same(book, (found.answer, out[..found.length].to_vec()), (DONE, hex(wanted)));
+    }
+    let answer = rewrite(&hex("21 0A 00 11 00 03 30 01"), &mut []).answer;
+    tally.same("label 48 in what is dropped", answer, Answer { number: 15, place: 6 });
+    let answer = rewrite(&hex("23 00 0A 00 11 00 02"), &mut [0; 2]).answer;
+    tally.same("a short output", answer, Answer { number: 33, place: 3 });
 }
 
 const B: &str = "21 03 00 08 11 00 03 01";
@@ -112,6 +138,15 @@ fn refused(tally: &mut Tally, text: Vec<u8>, number: usize, place: usize) {
 
 fn reading(tally: &mut Tally) {
     refused(tally, hex("24 3C"), 15, 1);
+    // Counts: example 6 in a book, and one past each other end.
+    refused(tally, hex("23 00 0A 00 11 00 02"), 15, 3);
+    refused(tally, hex("23 00 0A 3D"), 15, 3);
+    refused(tally, hex("23 00 0B 3C"), 15, 3);
+    for count in ["0A 01", "0A 3C", "0B 00", "0B 3B"] {
+        tally.same(count, reader::first_rule(&hex(&format!("23 00 {count} 11 00 02"))), Ok(7));
+    }
+    let counted_edit = hex("31 00 0B 3C 11 00 02 30");
+    tally.same("60 in an edit", reader::edit(&counted_edit, 60).unwrap_err(), Answer { number: 25, place: 3 });
     refused(tally, vec![0; 4097], 11, 0);
     refused(tally, hex("21 01"), 12, 2);
     refused(tally, hex("21 11"), 13, 1);
@@ -128,36 +163,76 @@ fn reading(tally: &mut Tally) {
     tally.same("rule starts", reader::rule_starts(&hex("21 01 01 23 00 01 FF"), 60), vec![0, 3, 6]);
 }
 
-/// The sums in the words of document 01, a remainder for each byte.
-fn sums_in_words(block: &[u8]) -> (u8, u8) {
+/// The sums in the words of the papers, a remainder for each byte.
+fn sums_in_words(body: &[u8], modulus: u32) -> (u32, u32) {
     let (mut s, mut t) = (0, 0);
-    for byte in &block[..510] {
-        s = (s + u32::from(*byte)) % 255;
-        t = (t + s) % 255;
+    for byte in body {
+        s = (s + u32::from(*byte)) % modulus;
+        t = (t + s) % modulus;
     }
-    (s as u8, t as u8)
+    (s, t)
 }
 
 fn check_bytes(tally: &mut Tally) {
     for (first, step) in [(0, 1), (255, 0), (254, 3), (7, 101), (255, 255)] {
         let block: Vec<u8> = (0..512u32).map(|i| (first + step * i) as u8).collect();
-        tally.same("sums", sheet::sums(&block), sums_in_words(&block));
+        let (s, t) = sums_in_words(&block[..508], 257);
+        let bytes = vec![(s % 256) as u8, (s / 256) as u8, (t % 256) as u8, (t / 256) as u8];
+        tally.same("sums modulo 257", SUMS_257.check_bytes(&block), bytes);
+        let (s, t) = sums_in_words(&block[..510], 255);
+        tally.same("sums modulo 255", SUMS_255.check_bytes(&block), vec![s as u8, t as u8]);
     }
+}
+
+/// A graph of n nodes with one label.
+fn labelled(n: usize, k: usize, nodes: &[usize]) -> Graph {
+    let mut graph = Graph::blank(n);
+    nodes.iter().for_each(|i| graph.labels[k][*i] = true);
+    graph
+}
+
+/// The check bytes of block 0 as stored, and what is said of the sheet when others stand there.
+fn stored_sums(tally: &mut Tally, graph: &Graph, wanted: [u8; 4], other: [u8; 4]) {
+    let mut bytes = sheet::store(graph);
+    tally.same("check bytes", (&bytes[508..512], sheet::check(&bytes)), (&wanted[..], DONE));
+    bytes[508..512].copy_from_slice(&other);
+    tally.same("sums not reduced", sheet::check(&bytes), Answer { number: 2, place: 0 });
 }
 
 fn sheets(tally: &mut Tally) {
     let blank = sheet::store(&Graph::blank(7));
-    tally.same("block 1 without arrows", (blank[1022], blank[1023]), (3, 254));
-    let mut graph = Graph::blank(60);
-    for i in [1, 6, 7] {
-        graph.labels[0][i] = true;
-    }
-    let mut bytes = sheet::store(&graph);
-    tally.same("a sum of 0", (bytes[510], sheet::check(&bytes)), (0, DONE));
-    bytes[510] = 255;
-    tally.same("255 is not 0", sheet::check(&bytes), Answer { number: 2, place: 0 });
+    tally.same("block 1 without arrows", &blank[1020..1024], &[3, 0, 238, 0][..]);
+    stored_sums(tally, &labelled(60, 0, &[0, 1, 6, 7]), [0, 1, 107, 0], [1, 2, 107, 0]);
+    stored_sums(tally, &labelled(60, 0, &[2, 6, 7]), [0, 0, 85, 0], [1, 1, 85, 0]);
+    stored_sums(tally, &labelled(2, 12, &[1]), [5, 0, 0, 1], [5, 0, 1, 2]);
+    stored_sums(tally, &labelled(2, 28, &[1]), [5, 0, 0, 0], [5, 0, 1, 1]);
+    let mut worn = blank;
+    worn[512 * 9 + 100] = 255;
+    tally.same("0 turned into 255", sheet::check(&worn), Answer { number: 2, place: 9 });
     let read = sheet::read(&sheet_t());
     tally.same("stored as one sheet", sheet::store(&read), sheet_t());
+}
+
+/// Old cards, which are asked by document 01's sums.
+fn cards(tally: &mut Tally) {
+    let card = SUMS_255.store(&Graph::blank(7));
+    tally.same("block 1 of an old card", &card[1020..1024], &[0, 0, 3, 254][..]);
+    let mut converted = card.clone();
+    let answer = sheet::convert_255(&mut converted);
+    tally.same("converted", (answer, converted), (DONE, sheet::store(&Graph::blank(7))));
+    let mut refused = |what: &str, at: usize, value: u8, number: usize| {
+        let mut bytes = SUMS_255.store(&labelled(60, 0, &[1, 6, 7]));
+        bytes[at] = value;
+        let before = bytes.clone();
+        let place = at / 512;
+        tally.same(what, (sheet::convert_255(&mut bytes), bytes), (Answer { number, place }, before));
+    };
+    refused("255 is not 0", 510, 255, 2);
+    refused("a byte of block 3", 512 * 3 + 40, 1, 2);
+    refused("0 turned into 255 is not seen by the old sums, but as no zero", 512 * 3 + 508, 255, 4);
+    let mut sheet = sheet::store(&Graph::blank(7));
+    tally.same("no old card", sheet::convert_255(&mut sheet), Answer { number: 2, place: 0 });
+    tally.same("a short card", sheet::convert_255(&mut sheet[1..]), Answer { number: 1, place: 0 });
 }
 
 /// The pages of sheet T, by document 02's words.
@@ -195,11 +270,13 @@ fn explosions(tally: &mut Tally) {
 fn main() {
     let mut tally = Tally { passed: 0, failed: 0 };
     meanings(&mut tally);
+    rewritten(&mut tally);
     carrying(&mut tally);
     entering(&mut tally);
     reading(&mut tally);
     check_bytes(&mut tally);
     sheets(&mut tally);
+    cards(&mut tally);
     pages_of_t(&mut tally);
     explosions(&mut tally);
     println!("{} passed, {} failed", tally.passed, tally.failed);

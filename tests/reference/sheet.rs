@@ -1,4 +1,5 @@
-//! "The sheet": 8,704 bytes, 17 blocks of 512, and the questions 1 to 5 and 7.
+//! "The sheet": 8,704 bytes, 17 blocks of 512, and the questions 1 to 5 and 7; the check bytes of document 02, item 2, and
+//! the old cards that were written before it.
 
 use crate::answer::{answer_of, refuse, Answer, Asked, DONE};
 use crate::graph::{Graph, Pairs, ARROWS, LABELS, MOST_NODES};
@@ -6,44 +7,91 @@ use crate::graph::{Graph, Pairs, ARROWS, LABELS, MOST_NODES};
 pub const SHEET: usize = 8704;
 pub const BLOCK: usize = 512;
 const BLOCKS: usize = 17;
-const SUMMED: usize = 510;
 
-/// The check bytes s and t of a block. The remainders are taken of the whole sums, which comes to the same.
-pub fn sums(block: &[u8]) -> (u8, u8) {
-    let (mut s, mut t) = (0u32, 0u32);
-    for byte in &block[..SUMMED] {
-        s += u32::from(*byte);
-        t += s;
+/// How the sums s and t of a block are taken and stored: modulo what, over how many bytes from byte 0, and in how many
+/// bytes each, little-endian, one behind the other, at the block's end. The zeros end where the sums begin.
+#[derive(Clone, Copy, Debug)]
+pub struct Form {
+    pub modulus: u32,
+    pub summed: usize,
+    pub width: usize,
+}
+
+/// Document 02, item 2: the form of every sheet.
+pub const SUMS_257: Form = Form { modulus: 257, summed: 508, width: 2 };
+
+/// Document 01: the form of old cards.
+pub const SUMS_255: Form = Form { modulus: 255, summed: 510, width: 1 };
+
+impl Form {
+    /// The check bytes of a block. The remainders are taken of the whole sums, which comes to the same.
+    pub fn check_bytes(&self, block: &[u8]) -> Vec<u8> {
+        let (mut s, mut t) = (0u32, 0u32);
+        for byte in &block[..self.summed] {
+            s += u32::from(*byte);
+            t += s;
+        }
+        [s, t].iter().flat_map(|sum| (sum % self.modulus).to_le_bytes()[..self.width].to_vec()).collect()
     }
-    ((s % 255) as u8, (t % 255) as u8)
+
+    /// Writes the check bytes of a block.
+    pub fn seal(&self, block: &mut [u8]) {
+        let bytes = self.check_bytes(block);
+        block[self.summed..].copy_from_slice(&bytes);
+    }
+
+    /// The questions 1 to 4. A sound sheet gives its n.
+    pub fn ask(&self, sheet: &[u8]) -> Asked<usize> {
+        if sheet.len() != SHEET {
+            return refuse(1, 0);
+        }
+        let n = usize::from(sheet[2]);
+        for b in 0..BLOCKS {
+            let block = &sheet[b * BLOCK..(b + 1) * BLOCK];
+            if block[self.summed..] != self.check_bytes(block) {
+                return refuse(2, b);
+            }
+            if !head_right(b, block) {
+                return refuse(3, b);
+            }
+            if !zeros_right(b, &block[..self.summed], n) {
+                return refuse(4, b);
+            }
+        }
+        Ok(n)
+    }
+
+    /// The one sheet that stores a graph.
+    pub fn store(&self, graph: &Graph) -> Vec<u8> {
+        let mut sheet = unsealed(graph);
+        sheet.chunks_mut(BLOCK).for_each(|block| self.seal(block));
+        sheet
+    }
 }
 
 /// Writes the check bytes of a block.
 pub fn seal(block: &mut [u8]) {
-    let (s, t) = sums(block);
-    block[510] = s;
-    block[511] = t;
+    SUMS_257.seal(block);
 }
 
-/// The questions 1 to 4. A sound sheet gives its n.
+/// The questions 1 to 4.
 pub fn ask(sheet: &[u8]) -> Asked<usize> {
-    if sheet.len() != SHEET {
-        return refuse(1, 0);
+    SUMS_257.ask(sheet)
+}
+
+/// The one sheet that stores a graph.
+pub fn store(graph: &Graph) -> Vec<u8> {
+    SUMS_257.store(graph)
+}
+
+/// An old card becomes the sheet of the same graph, in its own buffer.
+pub fn convert_255(card: &mut [u8]) -> Answer {
+    let asked = SUMS_255.ask(card);
+    if asked.is_ok() {
+        let sheet = store(&read(card));
+        card.copy_from_slice(&sheet);
     }
-    let n = usize::from(sheet[2]);
-    for b in 0..BLOCKS {
-        let block = &sheet[b * BLOCK..(b + 1) * BLOCK];
-        if sums(block) != (block[510], block[511]) {
-            return refuse(2, b);
-        }
-        if !head_right(b, block) {
-            return refuse(3, b);
-        }
-        if !zeros_right(b, block, n) {
-            return refuse(4, b);
-        }
-    }
-    Ok(n)
+    answer_of(&asked)
 }
 
 /// Bytes 0 to 2, and n from 1 to 60.
@@ -56,9 +104,9 @@ fn head_right(b: usize, block: &[u8]) -> bool {
     }
 }
 
-/// All that must be zero is zero.
-fn zeros_right(b: usize, block: &[u8], n: usize) -> bool {
-    (3..SUMMED).all(|at| block[at] == 0 || (0..8).all(|bit| block[at] >> bit & 1 == 0 || has_meaning(b, at, bit, n)))
+/// All that must be zero is zero, in a block without its check bytes.
+fn zeros_right(b: usize, body: &[u8], n: usize) -> bool {
+    (3..body.len()).all(|at| body[at] == 0 || (0..8).all(|bit| body[at] >> bit & 1 == 0 || has_meaning(b, at, bit, n)))
 }
 
 /// Whether a bit of a block stands for a label of a node or for an arrow on a sheet of n nodes.
@@ -85,7 +133,7 @@ fn row_place(a: usize, i: usize) -> usize {
     (a + 1) * BLOCK + 16 + 8 * i
 }
 
-/// The graph of a sound sheet.
+/// The graph of a sound sheet or card: both forms of the sums have it at the same places.
 pub fn read(sheet: &[u8]) -> Graph {
     let mut graph = Graph::blank(usize::from(sheet[2]));
     for (k, label) in graph.labels.iter_mut().enumerate() {
@@ -99,8 +147,8 @@ pub fn read(sheet: &[u8]) -> Graph {
     graph
 }
 
-/// The one sheet that stores a graph.
-pub fn store(graph: &Graph) -> Vec<u8> {
+/// All of a graph's sheet but the check bytes.
+fn unsealed(graph: &Graph) -> Vec<u8> {
     let mut sheet = vec![0; SHEET];
     sheet[0] = 1;
     sheet[2] = graph.n as u8;
@@ -116,7 +164,6 @@ pub fn store(graph: &Graph) -> Vec<u8> {
             put_word(&mut sheet, row_place(a, i), arrow.row(i));
         }
     }
-    sheet.chunks_mut(BLOCK).for_each(seal);
     sheet
 }
 

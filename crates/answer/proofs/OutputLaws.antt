@@ -1,10 +1,21 @@
 -- A call that writes an output, by its questions.
 use mathlib.Core.Path.{_≡_, refl, sym, _∙_, ap}
 use mathlib.Core.List.{List}
-use Prim.Native.Nat.{ℕ}
+use Prim.Native.Nat.{ℕ, _≤_, _<_}
+use native.Mathlib.Omega.{arith}
+use borrow.Author.Tests.{le-leb, lt-leb}
 use lib.ListN.{length}
-use Rattle.answer.specs.Asked.{Asked, passed, refused, _>>=_, after}
-use Rattle.answer.specs.Outputs.{writtenLength, writtenAtStart, writtenOutput}
+use Rattle.answer.specs.Asked.{Asked, passed, refused, _>>=_, _>>_, is, after}
+use Rattle.answer.specs.Outputs.{askRoom, writtenLength, writtenAtStart, writtenOutput}
+
+-- 33
+pub room-short : (bytes : List ℕ) (room size : ℕ) → size ≡ length bytes → room < size → askRoom bytes room ≡ refused 33 size
+unfolding askRoom is _>>_
+room-short bytes room size e l = rw (lt-leb (length bytes) room (omega arith)) (ap (refused 33) (sym e))
+
+pub room-enough : (bytes : List ℕ) (room size : ℕ) → size ≡ length bytes → size ≤ room → askRoom bytes room ≡ passed bytes
+unfolding askRoom is _>>_
+room-enough bytes room size e l = rw (le-leb (length bytes) room (omega arith))
 
 module _ (q : Asked (List ℕ)) (output : List ℕ) where
   -- a refusal writes nothing

@@ -1,11 +1,18 @@
 -- A call that writes into an output: its questions learn the bytes, which it writes at the output's start. It answers their length.
 use mathlib.Core.List.{List, _++_}
 use Prim.Native.Nat.{ℕ}
+use lib.Dec.{leb}
 use lib.ListN.{length, drop}
 use Rattle.answer.specs.declared.Written.{Written}
 use Rattle.answer.specs.declared.Written.the-variants.{Length, Refused}
-use Rattle.answer.specs.Asked.{Asked, passed, refused, _>>=_, after}
+use Rattle.answer.specs.Asked.{Asked, passed, refused, _>>=_, _>>_, is, after}
 use Rattle.answer.specs.Answers.{refusalNumber, refusalPlace}
+
+-- Is there room for them? 33, place their length.
+unfoldable pub askRoom : List ℕ → (room : ℕ) → Asked (List ℕ)
+askRoom bytes room = do
+  is (leb (length bytes) room) 33 (length bytes)
+  passed bytes
 
 -- What its answer says of the questions: the length, or the number and place of the refusal.
 abbrev pub writtenAsked : Written → Asked ℕ

@@ -17,17 +17,15 @@ use Rattle.logic.specs.Limits.{maxNodes}
 use Rattle.text.specs.Code.{bookCode}
 use Rattle.text.specs.Reading.{longestText, textLimits}
 use Rattle.text.specs.Questions.{askBook, askEdit}
-use Rattle.text.proofs.Books.{rules-in-range, book-is-spelled, edit-is-spelled}
+use Rattle.text.proofs.Books.{edit-is-spelled}
 use Rattle.ends.specs.Edits.{EditAt, SomeEdit}
 use Rattle.ends.specs.Books.{BookIs, SomeBook}
+use Rattle.ends.proofs.Rules.{book-passed}
 use Rattle.carry.specs.Carrying.{askSize, askCarry, carryAnswer, carryOutput}
 use Rattle.carry.specs.Into.{Into}
 
--- a book and an edit that have passed, whatever n
+-- an edit that has passed, whatever n
 module _ (n : ℕ) {t : List ℕ} where
-  pub book-passed : {rules : List (Expr rule)} → askBook (textLimits n) t ≡ passed rules → BookIs t rules
-  book-passed {rules} h = let s = book-is-spelled (textLimits n) t rules h in record { limits = textLimits n .numbers; is = s .spells .text-is; range = rules-in-range (textLimits n) rules (s .spells .rules); few = s .spells .few }
-
   pub edit-passed : {Z : Edit} → askEdit (textLimits n) t ≡ passed Z → EditAt t 0 Z × (length t ≤ longestText)
   edit-passed {Z} h = let s = edit-is-spelled (textLimits n) t Z h in (record { limits = textLimits n .numbers; place = record { rest = []; here = s .text-is ∙ sym (append-nil _); range = s .within .numbers-fit } }, s .short)
 
@@ -68,7 +66,7 @@ module _ (book edit out : List ℕ) where
       Z = learned (askEdit (textLimits maxNodes) edit) e
 
       pub both-read : SomeBook book × SomeEdit edit 0 × (length edit ≤ longestText)
-      both-read = let s = edit-passed maxNodes (Z .is) in (record { what = rules .what; is = book-passed maxNodes (rules .is) }, record { what = Z .what; stands = s .0 }, s .1)
+      both-read = let s = edit-passed maxNodes (Z .is) in (record { what = rules .what; is = book-passed (textLimits maxNodes) (rules .is) }, record { what = Z .what; stands = s .0 }, s .1)
 
       asks : askCarry book edit (length out) ≡ (askSize (carriedBook (Z .what) (rules .what)) (length out) >> passed (bookCode (carriedBook (Z .what) (rules .what))))
       unfolding askCarry _>>=_
@@ -77,7 +75,7 @@ module _ (book edit out : List ℕ) where
       pub into-back : {r : Written} {out′ : List ℕ} → ((rules : List (Expr rule)) (Z : Edit) → BookIs book rules → EditAt edit 0 Z → Into (carriedBook Z rules) r out out′) → Back r out′
       unfolding carryAnswer carryOutput writtenLength writtenOutput
       into-back f =
-          let i = f (rules .what) (Z .what) (book-passed maxNodes (rules .is)) (edit-passed maxNodes (Z .is) .0) in
+          let i = f (rules .what) (Z .what) (book-passed (textLimits maxNodes) (rules .is)) (edit-passed maxNodes (Z .is) .0) in
           let q = askSize (carriedBook (Z .what) (rules .what)) (length out) in
           let bytes = bookCode (carriedBook (Z .what) (rules .what)) in
           (i .answer-is ∙ length-of q bytes ∙ sym (ap (λ (x : Asked (List ℕ)). x >>= (λ b. passed (length b))) asks), i .output-is ∙ output-of q bytes out ∙ sym (ap (λ (x : Asked (List ℕ)). after x (λ b. writtenAtStart b out) out) asks))

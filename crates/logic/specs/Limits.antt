@@ -1,7 +1,7 @@
 -- The limits of document 01, "The sheet": n from 1 to 60 nodes, 48 labels, 16 arrow kinds; and the numbers that a term may name.
 use mathlib.Core.Path.{_≡_}
-use mathlib.Core.Bool.{Bool, false}
-use Prim.Native.Nat.{ℕ, _≤_}
+use mathlib.Core.Bool.{Bool, false, _&&_}
+use Prim.Native.Nat.{ℕ, _≤_, _-_}
 use lib.Dec.{T, leb, ltb}
 use Rattle.logic.specs.Syntax.{Sort, Expr, all, none, label, nominal, complement, and, or, some, every, atLeast, atMost, arrowKind, reversed, union, common, minus, endingIn, pair, subNodes, subArrows, nodeIn, pairIn, both, either, notRule, Edit, finish, addLabel, takeLabel, addArrow, takeArrow, choose}
 use Rattle.logic.specs.Graph.{Graph, Nodes, Pairs, isNode}
@@ -36,22 +36,27 @@ pub record Within (g : Graph) : Type 0 where
 pub data Kind : Type 0 where
   labelNumber arrowNumber nodeNumber leastCount mostCount : Kind
 
--- The ranges of numbers: nodes are below `nodes`; counts are what `least` (0A) and `most` (0B) allow.
+-- The ranges of numbers: nodes are below `nodes`; the count of an 0A is from `leastFrom` to `leastTo`, that of an 0B from 0 to `mostTo`.
 pub record Ranges : Type 0 where
   pub nodes : ℕ
-  pub least : ℕ → Bool
-  pub most : ℕ → Bool
+  pub leastFrom : ℕ
+  pub leastTo : ℕ
+  pub mostTo : ℕ
 
--- Document 01's ranges for n nodes: a count is 0 to 255.
+-- The ranges for n nodes (document 02, item 3): the count of an 0A is 1 to 60, that of an 0B 0 to 59. Any other says nothing, whatever the sheet.
 abbrev pub ranges : ℕ → Ranges
-ranges n = record { nodes = n; least = λ m. leb m 255; most = λ m. leb m 255 }
+ranges n = record { nodes = n; leastFrom = 1; leastTo = maxNodes; mostTo = maxNodes - 1 }
+
+-- Those of document 01, a count 0 to 255. No call but the rewriter of stored books reads by them.
+abbrev pub formerRanges : ℕ → Ranges
+formerRanges n = record { nodes = n; leastFrom = 0; leastTo = 255; mostTo = 255 }
 
 abbrev pub fits : Ranges → Kind → ℕ → Bool
 fits r labelNumber x = ltb x labelCount
 fits r arrowNumber x = ltb x arrowCount
 fits r nodeNumber x = ltb x (r .nodes)
-fits r leastCount x = r .least x
-fits r mostCount x = r .most x
+fits r leastCount x = leb (r .leastFrom) x && leb x (r .leastTo)
+fits r mostCount x = leb x (r .mostTo)
 
 -- Each number of a term is in its range.
 unfoldable pub InRange : Ranges → {s : Sort} → Expr s → Type 0

@@ -9,6 +9,7 @@ use borrow.Author.Tests.{lt-ltb, le-ltb, ltb-true, eqb-true}
 use lib.Dec.{eqb, ltb, leb}
 use lib.ListN.{length, getD}
 use Rattle.answer.specs.Asked.{passed, _>>_, is, after}
+use Rattle.answer.specs.Outputs.{askRoom}
 use Rattle.logic.specs.Graph.{Graph, Pairs, isNode}
 use Rattle.logic.specs.Limits.{Within, labelCount, arrowCount}
 use Rattle.logic.specs.Steps.{update}
@@ -16,7 +17,7 @@ use Rattle.sheet.specs.Sheet.{present, store, graphOf}
 use Rattle.sheet.specs.Questions.{askSheet, Sound}
 use Rattle.sheet.proofs.Opening.{opening, is-yes}
 use Rattle.pages.specs.Page.{arrowPage, labelPage}
-use Rattle.pages.specs.Print.{askRoom, askPrintArrow, askPrintLabels}
+use Rattle.pages.specs.Print.{askPrintArrow, askPrintLabels}
 use Rattle.pages.specs.Typed.{lineOf, marks, Block, arrows, labels, askPage, marked, typed, askType, typedSheet}
 use Rattle.pages.specs.Prints.{pageOf, HasBlock}
 use Rattle.pages.proofs.TypeLaws.{both-passed}

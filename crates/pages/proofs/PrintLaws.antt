@@ -3,7 +3,7 @@ use mathlib.Core.Path.{_≡_, sym, _∙_, ap, ap₂}
 use mathlib.Core.List.{List, _++_, append-assoc, append-nil}
 use Prim.Native.Nat.{ℕ, _+_, _-_, _*_, _≤_, _<_}
 use native.Mathlib.Omega.{arith}
-use borrow.Author.Tests.{lt-ltb, le-ltb, le-leb, lt-leb}
+use borrow.Author.Tests.{lt-ltb, le-ltb}
 use lib.ListN.{length, take, drop, length-append, length-drop}
 use lib.Seq.{take-at, take-all, drop-at, drop-drop, drop-length}
 use borrow.Rule.Slice.PartMut.{midOf, postOf, putMid, post-is}
@@ -12,13 +12,14 @@ use Rattle.answer.specs.declared.Answer.the-variants.{Done, Refused}
 use Rattle.answer.specs.declared.Refusal.{Refusal}
 use Rattle.answer.specs.Answers.{refusalNumber, refusalPlace, asked}
 use Rattle.answer.specs.Asked.{passed, refused, _>>_, is}
-use Rattle.answer.specs.Outputs.{writtenAtStart}
+use Rattle.answer.specs.Outputs.{askRoom, writtenAtStart}
+use Rattle.answer.proofs.OutputLaws.{room-short, room-enough}
 use Rattle.logic.specs.Graph.{Graph}
 use Rattle.sheet.specs.Sheet.{graphOf}
 use Rattle.sheet.specs.Questions.{askSheet}
 use Rattle.sheet.proofs.Blocks.{length-chunks}
 use Rattle.pages.specs.Page.{headLine, setLine, rowLines, arrowPage, labelLines, labelPage}
-use Rattle.pages.specs.Print.{askRoom, askPrintArrow, askPrintLabels}
+use Rattle.pages.specs.Print.{askPrintArrow, askPrintLabels}
 use Rattle.pages.proofs.PageLaws.{length-headLine, length-setLine}
 
 pub length-arrowPage : (g : Graph) (a : ℕ) → length (arrowPage g a) ≡ 64 * (g .n) + 64
@@ -32,15 +33,6 @@ unfolding labelPage labelLines
 length-labelPage g =
     length-append (headLine 0x4C (g .n)) _
     ∙ omega (arith, length-headLine 0x4C (g .n), length-chunks 64 (λ k. setLine (g .n) k (g .labelled k)) (λ k. length-setLine (g .n) k (g .labelled k)) 48 0)
-
--- 33
-room-short : (page : List ℕ) (room size : ℕ) → size ≡ length page → room < size → askRoom page room ≡ refused 33 size
-unfolding askRoom is _>>_
-room-short page room size e l = rw (lt-leb (length page) room (omega arith)) (ap (refused 33) (sym e))
-
-room-enough : (page : List ℕ) (room size : ℕ) → size ≡ length page → size ≤ room → askRoom page room ≡ passed page
-unfolding askRoom is _>>_
-room-enough page room size e l = rw (le-leb (length page) room (omega arith))
 
 module _ (sheet : List ℕ) (a : Answer) (check : asked a ≡ askSheet sheet) (room : ℕ) where
   -- 1 to 4

@@ -1,19 +1,13 @@
 -- Printing a page into an output: 1 to 4 of the sheet, 7 for a kind above 15, 33 for a short output. What is learned is the page.
 use mathlib.Core.List.{List}
 use Prim.Native.Nat.{ℕ}
-use lib.Dec.{ltb, leb}
-use lib.ListN.{length}
-use Rattle.answer.specs.Asked.{Asked, passed, _>>_, is}
+use lib.Dec.{ltb}
+use Rattle.answer.specs.Asked.{Asked, _>>_, is}
+use Rattle.answer.specs.Outputs.{askRoom}
 use Rattle.logic.specs.Limits.{arrowCount}
 use Rattle.sheet.specs.Sheet.{graphOf}
 use Rattle.sheet.specs.Questions.{askSheet}
 use Rattle.pages.specs.Page.{arrowPage, labelPage}
-
--- Is there room for it? 33, place its length.
-unfoldable pub askRoom : List ℕ → ℕ → Asked (List ℕ)
-askRoom page room = do
-  is (leb (length page) room) 33 (length page)
-  passed page
 
 unfoldable pub askPrintArrow : List ℕ → (arrow room : ℕ) → Asked (List ℕ)
 askPrintArrow sheet arrow room = do

@@ -1,9 +1,12 @@
-// Where the rules of a text stand, and judging them.
+// Where the rules of a text stand, judging them, and rewriting a stored book.
 ghost use mathlib.Core.Path.{_≡_};
+ghost use lib.ListN.{length};
+ghost use Rattle.answer.specs.Outputs.{writtenLength, writtenOutput};
 ghost use Rattle.text.specs.Reading.{textLimits};
 ghost use Rattle.text.specs.Questions.{ruleStart};
 ghost use Rattle.judge.specs.Judging.{judgedPart};
 ghost use Rattle.judge.specs.Questions.{askJudge};
+ghost use Rattle.rewrite.specs.Rewritten.{askRewrite};
 ghost use Rattle.suite.specs.Numbers.{lengthNumbers, partNumbers, ruleEnd};
 use crate::LengthNumbers;
 use crate::PartNumbers;
@@ -41,4 +44,12 @@ pub extern "C" fn zamiathen_judge(sheet: &[u8], book: &[u8]) -> PartNumbers
         start: verdict.start,
         length: verdict.size,
     }
+}
+
+#[no_mangle]
+pub extern "C" fn zamiathen_rewrite(book: &[u8], output: &mut [u8]) -> LengthNumbers
+    ensures { λ r. ⌜ r ≡ lengthNumbers (writtenLength (askRewrite (now (book .entry)) (length (now (output .entry))))) ⌝ }
+    ensures { λ _. ⌜ now (output .exit) ≡ writtenOutput (askRewrite (now (book .entry)) (length (now (output .entry)))) (now (output .entry)) ⌝ }
+{
+    crate::written_numbers(rewrite::rewrite(book, output))
 }

@@ -1,5 +1,5 @@
 -- The theorems of reading and writing, and what the proofs of several functions use.
-pub mod Ranges
+pub mod CodeSorts
 pub mod Places
 pub mod Standing
 pub mod Converse

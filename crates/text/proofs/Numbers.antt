@@ -1,82 +1,90 @@
 -- A number byte: whether it is there and in its range.
 use mathlib.Core.Path.{_≡_, refl, sym, _∙_, ap}
-use mathlib.Core.Bool.{Bool, true, false, cond}
+use mathlib.Core.Bool.{Bool, true, false, _&&_, cond}
 use mathlib.Core.List.{List, [], _∷_}
 use Prim.Native.Nat.{ℕ, suc, _+_, _≤_, _<_}
 use native.Mathlib.Numerals.{add-one}
 use native.Mathlib.Omega.{arith}
-use lib.Dec.{ltb}
+use lib.Dec.{leb, ltb}
 use lib.ListN.{length, getD, drop, drop-of-length-le}
 use lib.Seq.{drop-cons}
-use borrow.Author.Tests.{le-leb}
-use Rattle.logic.specs.Limits.{Kind, labelCount, arrowCount, ranges, fits}
+use borrow.Author.Tests.{le-leb, lt-leb}
+use Rattle.logic.specs.Limits.{Kind, labelCount, arrowCount, Ranges, fits}
 use Rattle.text.specs.declared.Stop.the-variants.{Missing, OutOfRange}
 use Rattle.text.specs.declared.Step.the-variants.{Next, Stopped}
-use Rattle.text.specs.Reading.{textLimits, number, Read, fault, outOfRange, follow}
+use Rattle.text.specs.Reading.{limitsBy, number, Read, fault, outOfRange, follow}
 use Rattle.text.specs.Rows.{nothing, takes, items, itemOf, itemPlan, finished, rowPlan, numberFits, stopOf, stepOf, stepAt}
-use Rattle.text.proofs.Items.{each-below, nothing-at, is-number, level-free}
+use Rattle.text.proofs.Items.{nothing-at, is-number, level-free}
 use Rattle.text.proofs.Turns.{at-end}
 
-module _ (text : List ℕ) (n : ℕ) where
+module _ (text : List ℕ) (ρ : Ranges) where
   -- A number of a kind.
-  pub number-missing : (k : Kind) (d at : ℕ) → length text ≤ at → stepAt text n (itemPlan (takes k) d finished) at ≡ Stopped (Missing at)
+  pub number-missing : (k : Kind) (d at : ℕ) → length text ≤ at → stepAt text ρ (itemPlan (takes k) d finished) at ≡ Stopped (Missing at)
   unfolding itemPlan stepAt stepOf stopOf follow
   number-missing k d at h = rw (drop-of-length-le text h) refl
 
-  pub number-there : (k : Kind) (d at : ℕ) → at < length text → stepAt text n (itemPlan (takes k) d finished) at ≡ cond (fits (ranges n) k (getD text at 0)) (Next (at + 1)) (Stopped (OutOfRange at))
+  pub number-there : (k : Kind) (d at : ℕ) → at < length text → stepAt text ρ (itemPlan (takes k) d finished) at ≡ cond (fits ρ k (getD text at 0)) (Next (at + 1)) (Stopped (OutOfRange at))
   unfolding itemPlan stepAt stepOf stopOf follow
-  number-there k d at h = ap (λ z. stepOf (follow (textLimits n) z (number k (λ x. finished)) at)) (drop-cons text at 0 h) ∙ go (fits (ranges n) k (getD text at 0)) (drop (suc at) text)
+  number-there k d at h = ap (λ z. stepOf (follow (limitsBy ρ) z (number k (λ x. finished)) at)) (drop-cons text at 0 h) ∙ go (fits ρ k (getD text at 0)) (drop (suc at) text)
     where
-      next : (t : List ℕ) → stepOf (follow (textLimits n) t finished (suc at)) ≡ Next (at + 1)
+      next : (t : List ℕ) → stepOf (follow (limitsBy ρ) t finished (suc at)) ≡ Next (at + 1)
       next [] = ap Next (sym (add-one at))
       next (x ∷ t) = ap Next (sym (add-one at))
 
-      go : (b : Bool) (t : List ℕ) → stepOf {A = Unit {0}} (elim b as (λ z. Read (Unit {0})) [ true ↦ follow (textLimits n) t finished (suc at) | false ↦ fault outOfRange at ]) ≡ cond b (Next (at + 1)) (Stopped (OutOfRange at))
+      go : (b : Bool) (t : List ℕ) → stepOf {A = Unit {0}} (elim b as (λ z. Read (Unit {0})) [ true ↦ follow (limitsBy ρ) t finished (suc at) | false ↦ fault outOfRange at ]) ≡ cond b (Next (at + 1)) (Stopped (OutOfRange at))
       go true t = next t
       go false t = refl
 
-  pub nothing-there : (d at : ℕ) → stepAt text n (itemPlan nothing d finished) at ≡ Next at
+  pub nothing-there : (d at : ℕ) → stepAt text ρ (itemPlan nothing d finished) at ≡ Next at
   unfolding itemPlan rowPlan itemOf items
-  nothing-there d at = at-end text n d at
+  nothing-there d at = at-end text ρ d at
 
 -- The four cases of a number.
-module _ (text : List ℕ) (n x at : ℕ) where
-  pub number-nothing : x < 3 → Next at ≡ stepAt text n (itemPlan (itemOf x) 0 finished) at
-  number-nothing h = sym (ap (λ i. stepAt text n (itemPlan i 0 finished) at) (nothing-at x h) ∙ nothing-there text n 0 at)
+module _ (text : List ℕ) (ρ : Ranges) (x at : ℕ) where
+  pub number-nothing : x < 3 → Next at ≡ stepAt text ρ (itemPlan (itemOf x) 0 finished) at
+  number-nothing h = sym (ap (λ i. stepAt text ρ (itemPlan i 0 finished) at) (nothing-at x h) ∙ nothing-there text ρ 0 at)
 
   module _ (low : 3 ≤ x) (high : x < 8) where
-    pub number-ends : length text ≤ at → Stopped (Missing at) ≡ stepAt text n (itemPlan (itemOf x) 0 finished) at
-    number-ends h = let q = is-number x low high in sym (ap (λ i. stepAt text n (itemPlan i 0 finished) at) (q .item-is) ∙ number-missing text n (q .kind) 0 at h)
+    pub number-ends : length text ≤ at → Stopped (Missing at) ≡ stepAt text ρ (itemPlan (itemOf x) 0 finished) at
+    number-ends h = let q = is-number x low high in sym (ap (λ i. stepAt text ρ (itemPlan i 0 finished) at) (q .item-is) ∙ number-missing text ρ (q .kind) 0 at h)
 
-    pub number-is : (b : Bool) → at < length text → numberFits n (itemOf x) (getD text at 0) ≡ b → cond b (Next (at + 1)) (Stopped (OutOfRange at)) ≡ stepAt text n (itemPlan (itemOf x) 0 finished) at
+    pub number-is : (b : Bool) → at < length text → numberFits ρ (itemOf x) (getD text at 0) ≡ b → cond b (Next (at + 1)) (Stopped (OutOfRange at)) ≡ stepAt text ρ (itemPlan (itemOf x) 0 finished) at
     unfolding numberFits
     number-is b h e =
         let q = is-number x low high in
         sym
-        (ap (λ i. stepAt text n (itemPlan i 0 finished) at) (q .item-is)
-        ∙ number-there text n (q .kind) 0 at h
-        ∙ ap (λ c. cond c (Next (at + 1)) (Stopped (OutOfRange at))) (sym (ap (λ i. numberFits n i (getD text at 0)) (q .item-is)) ∙ e))
+        (ap (λ i. stepAt text ρ (itemPlan i 0 finished) at) (q .item-is)
+        ∙ number-there text ρ (q .kind) 0 at h
+        ∙ ap (λ c. cond c (Next (at + 1)) (Stopped (OutOfRange at))) (sym (ap (λ i. numberFits ρ i (getD text at 0)) (q .item-is)) ∙ e))
 
--- The kinds by their digits; one that is none of label, arrow and node takes any byte.
-module _ (n x y : ℕ) where
-  pub label-fits : x ≡ 3 → ltb y labelCount ≡ numberFits n (itemOf x) y
+-- The kinds by their digits.
+module _ (ρ : Ranges) (x y : ℕ) where
+  pub label-fits : x ≡ 3 → ltb y labelCount ≡ numberFits ρ (itemOf x) y
   unfolding numberFits itemOf items
-  label-fits e = sym (ap (λ k. numberFits n (itemOf k) y) e)
+  label-fits e = sym (ap (λ k. numberFits ρ (itemOf k) y) e)
 
-  pub arrow-fits : x ≡ 4 → ltb y arrowCount ≡ numberFits n (itemOf x) y
+  pub arrow-fits : x ≡ 4 → ltb y arrowCount ≡ numberFits ρ (itemOf x) y
   unfolding numberFits itemOf items
-  arrow-fits e = sym (ap (λ k. numberFits n (itemOf k) y) e)
+  arrow-fits e = sym (ap (λ k. numberFits ρ (itemOf k) y) e)
 
-  pub node-fits : x ≡ 5 → ltb y n ≡ numberFits n (itemOf x) y
+  pub node-fits : x ≡ 5 → ltb y (ρ .nodes) ≡ numberFits ρ (itemOf x) y
   unfolding numberFits itemOf items
-  node-fits e = sym (ap (λ k. numberFits n (itemOf k) y) e)
+  node-fits e = sym (ap (λ k. numberFits ρ (itemOf k) y) e)
 
-pub other-fits : (n y : ℕ) → y < 256 → (x : ℕ) → x < 8 → (x ≡ 3 → ⊥) → (x ≡ 4 → ⊥) → (x ≡ 5 → ⊥) → numberFits n (itemOf x) y ≡ true
-unfolding numberFits itemOf items
-other-fits n y h =
-    each-below (λ x. (x ≡ 3 → ⊥) → (x ≡ 4 → ⊥) → (x ≡ 5 → ⊥) → numberFits n (itemOf x) y ≡ true) 8
-    ((((((((tt, λ a b c. refl), λ a b c. refl), λ a b c. refl), λ a b c. absurd (a refl)), λ a b c. absurd (b refl)), λ a b c. absurd (c refl)), λ a b c. le-leb y 255 (omega arith)), λ a b c. le-leb y 255 (omega arith))
+  least-fits : x ≡ 6 → (leb (ρ .leastFrom) y && leb y (ρ .leastTo)) ≡ numberFits ρ (itemOf x) y
+  unfolding numberFits itemOf items
+  least-fits e = sym (ap (λ k. numberFits ρ (itemOf k) y) e)
+
+  pub least-over : x ≡ 6 → ρ .leastFrom ≤ y → leb y (ρ .leastTo) ≡ numberFits ρ (itemOf x) y
+  least-over e h = ap (_&& leb y (ρ .leastTo)) (sym (le-leb (ρ .leastFrom) y h)) ∙ least-fits e
+
+  pub least-under : x ≡ 6 → y < ρ .leastFrom → leb (ρ .leastFrom) y ≡ numberFits ρ (itemOf x) y
+  least-under e h = let u = lt-leb (ρ .leastFrom) y h in u ∙ ap (_&& leb y (ρ .leastTo)) (sym u) ∙ least-fits e
+
+  pub most-fits : 3 ≤ x → x < 8 → (x ≡ 3 → ⊥) → (x ≡ 4 → ⊥) → (x ≡ 5 → ⊥) → (x ≡ 6 → ⊥) → leb y (ρ .mostTo) ≡ numberFits ρ (itemOf x) y
+  unfolding numberFits itemOf items
+  most-fits low high a b c d = let e : x ≡ 7 = omega arith in sym (ap (λ k. numberFits ρ (itemOf k) y) e)
 
 -- below 8 an item is on no level
-pub any-level : (text : List ℕ) (n x d at : ℕ) → x < 8 → stepAt text n (itemPlan (itemOf x) 0 finished) at ≡ stepAt text n (itemPlan (itemOf x) d finished) at
-any-level text n x d at h = ap (λ z. stepAt text n z at) (level-free d x h)
+pub any-level : (text : List ℕ) (ρ : Ranges) (x d at : ℕ) → x < 8 → stepAt text ρ (itemPlan (itemOf x) 0 finished) at ≡ stepAt text ρ (itemPlan (itemOf x) d finished) at
+any-level text ρ x d at h = ap (λ z. stepAt text ρ z at) (level-free d x h)

@@ -7,12 +7,13 @@ use Prim.Native.Nat.{ℕ, zero, suc}
 use lib.Dec.{ltb, eqb}
 use Rattle.answer.specs.Asked.{Asked, passed, refused, _>>=_}
 use Rattle.logic.specs.Syntax.{node}
+use Rattle.logic.specs.Limits.{maxNodes}
 use Rattle.logic.specs.Graph.{Graph, Nodes}
 use Rattle.logic.specs.Meaning.{value}
 use Rattle.logic.specs.Steps.{run}
 use Rattle.logic.specs.Carry.{carry}
 use Rattle.text.specs.Code.{code}
-use Rattle.text.specs.Reading.{textLimits, expr, readAs}
+use Rattle.text.specs.Reading.{Limits, textLimits, formerLimits, expr, readAs}
 use Rattle.text.specs.Questions.{whole, askBook, askFirst, askEdit, askRuleEnd}
 
 -- Sheet T: 3 nodes, label 0 has nodes 0 and 1, label 1 has node 2, arrow 0 goes from 0 to 2 and from 1 to 2.
@@ -43,11 +44,18 @@ x gives y = record { given = x; printed = y }
 abbrev pub Right : {A : Type 0} → List (Row A) → Type 0
 Right rows = map (λ r. r .given) rows ≡ map (λ r. r .printed) rows
 
--- A node expression, a rule, and a rule through an edit, each from its bytes.
-unfoldable pub onT : List ℕ → Asked Shown
-onT t = do
-  E ← whole (readAs (textLimits 3) (expr node) t 0)
+-- A node expression, a rule, and a rule through an edit, each from its bytes. The count of example 6 is one that document 01 allows: the
+-- expression still means what it shows, though no book or edit may have it now.
+unfoldable pub readOnT : Limits → List ℕ → Asked Shown
+readOnT l t = do
+  E ← whole (readAs l (expr node) t 0)
   passed (nodes (members 3 (value sheetT E)))
+
+abbrev pub onT : List ℕ → Asked Shown
+onT t = readOnT (textLimits 3) t
+
+abbrev pub formerOnT : List ℕ → Asked Shown
+formerOnT t = readOnT (formerLimits 3) t
 
 unfoldable pub judgedOnT : List ℕ → Asked Shown
 judgedOnT t = do
@@ -70,7 +78,7 @@ examples =
     ∷ onT (0x09 ∷ 0x11 ∷ 0x00 ∷ 0x02 ∷ []) gives passed (nodes (2 ∷ []))
     ∷ onT (0x0A ∷ 0x02 ∷ 0x12 ∷ 0x11 ∷ 0x00 ∷ 0x01 ∷ []) gives passed (nodes (2 ∷ []))
     ∷ onT (0x0B ∷ 0x00 ∷ 0x11 ∷ 0x00 ∷ 0x01 ∷ []) gives passed (nodes (2 ∷ []))
-    ∷ onT (0x0A ∷ 0x00 ∷ 0x11 ∷ 0x00 ∷ 0x02 ∷ []) gives passed (nodes (0 ∷ 1 ∷ 2 ∷ []))
+    ∷ formerOnT (0x0A ∷ 0x00 ∷ 0x11 ∷ 0x00 ∷ 0x02 ∷ []) gives passed (nodes (0 ∷ 1 ∷ 2 ∷ []))
     ∷ judgedOnT B gives passed (holds true)
     ∷ throughOnT B (0x32 ∷ 0x01 ∷ 0x04 ∷ 0x02 ∷ 0x30 ∷ []) gives passed (carried (0x21 ∷ 0x03 ∷ 0x00 ∷ 0x08 ∷ 0x11 ∷ 0x00 ∷ 0x06 ∷ 0x03 ∷ 0x01 ∷ 0x05 ∷ 0x04 ∷ 0x02 ∷ []) false false)
     ∷ throughOnT B (0x32 ∷ 0x01 ∷ 0x04 ∷ 0x02 ∷ 0x31 ∷ 0x01 ∷ 0x04 ∷ 0x02 ∷ 0x30 ∷ []) gives passed (carried (0x21 ∷ 0x03 ∷ 0x00 ∷ 0x08 ∷ 0x11 ∷ 0x00 ∷ 0x07 ∷ 0x06 ∷ 0x03 ∷ 0x01 ∷ 0x05 ∷ 0x04 ∷ 0x02 ∷ 0x04 ∷ 0x02 ∷ []) true true)
@@ -100,6 +108,10 @@ editOf n t = found (askEdit (textLimits n) t)
 abbrev pub firstOf : List ℕ → Found
 firstOf t = found (askRuleEnd t)
 
+-- of a stored book, by the former ranges
+abbrev pub storedOf : List ℕ → Found
+storedOf t = found (askBook (formerLimits maxNodes) t)
+
 -- Texts that tell the places and the order of the questions apart, each with what is found.
 unfoldable pub texts : List (Row Found)
 texts =
@@ -124,8 +136,22 @@ texts =
     ∷ bookOf 3 (0x23 ∷ 0x00 ∷ 0x03 ∷ 0x2F ∷ []) gives sound
     ∷ bookOf 3 (0x22 ∷ 0x11 ∷ 0x0F ∷ 0x11 ∷ 0x10 ∷ []) gives no 15 4
     -- the byte of a count is no code
-    ∷ bookOf 3 (0x23 ∷ 0x00 ∷ 0x0A ∷ 0xFF ∷ 0x11 ∷ 0x00 ∷ 0x01 ∷ []) gives sound
     ∷ bookOf 3 (0x23 ∷ 0x00 ∷ 0x0A ∷ 0x03 ∷ 0x11 ∷ 0x00 ∷ 0x01 ∷ []) gives sound
+    -- the count of an 0A: 1 to 60, whatever n; example 6 in a book is 15
+    ∷ bookOf 3 (0x23 ∷ 0x00 ∷ 0x0A ∷ 0x00 ∷ 0x11 ∷ 0x00 ∷ 0x02 ∷ []) gives no 15 3
+    ∷ bookOf 3 (0x23 ∷ 0x00 ∷ 0x0A ∷ 0x01 ∷ 0x11 ∷ 0x00 ∷ 0x02 ∷ []) gives sound
+    ∷ bookOf 3 (0x23 ∷ 0x00 ∷ 0x0A ∷ 0x3C ∷ 0x11 ∷ 0x00 ∷ 0x01 ∷ []) gives sound
+    ∷ bookOf 3 (0x23 ∷ 0x00 ∷ 0x0A ∷ 0x3D ∷ []) gives no 15 3
+    -- of an 0B: 0 to 59
+    ∷ bookOf 3 (0x23 ∷ 0x00 ∷ 0x0B ∷ 0x00 ∷ 0x11 ∷ 0x00 ∷ 0x01 ∷ []) gives sound
+    ∷ bookOf 3 (0x23 ∷ 0x00 ∷ 0x0B ∷ 0x3B ∷ 0x11 ∷ 0x00 ∷ 0x01 ∷ []) gives sound
+    ∷ bookOf 3 (0x23 ∷ 0x00 ∷ 0x0B ∷ 0x3C ∷ 0x11 ∷ 0x00 ∷ 0x01 ∷ []) gives no 15 3
+    -- and so in an edit and in a first rule; a stored book may have any count, and nodes below 60
+    ∷ editOf 3 (0x31 ∷ 0x00 ∷ 0x0A ∷ 0x00 ∷ 0x11 ∷ 0x00 ∷ 0x02 ∷ 0x30 ∷ []) gives no 25 3
+    ∷ editOf 3 (0x31 ∷ 0x00 ∷ 0x0B ∷ 0x3C ∷ 0x11 ∷ 0x00 ∷ 0x02 ∷ 0x30 ∷ []) gives no 25 3
+    ∷ firstOf (0x23 ∷ 0x00 ∷ 0x0A ∷ 0x3D ∷ 0x11 ∷ 0x00 ∷ 0x01 ∷ []) gives no 15 3
+    ∷ storedOf (0x23 ∷ 0x3B ∷ 0x0A ∷ 0x00 ∷ 0x11 ∷ 0x00 ∷ 0x0B ∷ 0xFF ∷ 0x11 ∷ 0x00 ∷ 0x02 ∷ []) gives sound
+    ∷ storedOf (0x23 ∷ 0x3C ∷ 0x01 ∷ []) gives no 15 1
     -- level 32 against 33; 13 before 14 before 15; 12 before all
     ∷ bookOf 3 (times 31 (0x27 ∷ []) (0x23 ∷ 0x00 ∷ 0x01 ∷ [])) gives no 14 33
     ∷ bookOf 3 (times 30 (0x27 ∷ []) (0x23 ∷ 0x00 ∷ 0x01 ∷ [])) gives sound

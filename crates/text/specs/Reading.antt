@@ -4,7 +4,7 @@ use mathlib.Core.List.{List, [], _∷_}
 use Prim.Native.Nat.{ℕ, suc}
 use lib.Dec.{leb, eqb}
 use Rattle.logic.specs.Syntax.{Sort, node, arrow, rule, Expr, all, none, label, nominal, complement, and, or, some, every, atLeast, atMost, arrowKind, reversed, union, common, minus, endingIn, pair, subNodes, subArrows, nodeIn, pairIn, both, either, notRule, Edit, finish, addLabel, takeLabel, addArrow, takeArrow, choose}
-use Rattle.logic.specs.Limits.{Kind, labelNumber, arrowNumber, nodeNumber, leastCount, mostCount, Ranges, ranges, fits}
+use Rattle.logic.specs.Limits.{Kind, labelNumber, arrowNumber, nodeNumber, leastCount, mostCount, Ranges, ranges, formerRanges, fits}
 
 -- Document 01's limits: the bytes and levels of a book or an edit, the rules of a book, the bytes and levels of a carried book.
 abbrev pub longestText : ℕ
@@ -28,9 +28,16 @@ pub record Limits : Type 0 where
   pub deepest : ℕ
   pub numbers : Ranges
 
--- Those of a book or an edit for n nodes.
+-- Those of a book or an edit, by its ranges.
+abbrev pub limitsBy : Ranges → Limits
+limitsBy r = record { longest = longestText; deepest = deepestText; numbers = r }
+
+-- For n nodes; and by the former ranges, for the rewriter of stored books.
 abbrev pub textLimits : ℕ → Limits
-textLimits n = record { longest = longestText; deepest = deepestText; numbers = ranges n }
+textLimits n = limitsBy (ranges n)
+
+abbrev pub formerLimits : ℕ → Limits
+formerLimits n = limitsBy (formerRanges n)
 
 -- Those of a carried book.
 abbrev pub carriedLimits : ℕ → Limits

@@ -6,13 +6,14 @@ use lib.Dec.{leb, ltb, eqb}
 use lib.ListN.{length, getD, drop}
 use Rattle.answer.specs.Asked.{Asked, passed, refused}
 use Rattle.logic.specs.Syntax.{node, arrow, rule}
-use Rattle.logic.specs.Limits.{Kind, labelNumber, arrowNumber, nodeNumber, leastCount, mostCount, ranges, fits}
+use Rattle.logic.specs.Limits.{Kind, labelNumber, arrowNumber, nodeNumber, leastCount, mostCount, Ranges, fits}
+use Rattle.text.specs.declared.Ranges as declared
 use Rattle.text.specs.declared.Stop.{Stop}
 use Rattle.text.specs.declared.Stop.the-variants.{Missing, WrongSort, TooDeep, OutOfRange}
 use Rattle.text.specs.declared.Step.{Step}
 use Rattle.text.specs.declared.Step.the-variants.{Next, Stopped}
 use Rattle.text.specs.Questions.{faultNumber}
-use Rattle.text.specs.Reading.{deepestText, textLimits, Want, expr, edit, Plan, done, number, operand, Fault, missing, wrongSort, tooDeep, outOfRange, Read, got, fault, follow}
+use Rattle.text.specs.Reading.{deepestText, limitsBy, Want, expr, edit, Plan, done, number, operand, Fault, missing, wrongSort, tooDeep, outOfRange, Read, got, fault, follow}
 
 -- What can follow a code: nothing; a number of a kind; a thing one level deeper; a thing on the code's own level, with which its row ends.
 pub data Item : Type 0 where
@@ -127,12 +128,16 @@ itemPlan (here w) d rest = operand w d (λ e. finished)
 unfoldable pub rowPlan : (row d : ℕ) → Plan (Unit {0})
 rowPlan row d = itemPlan (itemOf (row % 16)) d (itemPlan (itemOf (row / 16 % 16)) d (itemPlan (itemOf (row / 256 % 16)) d (itemPlan (itemOf (row / 4096 % 16)) d finished)))
 
--- Whether a number is in the range that an item gives it, for n nodes.
-unfoldable pub numberFits : ℕ → Item → ℕ → Bool
-numberFits n nothing x = true
-numberFits n (takes k) x = fits (ranges n) k x
-numberFits n (deeper w) x = true
-numberFits n (here w) x = true
+-- The ranges that the code is given.
+abbrev pub rangesOf : declared.Ranges → Ranges
+rangesOf x = record { nodes = x .nodes; leastFrom = x .from; leastTo = x .to; mostTo = x .most }
+
+-- Whether a number is in the range that an item gives it.
+unfoldable pub numberFits : Ranges → Item → ℕ → Bool
+numberFits r nothing x = true
+numberFits r (takes k) x = fits r k x
+numberFits r (deeper w) x = true
+numberFits r (here w) x = true
 
 -- What a reading is to the code: the next place, or the fault and its place.
 unfoldable pub stopOf : Fault → ℕ → Stop
@@ -154,8 +159,8 @@ stepAnswer base (Stopped (TooDeep p)) = refused (faultNumber base tooDeep) p
 stepAnswer base (Stopped (OutOfRange p)) = refused (faultNumber base outOfRange) p
 
 -- A plan followed from a place of a text.
-unfoldable pub stepAt : {A : Type 0} → List ℕ → ℕ → Plan A → ℕ → Step
-stepAt text n plan at = stepOf (follow (textLimits n) (drop at text) plan at)
+unfoldable pub stepAt : {A : Type 0} → List ℕ → Ranges → Plan A → ℕ → Step
+stepAt text r plan at = stepOf (follow (limitsBy r) (drop at text) plan at)
 
 -- The questions at a code byte: is it there, is it of the sort, is its level within the limit.
 unfoldable pub headAt : List ℕ → (sort d at : ℕ) → Step

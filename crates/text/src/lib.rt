@@ -6,10 +6,11 @@ use logic::Label;
 use logic::Node;
 ghost use mathlib.Core.Path.{_≡_};
 ghost use Prim.Native.Nat.{_<_, _≤_};
-ghost use Rattle.text.specs.Rows.{itemOf, rowOf, itemPlan, finished, rowPlan, sortOf, numberFits, stepAt, headAt, stepAnswer};
+ghost use Rattle.logic.specs.Limits.{maxNodes, ranges, formerRanges};
+ghost use Rattle.text.specs.Rows.{itemOf, rowOf, itemPlan, finished, rowPlan, sortOf, rangesOf, numberFits, stepAt, headAt, stepAnswer};
 ghost use Rattle.answer.specs.Answers.{asked};
 ghost use Rattle.answer.specs.Asked.{outcome};
-ghost use Rattle.text.specs.Reading.{deepestText, textLimits};
+ghost use Rattle.text.specs.Reading.{deepestText, limitsBy, textLimits, formerLimits};
 ghost use Rattle.text.specs.Questions.{askBook, askEdit, askRuleEnd, firstRule, ruleStart};
 
 // What is wrong with the bytes, and where: 12 to 15 of a book, 22 to 25 of an edit.
@@ -104,23 +105,32 @@ fn sort_of(code: u8) -> u32
     }
 }
 
-// Is a number byte of a kind in its range? A count may be any byte.
-fn in_range(kind: u32, x: u8, n: usize) -> bool
-    requires { ⌜ kind < 8 ⌝ }
-    ensures { λ r. ⌜ r ≡ numberFits n (itemOf kind) x ⌝ }
+// The ranges of numbers: nodes are below `nodes`; the count of an 0A is from `from` to `to`, that of an 0B up to `most`.
+struct Ranges {
+    nodes: usize,
+    from: u8,
+    to: u8,
+    most: u8,
+}
+
+// Is a number byte of a kind in its range? Inner: the item is a number.
+fn in_range(ranges: Ranges, kind: u32, x: u8) -> bool
+    requires { ⌜ (3 ≤ kind) × (kind < 8) ⌝ }
+    ensures { λ r. ⌜ r ≡ numberFits (rangesOf ranges) (itemOf kind) x ⌝ }
 {
     match kind {
         3 => x < Text::LABELS,
         4 => x < Text::ARROWS,
-        5 => (x as usize) < n,
-        _ => true,
+        5 => (x as usize) < ranges.nodes,
+        6 => ranges.from <= x && x <= ranges.to,
+        _ => x <= ranges.most,
     }
 }
 
 // Reads a number byte of a kind. Inner: other items are read by `part`.
-fn number(text: &[u8], n: usize, kind: u32, at: usize) -> Step
+fn number(text: &[u8], ranges: Ranges, kind: u32, at: usize) -> Step
     requires { ⌜ kind < 8 ⌝ }
-    ensures { λ r. ⌜ r ≡ stepAt (now (text .entry)) n (itemPlan (itemOf kind) 0 finished) at ⌝ }
+    ensures { λ r. ⌜ r ≡ stepAt (now (text .entry)) (rangesOf ranges) (itemPlan (itemOf kind) 0 finished) at ⌝ }
 {
     if kind < 3 {
         return Step::Next(at);
@@ -128,7 +138,7 @@ fn number(text: &[u8], n: usize, kind: u32, at: usize) -> Step
     if text.len() <= at {
         return Step::Stopped(Stop::Missing { place: at });
     }
-    if in_range(kind, text[at], n) {
+    if in_range(ranges, kind, text[at]) {
         Step::Next(at + 1)
     } else {
         Step::Stopped(Stop::OutOfRange { place: at })
@@ -153,23 +163,23 @@ fn head(text: &[u8], sort: u32, at: usize, level: usize) -> Step
 
 // Reads an item that stands not on the code's own level: a number, or a thing one level deeper.
 // Inner: `read` has seen that the level is within the limit, which bounds the depth of the calls.
-fn part(text: &[u8], n: usize, item: u32, at: usize, level: usize) -> Step
+fn part(text: &[u8], ranges: Ranges, item: u32, at: usize, level: usize) -> Step
     requires { ⌜ (item < 12) × (level ≤ deepestText) ⌝ }
-    ensures { λ r. ⌜ r ≡ stepAt (now (text .entry)) n (itemPlan (itemOf item) level finished) at ⌝ }
+    ensures { λ r. ⌜ r ≡ stepAt (now (text .entry)) (rangesOf ranges) (itemPlan (itemOf item) level finished) at ⌝ }
 {
     if item < 8 {
-        return number(text, n, item, at);
+        return number(text, ranges, item, at);
     }
-    read(text, n, item + 4, at, level + 1)
+    read(text, ranges, item + 4, at, level + 1)
 }
 
 // Reads a thing whose first code is on a level, and the steps that follow one another there, along the rows of their codes.
-// It calls itself, through `part`, one level deeper each time and no more than `Text::DEEPEST` deep, whatever the text: 144 bytes of stack a level,
+// It calls itself, through `part`, one level deeper each time and no more than `Text::DEEPEST` deep, whatever the text: 160 bytes of stack a level,
 // 5 kB in all. Steps that follow one another take no more stack.
 // Inner: the sort wanted is a digit from C to F.
-fn read(text: &[u8], n: usize, wanted: u32, at: usize, level: usize) -> Step
+fn read(text: &[u8], ranges: Ranges, wanted: u32, at: usize, level: usize) -> Step
     requires { ⌜ (12 ≤ wanted) × (wanted < 16) ⌝ }
-    ensures { λ r. ⌜ r ≡ stepAt (now (text .entry)) n (rowPlan wanted level) at ⌝ }
+    ensures { λ r. ⌜ r ≡ stepAt (now (text .entry)) (rangesOf ranges) (rowPlan wanted level) at ⌝ }
 {
     let mut row = wanted;
     let mut p = at;
@@ -183,7 +193,7 @@ fn read(text: &[u8], n: usize, wanted: u32, at: usize, level: usize) -> Step
             row = row_of(text[p]);
             p = q;
         } else {
-            let step = part(text, n, item, p, level);
+            let step = part(text, ranges, item, p, level);
             let Step::Next(q) = step else {
                 return step;
             };
@@ -223,6 +233,52 @@ fn edit_answer(step: Step) -> Answer
     }
 }
 
+// The ranges for n nodes; and those of stored books, where a count may be any byte.
+fn ranges_for(n: usize) -> Ranges
+    ensures { λ r. ⌜ rangesOf r ≡ ranges n ⌝ }
+{
+    Ranges {
+        nodes: n,
+        from: Text::LEAST_FROM,
+        to: Text::LEAST_TO,
+        most: Text::MOST_TO,
+    }
+}
+
+fn former_ranges(n: usize) -> Ranges
+    ensures { λ r. ⌜ rangesOf r ≡ formerRanges n ⌝ }
+{
+    Ranges {
+        nodes: n,
+        from: 0,
+        to: 255,
+        most: 255,
+    }
+}
+
+// Is a book within the limits that go with the ranges? 11 to 16.
+fn book_within(book: &[u8], ranges: Ranges) -> Answer
+    ensures { λ r. ⌜ asked r ≡ outcome (askBook (limitsBy (rangesOf ranges)) (now (book .entry))) ⌝ }
+{
+    if book.len() > Text::LONGEST {
+        return Answer::Refused(Refusal::BookLength { place: 0 });
+    }
+    let mut p = 0;
+    let mut left = Text::RULES;
+    while p < book.len() {
+        if left == 0 {
+            return Answer::Refused(Refusal::BookRules { place: p });
+        }
+        let step = read(book, ranges, RULE, p, 1);
+        let Step::Next(q) = step else {
+            return book_answer(step);
+        };
+        p = q;
+        left -= 1;
+    }
+    Answer::Done
+}
+
 // Texts. Each function goes over a text once.
 pub struct Text;
 
@@ -239,28 +295,27 @@ impl Text {
     pub const ARROWS: u8 = Arrow::COUNT;
 
     pub const NODES: usize = Node::MAX as usize;
+    // the counts of an 0A, and the last of an 0B
+    pub const LEAST_FROM: u8 = 1;
+
+    pub const LEAST_TO: u8 = Node::MAX;
+
+    pub const MOST_TO: u8 = Node::MAX - 1;
 
     // Is a book within the limits for n nodes? 11 to 16.
     pub fn check_book(book: &[u8], n: usize) -> Answer
         ensures { λ r. ⌜ asked r ≡ outcome (askBook (textLimits n) (now (book .entry))) ⌝ }
     {
-        if book.len() > Text::LONGEST {
-            return Answer::Refused(Refusal::BookLength { place: 0 });
-        }
-        let mut p = 0;
-        let mut left = Text::RULES;
-        while p < book.len() {
-            if left == 0 {
-                return Answer::Refused(Refusal::BookRules { place: p });
-            }
-            let step = read(book, n, RULE, p, 1);
-            let Step::Next(q) = step else {
-                return book_answer(step);
-            };
-            p = q;
-            left -= 1;
-        }
-        Answer::Done
+        let ranges = ranges_for(n);
+        book_within(book, ranges)
+    }
+
+    // Is a stored book, which may have any count? 11 to 16 by the former ranges, n as 60. For the rewriter of stored books.
+    pub fn check_former_book(book: &[u8]) -> Answer
+        ensures { λ r. ⌜ asked r ≡ outcome (askBook (formerLimits maxNodes) (now (book .entry))) ⌝ }
+    {
+        let ranges = former_ranges(Text::NODES);
+        book_within(book, ranges)
     }
 
     // Is an edit? 21 to 26.
@@ -270,7 +325,8 @@ impl Text {
         if edit.len() > Text::LONGEST {
             return Answer::Refused(Refusal::EditLength { place: 0 });
         }
-        let step = read(edit, n, EDIT, 0, 1);
+        let ranges = ranges_for(n);
+        let step = read(edit, ranges, EDIT, 0, 1);
         let Step::Next(p) = step else {
             return edit_answer(step);
         };
@@ -287,7 +343,8 @@ impl Text {
         if text.len() > Text::LONGEST {
             return &text[0..0];
         }
-        let step = read(text, Text::NODES, RULE, 0, 1);
+        let ranges = ranges_for(Text::NODES);
+        let step = read(text, ranges, RULE, 0, 1);
         let Step::Next(p) = step else {
             return &text[0..0];
         };
@@ -301,7 +358,8 @@ impl Text {
         if text.len() > Text::LONGEST {
             return Answer::Refused(Refusal::BookLength { place: 0 });
         }
-        book_answer(read(text, Text::NODES, RULE, 0, 1))
+        let ranges = ranges_for(Text::NODES);
+        book_answer(read(text, ranges, RULE, 0, 1))
     }
 
     // Where rule i of a book stands, from 0: behind i rules; the book's length where there are not so many, or where they can't be read.
@@ -309,10 +367,11 @@ impl Text {
     pub fn rule_start(book: &[u8], n: usize, i: usize) -> usize
         ensures { λ r. ⌜ r ≡ ruleStart (textLimits n) i (now (book .entry)) ⌝ }
     {
+        let ranges = ranges_for(n);
         let mut p = 0;
         let mut left = i;
         while 0 < left {
-            let step = read(book, n, RULE, p, 1);
+            let step = read(book, ranges, RULE, p, 1);
             let Step::Next(q) = step else {
                 return book.len();
             };

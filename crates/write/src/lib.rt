@@ -7,7 +7,7 @@ ghost use Rattle.ends.specs.Books.{RuleAt, BookIs};
 ghost use Rattle.write.specs.Rules.{SomeRuleFits, RuleWritten, SomeBookFits, BookWritten};
 ghost use Rattle.write.specs.Links.{Fitting};
 
-mod bytes;
+pub mod bytes;
 mod expressions;
 mod names;
 mod ways;

@@ -97,6 +97,13 @@ impl Tally {
         assert!(10 * one > one + other && 10 * other > one + other, "{what}: {one} and {other} are both frequent");
     }
 
+    /// Ends the program if a call never gave one of these answers.
+    pub fn all_reached(&self, what: &'static str, numbers: &[usize]) {
+        for number in numbers {
+            assert!(self.reached.contains_key(&(what, *number)), "{what}: {number} never came");
+        }
+    }
+
     fn fail(&self, what: &str, found: &Outcome, wanted: &Outcome, inputs: &[(&str, &[u8])]) -> ! {
         println!("{what} differs");
         println!("library:   {:?}", found.numbers);

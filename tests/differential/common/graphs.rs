@@ -30,6 +30,11 @@ pub fn graph(random: &mut Random, names: Names) -> Graph {
     graph
 }
 
+/// Each label on each node, and all arrows.
+pub fn full(n: usize) -> Graph {
+    Graph { n, labels: vec![vec![true; n]; LABELS], arrows: vec![Pairs::new(n, |_, _| true); ARROWS] }
+}
+
 /// A word with about one bit in eight, in two, or seven in eight.
 fn mask(random: &mut Random, kind: usize) -> u64 {
     match kind {

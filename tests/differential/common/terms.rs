@@ -33,13 +33,13 @@ impl Names {
     }
 }
 
-/// A count, mostly one that a node may have.
+/// A number from 0 to 59, mostly one that a node has fewer end nodes than or just as many: the count of an 0B, and of an 0A less 1.
 fn count(random: &mut Random, n: usize) -> u8 {
     match random.below(12) {
         0..=6 => random.below(4) as u8,
-        7..=9 => random.below(n + 2) as u8,
-        10 => random.pick(&[3, 11, 17, 59, 60, 61, 255]),
-        _ => random.byte(),
+        7..=9 => random.below((n + 2).min(60)) as u8,
+        10 => random.pick(&[2, 3, 10, 11, 16, 17, 58, 59]),
+        _ => random.below(60) as u8,
     }
 }
 
@@ -58,7 +58,7 @@ pub fn node(random: &mut Random, names: Names, levels: usize) -> Node {
             let m = count(random, names.n);
             let (r, e) = (Box::new(arrow(random, names, below)), Box::new(node(random, names, below)));
             if kind == 7 {
-                Node::AtLeast(m, r, e)
+                Node::AtLeast(m + 1, r, e)
             } else {
                 Node::AtMost(m, r, e)
             }

@@ -32,6 +32,15 @@ pub fn damaged(random: &mut Random, mut text: Vec<u8>) -> Vec<u8> {
     text
 }
 
+/// A byte behind a 0A or 0B, most often its count, made one at an end of a range of counts or beyond.
+pub fn miscounted(random: &mut Random, mut text: Vec<u8>) -> Vec<u8> {
+    let counts: Vec<usize> = (1..text.len()).filter(|at| text[at - 1] == 0x0A || text[at - 1] == 0x0B).collect();
+    if !counts.is_empty() {
+        text[random.pick(&counts)] = random.pick(&[0, 1, 59, 60, 61, 254, 255]);
+    }
+    text
+}
+
 /// A byte that is often a code, or near the end of a range of codes or numbers.
 pub fn likely_byte(random: &mut Random) -> u8 {
     match random.below(8) {
@@ -60,6 +69,10 @@ pub fn any(random: &mut Random, n: usize) -> Vec<u8> {
         }
         1 => codes(random),
         2..=4 => sound(random, n),
+        5 => {
+            let text = sound(random, n);
+            miscounted(random, text)
+        }
         _ => {
             let text = sound(random, n);
             damaged(random, text)

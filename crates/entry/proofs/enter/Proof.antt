@@ -3,7 +3,8 @@ use mathlib.Core.Path.{sym, ap, _∙_}
 use borrow.Author.Needs.{needs}
 use Rattle.answer.specs.Answers.{asked}
 use Rattle.answer.proofs.AnswerLaws.{learned}
-use Rattle.carry.proofs.Passing.{book-passed, edit-passed}
+use Rattle.carry.proofs.Passing.{edit-passed}
+use Rattle.ends.proofs.Rules.{book-passed}
 use Rattle.entry.proofs.Stages.{sheet-stops, book-stops, edit-stops, size-stops, rules-stand, edit-stands, settles}
 use Rattle.entry.proofs.enter.Statement.{statement}
 use Rattle.entry.proofs.enter.Tie as tie

@@ -9,7 +9,7 @@ use borrow.Fn.Kinds.{In}
 use borrow.Fn.PlainCycle.{Measures, is, falls, and}
 use denote.Ref.{now}
 use Rattle.text.specs.Reading.{deepestText}
-use Rattle.text.specs.Rows.{rowPlan, stepAt}
+use Rattle.text.specs.Rows.{rowPlan, rangesOf, stepAt}
 use Rattle.text.proofs.Compose.{step-on}
 use Rattle.text.proofs.Entries.{row-small}
 use Rattle.text.proofs.Heads.{Headed, head-passed}
@@ -71,10 +71,10 @@ part-returns-2 : (t : ℕ) → part-lts.Need-returns-2 (Rp t) (part-at t) part.P
 part-returns-2 t c = c .read .ensures ∙ sym (at-deeper _ _ _ _ _ (omega arith) (omega arith))
 
 abbrev read-Inv-loop : read-lts.InvT-loop
-read-Inv-loop text n wanted at level row₀ p₀ row p = (stepAt text n (rowPlan row level) p ≡ stepAt text n (rowPlan wanted level) at) × (row < 65536) × (row % 16 < 12 → level ≤ deepestText)
+read-Inv-loop text ranges wanted at level row₀ p₀ row p = (stepAt text (rangesOf ranges) (rowPlan row level) p ≡ stepAt text (rangesOf ranges) (rowPlan wanted level) at) × (row < 65536) × (row % 16 < 12 → level ≤ deepestText)
 
 abbrev read-μ-loop : read-lts.MeasureT-loop
-read-μ-loop text n wanted at level row₀ p₀ row p = (length text - p) * 65536 + row
+read-μ-loop text ranges wanted at level row₀ p₀ row p = (length text - p) * 65536 + row
 
 read-loop-holds : (t : ℕ) → read-lts.Need-loop-holds (Rr t) (read-at t) read.Post read-Inv-loop read-μ-loop
 read-loop-holds t c = (refl, omega arith, λ h. omega arith)

@@ -3,7 +3,7 @@ use mathlib.Core.Path.{sym, ap}
 use native.Mathlib.Omega.{arith}
 use borrow.Author.Needs.{needs}
 use Rattle.text.specs.Rows.{rowIn, nodeRows, arrowRows, ruleRows, editRows}
-use Rattle.text.proofs.Ranges.{of-nodes, of-arrows, of-rules, of-edits, before-nodes, before-arrows, before-rules, before-edits, behind-edits}
+use Rattle.text.proofs.CodeSorts.{of-nodes, of-arrows, of-rules, of-edits, before-nodes, before-arrows, before-rules, before-edits, behind-edits}
 use Rattle.text.proofs.row_of.Statement.{statement}
 use Rattle.text.proofs.row_of.Tie as tie
 

@@ -2,7 +2,7 @@
 use mathlib.Core.Path.{sym, ap}
 use native.Mathlib.Omega.{arith}
 use Rattle.text.specs.Rows.{sortDigit}
-use Rattle.text.proofs.Ranges.{of-nodes, of-arrows, of-rules, of-edits, before-nodes, before-arrows, before-rules, before-edits, behind-edits}
+use Rattle.text.proofs.CodeSorts.{of-nodes, of-arrows, of-rules, of-edits, before-nodes, before-arrows, before-rules, before-edits, behind-edits}
 use Rattle.text.proofs.sort_of.Statement.{statement}
 use Rattle.text.proofs.sort_of.Tie as tie
 

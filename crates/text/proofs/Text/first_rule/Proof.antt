@@ -16,6 +16,9 @@ part-result-end c = search needs
 returns : tie.Need-returns
 returns c = no-rule-long _ (c .before .if1 .taken)
 
+ranges-for-requires : tie.Need-ranges-for-requires
+ranges-for-requires c κs = search needs
+
 read-requires : tie.Need-read-requires
 read-requires c κs = search needs
 
@@ -35,7 +38,7 @@ part-result-end-2 : tie.Need-part-result-end-2
 part-result-end-2 c = search needs
 
 returns-2 : tie.Need-returns-2
-returns-2 c = no-rule _ (c .before .before .before .before .if1 .left) (sym (c .before .before .before .read .ensures) ∙ c .before .enum-told .given .1)
+returns-2 c = no-rule _ _ (c .before .before .before .before .ranges-for .ensures) (c .before .before .before .before .before .if1 .left) (sym (c .before .before .before .read .ensures) ∙ c .before .enum-told .given .1)
 
 sub-result-3 : tie.Need-sub-result-3
 sub-result-3 c = search needs
@@ -44,10 +47,10 @@ part-result-start-3 : tie.Need-part-result-start-3
 part-result-start-3 c = search needs
 
 part-result-end-3 : tie.Need-part-result-end-3
-part-result-end-3 c = rule-inside _ (c .before .before .before .before .if1 .left) (sym (c .before .before .before .read .ensures) ∙ c .before .step .given .1)
+part-result-end-3 c = rule-inside _ _ (c .before .before .before .before .ranges-for .ensures) (c .before .before .before .before .before .if1 .left) (sym (c .before .before .before .read .ensures) ∙ c .before .step .given .1)
 
 returns-3 : tie.Need-returns-3
-returns-3 c = the-rule _ (c .before .before .before .before .before .if1 .left) (sym (c .before .before .before .before .read .ensures) ∙ c .before .before .step .given .1)
+returns-3 c = the-rule _ _ (c .before .before .before .before .before .ranges-for .ensures) (c .before .before .before .before .before .before .if1 .left) (sym (c .before .before .before .before .read .ensures) ∙ c .before .before .step .given .1)
 
 pub first-rule-spec : {M : Type 1} → statement M
 first-rule-spec =
@@ -57,6 +60,7 @@ first-rule-spec =
     part-result-start
     part-result-end
     returns
+    ranges-for-requires
     read-requires
     enum-known-step
     enum-told

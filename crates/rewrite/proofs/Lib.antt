@@ -1,0 +1,10 @@
+pub mod Trees
+pub mod Turns
+pub mod ToCome
+pub mod Rewriting
+pub mod NoLonger
+pub mod Wider
+pub mod Passes
+pub mod LeftAlone
+pub mod Twice
+pub mod SameTruth
