@@ -32,7 +32,7 @@ extern "C" {
  * added: a card written under another first number may be answered otherwise (one written under 1 is converted by
  * zamiathen_convert_255). As one number: 1000 * first + second. */
 #define ZAMIATHEN_VERSION_FIRST 3
-#define ZAMIATHEN_VERSION_SECOND 0
+#define ZAMIATHEN_VERSION_SECOND 1
 #define ZAMIATHEN_VERSION (1000 * ZAMIATHEN_VERSION_FIRST + ZAMIATHEN_VERSION_SECOND)
 
 /* Sizes. */
