@@ -92,6 +92,10 @@ def explained(file, number, place):
             fault(file, f"a page has no line {place}")
         where = "its length or its head" if place == 0 else f"line {place}, counted from 0"
         return [f"the page is not one that a sheet of this n prints: {where}"]
+    if number == 52:
+        return [f"the check bytes of block {place} of the log are wrong"]
+    if number == 53:
+        return [f"block {place} of the log is not the block that is due, is cut short or is missing"]
     if number not in WITHOUT_PLACE:
         fault(file, f"no call answers {number:02}")
     if place != 0:

@@ -9,7 +9,7 @@ digits zero n = []
 digits (suc w) n = digits w (n / 10) ++ ((48 + n % 10) ∷ [])
 
 -- The number in two digits, a blank, the place in five digits, a line feed.
--- Of a place with more digits these are the last five; no answer of document 01 has one, for the largest place is 16,384, of 33.
+-- Of a place with more digits these are the last five; no answer has one, for the largest place is 65,535, of 53.
 unfoldable pub answerLine : (number place : ℕ) → List ℕ
 answerLine number place = digits 2 number ++ (32 ∷ digits 5 place ++ (10 ∷ []))
 

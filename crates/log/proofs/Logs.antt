@@ -1,22 +1,22 @@
 -- Logs by their bytes.
 use mathlib.Core.Path.{_≡_, refl, sym, _∙_, ap}
-use mathlib.Core.Bool.{Bool, true, false, cond}
+use mathlib.Core.Bool.{Bool, true, false}
 use mathlib.Core.List.{List, [], _∷_, _++_}
-use Prim.Native.Nat.{ℕ, zero, suc, _+_, _-_, _≤_, _<_}
+use Prim.Native.Nat.{ℕ, zero, suc, _+_, _-_, _≤_, _<_, _*_, _/_}
 use native.Mathlib.Omega.{arith}
 use native.Mathlib.Decide.{decLt}
 use borrow.Author.Tests.{leb-true, leb-false}
 use lib.Dec.{leb}
-use lib.ListN.{length, getD, take, drop, length-take, length-drop, List·getD-eq-default}
+use lib.ListN.{length, getD, take, drop, length-take, length-drop, drop-of-length-le, List·getD-eq-default}
 use lib.Seq.{getD-take, getD-drop}
 use Rattle.answer.specs.Asked.{passed}
-use Rattle.log.specs.Log.{isLast, recorded, cut, blocksOf, readLog}
+use Rattle.log.specs.Log.{recorded, cut, blocksOf, readLog}
 use Rattle.log.specs.Making.{editBlocks, logBlocks, joined, CanHold, logOf}
 use Rattle.log.specs.Stops.{blocksTo, restOf, renumbered}
 use Rattle.log.specs.Logs.{Logs}
 use Rattle.log.proofs.CutLaws.{blocks-nil, blocks-at, blocks-drop, blocks-take, joined-blocks}
 use Rattle.log.proofs.MakeLaws.{block-whole}
-use Rattle.log.proofs.ReadLaws.{further}
+use Rattle.log.proofs.ReadLaws.{Few, few-behind, further}
 use Rattle.log.proofs.StopLaws.{stops}
 use Rattle.log.proofs.ReadBack.{one-block, more-blocks, log-read}
 use Rattle.log.proofs.OneLog.{EachBytes, log-is}
@@ -71,24 +71,29 @@ one-log log b e =
     (sym (joined-blocks log) ∙ ap joined (r .0), r .1)
 
 -- the rest of a log, read by itself
-few-to : (i : ℕ) (ks : List (List ℕ)) → blocksTo i ks ≤ length ks
-unfolding blocksTo
-few-to zero ks = omega arith
-few-to (suc i) [] = omega arith
-few-to (suc i) (k ∷ ks) = go (isLast k) (few-to i ks) (few-to (suc i) ks)
+few-cut : (f n : ℕ) (l : List ℕ) → 512 * n + length l < 512 * 65536 → Few n (cut f l)
+unfolding Few cut
+few-cut zero n l h = tt
+few-cut (suc f) n [] h = tt
+few-cut (suc f) n (x ∷ l) h = (λ e. omega (arith, length-take 512 (x ∷ l)), go (decLt (length (x ∷ l)) 512) (λ d. few-cut f (suc n) (drop 512 (x ∷ l)) d))
   where
-    go : (y : Bool) → blocksTo i ks ≤ length ks → blocksTo (suc i) ks ≤ length ks → suc (cond y (blocksTo i ks) (blocksTo (suc i) ks)) ≤ suc (length ks)
-    go true a b = omega arith
-    go false a b = omega arith
+    none : (f : ℕ) → Few (suc n) (cut f [])
+    none zero = tt
+    none (suc f) = tt
 
-rest-read : (log : List ℕ) (i : ℕ) → i ≤ length (readLog log .edits) → length (blocksOf log) ≤ 65535
+    go : Dec (length (x ∷ l) < 512) → (512 * suc n + length (drop 512 (x ∷ l)) < 512 * 65536 → Few (suc n) (cut f (drop 512 (x ∷ l)))) → Few (suc n) (cut f (drop 512 (x ∷ l)))
+    go (yes d) on = rw (drop-of-length-le (x ∷ l) {i = 512} (omega arith)) (none f)
+    go (no d) on = on (omega (arith, length-drop 512 (x ∷ l)))
+
+rest-read : (log : List ℕ) (i : ℕ) → i ≤ length (readLog log .edits) → length log / 512 ≤ 65535
     → renumbered (blocksTo i (blocksOf log)) (readLog (restOf i log)) ≡ record { edits = drop i (readLog log .edits); ending = readLog log .ending }
+unfolding blocksOf
 rest-read log i h few =
     let ks : List (List ℕ) = blocksOf log in
     let m : ℕ = blocksTo i ks in
     let z : m + 0 ≡ 0 + m = omega arith in
     ap (λ x. renumbered m (recorded 0 [] x)) (blocks-drop m log)
-    ∙ sym (further m 0 [] (drop m ks) (omega (arith, length-drop m ks, few-to i ks)))
+    ∙ sym (further m 0 [] (drop m ks) (few-behind m 0 ks (few-cut (length log) 0 log (omega arith))))
     ∙ ap (λ n. recorded n [] (drop m ks)) z ∙ stops 0 ks i h .rest
 
 pub logs : Logs

@@ -2,7 +2,7 @@
 use mathlib.Core.Path.{_≡_, refl, sym, _∙_, ap, ap₂, subst}
 use mathlib.Core.Bool.{Bool, true, false, cond}
 use mathlib.Core.List.{List, [], _∷_, _++_, append-assoc}
-use Prim.Native.Nat.{ℕ, suc, _≤_}
+use Prim.Native.Nat.{ℕ, suc, _≤_, _/_}
 use lib.ListN.{length, take, drop, length-replicate, take-append-drop}
 use Rattle.answer.specs.Asked.{passed, refused}
 use Rattle.line.specs.Line.{askedLine}
@@ -55,7 +55,7 @@ unfolding sheetHeld
 held-parts sheet book [] b = refl
 held-parts sheet book (edit ∷ a) b = held-parts (printedSheet sheet book edit) book a b
 
-stop-and-go : (sheet book bytes : List ℕ) (i : ℕ) → i ≤ length (readLog bytes .edits) → length (blocksOf bytes) ≤ 65535
+stop-and-go : (sheet book bytes : List ℕ) (i : ℕ) → i ≤ length (readLog bytes .edits) → length bytes / 512 ≤ 65535
     → replaySheet (replaySheet sheet book (partOf i bytes)) book (restOf i bytes) ≡ replaySheet sheet book bytes
 unfolding replaySheet
 stop-and-go sheet book bytes i h few =

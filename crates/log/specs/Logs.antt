@@ -1,9 +1,10 @@
 -- What a log promises by its form. proofs/Logs proves it.
 use mathlib.Core.Path.{_≡_}
 use mathlib.Core.List.{List}
-use Prim.Native.Nat.{ℕ, suc, _≤_, _<_}
+use Prim.Native.Nat.{ℕ, suc, _/_, _≤_, _<_}
 use lib.ListN.{length, getD, take, drop}
 use Rattle.answer.specs.Asked.{passed}
+use Rattle.seal.specs.Seal.{blockBytes}
 use Rattle.log.specs.Log.{lastNumber, blocksOf, readLog}
 use Rattle.log.specs.Making.{CanHold, logBlocks, logOf}
 use Rattle.log.specs.Stops.{blocksTo, partOf, restOf, renumbered}
@@ -15,6 +16,6 @@ pub record Logs : Type 0 where
   pub one-log : (log : List ℕ) → ((p : ℕ) → getD log p 0 < 256) → readLog log .ending ≡ passed tt → (log ≡ logOf (readLog log .edits)) × CanHold (readLog log .edits)
   -- Behind i edits of a log: what was read up to there is those edits, with no fault;
   pub part-read : (log : List ℕ) (i : ℕ) → i ≤ length (readLog log .edits) → readLog (partOf i log) ≡ record { edits = take i (readLog log .edits); ending = passed tt }
-  -- and the rest of a log of at most 65,535 blocks, read by itself, is the other edits, and ends as the log does, but for the blocks' numbers.
-  pub rest-read : (log : List ℕ) (i : ℕ) → i ≤ length (readLog log .edits) → length (blocksOf log) ≤ suc lastNumber
+  -- and the rest of a log of at most 65,535 whole blocks, read by itself, is the other edits, and ends as the log does, but for the blocks' numbers.
+  pub rest-read : (log : List ℕ) (i : ℕ) → i ≤ length (readLog log .edits) → length log / blockBytes ≤ suc lastNumber
       → renumbered (blocksTo i (blocksOf log)) (readLog (restOf i log)) ≡ record { edits = drop i (readLog log .edits); ending = readLog log .ending }

@@ -2,9 +2,10 @@
 use mathlib.Core.Path.{_≡_}
 use mathlib.Core.Bool.{cond}
 use mathlib.Core.List.{List, [], _∷_, _++_, map}
-use Prim.Native.Nat.{ℕ, suc, _≤_}
+use Prim.Native.Nat.{ℕ, suc, _/_, _≤_}
 use lib.ListN.{length, replicate}
 use Rattle.answer.specs.Asked.{Asked, passed, refused}
+use Rattle.seal.specs.Seal.{blockBytes}
 use Rattle.line.specs.Line.{askedLine}
 use Rattle.demands.specs.Clerk.{Line}
 use Rattle.demands.specs.Run.{Keeps, Call, log, Bytes}
@@ -52,8 +53,8 @@ pub record Replays : Type 0 where
   pub run-right : (sheet book bytes : List ℕ) → Bytes sheet → Keeps book sheet → RunRight sheet book (calls (readLog bytes .edits))
   -- and the sheet last written keeps it.
   pub sheet-keeps : (sheet book bytes : List ℕ) → Bytes sheet → Keeps book sheet → Keeps book (replaySheet sheet book bytes)
-  -- In a log of at most 65,535 blocks, stopping after any edit it has answered and starting again from the sheet then held, with the rest of the log, ends in the same sheet.
-  pub stop-and-go-on : (sheet book bytes : List ℕ) (i : ℕ) → i ≤ length (readLog bytes .edits) → length (blocksOf bytes) ≤ suc lastNumber
+  -- In a log of at most 65,535 blocks (a part of one more may follow them), stopping after any edit it has answered and starting again from the sheet then held, with the rest of the log, ends in the same sheet.
+  pub stop-and-go-on : (sheet book bytes : List ℕ) (i : ℕ) → i ≤ length (readLog bytes .edits) → length bytes / blockBytes ≤ suc lastNumber
       → replaySheet (replaySheet sheet book (partOf i bytes)) book (restOf i bytes) ≡ replaySheet sheet book bytes
   -- Kept bytes suffice: what is written block by block is the lines and the sheet.
   pub block-by-block : (sheet book bytes : List ℕ) → written 0 [] sheet book (blocksOf bytes) ≡ replayLines sheet book bytes ++ replaySheet sheet book bytes
