@@ -1,4 +1,5 @@
 """The form of the bytes of sheets and logs (docs/CODES.md, "The sheet" and "Logs"). The other scripts know it through this module alone."""
+from itertools import accumulate
 
 NODES, LABELS, ARROWS = 60, 48, 16
 BLOCK = 512
@@ -26,10 +27,8 @@ def has(sheet, block, row, node):
 
 
 def sums(body):
-    s = t = 0
-    for byte in body:
-        s = (s + byte) % MODULUS
-        t = (t + s) % MODULUS
+    """The check bytes. The remainders are taken of the whole sums, which comes to the same as one for each byte."""
+    s, t = sum(body) % MODULUS, sum(accumulate(body)) % MODULUS
     return s.to_bytes(2, "little") + t.to_bytes(2, "little")
 
 
@@ -83,5 +82,5 @@ def log_fault(block, number, begun):
     if count < CONTENT and mark & LAST == 0:
         return 53, f"it has {count} edit bytes, and is not an edit's last block"
     if any(block[CONTENT_START + count : SUMS]):
-        return 53, f"not all bytes behind its {count} edit bytes are zero"
+        return 53, "a byte behind its edit bytes is not zero"
     return None

@@ -39,7 +39,7 @@ def shown(log):
         begun = block[1] & layout.LAST == 0
         edits += not begun
     blocks = len(log) // layout.BLOCK
-    yield f"53 {blocks:05}: the log ends inside edit {edits}" if begun else f"{edits} edits in {blocks} blocks"
+    yield f"53 {blocks:05}: the log ends inside edit {edits}" if begun else f"edits: {edits}, blocks: {blocks}"
 
 
 def made(files):
