@@ -11,30 +11,44 @@ installed := $(DESTDIR)$(PREFIX)/lib/libzamiathen.a $(DESTDIR)$(PREFIX)/include/
 # the header alone says the version
 version := $(shell sed -n 's/^\#define ZAMIATHEN_VERSION_FIRST \([0-9]*\)$$/\1/p' $(header)).$(shell sed -n 's/^\#define ZAMIATHEN_VERSION_SECOND \([0-9]*\)$$/\1/p' $(header))
 
-.PHONY: all help demo test bench install uninstall clean
+.PHONY: all help demo replay test bench install uninstall clean
 all: $(archive)
 
 help:
 	@echo "make             proves and builds the archive with the C functions, $(archive)"
 	@echo "make demo        the same, and runs the example station through them"
+	@echo "make replay      proves and builds the program replay, and runs the example station's week of edits again through it"
 	@echo "make test        the gate: proves every crate from nothing, tries the must-fail edits, runs all tests"
 	@echo "make bench       times and instructions of each call beside those of plain Rust on the same inputs (needs valgrind)"
 	@echo "make install     archive, header and pkg-config file, under PREFIX or prefix ($(PREFIX)); DESTDIR is put before it"
 	@echo "make uninstall   removes these three"
 	@echo "make clean       removes target/"
 
-target/staticlib/lib%.a: $(sources)
+# proves a crate and builds it by a command of rt
+define built
 	@mkdir -p target
 	@echo "Proving and building $@, some minutes the first time; the prover's log is target/$*.log"
-	@rt staticlib $* > target/$*.log 2>&1 || { tail -n 40 target/$*.log; exit 1; }
+	@$(1) $* > target/$*.log 2>&1 || { tail -n 40 target/$*.log; exit 1; }
 	@tail -n 1 target/$*.log
 	@touch $@
+endef
+
+target/staticlib/lib%.a: $(sources)
+	$(call built,rt staticlib)
+
+target/bin/%: $(sources)
+	$(call built,rt check)
 
 target/demo: examples/demo.c $(header) $(archive)
 	@$(CC) $(CFLAGS) -Iinclude examples/demo.c $(archive) -o $@
 
 demo: target/demo
 	@target/demo examples/station
+
+# the lines, without the sheet that follows them
+replay: target/bin/replay
+	@python3 examples/pack.py examples/station/sheet.bin examples/station/book.bin --log examples/station/week.bin | target/bin/replay > target/replayed
+	@head -c -8704 target/replayed
 
 test:
 	.ci/run

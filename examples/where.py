@@ -30,6 +30,10 @@ IN_A_BLOCK = {
     3: "the head of a block of the sheet is wrong",
     4: "a byte or bit of a block of the sheet that must be zero is not",
 }
+IN_A_LOG = {
+    52: "the check bytes of a block of the log are wrong",
+    53: "a block of the log is not the one due here, is cut short, is one too many, or is missing",
+}
 WITHOUT_PLACE = {
     0: "done",
     1: f"the sheet has not {layout.SHEET} bytes",
@@ -92,10 +96,10 @@ def explained(file, number, place):
             fault(file, f"a page has no line {place}")
         where = "its length or its head" if place == 0 else f"line {place}, counted from 0"
         return [f"the page is not one that a sheet of this n prints: {where}"]
-    if number == 52:
-        return [f"the check bytes of block {place} of the log are wrong"]
-    if number == 53:
-        return [f"block {place} of the log is not the block that is due, is cut short or is missing"]
+    if number in IN_A_LOG:
+        if place > layout.LOG_BLOCKS:
+            fault(file, f"no block {place} of a log is read")
+        return [f"{IN_A_LOG[number]}: block {place}, counted from 0"]
     if number not in WITHOUT_PLACE:
         fault(file, f"no call answers {number:02}")
     if place != 0:

@@ -93,9 +93,10 @@ enum zamiathen_number {
     /* The page. Place: 0 for its length or its head, else the first line, from 0, that printing could not give. */
     ZAMIATHEN_PAGE = 51, /* it is not what printing a sheet of this n could give */
 
-    /* The log, which the program `replay` reads; no call answers these. Place: the block, from 0. */
+    /* The log. Only the program `replay` answers these, and no call. Place: the block, from 0; where the log ends inside
+     * an edit, the count of blocks. */
     ZAMIATHEN_LOG_SUMS = 52, /* the check bytes of a whole block are wrong */
-    ZAMIATHEN_LOG_BLOCK = 53 /* its fields are wrong, its number is above 65,534, it is cut short, or the log ends inside an edit; place: then the count of blocks */
+    ZAMIATHEN_LOG_BLOCK = 53 /* its fields are wrong, its number is above 65,534, it is cut short, or the log ends inside an edit */
 };
 
 /* The answer: a number of enum zamiathen_number, and its place. */

@@ -9,6 +9,7 @@ pub mod calls;
 pub mod carry;
 pub mod clerk;
 pub mod graph;
+pub mod log;
 pub mod meaning;
 pub mod pages;
 pub mod reader;
