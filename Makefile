@@ -18,7 +18,7 @@ help:
 	@echo "make             proves and builds the archive with the C functions, $(archive)"
 	@echo "make demo        the same, and runs the example station through them"
 	@echo "make test        the gate: proves every crate from nothing, tries the must-fail edits, runs all tests"
-	@echo "make bench       times and instructions of each call beside those of plain Rust on the same inputs (needs valgrind)"
+	@echo "make bench       times and instructions of each call, and of a region of sheets, beside plain Rust on the same inputs (needs valgrind)"
 	@echo "make install     archive, header and pkg-config file, under PREFIX or prefix ($(PREFIX)); DESTDIR is put before it"
 	@echo "make uninstall   removes these three"
 	@echo "make clean       removes target/"
