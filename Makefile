@@ -19,7 +19,7 @@ help:
 	@echo "make demo        the same, and runs the example station through them"
 	@echo "make replay      proves and builds the program replay, and runs the example station's week of edits again through it"
 	@echo "make test        the gate: proves every crate from nothing, tries the must-fail edits, runs all tests"
-	@echo "make bench       times and instructions of each call beside those of plain Rust on the same inputs (needs valgrind)"
+	@echo "make bench       times and instructions of each call, and of a region of sheets, beside plain Rust on the same inputs (needs valgrind)"
 	@echo "make install     archive, header and pkg-config file, under PREFIX or prefix ($(PREFIX)); DESTDIR is put before it"
 	@echo "make uninstall   removes these three"
 	@echo "make clean       removes target/"

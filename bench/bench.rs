@@ -4,6 +4,7 @@
 mod calls;
 mod instructions;
 mod library;
+mod sheets;
 
 use calls::{Buffers, Call, Outcome, Row, Sides};
 use std::time::{Duration, Instant};
@@ -55,7 +56,8 @@ fn print_head(rounds: usize) {
     println!("Both sides answered and left the same in every row. Times are the best of up to {rounds} rounds");
     println!("(at least 20, about a second each), both sides in turn; before each call, outside the time, the sheet");
     println!("is copied anew and the 16,384 bytes of scratch or output are filled. Instructions are those of one");
-    println!("call, by callgrind.");
+    println!("call, by callgrind. The sheets of the region are checked one after the other: the time is that of");
+    println!("them all, the instructions are those of one sheet on average.");
     println!();
     println!("{:<36} | {:^37} | {:^29}", "", "microseconds", "instructions a call");
     let sides = format!("{:>10} {:>10} {:>7}", "library", "plain Rust", "ratio");
@@ -64,10 +66,11 @@ fn print_head(rounds: usize) {
 
 fn print_row(row: &mut Row, [library, plain]: [u64; 2], rounds: usize) -> Result<(), String> {
     let [number, place, ..] = compare(&mut row.buffers, row.sides)?;
+    let answer = if row.sheets() == 0 { format!("{number:02} {place:05}") } else { format!("{number} done") };
     let ([ours, theirs], done) = best_times(row, rounds);
     let times = format!("{ours:>10.2} {theirs:>10.2} {:>7.2} {done:>7}", ours / theirs);
     let instructions = format!("{library:>10} {plain:>10} {:>7.2}", library as f64 / plain as f64);
-    println!("{:<27} {number:02} {place:05} | {times} | {instructions}", row.name);
+    println!("{:<27} {answer:<8} | {times} | {instructions}", row.name);
     Ok(())
 }
 
@@ -83,7 +86,8 @@ fn run() -> Result<(), String> {
     let counts = instructions::count(rows.len())?;
     print_head(rounds);
     for (row, count) in rows.iter_mut().zip(counts) {
-        print_row(row, count, rounds)?;
+        let calls = row.sheets().max(1) as u64;
+        print_row(row, count.map(|count| count / calls), rounds)?;
     }
     Ok(())
 }

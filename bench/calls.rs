@@ -1,21 +1,21 @@
 //! The calls that are measured, made by the library and by plain Rust, and their inputs.
 
-use crate::library::{
-    zamiathen_apply, zamiathen_blank, zamiathen_carry_back, zamiathen_enter, zamiathen_judge, zamiathen_type_page,
-};
+use crate::library::{zamiathen_apply, zamiathen_carry_back, zamiathen_check, zamiathen_enter, zamiathen_judge};
+use crate::sheets;
 
-/// The buffers of a call, and the sheet that is copied in before it.
+/// The buffers of a call, and the sheet that is copied in before it. Only the row of the region has one.
 pub struct Buffers {
     opening: Vec<u8>,
     pub sheet: Vec<u8>,
     book: Vec<u8>,
     edit: Vec<u8>,
     pub scratch: Vec<u8>,
+    region: Vec<Vec<u8>>,
 }
 
 impl Buffers {
     fn new(opening: Vec<u8>, book: Vec<u8>, edit: Vec<u8>) -> Buffers {
-        Buffers { sheet: opening.clone(), opening, book, edit, scratch: vec![0; 16384] }
+        Buffers { sheet: opening.clone(), opening, book, edit, scratch: vec![0; 16384], region: vec![] }
     }
 
     /// The input of the program `enter`.
@@ -45,12 +45,14 @@ pub type Call = fn(&mut Buffers) -> Outcome;
 /// A call by the library, and by plain Rust.
 pub type Sides = [Call; 2];
 
+const CHECK: Sides = [library_check, plain_check];
+const REGION: Sides = [library_region, plain_region];
 const JUDGE: Sides = [library_judge, plain_judge];
 const CARRY_BACK: Sides = [library_carry_back, plain_carry_back];
 const ENTER: Sides = [library_enter, plain_enter];
 const APPLY: Sides = [library_apply, plain_apply];
-pub const ALL_CALLS: [(&str, Sides); 4] =
-    [("judge", JUDGE), ("carry back", CARRY_BACK), ("enter", ENTER), ("apply", APPLY)];
+pub const ALL_CALLS: [(&str, Sides); 5] =
+    [("check", CHECK), ("judge", JUDGE), ("carry back", CARRY_BACK), ("enter", ENTER), ("apply", APPLY)];
 
 /// A line of the table.
 pub struct Row {
@@ -63,14 +65,21 @@ impl Row {
     fn new(name: &str, buffers: Buffers, sides: Sides) -> Row {
         Row { name: name.to_string(), buffers, sides }
     }
+
+    /// How many sheets are loaded; 0 if it is one call.
+    pub fn sheets(&self) -> usize {
+        self.buffers.region.len()
+    }
 }
 
-/// The station of `examples/station`, then the slow inputs of `bench/data`.
+/// The questions of single sheets and of a region, the station of `examples/station`, then the slow inputs of
+/// `bench/data`.
 pub fn rows() -> Vec<Row> {
     let mut rows = vec![
         questions("sheet questions", station("sheet")),
-        questions("sheet questions, full", full_sheet()),
-        questions("sheet questions, empty", blank_sheet()),
+        questions("sheet questions, full", sheets::full()),
+        questions("sheet questions, empty", sheets::blank()),
+        region(),
         Row::new("judge", on_station("sheet", "move"), JUDGE),
         Row::new("carry back", on_station("sheet", "move"), CARRY_BACK),
         Row::new("enter, done", on_station("sheet", "move"), ENTER),
@@ -84,30 +93,14 @@ pub fn rows() -> Vec<Row> {
     rows
 }
 
-/// 01 is no rule: judge asks all questions of the sheet, and then of the book only 11 to 13.
 fn questions(name: &str, sheet: Vec<u8>) -> Row {
-    Row::new(name, Buffers::new(sheet, vec![0x01], vec![]), JUDGE)
+    Row::new(name, Buffers::new(sheet, vec![], vec![]), CHECK)
 }
 
-/// Sixty nodes without labels and arrows.
-fn blank_sheet() -> Vec<u8> {
-    let mut sheet = vec![0; 8704];
-    let answer = unsafe { zamiathen_blank(sheet.as_mut_ptr(), sheet.len(), 60) };
-    assert_eq!(answer.number, 0);
-    sheet
-}
-
-/// Sixty nodes with all labels and all arrows, made by typing pages.
-fn full_sheet() -> Vec<u8> {
-    let mut sheet = blank_sheet();
-    let heads = (0..16).map(|arrow| (format!("A{arrow:02}"), 60)).chain([("L60".to_string(), 48)]);
-    for (head, lines) in heads {
-        let mut page = format!("{head:63}\n");
-        (0..lines).for_each(|line| page += &format!("{line:02} {:#<60}\n", ""));
-        let answer = unsafe { zamiathen_type_page(sheet.as_mut_ptr(), sheet.len(), page.as_ptr(), page.len()) };
-        assert_eq!(answer.number, 0);
-    }
-    sheet
+fn region() -> Row {
+    let mut buffers = Buffers::new(vec![], vec![], vec![]);
+    buffers.region = sheets::region();
+    Row::new(&format!("region of {} sheets", buffers.region.len()), buffers, REGION)
 }
 
 /// Inputs that are not measured: each edit of the station on each of its sheets, of which `clash` breaks a rule, and its
@@ -137,6 +130,46 @@ fn load(path: &str) -> Vec<u8> {
 
 fn station(file: &str) -> Vec<u8> {
     load(&format!("examples/station/{file}.bin"))
+}
+
+fn library_check(b: &mut Buffers) -> Outcome {
+    let [number, place] = library_answer(&b.sheet);
+    [number, place, 0, 0]
+}
+
+fn library_answer(sheet: &[u8]) -> [usize; 2] {
+    let found = unsafe { zamiathen_check(sheet.as_ptr(), sheet.len()) };
+    [found.number, found.place]
+}
+
+fn plain_check(b: &mut Buffers) -> Outcome {
+    outcome(fast::check(&b.sheet), 0, 0)
+}
+
+fn plain_answer(sheet: &[u8]) -> [usize; 2] {
+    let answer = fast::check(sheet);
+    [usize::from(answer.number), answer.place as usize]
+}
+
+fn library_region(b: &mut Buffers) -> Outcome {
+    load_region(b, library_answer)
+}
+
+fn plain_region(b: &mut Buffers) -> Outcome {
+    load_region(b, plain_answer)
+}
+
+/// Asks each sheet of the region. Numbers and places go into the scratch, where all are compared; answered is how many
+/// sheets are sound.
+#[inline(always)]
+fn load_region(b: &mut Buffers, check: impl Fn(&[u8]) -> [usize; 2]) -> Outcome {
+    let mut sound = 0;
+    for (sheet, left) in b.region.iter().zip(b.scratch.chunks_mut(2)) {
+        let answer = check(sheet);
+        left.copy_from_slice(&answer.map(|number| number as u8));
+        sound += usize::from(answer[0] == 0);
+    }
+    [sound, 0, 0, 0]
 }
 
 fn library_judge(b: &mut Buffers) -> Outcome {

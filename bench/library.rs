@@ -23,8 +23,7 @@ pub struct CJudged {
 
 #[link(name = "suite", kind = "static")]
 extern "C" {
-    pub fn zamiathen_blank(sheet: *mut u8, sheet_len: usize, n: usize) -> CAnswer;
-    pub fn zamiathen_type_page(sheet: *mut u8, sheet_len: usize, page: *const u8, page_len: usize) -> CAnswer;
+    pub fn zamiathen_check(sheet: *const u8, sheet_len: usize) -> CAnswer;
     pub fn zamiathen_judge(sheet: *const u8, sheet_len: usize, book: *const u8, book_len: usize) -> CJudged;
     pub fn zamiathen_carry_back(
         book: *const u8,

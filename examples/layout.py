@@ -32,12 +32,18 @@ def sums(body):
     return s.to_bytes(2, "little") + t.to_bytes(2, "little")
 
 
+def seal(sheet, block):
+    """Writes the check bytes of a block."""
+    start = BLOCK * block
+    sheet[start + SUMS : start + BLOCK] = sums(sheet[start : start + SUMS])
+
+
 def close(sheet, nodes):
     """Writes the heads and the check bytes of all blocks."""
-    for start in range(0, SHEET, BLOCK):
-        block = start // BLOCK
+    for block in range(SHEET // BLOCK):
+        start = BLOCK * block
         sheet[start : start + 3] = bytes([1, 0, nodes] if block == LABEL_BLOCK else [2, block, 0])
-        sheet[start + SUMS : start + BLOCK] = sums(sheet[start : start + SUMS])
+        seal(sheet, block)
 
 
 # A block of a log (docs/CODES.md, "Logs"): its check bytes are those of a sheet's block.

@@ -1,6 +1,6 @@
-/* Station sheets: make a blank sheet, convert an old card, read a sheet's bits, print its blocks as pages and type
- * pages back, judge a rule book on it, rewrite a stored book, carry a book back through an edit, and change the sheet by
- * an edit, with a book or without one.
+/* Station sheets: make a blank sheet, ask whether a sheet is sound, convert an old card, read a sheet's bits, print its
+ * blocks as pages and type pages back, judge a rule book on it, rewrite a stored book, carry a book back through an
+ * edit, and change the sheet by an edit, with a book or without one.
  *
  * Link with libzamiathen.a:  cc program.c $(pkg-config --cflags --libs zamiathen)
  *
@@ -32,7 +32,7 @@ extern "C" {
  * added: a card written under another first number may be answered otherwise (one written under 1 is converted by
  * zamiathen_convert_255). As one number: 1000 * first + second. */
 #define ZAMIATHEN_VERSION_FIRST 3
-#define ZAMIATHEN_VERSION_SECOND 1
+#define ZAMIATHEN_VERSION_SECOND 2
 #define ZAMIATHEN_VERSION (1000 * ZAMIATHEN_VERSION_FIRST + ZAMIATHEN_VERSION_SECOND)
 
 /* Sizes. */
@@ -132,6 +132,10 @@ typedef struct {
 /* Makes the sheet's buffer a sound sheet of n nodes, without labels and arrows. Its bytes before do not matter.
  * Answers 0, 5 or 1. Every answer but done leaves the buffer as it was. */
 zamiathen_answer zamiathen_blank(uint8_t *sheet, size_t sheet_length, size_t n);
+
+/* Is the sheet sound? Answers 0, or the first of 1 to 4, with its place: for whoever loads sheets, without a book to
+ * judge. Every call that reads a sheet asks the same before all else. Writes nothing. */
+zamiathen_answer zamiathen_check(const uint8_t *sheet, size_t sheet_length);
 
 /* Makes a card that was written under version 1 a sheet, in the card's own buffer: the graph stays, and the check bytes
  * become those of a sheet. Answers 0 or 1 to 4, asked of the old form: sums modulo 255 over bytes 0 to 509 of a block,

@@ -8,6 +8,11 @@ use crate::steps::make_steps;
 use crate::write::write;
 use crate::{refused, Answer, DONE};
 
+/// The questions of the sheet.
+pub fn check(sheet: &[u8]) -> Answer {
+    answer(blocks(sheet).and_then(ask).map(|_| ()))
+}
+
 /// The answer, and the start and length of the broken rule.
 pub fn judge(sheet: &[u8], book: &[u8]) -> (Answer, usize, usize) {
     match judged(sheet, book) {

@@ -17,7 +17,7 @@ mod sheet;
 mod steps;
 mod write;
 
-pub use calls::{apply, carry_back, enter, judge};
+pub use calls::{apply, carry_back, check, enter, judge};
 
 /// Done is number 0, place 0; every other number is a refusal.
 #[derive(Clone, Copy)]

@@ -1,6 +1,7 @@
 /* Asks the library, for tests in other languages. Takes a sheet's file; then reads calls from standard input, one a line, with
  * texts in hexadecimal and - for an empty one, and prints one line for each:
  *
+ *   check SHEET         number and place
  *   convert CARD        number, place and the card's bytes after the call
  *   judge BOOK          number and place
  *   rewrite BOOK        number, place and the rewritten book
@@ -44,6 +45,15 @@ static void print_bytes(const uint8_t *bytes, size_t length) {
     printf("\n");
 }
 
+static int check(const char *word) {
+    static struct text given;
+    if (!read_text(&given, word))
+        return 0;
+    zamiathen_answer a = zamiathen_check(given.bytes, given.length);
+    printf("%02zu %05zu\n", a.number, a.place);
+    return 1;
+}
+
 static int convert(const char *word) {
     static struct text card;
     if (!read_text(&card, word))
@@ -57,6 +67,8 @@ static int convert(const char *word) {
 static int call(char *line) {
     static struct text book, edit;
     const char *name = strtok(line, " \n");
+    if (name != NULL && strcmp(name, "check") == 0)
+        return check(strtok(NULL, " \n"));
     if (name != NULL && strcmp(name, "convert") == 0)
         return convert(strtok(NULL, " \n"));
     if (name == NULL || !read_text(&book, strtok(NULL, " \n")))

@@ -283,6 +283,7 @@ static void blanks(void) {
     for (size_t n = 1; n <= ZAMIATHEN_MAX_NODES; n++) {
         memset(sheet, FILL, whole);
         answered("blank", zamiathen_blank(sheet, whole, n), ZAMIATHEN_DONE, 0);
+        answered("blank", zamiathen_check(sheet, whole), ZAMIATHEN_DONE, 0);
         sheet_t(kept);
         kept[2] = (uint8_t)n;
         kept[16] = kept[24] = kept[512 + 16] = kept[512 + 24] = 0;
@@ -338,6 +339,7 @@ static void rules(void) {
 
 /* Each call that is lent a sheet of this length. */
 static void refused_sheet(const char *what, size_t length, size_t number, size_t place) {
+    answered(what, zamiathen_check(sheet, length), number, place);
     judged(what, zamiathen_judge(sheet, length, B, sizeof B), (zamiathen_judged){number, place, 0, 0});
     bit_read(what, zamiathen_label_bit(sheet, length, 0, 0), number, place, 0);
     bit_read(what, zamiathen_arrow_bit(sheet, length, 0, 0, 2), number, place, 0);
@@ -434,6 +436,34 @@ static void refused_sheets(void) {
     refused_sheet("row 3 of 3 in block 16", whole, ZAMIATHEN_SHEET_ZEROS, 16);
 }
 
+/* T, and each question of a sheet in each block. */
+static void checks(void) {
+    start();
+    answered("check", zamiathen_check(sheet, whole), ZAMIATHEN_DONE, 0);
+    answered("check, cut short", zamiathen_check(sheet, whole - 512), ZAMIATHEN_SHEET_LENGTH, 0);
+    left_alone("check");
+    for (size_t block = 0; block < 17; block++) {
+        uint8_t *const bytes = sheet + 512 * block;
+        bytes[100] ^= 1;
+        answered("check bytes", zamiathen_check(sheet, whole), ZAMIATHEN_SHEET_SUMS, block);
+        sheet_t(sheet);
+        bytes[511] ^= 1;
+        answered("stored check bytes", zamiathen_check(sheet, whole), ZAMIATHEN_SHEET_SUMS, block);
+        sheet_t(sheet);
+        bytes[1] = 17;
+        seal(sheet);
+        answered("head", zamiathen_check(sheet, whole), ZAMIATHEN_SHEET_HEAD, block);
+        sheet_t(sheet);
+        bytes[507] = 1;
+        seal(sheet);
+        answered("zeros", zamiathen_check(sheet, whole), ZAMIATHEN_SHEET_ZEROS, block);
+        sheet_t(sheet);
+    }
+    sheet[2] = 61;
+    seal(sheet);
+    answered("61 nodes", zamiathen_check(sheet, whole), ZAMIATHEN_SHEET_HEAD, 0);
+}
+
 /* A card that is no sound one stays as it is. */
 static void refused_card(const char *what, size_t length, size_t number, size_t place) {
     memcpy(kept, sheet, whole);
@@ -446,6 +476,7 @@ static void cards(void) {
     start();
     card_t(sheet);
     answered("card", zamiathen_convert_255(sheet, whole), ZAMIATHEN_DONE, 0);
+    answered("card, converted", zamiathen_check(sheet, whole), ZAMIATHEN_DONE, 0);
     left_alone("card");
     refused_card("a sheet for a card", whole, ZAMIATHEN_SHEET_SUMS, 0);
     card_t(sheet);
@@ -592,6 +623,7 @@ static void node_3(void) {
 static void empty_buffers(void) {
     start();
     answered("no buffer for a blank sheet", zamiathen_blank(NULL, 0, 3), ZAMIATHEN_SHEET_LENGTH, 0);
+    answered("no sheet", zamiathen_check(NULL, 0), ZAMIATHEN_SHEET_LENGTH, 0);
     answered("no card", zamiathen_convert_255(NULL, 0), ZAMIATHEN_SHEET_LENGTH, 0);
     bit_read("no sheet", zamiathen_label_bit(NULL, 0, 0, 0), ZAMIATHEN_SHEET_LENGTH, 0, 0);
     bit_read("no sheet", zamiathen_arrow_bit(NULL, 0, 0, 0, 0), ZAMIATHEN_SHEET_LENGTH, 0, 0);
@@ -621,6 +653,7 @@ int main(void) {
     rules();
     pages();
     refused_sheets();
+    checks();
     cards();
     card_sum_of_zero();
     refused_books();

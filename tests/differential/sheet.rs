@@ -2,7 +2,7 @@
 
 use common::compare::{Lent, Outcome, Tally};
 use common::library::{
-    zamiathen_arrow_bit, zamiathen_blank, zamiathen_convert_255, zamiathen_judge, zamiathen_label_bit,
+    zamiathen_arrow_bit, zamiathen_blank, zamiathen_check, zamiathen_convert_255, zamiathen_judge, zamiathen_label_bit,
 };
 use common::random::Random;
 use common::terms::Names;
@@ -11,25 +11,33 @@ use reference::answer::{answer_of, Asked};
 use reference::graph::Graph;
 use reference::sheet::{self, BLOCK, SHEET, SUMS_255};
 
-/// The sheet's questions are all that judge asks when the book is empty.
-fn asked(bytes: *const u8, length: usize) -> [usize; 4] {
-    let found = unsafe { zamiathen_judge(bytes, length, std::ptr::null(), 0) };
-    [found.number, found.place, found.start, found.length]
+fn asked(bytes: *const u8, length: usize) -> [usize; 2] {
+    let found = unsafe { zamiathen_check(bytes, length) };
+    [found.number, found.place]
 }
 
 fn check(tally: &mut Tally, bytes: &[u8]) {
     let lent = Lent::of(bytes);
     let found = asked(lent.ptr(), lent.len());
-    let answer = sheet::check(bytes);
-    let wanted = Outcome::new(&[answer.number, answer.place, 0, 0], vec![Lent::of(bytes)]);
+    let wanted = Outcome::of_answer(sheet::check(bytes), vec![Lent::of(bytes)]);
     tally.compare("sheet check", &Outcome::new(&found, vec![lent]), &wanted, &[("sheet", bytes)]);
 }
 
 /// The same against an answer known without the reference.
 fn check_known(tally: &mut Tally, bytes: &[u8], number: usize, place: usize) {
     let found = Outcome::new(&asked(bytes.as_ptr(), bytes.len()), vec![]);
-    let wanted = Outcome::new(&[number, place, 0, 0], vec![]);
+    let wanted = Outcome::new(&[number, place], vec![]);
     tally.compare("sheet check, known answer", &found, &wanted, &[("sheet", bytes)]);
+}
+
+/// The sheet's questions are all that judge asks when the book is empty.
+fn judge_nothing(tally: &mut Tally, bytes: &[u8]) {
+    let lent = Lent::of(bytes);
+    let found = unsafe { zamiathen_judge(lent.ptr(), lent.len(), std::ptr::null(), 0) };
+    let found = Outcome::new(&[found.number, found.place, found.start, found.length], vec![lent]);
+    let answer = sheet::check(bytes);
+    let wanted = Outcome::new(&[answer.number, answer.place, 0, 0], vec![Lent::of(bytes)]);
+    tally.compare("judge, empty book", &found, &wanted, &[("sheet", bytes)]);
 }
 
 fn blank(tally: &mut Tally, bytes: &[u8], n: usize) {
@@ -40,6 +48,7 @@ fn blank(tally: &mut Tally, bytes: &[u8], n: usize) {
     let answer = sheet::blank(&mut buffer, n);
     let wanted = Outcome::of_answer(answer, vec![Lent::of(&buffer)]);
     tally.compare("blank", &found, &wanted, &[("buffer", bytes), ("n", &n.to_le_bytes())]);
+    check(tally, &buffer);
 }
 
 fn bit_outcome(asked: Asked<bool>, bytes: &[u8]) -> Outcome {
@@ -201,11 +210,13 @@ fn random_sheets(tally: &mut Tally, rounds: usize) {
         let names = Names::some(&mut random, n);
         let sound = sheet::store(&graphs::graph(&mut random, names));
         check(tally, &sound);
+        judge_nothing(tally, &sound);
         bit_reads(tally, &mut random, &sound, n);
         for _ in 0..9 {
             let bytes = damage::damaged(&mut random, sound.clone());
             check(tally, &bytes);
             if random.one_in(8) {
+                judge_nothing(tally, &bytes);
                 bit_reads(tally, &mut random, &bytes, n);
             }
         }
@@ -222,6 +233,14 @@ fn random_bytes(tally: &mut Tally) {
             bytes.chunks_mut(BLOCK).filter(|block| block.len() == BLOCK).for_each(sheet::seal);
             check(tally, &bytes);
         }
+    }
+}
+
+/// A sound sheet cut short, or with more behind it.
+fn other_lengths(tally: &mut Tally) {
+    let twice = fixed_sheet().repeat(2);
+    for length in [0, 1, 511, 512, 8192, SHEET - 1, SHEET + 1, SHEET + BLOCK, 2 * SHEET] {
+        check_known(tally, &twice[..length], 1, 0);
     }
 }
 
@@ -259,6 +278,7 @@ fn convert_known(tally: &mut Tally, what: &'static str, card: &[u8], (number, pl
     let found = Outcome::new(&[found.number, found.place], vec![lent]);
     let wanted = Outcome::new(&[number, place], vec![Lent::of(after)]);
     tally.compare(what, &found, &wanted, &[("card", card)]);
+    check(tally, after);
 }
 
 fn refuse_card(tally: &mut Tally, card: &[u8], number: usize, place: usize) {
@@ -365,10 +385,14 @@ fn main() {
     cards(&mut tally);
     noticed_changes(&mut tally);
     mended_bytes(&mut tally);
+    other_lengths(&mut tally);
     sums_at_the_ends(&mut tally);
     blanks(&mut tally);
     all_bits(&mut tally);
     random_sheets(&mut tally, 11_000);
     random_bytes(&mut tally);
+    for what in ["sheet check", "sheet check, known answer", "judge, empty book"] {
+        tally.all_reached(what, &[0, 1, 2, 3, 4]);
+    }
     tally.finish(&[0, 1, 2, 3, 4, 5, 7]);
 }

@@ -3,13 +3,16 @@ use mathlib.Core.Path.{_≡_}
 use mathlib.Core.List.{List}
 use Prim.Native.Nat.{ℕ}
 use Rattle.answer.specs.Asked.{_>>=_, _>>_, outcome}
-use Rattle.sheet.specs.Questions.{askLabelBit, askArrowBit}
+use Rattle.sheet.specs.Questions.{askSheet, askLabelBit, askArrowBit}
 use Rattle.sheet.specs.Noticed.{AsksSheetFirst}
 use Rattle.judge.specs.Questions.{askSheetAndBook, askJudge}
 use Rattle.apply.specs.Apply.{askApply}
 use Rattle.demands.specs.Enter.{askBefore41, askEnter, enterAnswer}
 use Rattle.pages.specs.Print.{askPrintArrow, askPrintLabels}
 use Rattle.pages.specs.Typed.{askType}
+
+pub check-first : AsksSheetFirst askSheet
+check-first = record { first = λ sheet q p e. e }
 
 pub label-bit-first : (k i : ℕ) → AsksSheetFirst (λ sheet. askLabelBit sheet k i)
 unfolding askLabelBit _>>_

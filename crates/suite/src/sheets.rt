@@ -1,9 +1,9 @@
-// Blank sheets, old cards and bit reads.
+// Blank sheets, the questions of a sheet, old cards and bit reads.
 ghost use mathlib.Core.Path.{_≡_};
 ghost use lib.ListN.{length};
 ghost use Rattle.answer.specs.Asked.{after};
 ghost use Rattle.sheet.specs.Sheet.{store, blank};
-ghost use Rattle.sheet.specs.Questions.{askBlank, askLabelBit, askArrowBit};
+ghost use Rattle.sheet.specs.Questions.{askSheet, askBlank, askLabelBit, askArrowBit};
 ghost use Rattle.sheet.specs.Converted.{askConvert, converted};
 ghost use Rattle.sheet.specs.BitReads.{bitAsked};
 ghost use Rattle.words.specs.Words.{digit};
@@ -22,6 +22,13 @@ pub extern "C" fn zamiathen_blank(sheet: &mut [u8], n: usize) -> Numbers
     ensures { λ _. ⌜ now (sheet .exit) ≡ after (askBlank n (length (now (sheet .entry)))) (λ _. store (blank n)) (now (sheet .entry)) ⌝ }
 {
     crate::answer_numbers(Sheet::blank(sheet, n))
+}
+
+#[no_mangle]
+pub extern "C" fn zamiathen_check(sheet: &[u8]) -> Numbers
+    ensures { λ r. ⌜ r ≡ numbers (askSheet (now (sheet .entry))) ⌝ }
+{
+    crate::answer_numbers(Sheet::check(sheet))
 }
 
 #[no_mangle]
