@@ -13,7 +13,7 @@ use Rattle.logic.specs.Steps.{relabel, rejoin, run}
 use Rattle.logic.specs.Limits.{PairsIn, Within, ranges, EditInRange, labelCount, arrowCount}
 use Rattle.logic.proofs.Inside.{value-in, run-within}
 use Rattle.words.specs.Words.{setOf, combined}
-use Rattle.words.proofs.SetLaws.{combined-sets}
+use Rattle.words.proofs.SetLaws.{setOf-cong, combined-sets}
 use Rattle.rows.specs.Operations.{arrowOperation}
 use Rattle.sheet.specs.Sheet.{present, sheetBytes, store, graphOf, Rows}
 use Rattle.sheet.specs.Questions.{Sound}
@@ -21,6 +21,7 @@ use Rattle.sheet.proofs.Blocks.{length-store}
 use Rattle.sheet.proofs.ReadBack.{read-back}
 use Rattle.sheet.proofs.Passes.{stored-passes}
 use Rattle.sheet.proofs.Opening.{opening}
+use Rattle.sheet.proofs.Loads.{sheet-nodes}
 use Rattle.text.specs.Code.{code, editCode}
 use Rattle.text.specs.Stands.{Stands, EditStands, SomeEditStands}
 use Rattle.eval.specs.Evaluated.{Opened, IsSet, IsRelation, IsTruth}
@@ -53,14 +54,13 @@ module _ (t : List ℕ) (n all : ℕ) (r : Ready t n all) where
 
   -- a sheet that stores another graph of as many nodes
   ready-again : (g : Graph) (t′ : List ℕ) → Within g → g .n ≡ graphOf t .n → t′ ≡ store g → Ready t′ n all
-  unfolding isNode
   ready-again g t′ w q e =
       let s = graph-again g t′ w e in
       record {
         stored = e ∙ ap store (sym s);
         within = subst Within (sym s) w;
         count = r .count ∙ sym q ∙ ap (λ (h : Graph). h .n) (sym s);
-        nodes = r .nodes ∙ ap (λ (m : ℕ). setOf n (λ i. ltb i m)) (sym q ∙ ap (λ (h : Graph). h .n) (sym s));
+        nodes = r .nodes ∙ setOf-cong n _ _ (λ i l. sheet-nodes t i ∙ ap (ltb i) (sym q ∙ ap (λ (h : Graph). h .n) (sym s)) ∙ sym (sheet-nodes t′ i));
       }
 
   module _ (edit : List ℕ) (at : ℕ) (Z : Edit) where

@@ -1,10 +1,10 @@
 -- Enter on the bytes of sheet T, by computation. That these bytes pass the sheet's questions and store T comes from the laws of sheets.
-use mathlib.Core.Path.{_≡_, refl, _∙_, ap}
-use mathlib.Core.Bool.{false, and-false}
+use mathlib.Core.Path.{_≡_, refl, sym, _∙_, ap}
+use mathlib.Core.Bool.{false, and-false, and-self}
 use mathlib.Core.List.{List}
 use Prim.Native.Nat.{ℕ, _≤_}
 use native.Mathlib.Omega.{arith}
-use lib.Dec.{eqb}
+use lib.Dec.{eqb, ltb}
 use lib.ListN.{length}
 use borrow.Author.Tests.{ne-eqb, le-ltb, ltb-false}
 use Rattle.answer.specs.Asked.{Asked, passed, _>>=_, _>>_, is, after, outcome}
@@ -32,14 +32,16 @@ use Rattle.demands.proofs.OneCall.{asked-of-stored}
 
 not-node : (i : ℕ) → isNode sheetT i ≡ false → 3 ≤ i
 unfolding sheetT isNode
-not-node i h = ltb-false i 3 h
+not-node i h = ltb-false i 3 (sym (and-self (ltb i 3)) ∙ h)
 
 T-within : Within sheetT
-unfolding sheetT
+unfolding sheetT anyBelow
 T-within =
     record {
-      some-node = omega arith;
+      some-node = refl;
       few-nodes = omega arith;
+      use-below = λ i l. le-ltb i 3 l;
+      all-used = λ i. refl;
       labels-in = λ k i h. let l : 3 ≤ i = not-node i h in rw (le-ltb i 2 (omega arith), ne-eqb i 2 (omega arith), and-false (eqb k 0), and-false (eqb k 1));
       arrows-in = λ a. record {
         starts = λ i j h. let l : 3 ≤ i = not-node i h in rw (le-ltb i 2 (omega arith), and-false);

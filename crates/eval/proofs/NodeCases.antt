@@ -15,6 +15,7 @@ use Rattle.logic.proofs.Below.{count-cong}
 use Rattle.words.specs.Words.{setOf, member, combined}
 use Rattle.words.proofs.SetLaws.{setOf-cong, setOf-none, member-zero, setOf-member-lt, member-setOf, combined-sets}
 use Rattle.sheet.specs.Sheet.{graphOf, Rows}
+use Rattle.sheet.proofs.Loads.{sheet-nodes}
 use Rattle.text.specs.Code.{code}
 use Rattle.text.specs.Stands.{Stands}
 use Rattle.rows.specs.Operations.{quantified, quantifiedNodes, answered, least, looked, turn}
@@ -25,8 +26,7 @@ use Rattle.eval.proofs.Places.{first-number, code-at, inside-at, Operan
 
 -- below n there is a node
 pub node-there : (sheet : List ℕ) (n : ℕ) → n ≡ graphOf sheet .n → (i : ℕ) → i < n → isNode (graphOf sheet) i ≡ true
-unfolding isNode
-node-there sheet n e i l = lt-ltb i (graphOf sheet .n) (omega (arith, e))
+node-there sheet n e i l = sheet-nodes sheet i ∙ lt-ltb i (graphOf sheet .n) (omega (arith, e))
 
 -- asked of all nodes, the part is the whole
 pub part-whole : (sheet : List ℕ) (n all : ℕ) → Opened sheet n all → (e : Expr node) (x : ℕ) → x ≡ setOf n (λ i. member all i && value (graphOf sheet) e i) → x ≡ setOf n (value (graphOf sheet) e)

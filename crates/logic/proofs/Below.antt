@@ -31,6 +31,25 @@ unfolding anyBelow
 any-none zero v h = refl
 any-none (suc n) v h = ap₂ _||_ (any-none n v (λ i l. h i (omega arith))) (h n (omega arith))
 
+-- this one is
+pub any-found : (n : ℕ) (v : Nodes) → anyBelow n v ≡ true → (i : ℕ) × (i < n) × (v i ≡ true)
+unfolding anyBelow
+any-found zero v h = let z : _≡_ {A = ℕ} 0 1 = cc in absurd (omega arith)
+any-found (suc n) v h = go (any-found n v) (anyBelow n v) refl (v n) refl h
+  where
+    go : (anyBelow n v ≡ true → (i : ℕ) × (i < n) × (v i ≡ true)) → (a : Bool) → anyBelow n v ≡ a → (b : Bool) → v n ≡ b → (a || b) ≡ true → (i : ℕ) × (i < suc n) × (v i ≡ true)
+    go rest true e b f h = let (i, l, t) = rest e in (i, omega arith, t)
+    go rest false e b f h = (n, omega arith, f ∙ h)
+
+pub any-one : (n : ℕ) (v : Nodes) (i : ℕ) → i < n → v i ≡ true → anyBelow n v ≡ true
+unfolding anyBelow
+any-one zero v i l e = absurd (omega arith)
+any-one (suc n) v i l e = go (decLt i n) (any-one n v i)
+  where
+    go : Dec (i < n) → (i < n → v i ≡ true → anyBelow n v ≡ true) → (anyBelow n v || v n) ≡ true
+    go (yes k) r = ap (_|| v n) (r k e)
+    go (no k) r = let q : n ≡ i = omega arith in ap (anyBelow n v ||_) (ap v q ∙ e) ∙ or-true (anyBelow n v)
+
 pub any-and : (n : ℕ) (v : Nodes) (c : Bool) → anyBelow n (λ i. v i && c) ≡ (anyBelow n v && c)
 unfolding anyBelow
 any-and zero v c = refl

@@ -5,7 +5,7 @@ use mathlib.Core.Bool.{Bool, true, false, not, _&&_, and-true, and-false}
 use Prim.Native.Nat.{ℕ, zero, suc, _<_}
 use native.Mathlib.Omega.{arith}
 use lib.Dec.{leb, eqb, leb·zero, leb·suc-suc}
-use borrow.Author.Tests.{lt-ltb, le-leb, lt-leb, leb-true, leb-false, eq-eqb}
+use borrow.Author.Tests.{le-leb, lt-leb, leb-true, leb-false, eq-eqb}
 use Rattle.logic.specs.Syntax.{node, arrow, Expr, all, complement, some, every, atLeast, atMost, minus, pair}
 use Rattle.logic.specs.Graph.{Graph, Nodes, isNode, anyBelow, countBelow, implies}
 use Rattle.logic.specs.Meaning.{value}
@@ -13,21 +13,18 @@ use Rattle.logic.specs.Limits.{Within}
 use Rattle.logic.proofs.Below.{any-cong, all-not-any, any-and, count-cong, one-or-more, leave, count-leave}
 use Rattle.logic.proofs.Inside.{value-in}
 
-node-below : (g : Graph) (i : ℕ) → i < g .n → isNode g i ≡ true
-unfolding isNode
-node-below g i h = lt-ltb i (g .n) h
-
--- 09 R E is 05 08 R 05 E: a node with no arrow of R is in it.
-pub every-is-no-other : (g : Graph) (R : Expr arrow) (E : Expr node) → value g (every R E) ≡ value g (complement (some R (complement E)))
+-- Within the limits 09 R E is 05 08 R 05 E: a node with no arrow of R is in it, and none goes to a closed node.
+pub every-is-no-other : (g : Graph) → Within g → (R : Expr arrow) (E : Expr node) → value g (every R E) ≡ value g (complement (some R (complement E)))
 unfolding value
-every-is-no-other g R E =
+every-is-no-other g w R E =
     fun-ext
-    (λ i. ap (isNode g i &&_) (all-not-any (g .n) _ _ (λ j l. within (value g R i j) (value g E j) (isNode g j) (node-below g j l))))
+    (λ i. ap (isNode g i &&_) (all-not-any (g .n) _ _ (λ j l. ends-in (value g R i j) (value g E j) (isNode g j) (value-in g w R .ends i j))))
   where
-    within : (r e b : Bool) → b ≡ true → implies r e ≡ not (r && (b && not e))
-    within true true b h = rw h
-    within true false b h = rw h
-    within false e b h = refl
+    ends-in : (r e b : Bool) → (b ≡ false → r ≡ false) → implies r e ≡ not (r && (b && not e))
+    ends-in true true true h = refl
+    ends-in true false true h = refl
+    ends-in false e true h = refl
+    ends-in r e false h = rw (h refl)
 
 -- 0B m R E is 05 0A m + 1 R E.
 pub at-most-is-not-at-least : (g : Graph) (m : ℕ) (R : Expr arrow) (E : Expr node) → value g (atMost m R E) ≡ value g (complement (atLeast (suc m) R E))
@@ -56,11 +53,11 @@ pub at-least-none : (g : Graph) (R : Expr arrow) (E : Expr node) → value g (at
 unfolding value
 at-least-none g R E = fun-ext (λ i. ap (isNode g i &&_) (leb·zero (countBelow (g .n) (λ j. value g R i j && value g E j))) ∙ and-true (isNode g i))
 
--- and 0A m + 1 R E has node i when R has an arrow from i to some node of E, and without that arrow 0A m has i.
-pub at-least-one-more : (g : Graph) (m : ℕ) (R : Expr arrow) (E : Expr node) (i : ℕ)
+-- and within the limits 0A m + 1 R E has node i when R has an arrow from i to some node of E, and without that arrow 0A m has i.
+pub at-least-one-more : (g : Graph) → Within g → (m : ℕ) (R : Expr arrow) (E : Expr node) (i : ℕ)
     → value g (atLeast (suc m) R E) i ≡ anyBelow (g .n) (λ j. (value g R i j && value g E j) && value g (atLeast m (minus R (pair i j)) E) i)
 unfolding value
-at-least-one-more g m R E i = sym (any-cong (g .n) _ (λ j. v j && enough) (λ j l. each j l (v j) refl) ∙ any-and (g .n) v enough ∙ some-is (isNode g i))
+at-least-one-more g w m R E i = sym (any-cong (g .n) _ (λ j. v j && enough) (λ j l. each j l (v j) refl) ∙ any-and (g .n) v enough ∙ some-is (isNode g i))
   where
     v : Nodes
     v j = value g R i j && value g E j
@@ -69,13 +66,14 @@ at-least-one-more g m R E i = sym (any-cong (g .n) _ (λ j. v j && enough) (λ j
     enough = isNode g i && leb (suc m) (countBelow (g .n) v)
 
     -- without the arrow to j, of the nodes that were counted j is left out
-    left-out : (j k : ℕ) → k < g .n → isNode g i ≡ true → ((value g R i k && not ((isNode g i && eqb i i) && (isNode g k && eqb k j))) && value g E k) ≡ leave v j k
-    left-out j k l n = rw (n, node-below g k l, eq-eqb i i refl) (go (value g R i k) (value g E k) (eqb k j))
+    left-out : (j k : ℕ) → isNode g i ≡ true → ((value g R i k && not ((isNode g i && eqb i i) && (isNode g k && eqb k j))) && value g E k) ≡ leave v j k
+    left-out j k n = rw (n, eq-eqb i i refl) (go (value g R i k) (value g E k) (isNode g k) (eqb k j) (value-in g w R .ends i k))
       where
-        go : (r e b : Bool) → ((r && not b) && e) ≡ ((r && e) && not b)
-        go true true b = and-true (not b)
-        go true false b = and-false (not b)
-        go false e b = refl
+        go : (r e b c : Bool) → (b ≡ false → r ≡ false) → ((r && not (b && c)) && e) ≡ ((r && e) && not c)
+        go true true true c h = and-true (not c)
+        go true false true c h = and-false (not c)
+        go false e true c h = refl
+        go r e false c h = rw (h refl)
 
     each : (j : ℕ) → j < g .n → (b : Bool) → v j ≡ b → (b && value g (atLeast m (minus R (pair i j)) E) i) ≡ (b && enough)
     each j l false e = refl
@@ -83,7 +81,7 @@ at-least-one-more g m R E i = sym (any-cong (g .n) _ (λ j. v j && enough) (λ j
       where
         go : (b : Bool) → isNode g i ≡ b → value g (atLeast m (minus R (pair i j)) E) i ≡ enough
         go false n = rw n
-        go true n = ap (isNode g i &&_) (ap (leb m) (count-cong (g .n) (λ k. value g (minus R (pair i j)) i k && value g E k) (leave v j) (λ k s. left-out j k s n)) ∙ sym (leb·suc-suc m (countBelow (g .n) (leave v j))) ∙ ap (leb (suc m)) (sym (count-leave (g .n) j v l e)))
+        go true n = ap (isNode g i &&_) (ap (leb m) (count-cong (g .n) (λ k. value g (minus R (pair i j)) i k && value g E k) (leave v j) (λ k s. left-out j k n)) ∙ sym (leb·suc-suc m (countBelow (g .n) (leave v j))) ∙ ap (leb (suc m)) (sym (count-leave (g .n) j v l e)))
 
     some-is : (b : Bool) → (anyBelow (g .n) v && (b && leb (suc m) (countBelow (g .n) v))) ≡ (b && leb (suc m) (countBelow (g .n) v))
     some-is b = ap (_&& (b && leb (suc m) c)) (sym (one-or-more (g .n) v)) ∙ go (leb (suc m) c) refl
@@ -96,11 +94,11 @@ at-least-one-more g m R E i = sym (any-cong (g .n) _ (λ j. v j && enough) (λ j
         go false e = rw (and-false b, and-false (leb 1 c))
 
 -- Nothing else does both: what is 01 at 0 and goes on like this is 0A.
-pub at-least-only : (g : Graph) (A : ℕ → Expr arrow → Expr node → Nodes) → ((R : Expr arrow) (E : Expr node) → A 0 R E ≡ value g all)
+pub at-least-only : (g : Graph) → Within g → (A : ℕ → Expr arrow → Expr node → Nodes) → ((R : Expr arrow) (E : Expr node) → A 0 R E ≡ value g all)
     → ((m : ℕ) (R : Expr arrow) (E : Expr node) (i : ℕ) → A (suc m) R E i ≡ anyBelow (g .n) (λ j. (value g R i j && value g E j) && A m (minus R (pair i j)) E i))
     → (m : ℕ) (R : Expr arrow) (E : Expr node) → A m R E ≡ value g (atLeast m R E)
-at-least-only g A none more zero R E = none R E ∙ sym (at-least-none g R E)
-at-least-only g A none more (suc m) R E =
+at-least-only g w A none more zero R E = none R E ∙ sym (at-least-none g R E)
+at-least-only g w A none more (suc m) R E =
     fun-ext (λ i. more m R E i
-    ∙ ap (anyBelow (g .n)) (fun-ext (λ j. ap (λ (v : Nodes). (value g R i j && value g E j) && v i) (at-least-only g A none more m (minus R (pair i j)) E)))
-    ∙ sym (at-least-one-more g m R E i))
+    ∙ ap (anyBelow (g .n)) (fun-ext (λ j. ap (λ (v : Nodes). (value g R i j && value g E j) && v i) (at-least-only g w A none more m (minus R (pair i j)) E)))
+    ∙ sym (at-least-one-more g w m R E i))

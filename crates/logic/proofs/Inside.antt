@@ -1,7 +1,7 @@
 -- On a graph within the limits no value reaches beyond the graph's nodes, taking away is the difference of Definition 3.2,
 -- and an edit leaves a graph within the limits.
 use mathlib.Core.Path.{_≡_, refl, _∙_, ap, fun-ext}
-use mathlib.Core.Bool.{Bool, true, false, not, _&&_, _||_, cond, and-false}
+use mathlib.Core.Bool.{Bool, true, false, not, _&&_, _||_, cond, and-false, and-self}
 use Prim.Native.Nat.{ℕ, _≤_, _<_}
 use native.Mathlib.Omega.{arith}
 use lib.Dec.{T, ltb, eqb, ltb→lt, eqb→eq}
@@ -11,7 +11,7 @@ use Rattle.logic.specs.Graph.{Graph, Nodes, Pairs, isNode}
 use Rattle.logic.specs.Meaning.{Value, value}
 use Rattle.logic.specs.Steps.{update, relabel, rejoin, run}
 use Rattle.logic.specs.Limits.{NodesIn, PairsIn, Within, Ranges, EditInRange, labelCount, arrowCount}
-use Rattle.logic.proofs.Below.{any-none}
+use Rattle.logic.proofs.Below.{any-none, any-found}
 
 -- what is no node of the graph is in no value of any sort
 abbrev pub Inside : (s : Sort) (g : Graph) → Value s → Type 0
@@ -22,7 +22,16 @@ Inside rule g v = Unit {0}
 -- numbers from n on are no nodes
 pub no-node : (g : Graph) (i : ℕ) → g .n ≤ i → isNode g i ≡ false
 unfolding isNode
-no-node g i h = le-ltb i (g .n) h
+no-node g i h = ap (_&& g .inUse i) (le-ltb i (g .n) h)
+
+-- on today's sheets all others are
+pub all-nodes : (g : Graph) → Within g → (i : ℕ) → isNode g i ≡ ltb i (g .n)
+unfolding isNode
+all-nodes g w i = ap (ltb i (g .n) &&_) (w .all-used i) ∙ and-self (ltb i (g .n))
+
+-- A graph within the limits has a node.
+pub some-n : (g : Graph) → Within g → 1 ≤ g .n
+some-n g w = let (i, l, e) = any-found (g .n) (g .inUse) (w .some-node) in omega arith
 
 module _ (g : Graph) (w : Within g) where
   pub value-in : {s : Sort} (e : Expr s) → Inside s g (value g e)
@@ -95,6 +104,8 @@ module _ (g : Graph) (w : Within g) where
       record {
         some-node = w .some-node;
         few-nodes = w .few-nodes;
+        use-below = w .use-below;
+        all-used = w .all-used;
         labels-in = update-all (NodesIn g) (g .labelled) k v (w .labels-in) h;
         arrows-in = λ a. record { starts = w .arrows-in a .starts; ends = w .arrows-in a .ends };
         no-more-labels = λ x i l. update-beyond (λ u. (i : ℕ) → u i ≡ false) (g .labelled) k labelCount v b (λ x l i. w .no-more-labels x i l) x l i;
@@ -107,6 +118,8 @@ module _ (g : Graph) (w : Within g) where
       record {
         some-node = w .some-node;
         few-nodes = w .few-nodes;
+        use-below = w .use-below;
+        all-used = w .all-used;
         labels-in = w .labels-in;
         arrows-in = λ x. let q : PairsIn g (update (g .joined) a v x) = update-all (PairsIn g) (g .joined) a v (w .arrows-in) h x in record { starts = q .starts; ends = q .ends };
         no-more-labels = w .no-more-labels;

@@ -2,3 +2,4 @@ pub mod Theorem
 pub mod Below
 pub mod Dual
 pub mod Inside
+pub mod Examples

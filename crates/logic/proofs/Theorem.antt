@@ -11,7 +11,7 @@ use Rattle.logic.specs.Carry.{replace, putLabel, putArrow, carry, follow
 
 -- the graph on which label k is f k and arrow a is h a, as g has them
 abbrev through : Graph → (ℕ → Expr node) → (ℕ → Expr arrow) → Graph
-through g f h = record { n = g .n; labelled = λ k. value g (f k); joined = λ a. value g (h a) }
+through g f h = record { n = g .n; inUse = g .inUse; labelled = λ k. value g (f k); joined = λ a. value g (h a) }
 
 -- each constructor's meaning, along the paths that its operands give
 module _ (g : Graph) (f : ℕ → Expr node) (h : ℕ → Expr arrow) where
@@ -55,11 +55,11 @@ value-update g f k F = fun-ext (λ x. go x (eqb x k))
 -- a rule in which label k is replaced by F says what the rule says where label k is F
 value-putLabel : (g : Graph) (k : ℕ) (F : Expr node) (K : Expr rule) → value g (putLabel k F K) ≡ value (relabel g k (value g F)) K
 unfolding putLabel value
-value-putLabel g k F K = value-replace g (update label k F) arrowKind K ∙ ap (λ l. value (record { n = g .n; labelled = l; joined = g .joined }) K) (value-update g label k F)
+value-putLabel g k F K = value-replace g (update label k F) arrowKind K ∙ ap (λ l. value (record { n = g .n; inUse = g .inUse; labelled = l; joined = g .joined }) K) (value-update g label k F)
 
 value-putArrow : (g : Graph) (a : ℕ) (S : Expr arrow) (K : Expr rule) → value g (putArrow a S K) ≡ value (rejoin g a (value g S)) K
 unfolding putArrow value
-value-putArrow g a S K = value-replace g label (update arrowKind a S) K ∙ ap (λ l. value (record { n = g .n; labelled = g .labelled; joined = l }) K) (value-update g arrowKind a S)
+value-putArrow g a S K = value-replace g label (update arrowKind a S) K ∙ ap (λ l. value (record { n = g .n; inUse = g .inUse; labelled = g .labelled; joined = l }) K) (value-update g arrowKind a S)
 
 -- (not x or p) and (x or q) is p where x holds, else q
 choice : (x p q : Bool) → ((not x || p) && (x || q)) ≡ cond x p q

@@ -10,15 +10,16 @@ Nodes = ℕ → Bool
 abbrev pub Pairs : Type 0
 Pairs = ℕ → ℕ → Bool
 
--- A graph: how many nodes it has, which nodes have label k, which pairs arrow a joins.
+-- A graph: how many nodes it has, which of them are in use, which nodes have label k, which pairs arrow a joins.
 pub record Graph : Type 0 where
   pub n : ℕ
+  pub inUse : Nodes
   pub labelled : ℕ → Nodes
   pub joined : ℕ → Pairs
 
--- Whether i is a node of the graph: nodes are numbered from 0.
+-- Whether i is a node in use (item 6 of document 02): nodes are numbered from 0, and one that is closed is in no value.
 unfoldable pub isNode : Graph → Nodes
-isNode g i = ltb i (g .n)
+isNode g i = ltb i (g .n) && g .inUse i
 
 -- Of the numbers below n: is one in the set, are all, how many are.
 unfoldable pub anyBelow : ℕ → Nodes → Bool

@@ -4,3 +4,4 @@ pub mod Meaning
 pub mod Steps
 pub mod Carry
 pub mod Limits
+pub mod Examples

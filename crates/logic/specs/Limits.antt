@@ -1,10 +1,10 @@
 -- The limits of document 01, "The sheet": n from 1 to 60 nodes, 48 labels, 16 arrow kinds; and the numbers that a term may name.
 use mathlib.Core.Path.{_≡_}
-use mathlib.Core.Bool.{Bool, false, _&&_}
+use mathlib.Core.Bool.{Bool, true, false, _&&_}
 use Prim.Native.Nat.{ℕ, _≤_, _-_}
 use lib.Dec.{T, leb, ltb}
 use Rattle.logic.specs.Syntax.{Sort, Expr, all, none, label, nominal, complement, and, or, some, every, atLeast, atMost, arrowKind, reversed, union, common, minus, endingIn, pair, subNodes, subArrows, nodeIn, pairIn, both, either, notRule, Edit, finish, addLabel, takeLabel, addArrow, takeArrow, choose}
-use Rattle.logic.specs.Graph.{Graph, Nodes, Pairs, isNode}
+use Rattle.logic.specs.Graph.{Graph, Nodes, Pairs, isNode, anyBelow}
 
 abbrev pub maxNodes : ℕ
 maxNodes = 60
@@ -15,7 +15,7 @@ labelCount = 48
 abbrev pub arrowCount : ℕ
 arrowCount = 16
 
--- A set of nodes or of pairs that has only nodes of the graph.
+-- A set of nodes or of pairs that has only nodes in use.
 abbrev pub NodesIn : Graph → Nodes → Type 0
 NodesIn g v = (i : ℕ) → isNode g i ≡ false → v i ≡ false
 
@@ -23,10 +23,13 @@ pub record PairsIn (g : Graph) (v : Pairs) : Type 0 where
   pub starts : (i j : ℕ) → isNode g i ≡ false → v i j ≡ false
   pub ends : (i j : ℕ) → isNode g j ≡ false → v i j ≡ false
 
--- A graph within the limits: one that a sheet can store.
+-- A graph within the limits: one that a sheet can store. Closed nodes have no labels and no arrows (labels-in, arrows-in), and
+-- on today's sheets all n nodes are in use.
 pub record Within (g : Graph) : Type 0 where
-  pub some-node : 1 ≤ g .n
+  pub some-node : anyBelow (g .n) (g .inUse) ≡ true
   pub few-nodes : g .n ≤ maxNodes
+  pub use-below : (i : ℕ) → g .n ≤ i → g .inUse i ≡ false
+  pub all-used : (i : ℕ) → g .inUse i ≡ ltb i (g .n)
   pub labels-in : (k : ℕ) → NodesIn g (g .labelled k)
   pub arrows-in : (a : ℕ) → PairsIn g (g .joined a)
   pub no-more-labels : (k i : ℕ) → labelCount ≤ k → g .labelled k i ≡ false

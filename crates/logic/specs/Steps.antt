@@ -12,10 +12,10 @@ update f k v x = cond (eqb x k) v (f x)
 
 -- The graph with the nodes v for label k; the graph with the pairs v for arrow a.
 abbrev pub relabel : Graph → ℕ → Nodes → Graph
-relabel g k v = record { n = g .n; labelled = update (g .labelled) k v; joined = g .joined }
+relabel g k v = record { n = g .n; inUse = g .inUse; labelled = update (g .labelled) k v; joined = g .joined }
 
 abbrev pub rejoin : Graph → ℕ → Pairs → Graph
-rejoin g a v = record { n = g .n; labelled = g .labelled; joined = update (g .joined) a v }
+rejoin g a v = record { n = g .n; inUse = g .inUse; labelled = g .labelled; joined = update (g .joined) a v }
 
 -- The graph that the steps leave. What 32 takes away is, within the limits, the difference (proofs/Inside, `taken-label`).
 unfoldable pub run : Edit → Graph → Graph

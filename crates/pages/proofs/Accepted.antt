@@ -12,6 +12,8 @@ use Rattle.answer.specs.Asked.{Asked, passed, refused, _>>=_, _>>_, is}
 use Rattle.logic.specs.Graph.{Graph, Pairs, isNode}
 use Rattle.logic.specs.Limits.{Within, maxNodes, labelCount}
 use Rattle.logic.specs.Steps.{update}
+use Rattle.logic.proofs.Below.{any-one}
+use Rattle.logic.proofs.Inside.{all-nodes}
 use Rattle.seal.specs.Seal.{sameBytes}
 use Rattle.seal.proofs.SealLaws.{same-refl, same-is}
 use Rattle.line.specs.Line.{digits}
@@ -126,6 +128,8 @@ module _ (g : Graph) (w : Within g) (page : List ℕ) where
       record {
         some-node = w .some-node;
         few-nodes = w .few-nodes;
+        use-below = w .use-below;
+        all-used = w .all-used;
         labels-in = w .labels-in;
         arrows-in = λ c. record { starts = λ i j e. by (eqb c a) (λ i j. isNode g i && marked g page i j) (g .joined c) i j (ap (_&& marked g page i j) e) (w .arrows-in c .starts i j e); ends = λ i j e. by (eqb c a) (λ i j. isNode g i && marked g page i j) (g .joined c) i j (ap (λ x. isNode g i && (x && marks (lineOf page (suc i)) j)) e ∙ and-false (isNode g i)) (w .arrows-in c .ends i j e) };
         no-more-labels = w .no-more-labels;
@@ -139,32 +143,34 @@ module _ (g : Graph) (w : Within g) (page : List ℕ) where
       record {
         some-node = w .some-node;
         few-nodes = w .few-nodes;
+        use-below = w .use-below;
+        all-used = w .all-used;
         labels-in = λ k i e. ap (λ x. ltb k labelCount && (x && marks (lineOf page (suc k)) i)) e ∙ and-false (ltb k labelCount);
         arrows-in = λ a. record { starts = w .arrows-in a .starts; ends = w .arrows-in a .ends };
         no-more-labels = λ k i l. ap (_&& marked g page k i) (le-ltb k labelCount l);
         no-more-arrows = w .no-more-arrows;
       }
 
+  node-there : (i : ℕ) → i < g .n → isNode g i ≡ true
+  node-there i l = all-nodes g w i ∙ lt-ltb i (g .n) l
+
   -- a line that is right is the line of what it marks
   marked-line : (x : ℕ) (c : Bool) → c ≡ true → lineRight (g .n) x (lineOf page (suc x)) ≡ true → lineOf page (suc x) ≡ setLine (g .n) x (λ j. c && marked g page x j)
-  unfolding isNode lineRight
+  unfolding lineRight
   marked-line x c t e =
       same-is (lineOf page (suc x)) (setLine (g .n) x (marks (lineOf page (suc x)))) e
-      ∙ setLine-cong (g .n) x _ _ (λ j l. sym (ap₂ (λ y z. y && (z && marks (lineOf page (suc x)) j)) t (lt-ltb j (g .n) l)))
+      ∙ setLine-cong (g .n) x _ _ (λ j l. sym (ap₂ (λ y z. y && (z && marks (lineOf page (suc x)) j)) t (node-there j l)))
 
   -- An accepted page is the page of the graph with its marks.
   pub accepted-page : (b : Block) → Right (g .n) page b → HasBlock b × (page ≡ pageOf (typed g page b) b)
-  unfolding typed arrowPage labelPage rowLines labelLines update isNode
+  unfolding typed arrowPage labelPage rowLines labelLines update
   accepted-page (arrows a) r =
       let h = arrows-head (g .n) page a (r .head) in (
         h .0,
         parts page (g .n) (head-length (g .n) page 0x41 a (g .n) (h .1))
             ∙ ap₂ _++_ (same-is (lineOf page 0) (headLine 0x41 a) (head-bytes (g .n) page 0x41 a (g .n) (h .1)))
-            (chunks-same (g .n) 0 _ _ (λ x l u. marked-line x (isNode g x) (node x (omega arith)) (right-all (g .n) page (g .n) 0 (r .lines) x l u) ∙ ap (λ (c : Bool). setLine (g .n) x (λ j. cond c (λ i j. isNode g i && marked g page i j) (g .joined a) x j)) (sym (eq-eqb a a refl)))),
+            (chunks-same (g .n) 0 _ _ (λ x l u. marked-line x (isNode g x) (node-there x (omega arith)) (right-all (g .n) page (g .n) 0 (r .lines) x l u) ∙ ap (λ (c : Bool). setLine (g .n) x (λ j. cond c (λ i j. isNode g i && marked g page i j) (g .joined a) x j)) (sym (eq-eqb a a refl)))),
       )
-    where
-      node : (x : ℕ) → x < g .n → isNode g x ≡ true
-      node x l = lt-ltb x (g .n) l
   accepted-page labels r =
       let h = labels-head (g .n) page (r .head) in (
         tt,
@@ -178,7 +184,7 @@ module _ (n : ℕ) (some : 1 ≤ n) (few : n ≤ maxNodes) (page : List ℕ) (b 
   pub accepted-printed : askPage n page ≡ passed b → Prints n page b
   unfolding typed
   accepted-printed e =
-      let w : Within (blank n) = record { some-node = some; few-nodes = few; labels-in = λ k i e. refl; arrows-in = λ a. record { starts = λ i j e. refl; ends = λ i j e. refl }; no-more-labels = λ k i l. refl; no-more-arrows = λ a i j l. refl } in
+      let w : Within (blank n) = record { some-node = any-one n (λ i. ltb i n) 0 some (lt-ltb 0 n some); few-nodes = few; use-below = λ i l. le-ltb i n l; all-used = λ i. refl; labels-in = λ k i e. refl; arrows-in = λ a. record { starts = λ i j e. refl; ends = λ i j e. refl }; no-more-labels = λ k i l. refl; no-more-arrows = λ a i j l. refl } in
       let p = accepted-page (blank n) w page b (accepted-right n page b e) in
       record { graph = typed (blank n) page b; within = typed-within (blank n) w page b (p .0); nodes = nodes-kept b; block = p .0; is-page = p .1 }
     where

@@ -13,6 +13,7 @@ use Rattle.answer.specs.Outputs.{askRoom}
 use Rattle.logic.specs.Graph.{Graph, Pairs, isNode}
 use Rattle.logic.specs.Limits.{Within, labelCount, arrowCount}
 use Rattle.logic.specs.Steps.{update}
+use Rattle.logic.proofs.Inside.{no-node, all-nodes}
 use Rattle.sheet.specs.Sheet.{present, store, graphOf}
 use Rattle.sheet.specs.Questions.{askSheet, Sound}
 use Rattle.sheet.proofs.Opening.{opening, is-yes}
@@ -26,38 +27,39 @@ use Rattle.pages.proofs.Accepted.{arrow-line, label-line, printed-right
 
 -- the marks of a printed page are what the graph has
 module _ (g : Graph) (w : Within g) where
+  node-there : (i : ℕ) → i < g .n → isNode g i ≡ true
+  node-there i l = all-nodes g w i ∙ lt-ltb i (g .n) l
+
   arrow-marks : (a i j : ℕ) → (isNode g i && marked g (arrowPage g a) i j) ≡ g .joined a i j
-  unfolding isNode
   arrow-marks a i j = go (decLt i (g .n)) (decLt j (g .n))
     where
       go : Dec (i < g .n) → Dec (j < g .n) → (isNode g i && marked g (arrowPage g a) i j) ≡ g .joined a i j
       go (yes l) (yes m) =
-          ap₂ (λ x y. x && (y && marks (lineOf (arrowPage g a) (suc i)) j)) (lt-ltb i (g .n) l) (lt-ltb j (g .n) m)
+          ap₂ (λ x y. x && (y && marks (lineOf (arrowPage g a) (suc i)) j)) (node-there i l) (node-there j m)
           ∙ ap (λ line. marks line j) (arrow-line g w a i l) ∙ marks-of-line (g .n) i (w .few-nodes) (g .joined a i) j m
       go (yes l) (no m) =
-          let e : isNode g j ≡ false = le-ltb j (g .n) (omega arith) in
+          let e : isNode g j ≡ false = no-node g j (omega arith) in
           ap (λ y. isNode g i && (y && marks (lineOf (arrowPage g a) (suc i)) j)) e ∙ and-false (isNode g i) ∙ sym (w .arrows-in a .ends i j e)
       go (no l) m =
-          let e : isNode g i ≡ false = le-ltb i (g .n) (omega arith) in
+          let e : isNode g i ≡ false = no-node g i (omega arith) in
           ap (λ x. x && marked g (arrowPage g a) i j) e ∙ sym (w .arrows-in a .starts i j e)
 
   label-marks : (k i : ℕ) → (ltb k labelCount && marked g (labelPage g) k i) ≡ g .labelled k i
-  unfolding isNode
   label-marks k i = go (decLt k labelCount) (decLt i (g .n))
     where
       go : Dec (k < labelCount) → Dec (i < g .n) → (ltb k labelCount && marked g (labelPage g) k i) ≡ g .labelled k i
       go (yes l) (yes m) =
-          ap₂ (λ x y. x && (y && marks (lineOf (labelPage g) (suc k)) i)) (lt-ltb k labelCount l) (lt-ltb i (g .n) m)
+          ap₂ (λ x y. x && (y && marks (lineOf (labelPage g) (suc k)) i)) (lt-ltb k labelCount l) (node-there i m)
           ∙ ap (λ line. marks line i) (label-line g w k l) ∙ marks-of-line (g .n) k (w .few-nodes) (g .labelled k) i m
       go (yes l) (no m) =
-          let e : isNode g i ≡ false = le-ltb i (g .n) (omega arith) in
+          let e : isNode g i ≡ false = no-node g i (omega arith) in
           ap (λ y. ltb k labelCount && (y && marks (lineOf (labelPage g) (suc k)) i)) e ∙ and-false (ltb k labelCount) ∙ sym (w .labels-in k i e)
       go (no l) m = ap (λ x. x && marked g (labelPage g) k i) (le-ltb k labelCount (omega arith)) ∙ sym (w .no-more-labels k i (omega arith))
 
   -- so the graph with them is the graph
   pub same-graph : (b : Block) → typed g (pageOf g b) b ≡ g
   unfolding typed update
-  same-graph (arrows a) = λ t. record { n = g .n; labelled = g .labelled; joined = all-same t }
+  same-graph (arrows a) = λ t. record { n = g .n; inUse = g .inUse; labelled = g .labelled; joined = all-same t }
     where
       rows : Pairs
       rows i j = isNode g i && marked g (arrowPage g a) i j
@@ -68,7 +70,7 @@ module _ (g : Graph) (w : Within g) where
 
       all-same : update (g .joined) a rows ≡ g .joined
       all-same = fun-ext (λ c. go c (eqb c a) refl)
-  same-graph labels = λ t. record { n = g .n; labelled = (λ k. fun-ext (λ i. label-marks k i) t); joined = g .joined }
+  same-graph labels = λ t. record { n = g .n; inUse = g .inUse; labelled = (λ k. fun-ext (λ i. label-marks k i) t); joined = g .joined }
 
 -- A sound sheet, and the page of one of its blocks.
 module _ (sheet : List ℕ) (are-bytes : (p : ℕ) → getD sheet p 0 < 256) (sound : Sound sheet) where

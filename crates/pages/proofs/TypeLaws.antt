@@ -22,6 +22,7 @@ use Rattle.words.specs.Words.{setOf}
 use Rattle.words.proofs.SetLaws.{setOf-cong}
 use Rattle.sheet.specs.Sheet.{store, graphOf, Rows}
 use Rattle.sheet.specs.Questions.{askSheet, Sound}
+use Rattle.sheet.proofs.Loads.{sheet-nodes}
 use Rattle.seal.specs.Seal.{sameBytes}
 use Rattle.pages.specs.Page.{headLine}
 use Rattle.pages.specs.Typed.{lineOf, marks, lineRight, Block, arrows, labels, linesOf, headIs, headNumber, askHead, askLines, askPage, marked, typed, askType, typedSheet}
@@ -172,7 +173,13 @@ module _ (n : ℕ) (page : List ℕ) where
       go false p = kinds _ refl (sym (rest n page p) ∙ e)
 
 -- the sets that the lines mark, as the graph's
-module _ (g : Graph) (page : List ℕ) where
+module _ (sheet page : List ℕ) where
+  abbrev g : Graph
+  g = graphOf sheet
+
+  node-there : (i : ℕ) → i < g .n → isNode g i ≡ true
+  node-there i l = sheet-nodes sheet i ∙ lt-ltb i (g .n) l
+
   pub marked-in : PairsIn g (λ i j. isNode g i && marked g page i j)
   marked-in =
       record {
@@ -181,16 +188,14 @@ module _ (g : Graph) (page : List ℕ) where
       }
 
   below : (b : Bool) (x : ℕ) → b ≡ true → setOf (g .n) (marks (lineOf page (suc x))) ≡ setOf (g .n) (λ j. b && marked g page x j)
-  unfolding isNode
-  below b x e = setOf-cong (g .n) _ _ (λ j l. sym (ap₂ (λ y z. y && (z && marks (lineOf page (suc x)) j)) e (lt-ltb j (g .n) l)))
+  below b x e = setOf-cong (g .n) _ _ (λ j l. sym (ap₂ (λ y z. y && (z && marks (lineOf page (suc x)) j)) e (node-there j l)))
 
   module _ (n : ℕ) (same : n ≡ g .n) (m : ℕ) (sets : List ℕ) (read : (x : ℕ) → x < m → getD sets x 0 ≡ setOf n (marks (lineOf page (suc x)))) where
     here : (x : ℕ) → x < m → getD sets x 0 ≡ setOf (g .n) (marks (lineOf page (suc x)))
     here x l = read x l ∙ ap (λ k. setOf k (marks (lineOf page (suc x)))) same
 
     pub marked-rows : m ≡ n → Rows (g .n) (λ i j. isNode g i && marked g page i j) sets
-    unfolding isNode
-    marked-rows e = record { row = λ i l. here i (omega arith) ∙ below (isNode g i) i (lt-ltb i (g .n) l) }
+    marked-rows e = record { row = λ i l. here i (omega arith) ∙ below (isNode g i) i (node-there i l) }
 
     pub marked-labels : (k : ℕ) → k < m → m ≤ labelCount → getD sets k 0 ≡ setOf (g .n) (λ i. ltb k labelCount && marked g page k i)
     marked-labels k l u = here k l ∙ below (ltb k labelCount) k (lt-ltb k labelCount (omega arith))

@@ -1,6 +1,6 @@
 -- What stands in a sound sheet: its n, its labels and its rows.
 use mathlib.Core.Path.{_≡_, sym, ap, _∙_}
-use mathlib.Core.Bool.{true}
+use mathlib.Core.Bool.{true, and-self}
 use mathlib.Core.List.{List}
 use Prim.Native.Nat.{ℕ, _+_, _*_, _^_, _≤_, _<_}
 use native.Mathlib.Nat.{lt-of-lt-of-le}
@@ -11,6 +11,7 @@ use lib.ListN.{length, getD, take}
 use lib.Pow.{pow-mono}
 use Rattle.answer.specs.Asked.{passed, is}
 use Rattle.logic.specs.Graph.{Graph, Nodes, isNode}
+use Rattle.logic.proofs.Inside.{some-n}
 use Rattle.logic.specs.Limits.{Within, maxNodes, labelCount, arrowCount}
 use Rattle.words.specs.Words.{setOf, wordAt}
 use Rattle.words.proofs.SetLaws.{setOf-lt, setOf-cong, setOf-lowest}
@@ -25,9 +26,12 @@ small : (n : ℕ) (v : Nodes) → n ≤ maxNodes → setOf n v < 2 ^ 64
 small n v h = let m : n ≤ 64 = omega arith in lt-of-lt-of-le (setOf-lt n v) (pow-mono m)
 
 -- the nodes below n are all nodes
-pub lowest-nodes : (g : Graph) → g .n ≤ maxNodes → setOf 64 (λ i. ltb i (g .n)) ≡ setOf (g .n) (isNode g)
-unfolding isNode
-lowest-nodes g h = setOf-lowest (g .n) 64 (omega arith) ∙ setOf-cong (g .n) (λ i. true) (λ i. ltb i (g .n)) (λ i l. sym (lt-ltb i (g .n) l))
+pub sheet-nodes : (t : List ℕ) (i : ℕ) → isNode (graphOf t) i ≡ ltb i (graphOf t .n)
+unfolding isNode graphOf
+sheet-nodes t i = and-self (ltb i (getD t 2 0))
+
+pub lowest-nodes : (t : List ℕ) → graphOf t .n ≤ maxNodes → setOf 64 (λ i. ltb i (graphOf t .n)) ≡ setOf (graphOf t .n) (isNode (graphOf t))
+lowest-nodes t h = let n : ℕ = graphOf t .n in setOf-lowest n 64 (omega arith) ∙ setOf-cong n (λ i. true) (isNode (graphOf t)) (λ i l. sym (sheet-nodes t i ∙ lt-ltb i n l))
 
 module _ (φ : Form) where
   pub sound-length : (t : List ℕ) → SoundIn φ t → length t ≡ sheetBytes
@@ -51,7 +55,7 @@ module _ (φ : Form) where
 
   module _ (t : List ℕ) (bytes : (p : ℕ) → getD t p 0 < 256) (sound : SoundIn φ t) where
     pub sound-n : (1 ≤ graphOf t .n) × (graphOf t .n ≤ maxNodes)
-    sound-n = let w : Within (graphOf t) = opening φ t bytes sound .within in (w .some-node, w .few-nodes)
+    sound-n = let w : Within (graphOf t) = opening φ t bytes sound .within in (some-n (graphOf t) w, w .few-nodes)
 
     pub sound-label : (k : ℕ) → k < labelCount → wordAt t (16 + 8 * k) ≡ labelWord (graphOf t) k
     sound-label k h = ap (λ s. wordAt s (16 + 8 * k)) (opening φ t bytes sound .stored) ∙ stored-label (graphOf t) k (sound-n .1) h

@@ -1,6 +1,6 @@
 -- A sheet of bytes that passes the questions is the one that stores the graph it reads as, and that graph is within the limits.
 use mathlib.Core.Path.{_≡_, refl, sym, _∙_, ap, ap₂, subst}
-use mathlib.Core.Bool.{Bool, true, false, _&&_, and-eq-true-iff, and-false}
+use mathlib.Core.Bool.{Bool, true, false, _&&_, and-eq-true-iff, and-false, and-self}
 use mathlib.Core.List.{List, [], _∷_, _++_}
 use mathlib.Core.Logic.{_⊎_, inl, inr}
 use Prim.Native.Nat.{ℕ, zero, suc, _+_, _-_, _*_, _/_, _%_, _≤_, _<_}
@@ -15,7 +15,7 @@ use lib.Pow.{pow-pos}
 use Rattle.answer.specs.Asked.{Asked, passed, refused, _>>_, is}
 use Rattle.logic.specs.Graph.{isNode, allBelow, implies}
 use Rattle.logic.specs.Limits.{Within, maxNodes, labelCount, arrowCount}
-use Rattle.logic.proofs.Below.{all-each}
+use Rattle.logic.proofs.Below.{any-one, all-each}
 use Rattle.words.specs.Words.{member}
 use Rattle.words.proofs.SetLaws.{member-zero, member-setOf, member-beyond, is-setOf, setOf-member-lt}
 use Rattle.seal.specs.Seal.{blockBytes, Form, sealed, sealRight}
@@ -216,16 +216,21 @@ module _ (φ : Form) where
     sheet-within =
         let n : (1 ≤ getD t 2 0) × (getD t 2 0 ≤ maxNodes) = subst (λ x. (1 ≤ x) × (x ≤ maxNodes)) (in-block 0 2 (omega arith)) (n-range (blockOf t 0) (ok 0 (omega arith) .heads)) in
         record {
-          some-node = n .0;
+          some-node = any-one (getD t 2 0) (λ i. ltb i (getD t 2 0)) 0 (n .0) (lt-ltb 0 (getD t 2 0) (n .0));
           few-nodes = n .1;
-          labels-in = λ k i l. label-in k i (ltb-false i (getD t 2 0) l);
+          use-below = λ i l. le-ltb i (getD t 2 0) l;
+          all-used = λ i. refl;
+          labels-in = λ k i l. label-in k i (beyond i l);
           arrows-in = λ a. record {
-            starts = λ i j l. let l′ : getD t 2 0 ≤ i = ltb-false i (getD t 2 0) l in arrow-clear a i j (λ p r e f u v. arrow-row (getD t 2 0) a p r (omega arith) (omega arith));
-            ends = λ i j l. let l′ : getD t 2 0 ≤ j = ltb-false j (getD t 2 0) l in arrow-clear a i j (λ p r e f u v. arrow-high (getD t 2 0) a p r (omega arith) (omega arith));
+            starts = λ i j l. let l′ : getD t 2 0 ≤ i = beyond i l in arrow-clear a i j (λ p r e f u v. arrow-row (getD t 2 0) a p r (omega arith) (omega arith));
+            ends = λ i j l. let l′ : getD t 2 0 ≤ j = beyond j l in arrow-clear a i j (λ p r e f u v. arrow-high (getD t 2 0) a p r (omega arith) (omega arith));
           };
           no-more-labels = λ k i l. rw (le-ltb k labelCount l);
           no-more-arrows = λ a i j l. rw (le-ltb a arrowCount l);
         }
+      where
+        beyond : (i : ℕ) → (ltb i (getD t 2 0) && ltb i (getD t 2 0)) ≡ false → getD t 2 0 ≤ i
+        beyond i l = ltb-false i (getD t 2 0) (sym (and-self (ltb i (getD t 2 0))) ∙ l)
 
     arrow-bits : (a : ℕ) → a < arrowCount → (p i : ℕ) → 16 ≤ p → p < 16 + 8 * maxNodes → i < 8 → member (getD (blockOf t (suc a)) p 0) i ≡ member (rowWord (graphOf t) a ((p - 16) / 8)) (p % 8 * 8 + i)
     unfolding graphOf

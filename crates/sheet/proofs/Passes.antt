@@ -12,7 +12,7 @@ use lib.Seq.{drop-append-add, take-at}
 use Rattle.answer.specs.Asked.{passed, _>>_, is}
 use Rattle.logic.specs.Graph.{Graph, implies}
 use Rattle.logic.specs.Limits.{Within, maxNodes, labelCount, arrowCount}
-use Rattle.logic.proofs.Inside.{no-node}
+use Rattle.logic.proofs.Inside.{no-node, some-n}
 use Rattle.logic.proofs.Below.{all-true}
 use Rattle.words.specs.Words.{member}
 use Rattle.words.proofs.SetLaws.{member-zero, member-setOf, member-beyond}
@@ -68,7 +68,7 @@ module _ (φ : Form) where
     labels-pass =
         block-right (g .n) 0 (labelBlock φ g)
         (block-sealed (labelHead g) labelCount (labelWord g) refl (labels-fit φ) (g .n) 0 heads inside)
-        (rw (at 0 (omega arith), at 1 (omega arith), at 2 (omega arith)) (ap₂ _&&_ (le-leb 1 (g .n) (w .some-node)) (le-leb (g .n) maxNodes (w .few-nodes))))
+        (rw (at 0 (omega arith), at 1 (omega arith), at 2 (omega arith)) (ap₂ _&&_ (le-leb 1 (g .n) (some-n g w)) (le-leb (g .n) maxNodes (w .few-nodes))))
         (block-zeros (labelHead g) labelCount (labelWord g) refl (labels-fit φ) (g .n) 0 heads inside)
       where
         at : (p : ℕ) → p < 3 → getD (block φ (labelHead g) labelCount (labelWord g)) p 0 ≡ getD (labelHead g) p 0

@@ -43,6 +43,9 @@ module _ (φ : Form) where
         (λ l. guarded i maxNodes _ (g .joined a i j) (λ l′. bits-back (storeIn φ g) (blockBytes * (a + 1) + (16 + 8 * i)) (g .joined a i) (w .arrows-in a .ends i) (λ j. arrow-byte φ g a i j l l′) j) (λ m. w .arrows-in a .starts i j (no-node g i (omega (arith, w .few-nodes)))))
         (w .no-more-arrows a i j))))
 
+    use-back : (λ i. ltb i (getD (storeIn φ g) 2 0)) ≡ g .inUse
+    use-back = fun-ext (λ i. ap (ltb i) (n-is φ g) ∙ sym (w .all-used i))
+
     pub read-back : graphOf (storeIn φ g) ≡ g
     unfolding graphOf
-    read-back = λ t. record { n = n-is φ g t; labelled = labels-back t; joined = arrows-back t }
+    read-back = λ t. record { n = n-is φ g t; inUse = use-back t; labelled = labels-back t; joined = arrows-back t }

@@ -53,22 +53,23 @@ store g = storeIn present g
 abbrev pub bitIn : List ℕ → ℕ → Nodes
 bitIn t p i = ltb i 64 && member (getD t (p + i / 8) 0) (i % 8)
 
--- The graph that a sheet stores.
+-- The graph that a sheet stores. All n nodes are in use.
 unfoldable pub graphOf : List ℕ → Graph
 graphOf t =
     record {
       n = getD t 2 0;
+      inUse = λ i. ltb i (getD t 2 0);
       labelled = λ k i. ltb k labelCount && bitIn t (16 + 8 * k) i;
       joined = λ a i j. ltb a arrowCount && (ltb i maxNodes && bitIn t (blockBytes * (a + 1) + (16 + 8 * i)) j);
     }
 
 -- The graph of n nodes with no label and no arrow.
 abbrev pub blank : ℕ → Graph
-blank n = record { n = n; labelled = λ k i. false; joined = λ a i j. false }
+blank n = record { n = n; inUse = λ i. ltb i n; labelled = λ k i. false; joined = λ a i j. false }
 
 -- The graph with the nodes v k for each label k.
 abbrev pub relabelAll : Graph → (ℕ → Nodes) → Graph
-relabelAll g v = record { n = g .n; labelled = v; joined = g .joined }
+relabelAll g v = record { n = g .n; inUse = g .inUse; labelled = v; joined = g .joined }
 
 -- Words that hold the rows of a set of pairs: row i is the word of v i, for i below n. What lies behind is free.
 pub record Rows (n : ℕ) (v : Pairs) (rows : List ℕ) : Type 0 where

@@ -18,7 +18,7 @@ use Rattle.text.specs.Questions.{whole, askBook, askFirst, askEdit, askR
 
 -- Sheet T: 3 nodes, label 0 has nodes 0 and 1, label 1 has node 2, arrow 0 goes from 0 to 2 and from 1 to 2.
 unfoldable pub sheetT : Graph
-sheetT = record { n = 3; labelled = λ k i. (eqb k 0 && ltb i 2) || (eqb k 1 && eqb i 2); joined = λ a i j. eqb a 0 && (ltb i 2 && eqb j 2) }
+sheetT = record { n = 3; inUse = λ i. ltb i 3; labelled = λ k i. (eqb k 0 && ltb i 2) || (eqb k 1 && eqb i 2); joined = λ a i j. eqb a 0 && (ltb i 2 && eqb j 2) }
 
 -- The nodes below n in a set, as the examples print them.
 unfoldable pub members : ℕ → Nodes → List ℕ

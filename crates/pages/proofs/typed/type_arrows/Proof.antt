@@ -26,8 +26,8 @@ returns-2 c =
     let page = now (s .args .page) in
     let g = graphOf (now (s .args .sheet)) in
     let left = left-made (read .result) (askLines (s .args .n) page (s .args .n) 0) (read .ensures .0) (λ _. store (typed g page (arrows (s .args .a .0)))) (now (s .args .sheet)) (c .before .before .before .before .enum-told .given .1) in
-    let rows = marked-rows g page (s .args .n) (s .pre .1) (s .args .n) _ (read .ensures .1 (read .ensures .0 ∙ sym (left .0))) refl in
-    (left .0, c .before .before .put-rows .ensures (λ i j. isNode g i && marked g page i j) (marked-in g page) rows ∙ left .1)
+    let rows = marked-rows (now (s .args .sheet)) page (s .args .n) (s .pre .1) (s .args .n) _ (read .ensures .1 (read .ensures .0 ∙ sym (left .0))) refl in
+    (left .0, c .before .before .put-rows .ensures (λ i j. isNode g i && marked g page i j) (marked-in (now (s .args .sheet)) page) rows ∙ left .1)
 
 pub type-arrows-spec : {M : Type 1} → statement M
 type-arrows-spec =

@@ -28,7 +28,7 @@ returns-2 c =
     let page = now (s .args .page) in
     let g = graphOf (now (s .args .sheet)) in
     let left = left-made (read .result) (askLines (s .args .n) page labelCount 0) (read .ensures .0) (λ _. store (typed g page labels)) (now (s .args .sheet)) (c .before .before .before .before .enum-told .given .1) in
-    let sets = marked-labels g page (s .args .n) (s .pre .1) labelCount (read .last .1 .1 .1 .0) (read .ensures .1 (read .ensures .0 ∙ sym (left .0))) in
+    let sets = marked-labels (now (s .args .sheet)) page (s .args .n) (s .pre .1) labelCount (read .last .1 .1 .1 .0) (read .ensures .1 (read .ensures .0 ∙ sym (left .0))) in
     (left .0, c .before .before .put-labels .ensures (λ k i. ltb k labelCount && marked g page k i) (λ k l. sets k l (omega arith)) ∙ left .1)
 
 pub type-labels-spec : {M : Type 1} → statement M
