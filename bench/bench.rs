@@ -3,6 +3,8 @@
 
 mod calls;
 mod instructions;
+#[allow(dead_code)]
+#[path = "../tests/differential/common/library.rs"]
 mod library;
 mod sheets;
 
