@@ -30,7 +30,7 @@ pub fn carry_into(book: &[u8], edit: &[u8], out: &mut [u8]) -> Written
     if book.len() == 0 {
         return Written::Length(0);
     }
-    let mut kept = [0u8; 4096];
+    let mut kept = [0u8; Text::LONGEST];
     let mut work = [0u16; write::WORK];
     let size = measure::size_of_book(book, edit, &mut work, &mut kept);
     let len = size.len;

@@ -2,6 +2,7 @@
 ghost use mathlib.Core.Path.{_≡_};
 ghost use Prim.Native.Nat.{ℕ, _+_, _<_, _≤_};
 ghost use lib.ListN.{length, getD};
+ghost use Rattle.text.specs.Reading.{longestText};
 ghost use Rattle.logic.specs.Syntax.{Edit};
 ghost use Rattle.ends.specs.Edits.{EditAt};
 ghost use Rattle.measure.specs.Edits.{StepRoom, Held, Prefixed, PutBefore, EndBefore};
@@ -35,7 +36,7 @@ pub fn end_before(out: &mut [u8], pos: usize) -> usize
 // One step 31 to 34, put in front of what stands at `pos`, unless its name stands nowhere in what follows.
 // Inner: the edit was read before.
 pub fn keep_step(text: &[u8], at: usize, state: &[usize], out: &mut [u8], pos: usize) -> usize
-    requires { ⌜ StepRoom (now text) at pos × (getD (now text) at 0 ≡ 0x30 → ⊥) × (getD (now text) at 0 ≡ 0x35 → ⊥) × Held (now state) × (length (now text) ≤ 4096) × (pos ≤ length (now out)) ⌝ }
+    requires { ⌜ StepRoom (now text) at pos × (getD (now text) at 0 ≡ 0x30 → ⊥) × (getD (now text) at 0 ≡ 0x35 → ⊥) × Held (now state) × (length (now text) ≤ longestText) × (pos ≤ length (now out)) ⌝ }
     ensures { λ r. ⌜ ((Z : Edit) → EditAt (now (text .entry)) at Z → (rules : ℕ) → Prefixed rules Z (now (state .entry)) (now (out .entry)) pos (now (out .exit)) r) ⌝ }
 {
     let i = ends::cell_of(ends::name_code(text[at]), text[at + 1]);

@@ -5,10 +5,12 @@ ghost use mathlib.Core.Path.{_≡_};
 ghost use mathlib.Core.List.{List};
 ghost use Prim.Native.Nat.{_≤_};
 ghost use lib.ListN.{length};
+ghost use Rattle.text.specs.Reading.{longestText};
 ghost use Rattle.logic.specs.Syntax.{Edit, Expr, rule};
 ghost use Rattle.ends.specs.Edits.{EditAt, SomeEdit};
 ghost use Rattle.ends.specs.Books.{BookIs, SomeBook};
 ghost use Rattle.measure.specs.Book.{BookSized, BookKept};
+use text::Text;
 
 mod back;
 mod book;
@@ -28,7 +30,7 @@ pub struct BookSize {
 // Inner: both texts were read before. What `kept` holds in front of that, or for an empty book, is of no use. `stack` is scratch: what it
 // holds before and after is free.
 pub fn size_of_book(book: &[u8], edit: &[u8], stack: &mut [u16], kept: &mut [u8]) -> BookSize
-    requires { ⌜ SomeBook (now book) × SomeEdit (now edit) 0 × (length (now edit) ≤ 4096) × (length (now edit) ≤ length (now stack)) × (length (now kept) ≡ 4096) ⌝ }
+    requires { ⌜ SomeBook (now book) × SomeEdit (now edit) 0 × (length (now edit) ≤ longestText) × (length (now edit) ≤ length (now stack)) × (length (now kept) ≡ longestText) ⌝ }
     ensures { λ r. ⌜ ((rules : List (Expr rule)) (Z : Edit) → BookIs (now (book .entry)) rules → EditAt (now (edit .entry)) 0 Z → BookSized Z rules (r .len) (r .levels) × BookKept Z rules (r .start) (now (kept .exit))) ⌝ }
 {
     if book.len() == 0 {
@@ -40,7 +42,7 @@ pub fn size_of_book(book: &[u8], edit: &[u8], stack: &mut [u16], kept: &mut [u8]
     }
     let mut state = [0usize; 130];
     let rules = book::add_book(book, &mut state);
-    let start = back::back(edit, 0, rules, stack, 0, &mut state, kept, 4096);
+    let start = back::back(edit, 0, rules, stack, 0, &mut state, kept, Text::LONGEST);
     BookSize {
         len: state[128],
         levels: state[129],
