@@ -7,7 +7,7 @@ ghost use lib.ListN.{length, take, drop};
 ghost use Rattle.answer.specs.Answers.{asked};
 ghost use Rattle.answer.specs.Asked.{after};
 ghost use Rattle.answer.specs.Outputs.{writtenAtStart};
-ghost use Rattle.seal.specs.Seal.{blockBytes};
+ghost use Rattle.seal.specs.Seal.{blockBytes, modulo257};
 ghost use Rattle.log.specs.Log.{isLast, markRight, count, countRight, contentBytes, allZero, fieldsRight, isBegun, askLogBlock, askLogEnd};
 ghost use Rattle.printed.specs.Printed.{printedLine, printedSheet};
 ghost use Rattle.log.specs.Taken.{keptBytes, kept, keptBehind, askTaken, takenAsked, takenLength};
@@ -16,17 +16,18 @@ use answer::Refusal;
 use seal::BLOCK;
 use seal::BODY;
 use seal::Modulo;
+use text::Text;
 
 // The bytes of a block's fields, and the most edit bytes that it holds.
 const FIELDS: usize = 4;
 
-const CONTENT: usize = 504;
+const CONTENT: usize = BODY - FIELDS;
 
 // The largest number of a block.
 const LAST: usize = 65534;
 
 // How many bytes of an edit are kept: one more than the longest text has, so that a longer edit is known by its length.
-pub const KEPT: usize = 4097;
+pub const KEPT: usize = Text::LONGEST + 1;
 
 // What a block says: the edit goes on or has finished, and so many bytes are kept of it; or why the block is bad.
 pub enum Taken {
@@ -85,8 +86,8 @@ fn count_right(last: bool, c: usize) -> bool
 
 // Whether the body has only zeros from a place on. Inner: it is a block, and the place lies in its body or behind it.
 fn zeros_from(block: &[u8], from: usize) -> bool
-    requires { ⌜ (length (now block) ≡ blockBytes) × (from ≤ 508) ⌝ }
-    ensures { λ r. ⌜ r ≡ allZero (drop from (take 508 (now (block .entry)))) ⌝ }
+    requires { ⌜ (length (now block) ≡ blockBytes) × (from ≤ modulo257 .bodyBytes) ⌝ }
+    ensures { λ r. ⌜ r ≡ allZero (drop from (take (modulo257 .bodyBytes) (now (block .entry)))) ⌝ }
 {
     let mut i = from;
     while i < BODY {
