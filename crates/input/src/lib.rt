@@ -29,8 +29,8 @@ pub fn read_up_to(buf: &mut [u8]) -> usize
     io::read_full(STDIN_FILENO, buf)
 }
 
-// Fills the buffer; false when the input ends before it is full.
-pub fn fill(buf: &mut [u8]) -> bool {
+// Fills the buffer; false when the input ends before it is full. What was read no contract can say.
+fn fill(buf: &mut [u8]) -> bool {
     read_up_to(buf) == buf.len()
 }
 
