@@ -6,16 +6,17 @@ const REGION: usize = 1000;
 
 /// Sixty nodes without labels and arrows.
 pub fn blank() -> Vec<u8> {
-    stored(60, |_| 0)
+    stored(60, u64::MAX, |_| 0)
 }
 
 /// Sixty nodes with all labels and all arrows.
 pub fn full() -> Vec<u8> {
-    stored(60, |_| u64::MAX)
+    stored(60, u64::MAX, |_| u64::MAX)
 }
 
 /// A thousand sheets of 1 to 60 nodes, each of their blocks without a bit, with some or with all; one sheet in ten is
-/// blank. Every fiftieth has a byte changed, and one is cut short. The same ones in each run.
+/// blank, and one in four has closed nodes. Every fiftieth has a byte changed, and one is cut short. The same ones in
+/// each run.
 pub fn region() -> Vec<Vec<u8>> {
     let mut random = Random { state: 5 };
     let mut sheets: Vec<_> = (0..REGION).map(|_| some_sheet(&mut random)).collect();
@@ -31,17 +32,24 @@ fn some_sheet(random: &mut Random) -> Vec<u8> {
     let n = 1 + random.below(60);
     let blank = random.below(10) == 0;
     let densities = [(); 17].map(|_| if blank { 0 } else { random.below(5) });
-    stored(n, |block| random.bits(densities[block]))
+    let used = if random.below(4) == 0 { 1 | random.word() } else { u64::MAX };
+    stored(n, used, |block| random.bits(densities[block]))
 }
 
-/// The sheet of n nodes whose labels and rows `word` gives, each by the block it is for, cut to n bits.
-fn stored(n: usize, mut word: impl FnMut(usize) -> u64) -> Vec<u8> {
+/// The sheet of n nodes with these in use, cut to n bits, whose labels and rows `word` gives, each by the block it is for, cut
+/// to the nodes in use.
+fn stored(n: usize, used: u64, mut word: impl FnMut(usize) -> u64) -> Vec<u8> {
     let mut sheet = vec![0; 17 * BLOCK];
+    let used = used & ((1 << n) - 1);
     for (number, block) in sheet.chunks_mut(BLOCK).enumerate() {
         let (head, rows) = if number == 0 { ([1, 0, n as u8], 48) } else { ([2, number as u8, 0], n) };
         block[..3].copy_from_slice(&head);
-        for row in block[16..].chunks_mut(8).take(rows) {
-            row.copy_from_slice(&(word(number) & ((1 << n) - 1)).to_le_bytes());
+        for (i, row) in block[16..].chunks_mut(8).take(rows).enumerate() {
+            let bits = if number == 0 || used >> i & 1 == 1 { word(number) & used } else { 0 };
+            row.copy_from_slice(&bits.to_le_bytes());
+        }
+        if number == 0 {
+            block[400..408].copy_from_slice(&used.to_le_bytes());
         }
         seal(block);
     }

@@ -60,7 +60,7 @@ static void load_names(void) {
             strcpy(labels[number], name);
         if (strcmp(kind, "arrow") == 0 && number < ZAMIATHEN_ARROWS)
             strcpy(arrows[number], name);
-        if (strcmp(kind, "node") == 0 && number < ZAMIATHEN_MAX_NODES) {
+        if ((strcmp(kind, "node") == 0 || strcmp(kind, "closed-node") == 0) && number < ZAMIATHEN_MAX_NODES) {
             strcpy(nodes[number], name);
             node_count = number + 1;
         }
@@ -201,11 +201,11 @@ static void print_rule(size_t place) {
     printf("\n               \"%s\"\n", book.parts[place].why);
 }
 
-/* Who breaks a rule on a sheet? Of 21 E F it is each node i for which 23 i 07 05 E F does not hold, of 22 R S each pair
- * for which 24 i j 15 R S does, and of 25 K L who breaks K or L. A rule of more than 30 levels cannot be asked so: then
- * nobody is shown. */
+/* Who breaks a rule on a sheet? Of 21 E F it is each node i for which 23 i 05 07 05 E F holds, of 22 R S each pair for
+ * which 24 i j 15 R S does, and of 25 K L who breaks K or L. A closed node breaks none. A rule of more than 29 levels
+ * cannot be asked so: then nobody is shown. */
 static void print_breakers(const uint8_t *bytes, const uint8_t *rule, size_t length) {
-    uint8_t asked[ZAMIATHEN_TEXT_BYTES + 3];
+    uint8_t asked[ZAMIATHEN_TEXT_BYTES + 4];
     if (rule[0] == 0x25) {
         size_t first = zamiathen_first_rule(rule + 1, length - 1).length;
         print_breakers(bytes, rule + 1, first);
@@ -213,14 +213,15 @@ static void print_breakers(const uint8_t *bytes, const uint8_t *rule, size_t len
     }
     if (rule[0] != 0x21 && rule[0] != 0x22)
         return;
-    memcpy(asked + 4, rule + 1, length - 1);
+    size_t head = rule[0] == 0x21 ? 5 : 4;
+    memcpy(asked + head, rule + 1, length - 1);
     for (uint8_t i = 0; i < node_count; i++) {
-        memcpy(asked, (uint8_t[]){0x23, i, 0x07, 0x05}, 4);
-        if (rule[0] == 0x21 && zamiathen_judge(bytes, sizeof sheet, asked, length + 3).number == ZAMIATHEN_RULE_BROKEN)
+        memcpy(asked, (uint8_t[]){0x23, i, 0x05, 0x07, 0x05}, head);
+        if (rule[0] == 0x21 && zamiathen_judge(bytes, sizeof sheet, asked, head + length - 1).number == ZAMIATHEN_DONE)
             printf("               broken by %s\n", nodes[i]);
         for (uint8_t j = 0; j < node_count && rule[0] == 0x22; j++) {
-            memcpy(asked, (uint8_t[]){0x24, i, j, 0x15}, 4);
-            if (zamiathen_judge(bytes, sizeof sheet, asked, length + 3).number == ZAMIATHEN_DONE)
+            memcpy(asked, (uint8_t[]){0x24, i, j, 0x15}, head);
+            if (zamiathen_judge(bytes, sizeof sheet, asked, head + length - 1).number == ZAMIATHEN_DONE)
                 printf("               broken by the pair %s, %s\n", nodes[i], nodes[j]);
         }
     }
@@ -325,6 +326,48 @@ static void show_page(size_t a) {
            typed.number, typed.place, typed.place, node_count);
 }
 
+/* The last line of the label page: the nodes in use. */
+static void print_use(void) {
+    uint8_t page[ZAMIATHEN_PAGE_BYTES];
+    zamiathen_length printed = zamiathen_print_labels(sheet, sizeof sheet, page, sizeof page);
+    printf("      %.*s", ZAMIATHEN_LINE_BYTES, (const char *)page + printed.length - ZAMIATHEN_LINE_BYTES);
+}
+
+static void close_node(size_t node, const uint8_t *rules, size_t length, const char *under) {
+    zamiathen_answer answer = zamiathen_close(sheet, sizeof sheet, rules, length, node);
+    printf("   zamiathen_close of %s under %s answers %02zu %05zu: ", nodes[node], under, answer.number, answer.place);
+    if (answer.number == ZAMIATHEN_DONE)
+        printf("closed.\n");
+    else if (answer.number == ZAMIATHEN_NODE_TAKEN)
+        printf("it has a label or an arrow, or is the only one in use.\n");
+    else if (answer.number == ZAMIATHEN_RULE_BROKEN)
+        printf("rule %zu would not hold without it.\n", answer.place);
+    else
+        printf("refused.\n");
+}
+
+/* A node is closed, when an edit has taken off it what it has, and opened again. */
+static void show_closing(size_t node, const char *name) {
+    const uint8_t in_use[] = {0x23, (uint8_t)node, 0x01}, label[] = {0x31, 0x00, 0x04, (uint8_t)node, 0x30};
+    uint8_t open[sizeof sheet];
+    close_node(node, book.bytes, book.length, "the book");
+    show_edit(name);
+    printf("\n   Line 48 of the label page, the nodes in use:\n");
+    print_use();
+    memcpy(open, sheet, sizeof sheet);
+    close_node(node, in_use, sizeof in_use, "a rule that it is in use");
+    close_node(node, book.bytes, book.length, "the book");
+    print_use();
+    memcpy(before, sheet, sizeof sheet);
+    zamiathen_answer answer = zamiathen_enter(sheet, sizeof sheet, book.bytes, book.length, label, sizeof label, scratch,
+                                              sizeof scratch);
+    printf("   An edit that puts \"%s\" onto it answers %02zu %05zu%s.\n", labels[0], answer.number, answer.place,
+           memcmp(before, sheet, sizeof sheet) == 0 ? ", and nothing changes: a closed node is in no value" : "");
+    answer = zamiathen_open(sheet, sizeof sheet, book.bytes, book.length, node);
+    printf("   zamiathen_open answers %02zu %05zu%s.\n", answer.number, answer.place,
+           memcmp(open, sheet, sizeof sheet) == 0 ? ": the sheet is as it was before the closing, to the byte" : "");
+}
+
 int main(int count, char **words) {
     if (count != 2) {
         fprintf(stderr, "usage: demo DIRECTORY\n");
@@ -359,5 +402,7 @@ int main(int count, char **words) {
     printf("\n6. A page for the wall: who stands at which berth (stands_at.page)\n\n");
     load_sheet("sheet.bin");
     show_page(0);
+    printf("\n7. A platform closed for good (retire.hex); P6, the last node, is closed already\n\n");
+    show_closing(58, "retire.hex");
     return 0;
 }

@@ -5,6 +5,7 @@ NODES, LABELS, ARROWS = 60, 48, 16
 BLOCK = 512
 SHEET = BLOCK * (1 + ARROWS)
 LABEL_BLOCK = 0
+IN_USE = LABELS  # the row of block 0 behind the labels: the nodes in use
 ROWS = 16
 SUMS = 508
 MODULUS = 257
@@ -38,8 +39,10 @@ def seal(sheet, block):
     sheet[start + SUMS : start + BLOCK] = sums(sheet[start : start + SUMS])
 
 
-def close(sheet, nodes):
-    """Writes the heads and the check bytes of all blocks."""
+def complete(sheet, nodes, closed=()):
+    """Writes the nodes in use, all but the closed ones, and the heads and the check bytes of all blocks."""
+    for node in set(range(nodes)).difference(closed):
+        put(sheet, LABEL_BLOCK, IN_USE, node)
     for block in range(SHEET // BLOCK):
         start = BLOCK * block
         sheet[start : start + 3] = bytes([1, 0, nodes] if block == LABEL_BLOCK else [2, block, 0])

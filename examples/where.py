@@ -27,7 +27,7 @@ IN_A_TEXT |= {
 }
 IN_A_BLOCK = {
     2: "the check bytes of a block of the sheet are wrong",
-    3: "the head of a block of the sheet is wrong",
+    3: "the head of a block of the sheet is wrong, or no node is in use",
     4: "a byte or bit of a block of the sheet that must be zero is not",
 }
 IN_A_LOG = {
@@ -95,7 +95,11 @@ def explained(file, number, place):
         if place > layout.NODES:
             fault(file, f"a page has no line {place}")
         where = "its length or its head" if place == 0 else f"line {place}, counted from 0"
-        return [f"the page is not one that a sheet of this n prints: {where}"]
+        return [f"the page is not one that a sheet of this n with these nodes in use prints: {where}"]
+    if number == 54:
+        if place >= layout.NODES:
+            fault(file, f"a sheet has no node {place}")
+        return [f"node {place} cannot be closed: it has a label or an arrow, or is the only one in use"]
     if number in IN_A_LOG:
         if place > layout.LOG_BLOCKS:
             fault(file, f"no block {place} of a log is read")

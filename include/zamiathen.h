@@ -1,15 +1,16 @@
 /* Station sheets: make a blank sheet, ask whether a sheet is sound, convert an old card, read a sheet's bits, print its
  * blocks as pages and type pages back, judge a rule book on it, rewrite a stored book, carry a book back through an
- * edit, and change the sheet by an edit, with a book or without one.
+ * edit, change the sheet by an edit, with a book or without one, and close and open its nodes.
  *
  * Link with libzamiathen.a:  cc program.c $(pkg-config --cflags --libs zamiathen)
  *
  * Buffers. Each buffer is a pointer and its length in bytes. A call reads no byte outside its buffers and writes only
  * where this header says so. The buffers of one call must not overlap where one of them is written: the sheet of
- * zamiathen_blank, zamiathen_type_page, zamiathen_apply and zamiathen_enter, the card of zamiathen_convert_255, the
- * scratch of zamiathen_enter and the output of zamiathen_print_arrow, zamiathen_print_labels, zamiathen_rewrite and
- * zamiathen_carry_back share no byte with any other buffer of the call. A pointer may be NULL only when its length is 0.
- * There is no other demand: any bytes, any length and any number get an answer.
+ * zamiathen_blank, zamiathen_type_page, zamiathen_apply, zamiathen_enter, zamiathen_close and zamiathen_open, the card of
+ * zamiathen_convert_255 and zamiathen_convert_257, the scratch of zamiathen_enter and the output of
+ * zamiathen_print_arrow, zamiathen_print_labels, zamiathen_rewrite and zamiathen_carry_back share no byte with any other
+ * buffer of the call. A pointer may be NULL only when its length is 0. There is no other demand: any bytes, any length
+ * and any number get an answer.
  *
  * Threads. The library keeps no state, allocates nothing and takes no lock. Calls may run at the same time in any
  * number of threads as long as no buffer that one call writes is read or written by another.
@@ -30,9 +31,9 @@ extern "C" {
 
 /* The version. The first number moves when the form of sheets or an answer of a call changes, the second when a call is
  * added: a card written under another first number may be answered otherwise (one written under 1 is converted by
- * zamiathen_convert_255). As one number: 1000 * first + second. */
-#define ZAMIATHEN_VERSION_FIRST 3
-#define ZAMIATHEN_VERSION_SECOND 2
+ * zamiathen_convert_255, one written under 2 or 3 by zamiathen_convert_257). As one number: 1000 * first + second. */
+#define ZAMIATHEN_VERSION_FIRST 4
+#define ZAMIATHEN_VERSION_SECOND 0
 #define ZAMIATHEN_VERSION (1000 * ZAMIATHEN_VERSION_FIRST + ZAMIATHEN_VERSION_SECOND)
 
 /* Sizes. */
@@ -40,12 +41,13 @@ extern "C" {
 #define ZAMIATHEN_TEXT_BYTES 4096     /* the longest book and the longest edit; suffices for a rewritten book */
 #define ZAMIATHEN_CARRIED_BYTES 16384 /* the longest carried book: an output or scratch of this length suffices */
 #define ZAMIATHEN_LINE_BYTES 64       /* a line of a page, its line feed included */
-#define ZAMIATHEN_PAGE_BYTES 3904     /* the longest page, of an arrow kind at 60 nodes; a label page has 3136 */
+#define ZAMIATHEN_PAGE_BYTES 3904     /* the longest page, of an arrow kind at 60 nodes; a label page has 3200 */
 #define ZAMIATHEN_STACK_BYTES 262144  /* measured: 196,528 at 255 levels, the deepest carried rule */
 #define ZAMIATHEN_THREAD_BYTES 393216 /* a thread's whole stack */
 
-/* Limits. A sheet has n nodes, n from 1 to ZAMIATHEN_MAX_NODES; n is its byte 2. Numbers count from 0. In books and
- * edits the count of an 0A is from 1 to 60, that of an 0B from 0 to 59, whatever n. */
+/* Limits. A sheet has n nodes, n from 1 to ZAMIATHEN_MAX_NODES; n is its byte 2. Numbers count from 0. A node below n may
+ * be named, in use or closed. In books and edits the count of an 0A is from 1 to 60, that of an 0B from 0 to 59,
+ * whatever n. */
 #define ZAMIATHEN_MAX_NODES 60
 #define ZAMIATHEN_LABELS 48    /* labels of every sheet */
 #define ZAMIATHEN_ARROWS 16    /* kinds of arrows of every sheet */
@@ -59,7 +61,7 @@ enum zamiathen_number {
     /* The sheet. Place: 0 for the length, else the block, 0 to 16. */
     ZAMIATHEN_SHEET_LENGTH = 1, /* it has not 8,704 bytes */
     ZAMIATHEN_SHEET_SUMS = 2,   /* the check bytes of a block are wrong */
-    ZAMIATHEN_SHEET_HEAD = 3,   /* bytes 0 to 2 of a block are wrong, or n is not from 1 to 60 */
+    ZAMIATHEN_SHEET_HEAD = 3,   /* bytes 0 to 2 of a block are wrong, n is not from 1 to 60, or no node below n is in use */
     ZAMIATHEN_SHEET_ZEROS = 4,  /* a byte or bit of a block that must be zero is not */
 
     /* Numbers passed to a call. Place 0. */
@@ -91,12 +93,15 @@ enum zamiathen_number {
     ZAMIATHEN_RULE_BROKEN = 41, /* place: the first broken rule of the book, from 0 */
 
     /* The page. Place: 0 for its length or its head, else the first line, from 0, that printing could not give. */
-    ZAMIATHEN_PAGE = 51, /* it is not what printing a sheet of this n could give */
+    ZAMIATHEN_PAGE = 51, /* it is not what printing a sheet of this n with these nodes in use could give */
 
     /* The log. Only the program `replay` answers these, and no call. Place: the block, from 0; where the log ends inside
      * an edit, the count of blocks. */
-    ZAMIATHEN_LOG_SUMS = 52, /* the check bytes of a whole block are wrong */
-    ZAMIATHEN_LOG_BLOCK = 53 /* its fields are wrong, its number is above 65,534, it is cut short, or the log ends inside an edit */
+    ZAMIATHEN_LOG_SUMS = 52,  /* the check bytes of a whole block are wrong */
+    ZAMIATHEN_LOG_BLOCK = 53, /* its fields are wrong, its number is above 65,534, it is cut short, or the log ends inside an edit */
+
+    /* The node to be closed. Asked after the book and the node's range, and before 41. Place: the node. */
+    ZAMIATHEN_NODE_TAKEN = 54 /* it has a label, an arrow from it or an arrow to it, or is the only one in use */
 };
 
 /* The answer: a number of enum zamiathen_number, and its place. */
@@ -127,9 +132,14 @@ typedef struct {
  * stored in two bytes, low byte first, s at 508 and t at 510. Every call that reads a sheet asks them, and every caller
  * may rely on this: where a single byte of a sound sheet has changed, or two unequal neighbours among the first 508
  * bytes of a block have changed places, the answer is 2, and the place is that block.
+ *
+ * Block 0 has 48 labels, 8 bytes each from byte 16 on, low byte first; bit i is node i. Bytes 400 to 407 are the nodes
+ * in use, in the same form. Of the nodes below n those that are not in use are closed: a closed node has no labels and
+ * no arrows. Every node expression has only nodes in use as its value, 01 (all) and 05 (not) included: 04 and 17 on a
+ * closed node are empty, and 23 and 24 do not hold there. No edit closes or opens a node.
  */
 
-/* Makes the sheet's buffer a sound sheet of n nodes, without labels and arrows. Its bytes before do not matter.
+/* Makes the sheet's buffer a sound sheet of n nodes, all in use, without labels and arrows. Its bytes before do not matter.
  * Answers 0, 5 or 1. Every answer but done leaves the buffer as it was. */
 zamiathen_answer zamiathen_blank(uint8_t *sheet, size_t sheet_length, size_t n);
 
@@ -137,14 +147,19 @@ zamiathen_answer zamiathen_blank(uint8_t *sheet, size_t sheet_length, size_t n);
  * judge. Every call that reads a sheet asks the same before all else. Writes nothing. */
 zamiathen_answer zamiathen_check(const uint8_t *sheet, size_t sheet_length);
 
-/* Makes a card that was written under version 1 a sheet, in the card's own buffer: the graph stays, and the check bytes
- * become those of a sheet. Answers 0 or 1 to 4, asked of the old form: sums modulo 255 over bytes 0 to 509 of a block,
- * s at 510 and t at 511 in one byte each, zeros up to byte 509. Every answer but done leaves the card as it was. A card
- * is converted once: a sheet that is lent as a card is asked by the old form, too. */
+/* Makes a card that was written under version 1 a sheet, in the card's own buffer: n, labels and arrows stay, all n nodes
+ * are in use, and the check bytes become those of a sheet. Answers 0 or 1 to 4, asked of the old form: sums modulo 255
+ * over bytes 0 to 509 of a block, s at 510 and t at 511 in one byte each, zeros up to byte 509, in block 0 from byte 400
+ * on. Every answer but done leaves the card as it was. A card is converted once: a sheet that is lent as a card is asked
+ * by the old form, too. */
 zamiathen_answer zamiathen_convert_255(uint8_t *card, size_t card_length);
 
+/* The same for a card that was written under version 2 or 3: its sums are those of a sheet, and bytes 400 to 507 of its
+ * block 0 are zero. A sound sheet that is lent as such a card is answered 4, place 0, and stays. */
+zamiathen_answer zamiathen_convert_257(uint8_t *card, size_t card_length);
+
 /* Has a node this label? The bit is 1 if so. Answers 0, 1 to 4, or 7 unless the label is below 48 and the node below n.
- * Writes nothing. Each call asks the whole sheet. */
+ * A closed node has none. Writes nothing. Each call asks the whole sheet. */
 zamiathen_bit zamiathen_label_bit(const uint8_t *sheet, size_t sheet_length, uint8_t label, uint8_t node);
 
 /* Does an arrow of this kind go from one node to the other? The bit is 1 if so. Answers 0, 1 to 4, or 7 unless the
@@ -157,7 +172,7 @@ zamiathen_bit zamiathen_arrow_bit(const uint8_t *sheet, size_t sheet_length, uin
  * A page is text for the wall: lines of 64 bytes, the line feed included. The page of an arrow kind has the head A, two
  * digits of the kind, 60 blanks; then one line for each node: two digits, a blank, 60 squares, # for an arrow to the
  * node of that column, . for none, blank for columns n and above. The label page has the head L, two digits of n, 60
- * blanks; then 48 such lines, one for each label, # for a node that has it.
+ * blanks; then 48 such lines, one for each label, # for a node that has it; last line 48, # for a node in use.
  */
 
 /* Prints the page of an arrow kind, 64 * (n + 1) bytes. Answers 0 with its length, 1 to 4, 7 unless the arrow is below 16,
@@ -166,12 +181,14 @@ zamiathen_bit zamiathen_arrow_bit(const uint8_t *sheet, size_t sheet_length, uin
 zamiathen_length zamiathen_print_arrow(const uint8_t *sheet, size_t sheet_length, size_t arrow, uint8_t *output,
                                        size_t output_length);
 
-/* Prints the label page, 64 * 49 bytes. Answers 0 with its length, 1 to 4 or 33, and writes likewise. */
+/* Prints the label page, 64 * 50 bytes. Answers 0 with its length, 1 to 4 or 33, and writes likewise. */
 zamiathen_length zamiathen_print_labels(const uint8_t *sheet, size_t sheet_length, uint8_t *output,
                                         size_t output_length);
 
 /* Types a page back into a sheet of its n, in place of the block that its head names: the arrows of that kind, or all
- * labels. Answers 0, 1 to 4 or 51. Only done changes the sheet, its check bytes too; every other block is as it was. */
+ * labels. Answers 0, 1 to 4 or 51: a mark at a closed node is 51 with its line, and so is a line 48 (place 49) that is not
+ * the sheet's own, for typing closes and opens no node. Only done changes the sheet, its check bytes too; every other
+ * block is as it was. */
 zamiathen_answer zamiathen_type_page(uint8_t *sheet, size_t sheet_length, const uint8_t *page, size_t page_length);
 
 /*
@@ -220,6 +237,23 @@ zamiathen_length zamiathen_carry_back(const uint8_t *book, size_t book_length, c
  * scratch. */
 zamiathen_answer zamiathen_enter(uint8_t *sheet, size_t sheet_length, const uint8_t *book, size_t book_length,
                                  const uint8_t *edit, size_t edit_length, uint8_t *scratch, size_t scratch_length);
+
+/*
+ * Closing and opening
+ */
+
+/* Closes a node that has no labels and no arrows, if each rule of the book holds on the sheet without it. Answers 0, 1 to
+ * 4, 11 to 16, 7 unless the node is below n, 54 or 41, asked in this order; a node that is closed already is done,
+ * unjudged, and nothing changes. Only done changes the sheet: the nodes in use, and the check bytes of block 0. A sheet
+ * that keeps the book still keeps it, so that calls of zamiathen_enter may follow. */
+zamiathen_answer zamiathen_close(uint8_t *sheet, size_t sheet_length, const uint8_t *book, size_t book_length,
+                                 size_t node);
+
+/* Opens a closed node, which then has no labels and no arrows, if each rule of the book holds on the sheet with it. Answers
+ * 0, 1 to 4, 11 to 16, 7 or 41, asked in this order; a node that is in use already is done, unjudged, and nothing changes.
+ * Writes likewise. Opening a node that was closed gives the sheet from before back, byte for byte. */
+zamiathen_answer zamiathen_open(uint8_t *sheet, size_t sheet_length, const uint8_t *book, size_t book_length,
+                                size_t node);
 
 #ifdef __cplusplus
 }

@@ -26,7 +26,7 @@ fn judged(sheet: &[u8], book: &[u8]) -> Result<Option<(usize, usize, usize)>, An
     let sheet = blocks(sheet)?;
     let n = ask(sheet)?;
     BookIndex::new().read::<false>(book, n)?;
-    Ok(first_broken(sheet, n, book))
+    Ok(first_broken(sheet, book))
 }
 
 /// The answer and the length. Only done writes, and only so many bytes.
@@ -60,7 +60,7 @@ fn applied(sheet: &mut [u8], edit: &[u8]) -> Result<(), Answer> {
     let n = ask(sheet)?;
     let mut index = EditIndex::new();
     index.read::<false>(edit, n)?;
-    make_steps(sheet, n, edit, &index);
+    make_steps(sheet, edit, &index);
     Ok(())
 }
 
@@ -74,9 +74,9 @@ fn entered(sheet: &mut [u8], book: &[u8], edit: &[u8], scratch: &mut [u8]) -> Re
     let n = ask(sheet)?;
     let mut index = EditIndex::new();
     let length = carried(book, edit, n, &mut index, scratch)?;
-    if let Some((rule, _, _)) = first_broken(sheet, n, &scratch[..length]) {
+    if let Some((rule, _, _)) = first_broken(sheet, &scratch[..length]) {
         return Err(refused(41, rule));
     }
-    make_steps(sheet, n, edit, &index);
+    make_steps(sheet, edit, &index);
     Ok(())
 }

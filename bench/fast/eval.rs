@@ -5,7 +5,7 @@
 
 use crate::reader::past;
 use crate::rows::{columns_at_least, join, join_pair, rows_at_least, Join, Reversed, Rows};
-use crate::sheet::{all_nodes, all_rows, word, Block, Blocks, MOST_NODES};
+use crate::sheet::{all_rows, in_use, word, Block, Blocks, MOST_NODES};
 
 pub struct Eval<'e> {
     sheet: &'e Blocks,
@@ -15,9 +15,9 @@ pub struct Eval<'e> {
 }
 
 /// The first rule of a text that doesn't hold: its number, start and end.
-pub fn first_broken(sheet: &Blocks, n: usize, text: &[u8]) -> Option<(usize, usize, usize)> {
+pub fn first_broken(sheet: &Blocks, text: &[u8]) -> Option<(usize, usize, usize)> {
     let mut reversed = Reversed::new();
-    let mut eval = Eval::new(sheet, all_nodes(n), text, &mut reversed);
+    let mut eval = Eval::new(sheet, text, &mut reversed);
     let (mut at, mut number) = (0, 0);
     while at < text.len() {
         let start = at;
@@ -31,8 +31,20 @@ pub fn first_broken(sheet: &Blocks, n: usize, text: &[u8]) -> Option<(usize, usi
 
 /// In each function `at` is where the term begins, and is left at its end.
 impl<'e> Eval<'e> {
-    pub fn new(sheet: &'e Blocks, all: u64, text: &'e [u8], reversed: &'e mut Reversed) -> Self {
-        Eval { sheet, text, all, reversed }
+    pub fn new(sheet: &'e Blocks, text: &'e [u8], reversed: &'e mut Reversed) -> Self {
+        Eval { sheet, text, all: in_use(sheet), reversed }
+    }
+
+    /// The node, if it is in use.
+    #[inline(always)]
+    fn only(&self, i: u8) -> u64 {
+        1 << (i & 63) & self.all
+    }
+
+    /// Whether both nodes are in use.
+    #[inline(always)]
+    fn both_used(&self, i: u8, j: u8) -> bool {
+        self.only(i) != 0 && self.only(j) != 0
     }
 
     #[inline(always)]
@@ -61,7 +73,7 @@ impl<'e> Eval<'e> {
             0x22 => self.arrows_in(at),
             0x23 => {
                 let i = self.byte(at);
-                self.node(at, 1 << (i & 63)) != 0
+                self.node(at, self.only(i)) != 0
             }
             0x24 => {
                 let (i, j) = (self.byte(at), self.byte(at));
@@ -103,6 +115,10 @@ impl<'e> Eval<'e> {
         if self.text[*at] == 0x17 {
             let (i, j) = (self.text[*at + 1], self.text[*at + 2]);
             *at += 3;
+            if !self.both_used(i, j) {
+                self.pass(at);
+                return true;
+            }
             return if reversed { self.pair(at, j, i) } else { self.pair(at, i, j) };
         }
         let mut rows = [0; MOST_NODES];
@@ -204,7 +220,7 @@ impl<'e> Eval<'e> {
                 let end = u64::from(self.pair(at, i, j)) << (j & 63);
                 self.node(at, end) != 0
             }
-            0x17 => (self.byte(at), self.byte(at)) == (i, j),
+            0x17 => (self.byte(at), self.byte(at)) == (i, j) && self.both_used(i, j),
             code => unreachable!("arrow code {code:02X}"),
         }
     }
@@ -239,7 +255,7 @@ impl<'e> Eval<'e> {
             0x17 => {
                 let (x, y) = (self.byte(at), self.byte(at));
                 let (x, y) = if reversed { (y, x) } else { (x, y) };
-                u64::from(x == i) << (y & 63)
+                u64::from(x == i && self.both_used(x, y)) << (y & 63)
             }
             code => unreachable!("arrow code {code:02X}"),
         }
@@ -271,7 +287,7 @@ impl<'e> Eval<'e> {
             0x17 => {
                 let (i, j) = (self.byte(at), self.byte(at));
                 let (i, j) = if reversed { (j, i) } else { (i, j) };
-                join_pair(how, out, i, j);
+                join_pair(how, out, i, self.both_used(i, j).then_some(j));
             }
             code => unreachable!("arrow code {code:02X}"),
         }

@@ -25,10 +25,10 @@ pub fn join(how: Join, out: &mut Rows, rows: impl Iterator<Item = u64>) {
     }
 }
 
-/// Joins the one pair (i, j).
+/// Joins the one pair (i, j), or none.
 #[inline(always)]
-pub fn join_pair(how: Join, out: &mut Rows, i: u8, j: u8) {
-    let (row, bit) = (usize::from(i), 1 << (j & 63));
+pub fn join_pair(how: Join, out: &mut Rows, i: u8, j: Option<u8>) {
+    let (row, bit) = (usize::from(i), j.map_or(0, |j| 1 << (j & 63)));
     match how {
         Join::Or => out[row] |= bit,
         Join::Minus => out[row] &= !bit,

@@ -48,9 +48,13 @@ pub fn all_rows(block: &Block) -> impl Iterator<Item = u64> + '_ {
     words(block)[2..2 + MOST_NODES].iter().map(|row| u64::from_le_bytes(*row))
 }
 
+/// The word of block 0 behind the labels: the nodes in use.
+const USE: usize = 48;
+
+/// The nodes in use of a sound sheet.
 #[inline(always)]
-pub fn all_nodes(n: usize) -> u64 {
-    (1 << n) - 1
+pub fn in_use(sheet: &Blocks) -> u64 {
+    word(&sheet[0], USE)
 }
 
 /// s and t as they are stored, the first in the low half.
@@ -178,9 +182,21 @@ fn is_none(bits: __m128i) -> bool {
     unsafe { _mm_movemask_epi8(_mm_cmpeq_epi8(bits, _mm_setzero_si128())) == 0xFFFF }
 }
 
-/// Whether a block passes questions 2 to 4, all at once.
+/// Whether the rows of closed nodes are empty.
 #[inline(always)]
-fn sound(block: &Block, head: [u8; 3], rows: usize, n: usize) -> bool {
+fn closed_rows_empty(block: &Block, n: usize, used: u64) -> bool {
+    let mut closed = !used & ((1 << n) - 1);
+    let mut any = 0;
+    while closed != 0 {
+        any |= word(block, closed.trailing_zeros() as usize);
+        closed &= closed - 1;
+    }
+    any == 0
+}
+
+/// Whether a block passes questions 2 to 4, all at once; its rows may have the nodes in use.
+#[inline(always)]
+fn sound(block: &Block, head: [u8; 3], rows: usize, used: u64) -> bool {
     let (head_s, head_t) = head_sums(head);
     if block[..3] != head {
         return false;
@@ -191,8 +207,7 @@ fn sound(block: &Block, head: [u8; 3], rows: usize, n: usize) -> bool {
     }
     let (s, t, bits) = row_sums(block, rows.div_ceil(2 * HALF));
     // SAFETY: SSE2 is part of x86_64.
-    let stray =
-        unsafe { _mm_or_si128(_mm_andnot_si128(_mm_set1_epi64x(all_nodes(n) as i64), bits), outside(block, rows)) };
+    let stray = unsafe { _mm_or_si128(_mm_andnot_si128(_mm_set1_epi64x(used as i64), bits), outside(block, rows)) };
     stored_sums(block) == reduced(head_s + s, head_t + t) && is_none(stray)
 }
 
@@ -216,13 +231,15 @@ fn fault(block: &Block, head_right: bool, place: usize) -> Answer {
 pub fn ask(sheet: &Blocks) -> Result<usize, Answer> {
     let n = usize::from(sheet[0][2]);
     let head = [1, 0, sheet[0][2]];
-    let possible = (1..=MOST_NODES).contains(&n);
-    if !possible || !sound(&sheet[0], head, 48, n) {
+    let used = in_use(sheet);
+    let possible = (1..=MOST_NODES).contains(&n) && used << (64 - n) != 0;
+    // The nodes in use are the 49th row: they must be below n, and the labels among them.
+    if !possible || used >> n != 0 || !sound(&sheet[0], head, 49, used) {
         return Err(fault(&sheet[0], possible && sheet[0][..3] == head, 0));
     }
     for k in 1..sheet.len() {
         let (block, head) = (&sheet[k], [2, k as u8, 0]);
-        if !sound(block, head, n, n) {
+        if !sound(block, head, n, used) || !closed_rows_empty(block, n, used) {
             return Err(fault(block, block[..3] == head, k));
         }
     }

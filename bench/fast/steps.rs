@@ -3,18 +3,18 @@
 use crate::eval::Eval;
 use crate::index::{EditIndex, NO_STEP};
 use crate::rows::{Join, Reversed, Rows};
-use crate::sheet::{all_nodes, all_rows, seal, set_word, word, Blocks, MOST_NODES};
+use crate::sheet::{all_rows, in_use, seal, set_word, word, Blocks, MOST_NODES};
 
 /// Makes all steps, then the check bytes of the blocks that they wrote.
-pub fn make_steps(sheet: &mut Blocks, n: usize, edit: &[u8], index: &EditIndex) {
-    let all = all_nodes(n);
+pub fn make_steps(sheet: &mut Blocks, edit: &[u8], index: &EditIndex) {
+    let all = in_use(sheet);
     let mut reversed = Reversed::new();
     let mut written = 0u32;
     let mut s = index.first;
     while s != NO_STEP {
         let step = &index.steps[usize::from(s)];
         let mut at = usize::from(step.start);
-        let mut eval = Eval::new(sheet, all, edit, &mut reversed);
+        let mut eval = Eval::new(sheet, edit, &mut reversed);
         s = step.then;
         if step.op == 0x35 {
             s = if eval.rule(&mut at) { step.p } else { step.q };
@@ -39,6 +39,8 @@ fn arrow_step(sheet: &mut Blocks, all: u64, edit: &[u8], mut at: usize, a: u8, a
     let block = usize::from(a) + 1;
     if edit[at] == 0x17 {
         let (i, bit) = (usize::from(edit[at + 1]), 1 << (edit[at + 2] & 63));
+        // With a closed node there is no pair; the row of a closed node is empty, and taking from it changes nothing.
+        let bit = if all >> i & 1 == 1 { bit & all } else { 0 };
         let row = word(&sheet[block], i);
         return set_word(&mut sheet[block], i, if adds { row | bit } else { row & !bit });
     }
@@ -46,7 +48,7 @@ fn arrow_step(sheet: &mut Blocks, all: u64, edit: &[u8], mut at: usize, a: u8, a
     let mut rows: Rows = [0; MOST_NODES];
     rows.iter_mut().zip(all_rows(&sheet[block])).for_each(|(row, old)| *row = old);
     let how = if adds { Join::Or } else { Join::Minus };
-    Eval::new(sheet, all, edit, reversed).arrow(&mut at, false, how, &mut rows);
+    Eval::new(sheet, edit, reversed).arrow(&mut at, false, how, &mut rows);
     rows.iter().enumerate().for_each(|(i, row)| set_word(&mut sheet[block], i, *row));
 }
 

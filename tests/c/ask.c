@@ -2,15 +2,19 @@
  * texts in hexadecimal and - for an empty one, and prints one line for each:
  *
  *   check SHEET         number and place
- *   convert CARD        number, place and the card's bytes after the call
+ *   convert_255 CARD    number, place and the card's bytes after the call
+ *   convert_257 CARD    the same
  *   judge BOOK          number and place
  *   rewrite BOOK        number, place and the rewritten book
  *   carry BOOK EDIT     number, place and the carried book
  *   enter BOOK EDIT     number, place and the sheet's bytes after the call; each call begins with the sheet of the file
+ *   close BOOK NODE     the same
+ *   open BOOK NODE      the same
  */
 #include "zamiathen.h"
 
 #include <stdio.h>
+#include <stdlib.h>
 #include <string.h>
 
 enum { TEXT = ZAMIATHEN_SHEET_BYTES, LINE = 4 * TEXT };
@@ -54,13 +58,24 @@ static int check(const char *word) {
     return 1;
 }
 
-static int convert(const char *word) {
+static int convert(zamiathen_answer (*call)(uint8_t *, size_t), const char *word) {
     static struct text card;
     if (!read_text(&card, word))
         return 0;
-    zamiathen_answer a = zamiathen_convert_255(card.bytes, card.length);
+    zamiathen_answer a = call(card.bytes, card.length);
     printf("%02zu %05zu ", a.number, a.place);
     print_bytes(card.bytes, card.length);
+    return 1;
+}
+
+static int turn(zamiathen_answer (*call)(uint8_t *, size_t, const uint8_t *, size_t, size_t), const struct text *book,
+                const char *word) {
+    if (word == NULL)
+        return 0;
+    memcpy(entered, sheet, sizeof sheet);
+    zamiathen_answer a = call(entered, sizeof entered, book->bytes, book->length, strtoul(word, NULL, 10));
+    printf("%02zu %05zu ", a.number, a.place);
+    print_bytes(entered, sizeof entered);
     return 1;
 }
 
@@ -69,8 +84,10 @@ static int call(char *line) {
     const char *name = strtok(line, " \n");
     if (name != NULL && strcmp(name, "check") == 0)
         return check(strtok(NULL, " \n"));
-    if (name != NULL && strcmp(name, "convert") == 0)
-        return convert(strtok(NULL, " \n"));
+    if (name != NULL && strcmp(name, "convert_255") == 0)
+        return convert(zamiathen_convert_255, strtok(NULL, " \n"));
+    if (name != NULL && strcmp(name, "convert_257") == 0)
+        return convert(zamiathen_convert_257, strtok(NULL, " \n"));
     if (name == NULL || !read_text(&book, strtok(NULL, " \n")))
         return 0;
     if (strcmp(name, "judge") == 0) {
@@ -84,6 +101,10 @@ static int call(char *line) {
         print_bytes(scratch, r.length);
         return 1;
     }
+    if (strcmp(name, "close") == 0)
+        return turn(zamiathen_close, &book, strtok(NULL, " \n"));
+    if (strcmp(name, "open") == 0)
+        return turn(zamiathen_open, &book, strtok(NULL, " \n"));
     if (!read_text(&edit, strtok(NULL, " \n")))
         return 0;
     if (strcmp(name, "carry") == 0) {

@@ -128,13 +128,22 @@ static void unsealed_t(uint8_t *bytes) {
 
 static void sheet_t(uint8_t *bytes) {
     unsealed_t(bytes);
+    bytes[400] = 7;
     seal(bytes);
 }
 
-/* T as it was stored before version 2. */
-static void card_t(uint8_t *bytes) {
+/* The old cards, which have zeros for the nodes in use: how each is sealed, and its converter. */
+struct form {
+    void (*seal)(uint8_t *);
+    zamiathen_answer (*convert)(uint8_t *, size_t);
+    size_t zeros_end; /* where the check bytes begin */
+};
+static const struct form forms[] = {{seal_255, zamiathen_convert_255, 510}, {seal, zamiathen_convert_257, 508}};
+
+/* T as it was stored before version 2, or before version 4. */
+static void card_t(uint8_t *bytes, const struct form *form) {
     unsealed_t(bytes);
-    seal_255(bytes);
+    form->seal(bytes);
 }
 
 static void start(void) {
@@ -287,6 +296,8 @@ static void blanks(void) {
         sheet_t(kept);
         kept[2] = (uint8_t)n;
         kept[16] = kept[24] = kept[512 + 16] = kept[512 + 24] = 0;
+        for (size_t i = 0; i < 8; i++)
+            kept[400 + i] = (uint8_t)((((uint64_t)1 << n) - 1) >> (8 * i));
         seal(kept);
         left_alone("blank");
     }
@@ -348,6 +359,8 @@ static void refused_sheet(const char *what, size_t length, size_t number, size_t
     measured(what, zamiathen_print_labels(sheet, length, scratch, 0), number, place, 0);
     answered(what, zamiathen_type_page(sheet, length, scratch, 0), number, place);
     answered(what, enter(length, B, sizeof B, TAKE, sizeof TAKE), number, place);
+    answered(what, zamiathen_close(sheet, length, B, sizeof B, 3), number, place);
+    answered(what, zamiathen_open(sheet, length, B, sizeof B, 3), number, place);
     left_alone(what);
 }
 
@@ -379,7 +392,7 @@ static size_t label_page(uint8_t *page) {
         snprintf(number, sizeof number, "%02zu ", k);
         length = page_line(page, k + 1, number, k < 2 ? T_LABELS[k] : "...");
     }
-    return length;
+    return page_line(page, length / 64, "48 ", "###");
 }
 
 static void pages(void) {
@@ -405,6 +418,9 @@ static void pages(void) {
     answered("mark behind column n", zamiathen_type_page(sheet, whole, page, length), ZAMIATHEN_PAGE, 2);
     memcpy(page, "A16", 3);
     answered("head of no kind", zamiathen_type_page(sheet, whole, page, length), ZAMIATHEN_PAGE, 0);
+    labels[64 * 49 + 4] = '.';
+    answered("other nodes in use", zamiathen_type_page(sheet, whole, labels, label_length), ZAMIATHEN_PAGE, 49);
+    answered("label page of version 3", zamiathen_type_page(sheet, whole, labels, 64 * 49), ZAMIATHEN_PAGE, 0);
     left_alone("refused pages");
 }
 
@@ -421,9 +437,12 @@ static void refused_sheets(void) {
     memcpy(kept, sheet, whole);
     refused_sheet("neighbours of block 5 exchanged", whole, ZAMIATHEN_SHEET_SUMS, 5);
     start();
-    card_t(sheet);
+    card_t(sheet, &forms[0]);
     memcpy(kept, sheet, whole);
     refused_sheet("an old card", whole, ZAMIATHEN_SHEET_SUMS, 0);
+    card_t(sheet, &forms[1]);
+    memcpy(kept, sheet, whole);
+    refused_sheet("a card of version 3, no node in use", whole, ZAMIATHEN_SHEET_HEAD, 0);
     start();
     sheet[512 * 3 + 1] = 4;
     seal(sheet);
@@ -464,37 +483,69 @@ static void checks(void) {
     answered("61 nodes", zamiathen_check(sheet, whole), ZAMIATHEN_SHEET_HEAD, 0);
 }
 
+/* T with one byte changed, its check bytes right again. */
+static void checked(const char *what, size_t at, uint8_t byte, size_t number, size_t place) {
+    sheet_t(sheet);
+    sheet[at] = byte;
+    seal(sheet);
+    answered(what, zamiathen_check(sheet, whole), number, place);
+}
+
+/* The questions about the nodes in use: 3 when none below n is, 4 when one above n is or a closed one has something. */
+static void nodes_in_use(void) {
+    start();
+    checked("no node in use", 400, 0, ZAMIATHEN_SHEET_HEAD, 0);
+    checked("only node 3 of 3 in use", 400, 8, ZAMIATHEN_SHEET_HEAD, 0);
+    checked("node 3 of 3 in use", 400, 15, ZAMIATHEN_SHEET_ZEROS, 0);
+    checked("node 63 in use", 407, 128, ZAMIATHEN_SHEET_ZEROS, 0);
+    checked("node 0 closed, with a label", 400, 6, ZAMIATHEN_SHEET_ZEROS, 0);
+    sheet_t(sheet);
+    sheet[16] = 2;
+    sheet[400] = 6;
+    seal(sheet);
+    answered("node 0 closed, with an arrow", zamiathen_check(sheet, whole), ZAMIATHEN_SHEET_ZEROS, 1);
+    sheet[512 + 16] = 0;
+    seal(sheet);
+    answered("node 0 closed, with nothing", zamiathen_check(sheet, whole), ZAMIATHEN_DONE, 0);
+    bit_read("label bit of a closed node", label_bit(0, 0), ZAMIATHEN_DONE, 0, 0);
+    bit_read("arrow bit of a closed node", arrow_bit(0, 1, 0), ZAMIATHEN_DONE, 0, 0);
+}
+
 /* A card that is no sound one stays as it is. */
-static void refused_card(const char *what, size_t length, size_t number, size_t place) {
+static void refused_card(const char *what, const struct form *form, size_t length, size_t number, size_t place) {
     memcpy(kept, sheet, whole);
-    answered(what, zamiathen_convert_255(sheet, length), number, place);
+    answered(what, form->convert(sheet, length), number, place);
     left_alone(what);
 }
 
 /* The old card of T becomes T; each question of old cards, in each block. */
-static void cards(void) {
+static void cards(const struct form *form) {
+    const struct form *other = form == &forms[0] ? &forms[1] : &forms[0];
     start();
-    card_t(sheet);
-    answered("card", zamiathen_convert_255(sheet, whole), ZAMIATHEN_DONE, 0);
+    card_t(sheet, form);
+    answered("card", form->convert(sheet, whole), ZAMIATHEN_DONE, 0);
     answered("card, converted", zamiathen_check(sheet, whole), ZAMIATHEN_DONE, 0);
     left_alone("card");
-    refused_card("a sheet for a card", whole, ZAMIATHEN_SHEET_SUMS, 0);
-    card_t(sheet);
-    refused_card("short card", whole - 1, ZAMIATHEN_SHEET_LENGTH, 0);
+    refused_card("a sheet for a card", form, whole,
+                 form->zeros_end == 508 ? ZAMIATHEN_SHEET_ZEROS : ZAMIATHEN_SHEET_SUMS, 0);
+    card_t(sheet, other);
+    refused_card("a card of other sums", form, whole, ZAMIATHEN_SHEET_SUMS, 0);
+    card_t(sheet, form);
+    refused_card("short card", form, whole - 1, ZAMIATHEN_SHEET_LENGTH, 0);
     for (size_t block = 0; block < 17; block++) {
         uint8_t *const bytes = sheet + 512 * block;
-        card_t(sheet);
+        card_t(sheet, form);
         bytes[100] ^= 1;
-        refused_card("check bytes of a card", whole, ZAMIATHEN_SHEET_SUMS, block);
-        card_t(sheet);
+        refused_card("check bytes of a card", form, whole, ZAMIATHEN_SHEET_SUMS, block);
+        card_t(sheet, form);
         bytes[1] = 17;
-        seal_255(sheet);
-        refused_card("head of a card", whole, ZAMIATHEN_SHEET_HEAD, block);
-        for (size_t zero = 507; zero < 510; zero++) {
-            card_t(sheet);
+        form->seal(sheet);
+        refused_card("head of a card", form, whole, ZAMIATHEN_SHEET_HEAD, block);
+        for (size_t zero = 400; zero < form->zeros_end; zero++) {
+            card_t(sheet, form);
             bytes[zero] = 1;
-            seal_255(sheet);
-            refused_card("zeros of a card", whole, ZAMIATHEN_SHEET_ZEROS, block);
+            form->seal(sheet);
+            refused_card("zeros of a card", form, whole, ZAMIATHEN_SHEET_ZEROS, block);
         }
     }
 }
@@ -503,7 +554,7 @@ static void cards(void) {
 static void card_sum_of_zero(void) {
     start();
     for (int wrong = 0; wrong < 2; wrong++) {
-        card_t(sheet);
+        card_t(sheet, &forms[0]);
         sheet[2] = 60;
         sheet[16] = 0xC2;
         sheet[24] = 0;
@@ -512,8 +563,11 @@ static void card_sum_of_zero(void) {
         memcpy(kept, sheet, whole);
         sheet[510] = kept[510] = wrong ? 255 : 0;
         answered("sum of 0", zamiathen_convert_255(sheet, whole), wrong ? ZAMIATHEN_SHEET_SUMS : ZAMIATHEN_DONE, 0);
-        if (!wrong)
+        if (!wrong) {
+            memset(kept + 400, 255, 7);
+            kept[407] = 15;
             seal(kept);
+        }
         left_alone("sum of 0");
     }
 }
@@ -529,6 +583,10 @@ static void refused_books(void) {
         measured("refused book", zamiathen_carry_back(book->bytes, book->length, END, 1, scratch, room), fault->number,
                  fault->place, 0);
         answered("refused book", enter(whole, book->bytes, book->length, TAKE, sizeof TAKE), fault->number,
+                 fault->place);
+        answered("refused book", zamiathen_close(sheet, whole, book->bytes, book->length, 3), fault->number,
+                 fault->place);
+        answered("refused book", zamiathen_open(sheet, whole, book->bytes, book->length, 0), fault->number,
                  fault->place);
         if (fault->number == ZAMIATHEN_BOOK_RULES)
             measured("first of 33", zamiathen_first_rule(book->bytes, book->length), ZAMIATHEN_DONE, 0, 3);
@@ -632,7 +690,7 @@ static void empty_buffers(void) {
     judged("no sheet", zamiathen_judge(NULL, 0, NULL, 0), (zamiathen_judged){ZAMIATHEN_SHEET_LENGTH, 0, 0, 0});
     judged("no book", zamiathen_judge(sheet, whole, NULL, 0), (zamiathen_judged){0, 0, 0, 0});
     answered("no sheet, no edit", zamiathen_apply(NULL, 0, NULL, 0), ZAMIATHEN_SHEET_LENGTH, 0);
-    measured("no output", zamiathen_print_labels(sheet, whole, NULL, 0), ZAMIATHEN_ROOM, 3136, 0);
+    measured("no output", zamiathen_print_labels(sheet, whole, NULL, 0), ZAMIATHEN_ROOM, 3200, 0);
     answered("no page", zamiathen_type_page(sheet, whole, NULL, 0), ZAMIATHEN_PAGE, 0);
     measured("nothing to rewrite", zamiathen_rewrite(NULL, 0, NULL, 0), ZAMIATHEN_DONE, 0, 0);
     measured("no output", zamiathen_rewrite(B, sizeof B, NULL, 0), ZAMIATHEN_ROOM, sizeof B, 0);
@@ -645,6 +703,64 @@ static void empty_buffers(void) {
     left_alone("empty buffers");
 }
 
+/* T with a node more, 3, which has nothing. */
+static void four_nodes(void) {
+    start();
+    sheet[2] = 4;
+    sheet[400] = 15;
+    seal(sheet);
+    memcpy(kept, sheet, whole);
+}
+
+/* Node 3 closed and opened: number, and the nodes in use after it. */
+static void turned(const char *what, zamiathen_answer found, size_t number, size_t place, uint8_t in_use) {
+    answered(what, found, number, place);
+    kept[400] = in_use;
+    seal(kept);
+    left_alone(what);
+}
+
+static void closing(void) {
+    static const uint8_t in_use[] = {0x23, 0x03, 0x01}, closed[] = {0x21, 0x01, 0x01, 0x27, 0x23, 0x03, 0x01};
+    static const uint8_t named[] = {0x31, 0x00, 0x04, 0x03, 0x33, 0x00, 0x17, 0x03, 0x00, 0x31, 0x02, 0x01, 0x30};
+    four_nodes();
+    turned("close node 4", zamiathen_close(sheet, whole, B, sizeof B, 4), ZAMIATHEN_OUT_OF_RANGE, 0, 15);
+    turned("open node 4", zamiathen_open(sheet, whole, NULL, 0, SIZE_MAX), ZAMIATHEN_OUT_OF_RANGE, 0, 15);
+    turned("a rule without it", zamiathen_close(sheet, whole, in_use, sizeof in_use, 3), ZAMIATHEN_RULE_BROKEN, 0, 15);
+    turned("open an open one", zamiathen_open(sheet, whole, closed, sizeof closed, 3), ZAMIATHEN_DONE, 0, 15);
+    turned("close", zamiathen_close(sheet, whole, B, sizeof B, 3), ZAMIATHEN_DONE, 0, 7);
+    turned("close a closed one", zamiathen_close(sheet, whole, in_use, sizeof in_use, 3), ZAMIATHEN_DONE, 0, 7);
+    turned("a rule with it", zamiathen_open(sheet, whole, closed, sizeof closed, 3), ZAMIATHEN_RULE_BROKEN, 1, 7);
+    judged("23 on it", zamiathen_judge(sheet, whole, in_use, sizeof in_use),
+           (zamiathen_judged){ZAMIATHEN_RULE_BROKEN, 0, 0, sizeof in_use});
+    answered("steps on it", zamiathen_apply(sheet, whole, named, sizeof named), ZAMIATHEN_DONE, 0);
+    kept[32] = 7;
+    turned("open", zamiathen_open(sheet, whole, B, sizeof B, 3), ZAMIATHEN_DONE, 0, 15);
+    turned("and close", zamiathen_close(sheet, whole, closed, sizeof closed, 3), ZAMIATHEN_DONE, 0, 7);
+}
+
+/* What keeps a node from being closed, also where a rule would be broken: a label, an arrow from it, one to it, or that no
+ * other is in use. */
+static void taken_nodes(void) {
+    static const uint8_t never[] = {0x21, 0x01, 0x02};
+    four_nodes();
+    turned("labels and arrows", zamiathen_close(sheet, whole, never, sizeof never, 1), ZAMIATHEN_NODE_TAKEN, 1, 15);
+    sheet[16] = sheet[24] = kept[16] = kept[24] = 0;
+    seal(sheet);
+    turned("an arrow from it", zamiathen_close(sheet, whole, never, sizeof never, 0), ZAMIATHEN_NODE_TAKEN, 0, 15);
+    turned("arrows to it", zamiathen_close(sheet, whole, never, sizeof never, 2), ZAMIATHEN_NODE_TAKEN, 2, 15);
+    turned("nothing", zamiathen_close(sheet, whole, never, sizeof never, 3), ZAMIATHEN_RULE_BROKEN, 0, 15);
+    for (uint8_t node = 0; node < 3; node++) {
+        answered("blank", zamiathen_blank(sheet, whole, 3), ZAMIATHEN_DONE, 0);
+        for (uint8_t i = 0; i < 3; i++)
+            if (i != node)
+                answered("close", zamiathen_close(sheet, whole, NULL, 0, i), ZAMIATHEN_DONE, 0);
+        memcpy(kept, sheet, whole);
+        turned("the only one", zamiathen_close(sheet, whole, never, sizeof never, node), ZAMIATHEN_NODE_TAKEN, node,
+               (uint8_t)(1 << node));
+    }
+}
+
 int main(void) {
     examples();
     changes();
@@ -654,13 +770,17 @@ int main(void) {
     pages();
     refused_sheets();
     checks();
-    cards();
+    nodes_in_use();
+    cards(&forms[0]);
+    cards(&forms[1]);
     card_sum_of_zero();
     refused_books();
     rewritten();
     refused_edits();
     refused_sizes();
     node_3();
+    closing();
+    taken_nodes();
     empty_buffers();
     printf("%d passed, %d failed\n", passed, failed);
     return failed != 0;

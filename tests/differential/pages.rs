@@ -17,7 +17,9 @@ fn print(tally: &mut Tally, bytes: &[u8], shown: Shown, room: usize) {
     let blank = vec![0x5A; room];
     let mut output = Lent::of(&blank);
     let found = match shown {
-        Shown::Arrow(a) => unsafe { zamiathen_print_arrow(sheet.ptr(), sheet.len(), a, output.mut_ptr(), output.len()) },
+        Shown::Arrow(a) => unsafe {
+            zamiathen_print_arrow(sheet.ptr(), sheet.len(), a, output.mut_ptr(), output.len())
+        },
         Shown::Labels => unsafe { zamiathen_print_labels(sheet.ptr(), sheet.len(), output.mut_ptr(), output.len()) },
     };
     let found = Outcome::new(&[found.number, found.place, found.length], vec![sheet, output]);
@@ -68,20 +70,20 @@ fn prints(tally: &mut Tally) {
                 print(tally, &bytes, Shown::Arrow(a), room);
             }
         }
-        for room in [0, LINE * 49 - 1, LINE * 49, LINE * 49 + 1, MOST] {
+        for room in [0, LINE * 49, LINE * 50 - 1, LINE * 50, LINE * 50 + 1, MOST] {
             print(tally, &bytes, Shown::Labels, room);
         }
     }
 }
 
-/// Every page of a sheet typed back into it changes nothing; into the blank sheet of that n it puts that block alone; into a
-/// sheet of another n it is refused. All known without the reference but the pages.
+/// Every page of a sheet typed back into it changes nothing; into the blank sheet with these nodes in use it puts that block
+/// alone; into a sheet of another n it is refused. All known without the reference but the pages.
 fn pages_back(tally: &mut Tally) {
     let mut random = Random::new(2);
     for n in 1..=60 {
         let graph = random_graph(&mut random, n);
         let bytes = sheet::store(&graph);
-        let blank = Graph::blank(n);
+        let blank = graphs::with_use(Graph::blank(n), graph.in_use.clone());
         for shown in (0..16).map(Shown::Arrow).chain([Shown::Labels]) {
             let page = pages::page(&graph, shown);
             type_known(tally, "own page", &bytes, &page, (0, 0), &bytes);
@@ -97,13 +99,46 @@ fn pages_back(tally: &mut Tally) {
     }
 }
 
+/// A page of a blank sheet with other nodes in use: an arrow page is typed, and of a label page line 48 is refused. A mark at a
+/// closed node is refused in its line, before line 48. Known without the reference but the pages.
+fn closed_nodes(tally: &mut Tally) {
+    let mut random = Random::new(7);
+    let blank = |n: usize, in_use: &[bool]| graphs::with_use(Graph::blank(n), in_use.to_vec());
+    for n in (2..=60).flat_map(|n| [n; 8]) {
+        let (used, mut other) = (graphs::in_use(&mut random, n), graphs::in_use(&mut random, n));
+        if used == other {
+            other[random.below(n)] ^= true;
+        }
+        let bytes = sheet::store(&blank(n, &used));
+        let labels = pages::page(&blank(n, &other), Shown::Labels);
+        type_known(tally, "other nodes in use", &bytes, &labels, (51, 49), &bytes);
+        let arrows = pages::page(&blank(n, &other), Shown::Arrow(5));
+        type_known(tally, "arrow page, other nodes in use", &bytes, &arrows, (0, 0), &bytes);
+        for closed in (0..n).filter(|i| !used[*i]) {
+            let other = random.below(n);
+            for line in [0, 1, 20, 46, 47] {
+                marked(tally, &bytes, labels.clone(), line, closed);
+            }
+            marked(tally, &bytes, arrows.clone(), closed, other);
+            marked(tally, &bytes, arrows.clone(), other, closed);
+        }
+    }
+}
+
+/// A page with a mark in a square that no sheet with these nodes in use prints.
+fn marked(tally: &mut Tally, bytes: &[u8], mut page: Vec<u8>, line: usize, square: usize) {
+    page[LINE * (line + 1) + 3 + square] = b'#';
+    type_known(tally, "mark at a closed node", bytes, &page, (51, line + 1), bytes);
+}
+
 /// Each byte of some pages changed to bytes that mean something elsewhere on a page, and to others.
 fn changed_bytes(tally: &mut Tally) {
     let mut random = Random::new(3);
     let arrows = [(1, 0), (3, 15), (48, 9), (60, 10)].map(|(n, a)| (n, Shown::Arrow(a)));
     for (n, shown) in arrows.into_iter().chain([(5, Shown::Labels), (60, Shown::Labels)]) {
         let graph = random_graph(&mut random, n);
-        let bytes = sheet::store(&random_graph(&mut random, n));
+        let other = graphs::all_used(&mut random, Names { n, labels: 48, arrows: 16 });
+        let bytes = sheet::store(&graphs::with_use(other, graph.in_use.clone()));
         let mut page = pages::page(&graph, shown);
         for at in 0..page.len() {
             let kept = page[at];
@@ -181,12 +216,16 @@ fn random_pages(tally: &mut Tally, rounds: usize) {
             page[at] = random.pick(b"#. \n01AL\x00\xFF");
         }
         let own = if random.one_in(8) { graphs::node_count(&mut random) } else { n };
-        let mut bytes = sheet::store(&random_graph(&mut random, own));
+        let mut sheet_graph = random_graph(&mut random, own);
+        if own == n && !random.one_in(3) {
+            sheet_graph = graphs::with_use(sheet_graph, graph.in_use.clone());
+        }
+        let mut bytes = sheet::store(&sheet_graph);
         if random.one_in(3) {
             bytes = damage::damaged(&mut random, bytes);
         }
         type_page(tally, &bytes, &page);
-        let room = random.pick(&[0, LINE * 2, LINE * 49, MOST]);
+        let room = random.pick(&[0, LINE * 2, LINE * 49, LINE * 50, MOST]);
         print(tally, &bytes, shown, room);
         let length = random.below(2 * LINE);
         type_page(tally, &bytes, &random.bytes(length));
@@ -197,6 +236,7 @@ fn main() {
     let mut tally = Tally::new();
     prints(&mut tally);
     pages_back(&mut tally);
+    closed_nodes(&mut tally);
     changed_bytes(&mut tally);
     heads(&mut tally);
     lines(&mut tally);

@@ -2,14 +2,15 @@
 
 use common::compare::{Lent, Outcome, Tally};
 use common::library::{
-    zamiathen_arrow_bit, zamiathen_blank, zamiathen_check, zamiathen_convert_255, zamiathen_judge, zamiathen_label_bit,
+    zamiathen_arrow_bit, zamiathen_blank, zamiathen_check, zamiathen_convert_255, zamiathen_convert_257,
+    zamiathen_judge, zamiathen_label_bit,
 };
 use common::random::Random;
 use common::terms::Names;
 use common::{damage, graphs};
 use reference::answer::{answer_of, Asked};
-use reference::graph::Graph;
-use reference::sheet::{self, BLOCK, SHEET, SUMS_255};
+use reference::graph::{Graph, Pairs, MOST_NODES};
+use reference::sheet::{self, Form, BLOCK, SHEET, SUMS_255, SUMS_257};
 
 fn asked(bytes: *const u8, length: usize) -> [usize; 2] {
     let found = unsafe { zamiathen_check(bytes, length) };
@@ -140,33 +141,86 @@ fn noticed_changes(tally: &mut Tally) {
     stored_sums(tally, &fixed_sheet());
 }
 
-/// What 01 says of one byte of a block, its sums being right.
+/// What 01 says of one byte of a block, its sums being right: not of the nodes in use, and not of n.
 fn fault_of_byte(bytes: &[u8], at: usize) -> (usize, usize) {
-    let (block, place, n) = (at / BLOCK, at % BLOCK, usize::from(bytes[2]));
-    let rows = if block == 0 { 48 } else { n };
-    let row_byte = (16..16 + 8 * rows).contains(&place);
-    let above = u64::MAX << n;
+    let (block, place) = (at / BLOCK, at % BLOCK);
+    let used = u64::from_le_bytes(bytes[400..408].try_into().expect("8 bytes"));
+    let row = place.saturating_sub(16) / 8;
+    let row_byte = place >= 16 && if block == 0 { row < 48 } else { row < 60 && used >> row & 1 == 1 };
     match place {
         0..=2 => (3, block),
-        _ if row_byte && u64::from(bytes[at]) << ((place - 16) % 8 * 8) & above == 0 => (0, 0),
+        _ if row_byte && u64::from(bytes[at]) << ((place - 16) % 8 * 8) & !used == 0 => (0, 0),
         _ => (4, block),
     }
 }
 
-/// Each byte of one sheet changed to another value and the sums mended, so that 3 and 4 are reached at each place.
+/// Each byte of some sheets changed to another value and the sums mended, so that 3 and 4 are reached at each place.
 fn mended_bytes(tally: &mut Tally) {
-    let sound = fixed_sheet();
+    let mut random = Random::new(10);
+    let names = Names { n: 37, labels: 48, arrows: 16 };
+    let graph = graphs::all_used(&mut random, names);
+    let thirds = (0..37).map(|i| i % 3 != 1).collect();
+    for sound in [sheet::store(&graph), sheet::store(&graphs::with_use(graph, thirds))] {
+        mended_bytes_of(tally, &sound);
+    }
+}
+
+fn mended_bytes_of(tally: &mut Tally, sound: &[u8]) {
     for at in (0..SHEET).filter(|at| at % BLOCK < 508) {
         for change in [1, 128, 255] {
-            let mut bytes = sound.clone();
+            let mut bytes = sound.to_vec();
             bytes[at] ^= change;
             sheet::seal(&mut bytes[at / BLOCK * BLOCK..(at / BLOCK + 1) * BLOCK]);
-            if at != 2 {
+            if at != 2 && !(400..408).contains(&at) {
                 let (number, place) = fault_of_byte(&bytes, at);
                 check_known(tally, &bytes, number, place);
             }
             check(tally, &bytes);
         }
+    }
+}
+
+/// A graph's sheet with another word for the nodes in use, and the sums right.
+fn with_word(graph: &Graph, word: u64) -> Vec<u8> {
+    let mut bytes = sheet::store(graph);
+    bytes[400..408].copy_from_slice(&word.to_le_bytes());
+    sheet::seal(&mut bytes[..BLOCK]);
+    bytes
+}
+
+/// The nodes in use on a sheet without labels and arrows: 3 when none is below n, whatever stands above; else 4 when one is at n
+/// or above. Every n, each node alone and beside another.
+fn use_words(tally: &mut Tally) {
+    for n in 1..=MOST_NODES {
+        let blank = Graph::blank(n);
+        let below = (1u64 << n) - 1;
+        let pairs = (0..64).flat_map(|i| [0, n - 1, n, 63].map(|j| 1u64 << i | 1 << j));
+        for word in (0..64).map(|i| 1 << i).chain(pairs).chain([0, u64::MAX, below, !below, !1, below & !1]) {
+            let number = match word {
+                _ if word & below == 0 => 3,
+                _ if word & !below != 0 => 4,
+                _ => 0,
+            };
+            check_known(tally, &with_word(&blank, word), number, 0);
+        }
+    }
+}
+
+/// One label of one node, one arrow of two: 4 in its block when such a node is closed.
+fn closed_with_something(tally: &mut Tally) {
+    let mut random = Random::new(11);
+    for n in (2..=MOST_NODES).flat_map(|n| [n; 40]) {
+        let (i, j, k, a) = (random.below(n), random.below(n), random.below(48), random.below(16));
+        let below = (1u64 << n) - 1;
+        let word = below & random.word() & !(random.word() & random.word() & random.word());
+        let word = if word == 0 { below } else { word };
+        let used = |node: usize| word >> node & 1 == 1;
+        let number = if used(i) { (0, 0) } else { (4, 0) };
+        check_known(tally, &with_word(&labelled(n, k, &[i]), word), number.0, number.1);
+        let mut graph = Graph::blank(n);
+        graph.arrows[a] = Pairs::new(n, |x, y| x == i && y == j);
+        let number = if used(i) && used(j) { (0, 0) } else { (4, a + 1) };
+        check_known(tally, &with_word(&graph, word), number.0, number.1);
     }
 }
 
@@ -247,10 +301,10 @@ fn other_lengths(tally: &mut Tally) {
 /// Sums of 0 and of 256, which has a second byte: s by label 0, t by a label of a sheet of two nodes.
 fn sums_at_the_ends(tally: &mut Tally) {
     let labels: [(usize, usize, &[usize], [u8; 4]); 4] = [
-        (60, 0, &[2, 6, 7], [0, 0, 85, 0]),
-        (60, 0, &[0, 1, 6, 7], [0, 1, 107, 0]),
-        (2, 28, &[1], [5, 0, 0, 0]),
-        (2, 12, &[1], [5, 0, 0, 1]),
+        (60, 0, &[0, 1, 6, 7], [0, 0, 152, 0]),
+        (60, 0, &[1, 6, 7], [0, 1, 174, 0]),
+        (2, 35, &[0], [7, 0, 0, 0]),
+        (2, 3, &[0], [7, 0, 0, 1]),
     ];
     for (n, k, nodes, sums) in labels {
         let mut bytes = sheet::store(&labelled(n, k, nodes));
@@ -265,31 +319,53 @@ fn labelled(n: usize, k: usize, nodes: &[usize]) -> Graph {
     graph
 }
 
-fn convert(tally: &mut Tally, card: &[u8]) {
+/// The two forms of old cards, whose nodes are all in use.
+const OLD_FORMS: [Form; 2] = [SUMS_255, SUMS_257];
+
+/// The calls for a form of cards: the library's, the reference's, and what they are told by.
+fn convert(tally: &mut Tally, form: Form, card: &[u8]) {
     let mut after = card.to_vec();
-    let answer = sheet::convert_255(&mut after);
-    convert_known(tally, "convert", card, (answer.number, answer.place), &after);
+    let (what, answer) = match form.modulus {
+        255 => ("convert 255", sheet::convert_255(&mut after)),
+        _ => ("convert 257", sheet::convert_257(&mut after)),
+    };
+    convert_known(tally, what, form, card, (answer.number, answer.place), &after);
 }
 
 /// The same against what is known without the reference's converter.
-fn convert_known(tally: &mut Tally, what: &'static str, card: &[u8], (number, place): (usize, usize), after: &[u8]) {
+fn convert_known(
+    tally: &mut Tally,
+    what: &'static str,
+    form: Form,
+    card: &[u8],
+    (number, place): (usize, usize),
+    after: &[u8],
+) {
     let mut lent = Lent::of(card);
-    let found = unsafe { zamiathen_convert_255(lent.mut_ptr(), lent.len()) };
+    let found = match form.modulus {
+        255 => unsafe { zamiathen_convert_255(lent.mut_ptr(), lent.len()) },
+        _ => unsafe { zamiathen_convert_257(lent.mut_ptr(), lent.len()) },
+    };
     let found = Outcome::new(&[found.number, found.place], vec![lent]);
     let wanted = Outcome::new(&[number, place], vec![Lent::of(after)]);
-    tally.compare(what, &found, &wanted, &[("card", card)]);
+    tally.compare(what, &found, &wanted, &[("card", card), ("modulus", &form.modulus.to_le_bytes())]);
     check(tally, after);
 }
 
-fn refuse_card(tally: &mut Tally, card: &[u8], number: usize, place: usize) {
-    convert_known(tally, "convert, known answer", card, (number, place), card);
+fn refuse_card(tally: &mut Tally, form: Form, card: &[u8], number: usize, place: usize) {
+    convert_known(tally, "convert, known answer", form, card, (number, place), card);
 }
 
-/// The old card of a graph becomes its sheet, and the sheet is no old card.
+/// Each old card of a graph becomes its sheet, with bits 0 to n minus 1; the sheet is no old card, and neither is the card of
+/// the other form.
 fn convert_graph(tally: &mut Tally, graph: &Graph) {
     let sheet = sheet::store(graph);
-    convert_known(tally, "convert, known answer", &SUMS_255.store(graph), (0, 0), &sheet);
-    convert(tally, &sheet);
+    for form in OLD_FORMS {
+        convert_known(tally, "convert, known answer", form, &form.store(graph), (0, 0), &sheet);
+        convert(tally, form, &sheet);
+        OLD_FORMS.iter().for_each(|other| convert(tally, form, &other.store(graph)));
+    }
+    refuse_card(tally, SUMS_257, &sheet, 4, 0);
 }
 
 /// Sound cards of each n: blank, full, and some in between.
@@ -298,45 +374,46 @@ fn sound_cards(tally: &mut Tally) {
     for n in 1..=60 {
         convert_graph(tally, &Graph::blank(n));
         convert_graph(tally, &graphs::full(n));
-        for _ in 0..100 {
+        for _ in 0..60 {
             let names = Names::some(&mut random, n);
-            convert_graph(tally, &graphs::graph(&mut random, names));
+            convert_graph(tally, &graphs::all_used(&mut random, names));
         }
     }
 }
 
 /// A card with one byte of a block changed and its sums mended.
-fn mended_card(sound: &[u8], at: usize, value: u8) -> Vec<u8> {
+fn mended_card(form: Form, sound: &[u8], at: usize, value: u8) -> Vec<u8> {
     let mut card = sound.to_vec();
     card[at] = value;
-    SUMS_255.seal(&mut card[at / BLOCK * BLOCK..(at / BLOCK + 1) * BLOCK]);
+    form.seal(&mut card[at / BLOCK * BLOCK..(at / BLOCK + 1) * BLOCK]);
     card
 }
 
-/// Each question of old cards in each block: a byte that the sums see, each byte of the head, zeros up to byte 509.
-fn damaged_cards(tally: &mut Tally) {
+/// Each question of old cards in each block: a byte that the sums see, each byte of the head, zeros up to the sums, in block 0
+/// from byte 400 on.
+fn damaged_cards(tally: &mut Tally, form: Form) {
     let mut random = Random::new(8);
-    let sound = SUMS_255.store(&graphs::graph(&mut random, Names { n: 37, labels: 48, arrows: 16 }));
+    let sound = form.store(&graphs::all_used(&mut random, Names { n: 37, labels: 48, arrows: 16 }));
     for block in 0..17 {
         let start = block * BLOCK;
         for at in start..start + BLOCK {
             let mut card = sound.clone();
             card[at] ^= 1 << random.below(8);
-            refuse_card(tally, &card, 2, block);
+            refuse_card(tally, form, &card, 2, block);
         }
         for (at, value) in [(0, 3), (1, 17), (2, 61)] {
-            refuse_card(tally, &mended_card(&sound, start + at, value), 3, block);
+            refuse_card(tally, form, &mended_card(form, &sound, start + at, value), 3, block);
         }
         // The last byte of a word has nodes 56 and above.
         let of_no_node = (23..400).step_by(8);
-        for at in (3..16).chain(of_no_node).chain(496..510) {
-            refuse_card(tally, &mended_card(&sound, start + at, 1), 4, block);
+        let behind = if block == 0 { 400 } else { 496 };
+        for at in (3..16).chain(of_no_node).chain(behind..form.summed) {
+            refuse_card(tally, form, &mended_card(form, &sound, start + at, 1), 4, block);
         }
     }
     for length in [0, 1, 511, 512, 8192, SHEET - 1, SHEET + 1, 2 * SHEET] {
-        refuse_card(tally, &[&sound[..], &sound[..]].concat()[..length], 1, 0);
+        refuse_card(tally, form, &[&sound[..], &sound[..]].concat()[..length], 1, 0);
     }
-    refuse_card(tally, &fixed_sheet(), 2, 0);
 }
 
 /// An old card whose s is 0, with 0 and with 255 stored.
@@ -344,18 +421,23 @@ fn old_sum_of_zero(tally: &mut Tally) {
     let graph = labelled(60, 0, &[1, 6, 7]);
     let mut card = SUMS_255.store(&graph);
     card[510] = 0;
-    convert_known(tally, "convert, known answer", &card, (0, 0), &sheet::store(&graph));
+    convert_known(tally, "convert, known answer", SUMS_255, &card, (0, 0), &sheet::store(&graph));
     card[510] = 255;
-    refuse_card(tally, &card, 2, 0);
+    refuse_card(tally, SUMS_255, &card, 2, 0);
 }
 
-/// A zero byte of an old card that has become 255, at each place: its own sums do not see it.
+/// A zero byte of an old card that has become 255, at each place: sums modulo 255 do not see it, and those modulo 257 do.
 fn worn_cards(tally: &mut Tally) {
-    let sound = SUMS_255.store(&graphs::full(60));
-    for at in (0..SHEET).filter(|at| sound[*at] == 0) {
-        let mut card = sound.clone();
-        card[at] = 255;
-        convert(tally, &card);
+    for form in OLD_FORMS {
+        let sound = form.store(&graphs::full(60));
+        for at in (0..SHEET).filter(|at| sound[*at] == 0) {
+            let mut card = sound.clone();
+            card[at] = 255;
+            convert(tally, form, &card);
+            if form.modulus == 257 {
+                refuse_card(tally, form, &card, 2, at / BLOCK);
+            }
+        }
     }
 }
 
@@ -364,20 +446,23 @@ fn random_cards(tally: &mut Tally, rounds: usize) {
     for _ in 0..rounds {
         let n = graphs::node_count(&mut random);
         let names = Names::some(&mut random, n);
-        let sound = SUMS_255.store(&graphs::graph(&mut random, names));
-        for _ in 0..4 {
-            convert(tally, &damage::damaged_in(&mut random, SUMS_255, sound.clone()));
+        let graph = graphs::all_used(&mut random, names);
+        for form in OLD_FORMS {
+            for _ in 0..3 {
+                convert(tally, form, &damage::damaged_in(&mut random, form, form.store(&graph)));
+            }
         }
     }
 }
 
 fn cards(tally: &mut Tally) {
     sound_cards(tally);
-    damaged_cards(tally);
+    OLD_FORMS.into_iter().for_each(|form| damaged_cards(tally, form));
     old_sum_of_zero(tally);
     worn_cards(tally);
-    random_cards(tally, 8_000);
-    tally.all_reached("convert", &[0, 1, 2, 3, 4]);
+    random_cards(tally, 6_000);
+    tally.all_reached("convert 255", &[0, 1, 2, 3, 4]);
+    tally.all_reached("convert 257", &[0, 1, 2, 3, 4]);
 }
 
 fn main() {
@@ -385,6 +470,8 @@ fn main() {
     cards(&mut tally);
     noticed_changes(&mut tally);
     mended_bytes(&mut tally);
+    use_words(&mut tally);
+    closed_with_something(&mut tally);
     other_lengths(&mut tally);
     sums_at_the_ends(&mut tally);
     blanks(&mut tally);

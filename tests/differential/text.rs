@@ -9,7 +9,7 @@ use reference::graph::{Graph, MOST_NODES};
 use reference::{calls, reader, sheet};
 use std::sync::OnceLock;
 
-/// The blank sheet of n, on which a text is asked as a book and as an edit.
+/// The blank sheet of n, on which a text is asked as a book and as an edit. Where n is odd, every third node is closed.
 struct Blank {
     graph: Graph,
     bytes: Vec<u8>,
@@ -17,7 +17,8 @@ struct Blank {
 
 impl Blank {
     fn of(n: usize) -> Blank {
-        let graph = Graph::blank(n);
+        let mut graph = Graph::blank(n);
+        graph.in_use.iter_mut().skip(1).step_by(3).for_each(|used| *used = n % 2 == 0);
         Blank { bytes: sheet::store(&graph), graph }
     }
 

@@ -1,4 +1,4 @@
-//! "The calls": judge, carry out, carry back and enter, on buffers.
+//! "The calls": judge, carry out, carry back and enter, on buffers; closing and opening a node (document 02, item 6).
 
 use crate::answer::{answer_of, refuse, Answer, Asked, DONE};
 use crate::carry::carry;
@@ -98,6 +98,28 @@ pub fn enter(bytes: &mut [u8], book: &[u8], edit: &[u8], scratch: &mut [u8]) -> 
         bytes.copy_from_slice(&sheet::store(&clerk.graph));
     }
     called.answer
+}
+
+/// Close a node.
+pub fn close(bytes: &mut [u8], book: &[u8], node: usize) -> Answer {
+    set_use(bytes, book, node, false)
+}
+
+/// Open a node.
+pub fn open(bytes: &mut [u8], book: &[u8], node: usize) -> Answer {
+    set_use(bytes, book, node, true)
+}
+
+fn set_use(bytes: &mut [u8], book: &[u8], node: usize, used: bool) -> Answer {
+    let mut clerk = match opened(bytes, book) {
+        Ok(clerk) => clerk,
+        Err(refusal) => return refusal,
+    };
+    let answer = clerk.set_use(node, used);
+    if answer == DONE {
+        bytes.copy_from_slice(&sheet::store(&clerk.graph));
+    }
+    answer
 }
 
 fn opened(bytes: &[u8], book: &[u8]) -> Asked<Clerk> {

@@ -1,4 +1,4 @@
-//! The plain clerk of "The run": he makes the steps on a copy and judges the copy.
+//! The plain clerk of "The run": he makes the steps on a copy and judges the copy. He closes and opens nodes likewise.
 
 use crate::answer::{refuse, Answer, Asked, DONE};
 use crate::carry::{carry, Carried};
@@ -39,6 +39,22 @@ impl Clerk {
             return refuse(33, carried.text.len());
         }
         Ok((carried_out(&self.graph, &steps), carried))
+    }
+
+    /// Closes a node or opens it: range, nothing to do, 54, 41.
+    pub fn set_use(&mut self, node: usize, used: bool) -> Answer {
+        if node >= self.graph.n {
+            return Answer { number: 7, place: 0 };
+        }
+        if self.graph.in_use[node] == used {
+            return DONE;
+        }
+        if !used && (self.graph.has_any(node) || self.graph.is_only(node)) {
+            return Answer { number: 54, place: node };
+        }
+        let mut copy = self.graph.clone();
+        copy.in_use[node] = used;
+        self.judge(copy)
     }
 
     /// Keeps the copy if each rule holds on it.

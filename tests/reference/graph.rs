@@ -46,16 +46,34 @@ impl Pairs {
     }
 }
 
+/// Document 02, item 6: a node below n is in use or closed, and no closed node has a label or an arrow.
 #[derive(Clone, PartialEq, Eq, Debug)]
 pub struct Graph {
     pub n: usize,
+    pub in_use: Nodes,
     pub labels: Vec<Nodes>,
     pub arrows: Vec<Pairs>,
 }
 
 impl Graph {
-    /// n nodes without a label and without an arrow.
+    /// n nodes, all in use, without a label and without an arrow.
     pub fn blank(n: usize) -> Graph {
-        Graph { n, labels: vec![vec![false; n]; LABELS], arrows: vec![Pairs::new(n, |_, _| false); ARROWS] }
+        Graph {
+            n,
+            in_use: vec![true; n],
+            labels: vec![vec![false; n]; LABELS],
+            arrows: vec![Pairs::new(n, |_, _| false); ARROWS],
+        }
+    }
+
+    /// Whether a node has a label, or an arrow from it or to it.
+    pub fn has_any(&self, node: usize) -> bool {
+        let arrow = |pairs: &Pairs| (0..self.n).any(|other| pairs.has(node, other) || pairs.has(other, node));
+        self.labels.iter().any(|label| label[node]) || self.arrows.iter().any(arrow)
+    }
+
+    /// Whether a node is in use, and no other is.
+    pub fn is_only(&self, node: usize) -> bool {
+        self.in_use.iter().enumerate().all(|(i, used)| *used == (i == node))
     }
 }

@@ -2,7 +2,7 @@
 
 use crate::answer::{answer_of, refuse, Answer, Asked, DONE};
 use crate::calls::enter;
-use crate::sheet::{BLOCK, SHEET, SUMS_257};
+use crate::sheet::{BLOCK, PRESENT, SHEET};
 
 const CONTENT: usize = 504;
 const MOST_BLOCKS: usize = 65535;
@@ -41,7 +41,7 @@ fn fields(block: &[u8]) -> Option<Block<'_>> {
 /// The questions of a block, which may be cut short.
 fn ask(block: &[u8], number: usize, inside: bool) -> Asked<Block<'_>> {
     let whole = block.len() == BLOCK;
-    if whole && block[SUMS_257.summed..] != SUMS_257.check_bytes(block) {
+    if whole && block[PRESENT.summed..] != PRESENT.check_bytes(block) {
         return refuse(52, number);
     }
     if !whole || number >= MOST_BLOCKS {

@@ -1,10 +1,16 @@
-//! Table II of document 004 by membership, and when a rule holds.
+//! Table II of document 004 by membership, over the nodes in use (document 02, item 6), and when a rule holds.
 
 use crate::graph::{Graph, Nodes, Pairs};
 use crate::syntax::{Arrow, Node, Rule};
 
-/// The nodes of an expression.
+/// The nodes of an expression: only nodes in use.
 pub fn nodes(graph: &Graph, expression: &Node) -> Nodes {
+    let found = by_table(graph, expression);
+    found.into_iter().zip(&graph.in_use).map(|(member, used)| member && *used).collect()
+}
+
+/// The nodes of an expression by the table, in use or not.
+fn by_table(graph: &Graph, expression: &Node) -> Nodes {
     match expression {
         Node::All => vec![true; graph.n],
         Node::Nothing => vec![false; graph.n],
@@ -38,7 +44,7 @@ fn count(row: &[bool], ends: &[bool]) -> usize {
     row.iter().zip(ends).filter(|(linked, end)| **linked && **end).count()
 }
 
-/// The pairs of an expression.
+/// The pairs of an expression: only pairs of nodes in use, as the arrows of a graph are.
 pub fn pairs(graph: &Graph, expression: &Arrow) -> Pairs {
     match expression {
         Arrow::Kind(a) => graph.arrows[usize::from(*a)].clone(),
@@ -53,7 +59,10 @@ pub fn pairs(graph: &Graph, expression: &Arrow) -> Pairs {
             let (before, ends) = (pairs(graph, r), nodes(graph, e));
             Pairs::new(graph.n, |x, y| before.has(x, y) && ends[y])
         }
-        Arrow::Pair(i, j) => Pairs::new(graph.n, |x, y| x == usize::from(*i) && y == usize::from(*j)),
+        Arrow::Pair(i, j) => {
+            let (from, to) = (nodes(graph, &Node::Only(*i)), nodes(graph, &Node::Only(*j)));
+            Pairs::new(graph.n, |x, y| from[x] && to[y])
+        }
     }
 }
 

@@ -1,13 +1,13 @@
-//! The marked examples of document 01, some of its remarks, check bytes, old cards, pages of its sheet T and rewritten
-//! books, asked of the reference itself.
+//! The marked examples of document 01, some of its remarks, check bytes, old cards, pages of its sheet T, rewritten books and
+//! closed nodes, asked of the reference itself.
 
 use reference::answer::{Answer, DONE};
-use reference::calls::{carry_back, enter, judge, Judged};
+use reference::calls::{apply, carry_back, close, enter, judge, open, Judged};
 use reference::graph::{Graph, Pairs, MOST_NODES};
-use reference::meaning::nodes;
+use reference::meaning::{holds, nodes};
 use reference::pages::{page, type_page, Shown};
 use reference::rewrite::rewrite;
-use reference::sheet::{SUMS_255, SUMS_257};
+use reference::sheet::{BLOCK, SUMS_255, SUMS_257};
 use reference::syntax::{Node, Rule};
 use reference::{reader, sheet};
 
@@ -202,10 +202,10 @@ fn stored_sums(tally: &mut Tally, graph: &Graph, wanted: [u8; 4], other: [u8; 4]
 fn sheets(tally: &mut Tally) {
     let blank = sheet::store(&Graph::blank(7));
     tally.same("block 1 without arrows", &blank[1020..1024], &[3, 0, 238, 0][..]);
-    stored_sums(tally, &labelled(60, 0, &[0, 1, 6, 7]), [0, 1, 107, 0], [1, 2, 107, 0]);
-    stored_sums(tally, &labelled(60, 0, &[2, 6, 7]), [0, 0, 85, 0], [1, 1, 85, 0]);
-    stored_sums(tally, &labelled(2, 12, &[1]), [5, 0, 0, 1], [5, 0, 1, 2]);
-    stored_sums(tally, &labelled(2, 28, &[1]), [5, 0, 0, 0], [5, 0, 1, 1]);
+    stored_sums(tally, &labelled(60, 0, &[1, 6, 7]), [0, 1, 174, 0], [1, 2, 174, 0]);
+    stored_sums(tally, &labelled(60, 0, &[0, 1, 6, 7]), [0, 0, 152, 0], [1, 1, 152, 0]);
+    stored_sums(tally, &labelled(2, 3, &[0]), [7, 0, 0, 1], [7, 0, 1, 2]);
+    stored_sums(tally, &labelled(2, 35, &[0]), [7, 0, 0, 0], [7, 0, 1, 1]);
     let mut worn = blank;
     worn[512 * 9 + 100] = 255;
     tally.same("0 turned into 255", sheet::check(&worn), Answer { number: 2, place: 9 });
@@ -213,13 +213,20 @@ fn sheets(tally: &mut Tally) {
     tally.same("stored as one sheet", sheet::store(&read), sheet_t());
 }
 
-/// Old cards, which are asked by document 01's sums.
+/// Old cards, which are asked by document 01's sums or by item 2's, and do not hold the nodes in use.
 fn cards(tally: &mut Tally) {
     let card = SUMS_255.store(&Graph::blank(7));
     tally.same("block 1 of an old card", &card[1020..1024], &[0, 0, 3, 254][..]);
     let mut converted = card.clone();
     let answer = sheet::convert_255(&mut converted);
     tally.same("converted", (answer, converted), (DONE, sheet::store(&Graph::blank(7))));
+    let mut converted = SUMS_257.store(&Graph::blank(7));
+    tally.same("zeros in use on a card", (&converted[400..408], sheet::check(&converted).number), (&[0; 8][..], 3));
+    let answer = sheet::convert_257(&mut converted);
+    tally.same("converted", (answer, converted.clone()), (DONE, sheet::store(&Graph::blank(7))));
+    tally.same("bits 0 to 6", &converted[400..408], &[127, 0, 0, 0, 0, 0, 0, 0][..]);
+    tally.same("a sheet is no card", sheet::convert_257(&mut converted), Answer { number: 4, place: 0 });
+    tally.same("nor with other sums", sheet::convert_257(&mut card.clone()), Answer { number: 2, place: 0 });
     let mut refused = |what: &str, at: usize, value: u8, number: usize| {
         let mut bytes = SUMS_255.store(&labelled(60, 0, &[1, 6, 7]));
         bytes[at] = value;
@@ -243,13 +250,135 @@ fn pages_of_t(tally: &mut Tally) {
     tally.same("arrow page", page(&graph, Shown::Arrow(0)), arrow_page.clone());
     let labels = page(&graph, Shown::Labels);
     let start = [line("L03"), line("00 ##."), line("01 ..#"), line("02 ...")].concat().into_bytes();
-    tally.same("label page", (labels.len(), &labels[..256]), (64 * 49, &start[..]));
+    tally.same("label page", (labels.len(), &labels[..256]), (64 * 50, &start[..]));
+    tally.same("its last line", &labels[64 * 49..], line("48 ###").as_bytes());
     let mut bytes = sheet_t();
     tally.same("typed back", (type_page(&mut bytes, &arrow_page), bytes), (DONE, sheet_t()));
     let mut wrong = arrow_page.clone();
     wrong[64 * 3 + 6] = b'.';
     tally.same("a mark behind column n", type_page(&mut sheet_t(), &wrong), Answer { number: 51, place: 3 });
     tally.same("cut short", type_page(&mut sheet_t(), &wrong[1..]), Answer { number: 51, place: 0 });
+}
+
+/// T without node 1, which is closed.
+fn sheet_u() -> Vec<u8> {
+    let mut graph = labelled(3, 0, &[0]);
+    graph.labels[1][2] = true;
+    graph.arrows[0] = Pairs::new(3, |i, j| i == 0 && j == 2);
+    graph.in_use[1] = false;
+    sheet::store(&graph)
+}
+
+/// Every node expression has only nodes in use as its value; 04 and 17 on a closed node are empty, 23 and 24 false there.
+fn closed_meanings(tally: &mut Tally) {
+    let graph = sheet::read(&sheet_u());
+    let examples: [(&str, &[usize]); 14] = [
+        ("01", &[0, 2]),
+        ("02", &[]),
+        ("04 01", &[]),
+        ("04 02", &[2]),
+        ("05 02", &[0, 2]),
+        ("05 03 00", &[2]),
+        ("05 04 01", &[0, 2]),
+        ("09 11 00 02", &[2]),
+        ("09 17 00 01 02", &[0, 2]),
+        ("08 17 00 02 01", &[0]),
+        ("08 17 00 01 01", &[]),
+        ("08 17 01 02 01", &[]),
+        ("0B 00 11 00 01", &[2]),
+        ("0A 00 11 00 01", &[0, 2]),
+    ];
+    for (text, wanted) in examples {
+        let found: Vec<usize> = (0..3).filter(|i| nodes(&graph, &expression(text))[*i]).collect();
+        tally.same(text, found, wanted.to_vec());
+    }
+    let rules = [
+        ("23 01 01", false),
+        ("27 23 01 01", true),
+        ("23 01 05 02", false),
+        ("24 01 02 17 01 02", false),
+        ("24 02 01 12 17 01 02", false),
+        ("24 00 02 17 00 02", true),
+        ("21 01 07 03 00 03 01", true),
+    ];
+    for (text, wanted) in rules {
+        tally.same(text, holds(&graph, &reader::book(&hex(text), 3).expect("a sound rule")[0].rule), wanted);
+    }
+    let mut after = sheet_u();
+    let answer = apply(&mut after, &hex("31 02 01 33 01 17 01 00 33 01 17 00 01 31 03 04 01 30"));
+    let mut wanted = graph;
+    wanted.labels[2] = vec![true, false, true];
+    tally.same("steps leave closed nodes alone", (answer, sheet::read(&after)), (DONE, wanted));
+}
+
+/// The sheet with some bytes put in, and the sums right.
+fn with(mut bytes: Vec<u8>, changes: &[(usize, u8)]) -> Vec<u8> {
+    changes.iter().for_each(|(at, value)| bytes[*at] = *value);
+    bytes.chunks_mut(BLOCK).for_each(sheet::seal);
+    bytes
+}
+
+fn closed_sheets(tally: &mut Tally) {
+    tally.same("nodes in use", &sheet_u()[400..408], &[5, 0, 0, 0, 0, 0, 0, 0][..]);
+    let mut asked = |what: &str, changes: &[(usize, u8)], number: usize, place: usize| {
+        tally.same(what, sheet::check(&with(sheet_u(), changes)), Answer { number, place });
+    };
+    asked("all three in use", &[(400, 7)], 0, 0);
+    asked("none in use", &[(400, 0)], 3, 0);
+    asked("only a node above", &[(400, 8), (407, 128)], 3, 0);
+    asked("node 3 of 3 in use beside others", &[(400, 13)], 4, 0);
+    asked("node 63 in use beside others", &[(407, 128)], 4, 0);
+    asked("byte 408", &[(408, 1)], 4, 0);
+    asked("a label of a closed node", &[(16, 3)], 4, 0);
+    asked("label 47 of a closed node", &[(392, 2)], 4, 0);
+    asked("an arrow to a closed node", &[(16 * 512 + 16, 2)], 4, 16);
+    asked("an arrow from a closed node", &[(512 + 24, 1)], 4, 1);
+    asked("a wrong head beside", &[(400, 0), (2, 0)], 3, 0);
+    tally.same("its bit reads clear", sheet::label_bit(&sheet_u(), 0, 1), Ok(false));
+}
+
+/// The label page of U, and what 51 says of others.
+fn closed_pages(tally: &mut Tally) {
+    let labels = page(&sheet::read(&sheet_u()), Shown::Labels);
+    tally.same("line 48", &labels[64 * 49..64 * 49 + 7], b"48 #.# ".as_slice());
+    let arrows = page(&sheet::read(&sheet_u()), Shown::Arrow(0));
+    let mut typed = |what: &str, page: &[u8], changes: &[(usize, u8)], number: usize, place: usize| {
+        let mut page = page.to_vec();
+        changes.iter().for_each(|(at, value)| page[*at] = *value);
+        tally.same(what, type_page(&mut sheet_u(), &page), Answer { number, place });
+    };
+    typed("typed back", &labels, &[], 0, 0);
+    typed("another node in use", &labels, &[(64 * 49 + 4, b'#')], 51, 49);
+    typed("one node less in use", &labels, &[(64 * 49 + 3, b'.')], 51, 49);
+    typed("a label of a closed node", &labels, &[(64 * 6 + 4, b'#'), (64 * 49 + 4, b'#')], 51, 6);
+    typed("a label of a node in use", &labels, &[(64 * 6 + 5, b'#')], 0, 0);
+    typed("an arrow to a closed node", &arrows, &[(64 * 3 + 4, b'#')], 51, 3);
+    typed("an arrow from a closed node", &arrows, &[(64 * 2 + 3, b'#')], 51, 2);
+    typed("the label page of before", &labels[..64 * 49], &[], 51, 0);
+}
+
+fn closing(tally: &mut Tally) {
+    let u = sheet_u();
+    let refused = |number, place| Answer { number, place };
+    let book = hex("21 01 08 11 00 01 21 01 01");
+    let mut bytes = u.clone();
+    tally.same("open", (open(&mut bytes, &[], 1), sheet::read(&bytes).in_use), (DONE, vec![true; 3]));
+    tally.same("and close", (close(&mut bytes, &[], 1), bytes == u), (DONE, true));
+    tally.same("close a closed node, unjudged", (close(&mut bytes, &book, 1), bytes == u), (DONE, true));
+    tally.same("open an open node, unjudged", (open(&mut bytes, &book, 0), bytes == u), (DONE, true));
+    tally.same("the book before", close(&mut bytes, &hex("23 03 01"), 3), refused(15, 1));
+    tally.same("node 3", close(&mut bytes, &[], 3), refused(7, 0));
+    tally.same("node 3", open(&mut bytes, &[], usize::MAX), refused(7, 0));
+    tally.same("54 before 41", close(&mut bytes, &hex("21 01 02"), 2), refused(54, 2));
+    tally.same("an arrow from it", close(&mut with(u.clone(), &[(16, 0)]), &[], 0), refused(54, 0));
+    tally.same("an arrow to it", close(&mut with(u.clone(), &[(24, 0)]), &[], 2), refused(54, 2));
+    tally.same("the sheet it would leave", open(&mut bytes, &hex("21 01 01 21 01 07 03 00 03 01"), 1), refused(41, 1));
+    tally.same("a refusal changes nothing", bytes == u, true);
+    let mut one = with(sheet::store(&Graph::blank(2)), &[(400, 2)]);
+    tally.same("the only one in use", close(&mut one, &[], 1), refused(54, 1));
+    tally.same("judged with it open", open(&mut one.clone(), &hex("27 23 00 01"), 0), refused(41, 0));
+    tally.same("or closed", close(&mut sheet::store(&Graph::blank(2)), &hex("23 00 01"), 0), refused(41, 0));
+    tally.same("repaired by opening", open(&mut one, &hex("23 00 01"), 0), DONE);
 }
 
 /// None of these may take exponential time.
@@ -278,6 +407,10 @@ fn main() {
     sheets(&mut tally);
     cards(&mut tally);
     pages_of_t(&mut tally);
+    closed_meanings(&mut tally);
+    closed_sheets(&mut tally);
+    closed_pages(&mut tally);
+    closing(&mut tally);
     explosions(&mut tally);
     println!("{} passed, {} failed", tally.passed, tally.failed);
     std::process::exit(i32::from(tally.failed > 0));

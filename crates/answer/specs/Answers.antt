@@ -2,7 +2,7 @@
 -- their own, which hold a bit or a length: their contracts cite `bitAsked` and `carriedAsked`, with the same numbers and places for refusals.
 use Prim.Native.Nat.{ℕ}
 use Rattle.answer.specs.declared.Refusal.{Refusal}
-use Rattle.answer.specs.declared.Refusal.the-variants.{SheetLength, CheckBytes, BlockHead, NotZero, NodeCount, BitRange, BookLength, BookEnds, BookCode, BookLevel, BookNumber, BookRules, EditLength, EditEnds, EditCode, EditLevel, EditNumber, EditExtra, CarriedLength, CarriedLevels, OutputLength, RuleBroken, PageLine, LogSums, LogBlock}
+use Rattle.answer.specs.declared.Refusal.the-variants.{SheetLength, CheckBytes, BlockHead, NotZero, NodeCount, BitRange, BookLength, BookEnds, BookCode, BookLevel, BookNumber, BookRules, EditLength, EditEnds, EditCode, EditLevel, EditNumber, EditExtra, CarriedLength, CarriedLevels, OutputLength, RuleBroken, PageLine, LogSums, LogBlock, NodeTaken}
 use Rattle.answer.specs.declared.Answer.{Answer}
 use Rattle.answer.specs.declared.Answer.the-variants.{Done, Refused}
 use Rattle.answer.specs.Asked.{Asked, passed, refused}
@@ -33,6 +33,7 @@ refusalNumber (RuleBroken p) = 41
 refusalNumber (PageLine p) = 51
 refusalNumber (LogSums p) = 52
 refusalNumber (LogBlock p) = 53
+refusalNumber (NodeTaken p) = 54
 
 abbrev pub refusalPlace : Refusal → ℕ
 refusalPlace (SheetLength p) = p
@@ -60,6 +61,7 @@ refusalPlace (RuleBroken p) = p
 refusalPlace (PageLine p) = p
 refusalPlace (LogSums p) = p
 refusalPlace (LogBlock p) = p
+refusalPlace (NodeTaken p) = p
 
 abbrev pub answerNumber : Answer → ℕ
 answerNumber Done = 0

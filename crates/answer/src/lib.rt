@@ -8,7 +8,7 @@ pub enum Refusal {
     SheetLength { place: usize },
     // 2: a block's check bytes are wrong; the place is the block
     CheckBytes { place: usize },
-    // 3: bytes 0 to 2 of a block are wrong, or n is not 1 to 60
+    // 3: bytes 0 to 2 of a block are wrong, n is not 1 to 60, or no node below n is in use
     BlockHead { place: usize },
     // 4: a byte or bit of a block that must be zero is not
     NotZero { place: usize },
@@ -50,6 +50,8 @@ pub enum Refusal {
     LogSums { place: usize },
     // 53: its fields are wrong, its number is above 65,534, it is cut short, or the log ends inside an edit
     LogBlock { place: usize },
+    // 54: the node to be closed has a label or an arrow or is the only one in use; the place is the node
+    NodeTaken { place: usize },
 }
 
 pub enum Answer {
@@ -93,6 +95,7 @@ pub fn refusal_number(r: Refusal) -> usize
         Refusal::PageLine { place: _ } => 51,
         Refusal::LogSums { place: _ } => 52,
         Refusal::LogBlock { place: _ } => 53,
+        Refusal::NodeTaken { place: _ } => 54,
     }
 }
 
@@ -126,6 +129,7 @@ pub fn refusal_place(r: Refusal) -> usize
         Refusal::PageLine { place } => place,
         Refusal::LogSums { place } => place,
         Refusal::LogBlock { place } => place,
+        Refusal::NodeTaken { place } => place,
     }
 }
 

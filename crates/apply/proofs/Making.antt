@@ -1,6 +1,6 @@
 -- Step by step the buffer is the sheet of the graph so far, and what is left to do there is what was left before.
 use mathlib.Core.Path.{_≡_, refl, sym, ap, ap₂, _∙_, subst}
-use mathlib.Core.Bool.{Bool, true, false, cond}
+use mathlib.Core.Bool.{Bool, true, false, _&&_, cond}
 use mathlib.Core.List.{List}
 use Prim.Native.Nat.{ℕ, _+_, _≤_, _<_}
 use native.Mathlib.Omega.{arith}
@@ -21,7 +21,6 @@ use Rattle.sheet.proofs.Blocks.{length-store}
 use Rattle.sheet.proofs.ReadBack.{read-back}
 use Rattle.sheet.proofs.Passes.{stored-passes}
 use Rattle.sheet.proofs.Opening.{opening}
-use Rattle.sheet.proofs.Loads.{sheet-nodes}
 use Rattle.text.specs.Code.{code, editCode}
 use Rattle.text.specs.Stands.{Stands, EditStands, SomeEditStands}
 use Rattle.eval.specs.Evaluated.{Opened, IsSet, IsRelation, IsTruth}
@@ -32,7 +31,7 @@ use Rattle.apply.proofs.Cases.{labelMade, arrowMade, IsStep, IsChoose, 
 
 -- the graph of the sheet that stores a graph
 graph-again : (g : Graph) (t : List ℕ) → Within g → t ≡ store g → graphOf t ≡ g
-graph-again g t w e = ap graphOf e ∙ read-back present g w
+graph-again g t w e = ap graphOf e ∙ read-back g w
 
 -- A sound sheet, once its n and its nodes are loaded, is ready.
 pub ready-first : (t : List ℕ) (n all : ℕ) → ((p : ℕ) → getD t p 0 < 256) → Sound t → n ≡ graphOf t .n → all ≡ setOf (graphOf t .n) (isNode (graphOf t)) → Ready t n all
@@ -50,25 +49,26 @@ each-made n all edit at next t t′ s f = (f (s .what) (s .stands) .0, λ Z h. f
 
 module _ (t : List ℕ) (n all : ℕ) (r : Ready t n all) where
   pub opened : Opened t n all
-  opened = record { sound = subst Sound (sym (r .stored)) (stored-passes present (graphOf t) (r .within)); count = r .count; few = omega (arith, r .count, r .within .few-nodes); nodes = r .nodes }
+  opened = record { sound = subst Sound (sym (r .stored)) (stored-passes (graphOf t) (r .within)); count = r .count; few = omega (arith, r .count, r .within .few-nodes); nodes = r .nodes; within = r .within }
 
-  -- a sheet that stores another graph of as many nodes
-  ready-again : (g : Graph) (t′ : List ℕ) → Within g → g .n ≡ graphOf t .n → t′ ≡ store g → Ready t′ n all
-  ready-again g t′ w q e =
+  -- a sheet that stores another graph of the same nodes
+  ready-again : (g : Graph) (t′ : List ℕ) → Within g → g .n ≡ graphOf t .n → g .inUse ≡ graphOf t .inUse → t′ ≡ store g → Ready t′ n all
+  unfolding isNode
+  ready-again g t′ w q u e =
       let s = graph-again g t′ w e in
       record {
         stored = e ∙ ap store (sym s);
         within = subst Within (sym s) w;
         count = r .count ∙ sym q ∙ ap (λ (h : Graph). h .n) (sym s);
-        nodes = r .nodes ∙ setOf-cong n _ _ (λ i l. sheet-nodes t i ∙ ap (ltb i) (sym q ∙ ap (λ (h : Graph). h .n) (sym s)) ∙ sym (sheet-nodes t′ i));
+        nodes = r .nodes ∙ setOf-cong n _ _ (λ i l. ap₂ (λ (m : ℕ) (v : Nodes). ltb i m && v i) (sym q) (sym u) ∙ ap (λ (h : Graph). isNode h i) (sym s));
       }
 
   module _ (edit : List ℕ) (at : ℕ) (Z : Edit) where
     -- A step 31 to 34 made: the sheet is ready for the next one.
-    step-made : {s : Sort} (limit : ℕ) (made : ℕ → Graph → ℕ → Value s → Graph) → ((c : ℕ) (g : Graph) (k : ℕ) (v : Value s) → made c g k v .n ≡ g .n) → (q : IsStep (ranges n) edit at Z s limit made) (next : ℕ) (t′ : List ℕ)
+    step-made : {s : Sort} (limit : ℕ) (made : ℕ → Graph → ℕ → Value s → Graph) → ((c : ℕ) (g : Graph) (k : ℕ) (v : Value s) → (made c g k v .n ≡ g .n) × (made c g k v .inUse ≡ g .inUse)) → (q : IsStep (ranges n) edit at Z s limit made) (next : ℕ) (t′ : List ℕ)
         → next ≡ at + 2 + length (code (q .what)) → t′ ≡ store (made (getD edit at 0) (graphOf t) (q .number) (value (graphOf t) (q .what))) → Ready t′ n all × StepMade n edit at Z next t t′
     step-made limit made same q next t′ a e = (
-      ready-again _ t′ (q .keeps (graphOf t) (r .within)) (same _ (graphOf t) _ _) e,
+      ready-again _ t′ (q .keeps (graphOf t) (r .within)) (same _ (graphOf t) _ _ .0) (same _ (graphOf t) _ _ .1) e,
       record {
         stands = q .next next a;
         ends = omega (arith, a, q .long);
@@ -91,7 +91,7 @@ module _ (t : List ℕ) (n all : ℕ) (r : Ready t n all) where
         let u : y ≡ setOf (g .n) (λ i. labelOperation c (g .labelled k i) (value g E i)) =
         both ∙ ap (λ (z : ℕ). combined (labelOperation c) z e) old ∙ ap (combined (labelOperation c) (setOf (g .n) (g .labelled k))) w
         ∙ combined-sets (labelOperation c) (none (eqb c 0x31)) (g .n) (g .labelled k) (value g E) (omega (arith, r .within .few-nodes)) in
-        step-made labelCount labelMade (λ c g k v. refl) q next t′ (f .ends) (put (λ i. labelOperation c (g .labelled k i) (value g E i)) u ∙ ap (λ (a : ℕ). store (labelMade c g a (value g E))) (q .reads))
+        step-made labelCount labelMade (λ c g k v. (refl, refl)) q next t′ (f .ends) (put (λ i. labelOperation c (g .labelled k i) (value g E i)) u ∙ ap (λ (a : ℕ). store (labelMade c g a (value g E))) (q .reads))
       where
         none : (b : Bool) → cond b false false ≡ false
         none true = refl
@@ -115,7 +115,7 @@ module _ (t : List ℕ) (n all : ℕ) (r : Ready t n all) where
           starts = λ i j h. ap₂ (arrowOperation c) (x .starts i j h) (y .starts i j h) ∙ none (eqb c 0x13) (eqb c 0x14);
           ends = λ i j h. ap₂ (arrowOperation c) (x .ends i j h) (y .ends i j h) ∙ none (eqb c 0x13) (eqb c 0x14);
         } in
-        step-made arrowCount arrowMade (λ c g k v. refl) q next t′ (f .ends)
+        step-made arrowCount arrowMade (λ c g k v. (refl, refl)) q next t′ (f .ends)
         (put (λ i j. arrowOperation c (g .joined a i j) (value g R i j)) z u
         ∙ ap (λ (b : ℕ). store (rejoin g a (λ i j. arrowOperation b (g .joined a i j) (value g R i j)))) says ∙ ap (λ (b : ℕ). store (arrowMade (getD edit at 0) g b (value g R))) (q .reads))
       where

@@ -24,7 +24,7 @@ labelOperation c x y = cond (eqb c 0x31) (x || y) (x && not y)
 abbrev pub arrowCode : ℕ → ℕ
 arrowCode c = cond (eqb c 0x33) 0x13 0x15
 
--- A sheet that stores its graph, with its n and the word of its nodes, which no step changes.
+-- A sheet that stores its graph, with its n and the word of its nodes in use, which no step changes.
 pub record Ready (sheet : List ℕ) (n all : ℕ) : Type 0 where
   pub stored : sheet ≡ store (graphOf sheet)
   pub within : Within (graphOf sheet)

@@ -1,18 +1,19 @@
 -- Demand 3 holds.
-use mathlib.Core.Path.{_≡_, sym, _∙_, ap, subst}
+use mathlib.Core.Path.{_≡_, refl, sym, _∙_, ap, subst}
 use mathlib.Core.Logic.{_↔_}
 use mathlib.Core.List.{List, [], map}
 use Prim.Native.Nat.{ℕ}
 use lib.Dec.{T}
 use Rattle.answer.specs.Asked.{passed, _>>_, after, outcome}
 use Rattle.logic.specs.Syntax.{Expr, rule}
+use Rattle.logic.specs.Graph.{Graph}
 use Rattle.logic.specs.Meaning.{value}
 use Rattle.logic.specs.Steps.{run}
 use Rattle.logic.specs.Carry.{carry, carriedBook}
 use Rattle.logic.specs.Limits.{Within}
 use Rattle.logic.proofs.Theorem.{carried}
 use Rattle.logic.proofs.Inside.{run-n}
-use Rattle.sheet.specs.Sheet.{present, graphOf}
+use Rattle.sheet.specs.Sheet.{present, store, graphOf}
 use Rattle.sheet.proofs.ReadBack.{read-back}
 use Rattle.sheet.proofs.Opening.{Opened, opening}
 use Rattle.text.specs.Reading.{textLimits}
@@ -34,7 +35,7 @@ module _ {book edit sheet : List ℕ} (i : Given book edit sheet) where
   within = steps-within (graphOf sheet) edit (i .steps) (opening present sheet (i .are-bytes) (i .sound) .within) (i .edit-read)
 
   left : graphOf (afterSteps (i .steps) sheet) ≡ run (i .steps) (graphOf sheet)
-  left = read-back present (run (i .steps) (graphOf sheet)) within
+  left = read-back (run (i .steps) (graphOf sheet)) within
 
   carried-before-after : (K : Expr rule) → value (graphOf sheet) (carry (i .steps) K) ≡ value (graphOf (afterSteps (i .steps) sheet)) K
   carried-before-after K = carried (i .steps) K (graphOf sheet) ∙ ap (λ g. value g K) (sym left)
@@ -81,17 +82,24 @@ module _ {book edit sheet : List ℕ} (i : Given book edit sheet) where
   unfolding enterSheet after
   leaves room e = ap (λ q. after q (λ Z. afterSteps Z sheet) sheet) (asks room ∙ so-passed (i .rules) (graphOf sheet) (call room) (i .steps) (done-with room e))
 
-run-right : (sheet book : List ℕ) (calls : List Call) → Bytes sheet → Keeps book sheet → RunRight sheet book calls
+-- A run from the sheet that stores a graph which keeps the book; so from every sheet that keeps it.
+pub stored-right : (book : List ℕ) (rules : List (Expr rule)) (g : Graph) (calls : List Call) → Kept book rules g → RunRight (store g) book calls
 unfolding clerk rulesOf after madeInOrder
+stored-right book rules g calls kept =
+    let same : log book (store g) calls ≡ clerkLog rules g (map fed calls) = log-clerk book rules g calls kept in
+    record {
+      kept = subst (Each (λ l. Keeps book (l .sheet))) (sym same) (kept-each book rules g (map fed calls) kept);
+      alone = subst (λ x. map (λ l. l .sheet) x ≡ map (madeInOrder (store g)) (enteredAfterEach [] x)) (sym same) (alone-each book rules (store g) [] g (map fed calls) kept refl);
+      clerks =
+          same ∙ ap (λ q. clerkLog (after q (λ rules. rules) []) g (map fed calls)) (sym (kept .book-read))
+          ∙ ap (λ h. clerkLog (after (askBook (textLimits (h .n)) book) (λ rules. rules) []) h (map fed calls)) (sym (read-back g (kept .within)));
+    }
+
+run-right : (sheet book : List ℕ) (calls : List Call) → Bytes sheet → Keeps book sheet → RunRight sheet book calls
 run-right sheet book calls bytes k =
     let o : Opened present sheet = opening present sheet bytes (k .sound) in
     let kept : Kept book (k .rules) (graphOf sheet) = record { within = o .within; book-read = k .book-read; hold = k .hold } in
-    let same : log book sheet calls ≡ clerkLog (k .rules) (graphOf sheet) (map fed calls) = ap (λ s. log book s calls) (o .stored) ∙ log-clerk book (k .rules) (graphOf sheet) calls kept in
-    record {
-      kept = subst (Each (λ l. Keeps book (l .sheet))) (sym same) (kept-each book (k .rules) (graphOf sheet) (map fed calls) kept);
-      alone = subst (λ x. map (λ l. l .sheet) x ≡ map (madeInOrder sheet) (enteredAfterEach [] x)) (sym same) (alone-each book (k .rules) sheet [] (graphOf sheet) (map fed calls) kept (o .stored));
-      clerks = same ∙ ap (λ q. clerkLog (after q (λ rules. rules) []) (graphOf sheet) (map fed calls)) (sym (k .book-read));
-    }
+    subst (λ s. RunRight s book calls) (sym (o .stored)) (stored-right book (k .rules) (graphOf sheet) calls kept)
 
 pub demand-3 : Demand3
 demand-3 =

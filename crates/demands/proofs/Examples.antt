@@ -16,7 +16,7 @@ use Rattle.logic.specs.Carry.{replace, putLabel, putArrow, carry, carriedBook}
 use Rattle.logic.specs.Limits.{Within}
 use Rattle.words.specs.Words.{setOf, bytes}
 use Rattle.seal.specs.Seal.{sealed, stored, sumsFrom}
-use Rattle.sheet.specs.Sheet.{present, storeIn, store, graphOf, block, labelBlock, arrowBlock, chunks}
+use Rattle.sheet.specs.Sheet.{storeIn, store, graphOf, block, labelBlock, arrowBlock, chunks}
 use Rattle.sheet.proofs.ReadBack.{read-back}
 use Rattle.text.specs.Code.{code, levels, bookCode, bookLevels}
 use Rattle.text.specs.Reading.{textLimits, codes, choice, follow}
@@ -41,7 +41,6 @@ T-within =
       some-node = refl;
       few-nodes = omega arith;
       use-below = λ i l. le-ltb i 3 l;
-      all-used = λ i. refl;
       labels-in = λ k i h. let l : 3 ≤ i = not-node i h in rw (le-ltb i 2 (omega arith), ne-eqb i 2 (omega arith), and-false (eqb k 0), and-false (eqb k 1));
       arrows-in = λ a. record {
         starts = λ i j h. let l : 3 ≤ i = not-node i h in rw (le-ltb i 2 (omega arith), and-false);
@@ -61,7 +60,7 @@ askOf g book edit room = do
 
 carried-of : (g : Graph) (book edit : List ℕ) (room : ℕ) → Within g → askBefore41 (store g) book edit room ≡ askOf g book edit room
 unfolding askBefore41 askOf
-carried-of g book edit room w = ap (_>>= size (graphOf (store g))) (asked-of-stored g book w) ∙ ap (λ h. askBook (textLimits (g .n)) book >>= size h) (read-back present g w)
+carried-of g book edit room w = ap (_>>= size (graphOf (store g))) (asked-of-stored g book w) ∙ ap (λ h. askBook (textLimits (g .n)) book >>= size h) (read-back g w)
   where
     size : Graph → List (Expr rule) → Asked StepsAndCarried
     size h rules = askEdit (textLimits (h .n)) edit >>= (λ Z. askSize (carriedBook Z rules) room >> passed (record { steps = Z; carried = carriedBook Z rules }))
@@ -78,7 +77,7 @@ resultOf g a b room =
 
 on-graph : (edit : List ℕ) (room : ℕ) → enteredOnT edit room ≡ resultOf sheetT (askOf sheetT B edit room) (askOf sheetT B edit (length (scratchOf room))) room
 unfolding enteredOnT enterSheet enterScratch askEnter resultOf
-on-graph edit room = λ t. resultOf (read-back present sheetT T-within t) (carried-of sheetT B edit room T-within t) (carried-of sheetT B edit (length (scratchOf room)) T-within t) room
+on-graph edit room = λ t. resultOf (read-back sheetT T-within t) (carried-of sheetT B edit room T-within t) (carried-of sheetT B edit (length (scratchOf room)) T-within t) room
 
 pub examples : calls enteredOnT ≡ results
 unfolding calls results resultOf askOf sheetT storeIn block labelBlock arrowBlock chunks setOf bytes sealed stored sumsFrom value isNode anyBelow allBelow countBelow update run replace putLabel putArrow carry code bookCode levels bookLevels askSize whole readRules askBook askEdit askRules after outcome _>>=_ _>>_ is codes choice follow reading._>>=_

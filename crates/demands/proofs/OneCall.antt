@@ -8,7 +8,7 @@ use Rattle.logic.specs.Graph.{Graph}
 use Rattle.logic.specs.Steps.{run}
 use Rattle.logic.specs.Carry.{carriedBook}
 use Rattle.logic.specs.Limits.{Within}
-use Rattle.sheet.specs.Sheet.{present, store, graphOf}
+use Rattle.sheet.specs.Sheet.{store, graphOf}
 use Rattle.sheet.proofs.Passes.{stored-passes}
 use Rattle.sheet.proofs.ReadBack.{read-back}
 use Rattle.text.specs.Reading.{textLimits}
@@ -93,13 +93,13 @@ clerk-line rules g c = ap (λ q. record { edit = c .edit; answer = outcome q; sh
 -- A sheet that stores a graph passes, and its book is read for the graph's n.
 pub asked-of-stored : (g : Graph) (book : List ℕ) → Within g → askSheetAndBook (store g) book ≡ askBook (textLimits (g .n)) book
 unfolding askSheetAndBook _>>_
-asked-of-stored g book w = ap (_>> askBook (textLimits (graphOf (store g) .n)) book) (stored-passes present g w) ∙ ap (λ h. askBook (textLimits (h .n)) book) (read-back present g w)
+asked-of-stored g book w = ap (_>> askBook (textLimits (graphOf (store g) .n)) book) (stored-passes g w) ∙ ap (λ h. askBook (textLimits (h .n)) book) (read-back g w)
 
 -- Enter on the sheet that stores a graph: the clerk's line.
 pub enter-line : (g : Graph) (book : List ℕ) (rules : List (Expr rule)) (c : Call) → Within g → askBook (textLimits (g .n)) book ≡ passed rules → enterLine book (store g) c ≡ clerkLine rules g (fed c)
 unfolding enterSheet after
 enter-line g book rules c w e =
-    ap (line (graphOf (store g))) (enter-asks (store g) book rules (fed c) (asked-of-stored g book w ∙ e)) ∙ ap (λ h. line h (askSteps rules h (fed c))) (read-back present g w) ∙ go (askSteps rules g (fed c)) ∙ sym (clerk-line rules g (fed c))
+    ap (line (graphOf (store g))) (enter-asks (store g) book rules (fed c) (asked-of-stored g book w ∙ e)) ∙ ap (λ h. line h (askSteps rules h (fed c))) (read-back g w) ∙ go (askSteps rules g (fed c)) ∙ sym (clerk-line rules g (fed c))
   where
     line : Graph → Asked Edit → Line
     line h q = record { edit = c .edit; answer = outcome q; sheet = after q (λ Z. store (run Z h)) (store g) }

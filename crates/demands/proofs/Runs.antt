@@ -8,7 +8,7 @@ use Rattle.logic.specs.Graph.{Graph}
 use Rattle.logic.specs.Steps.{run}
 use Rattle.logic.specs.Limits.{Within, ranges}
 use Rattle.logic.proofs.Inside.{run-n, run-within}
-use Rattle.sheet.specs.Sheet.{present, store, graphOf}
+use Rattle.sheet.specs.Sheet.{store, graphOf}
 use Rattle.sheet.proofs.Passes.{stored-passes}
 use Rattle.sheet.proofs.ReadBack.{read-back}
 use Rattle.text.specs.Reading.{textLimits}
@@ -33,8 +33,8 @@ made-last sheet (e ∷ edits) edit = made-last (appliedSheet sheet e) edits edit
 applied-stored : (g : Graph) (edit : List ℕ) (Z : Edit) → Within g → askEdit (textLimits (g .n)) edit ≡ passed Z → appliedSheet (store g) edit ≡ store (run Z g)
 unfolding appliedSheet askApply _>>_ after
 applied-stored g edit Z w e =
-    ap (λ q. after (q >> askEdit (textLimits (graphOf (store g) .n)) edit) (λ Y. afterSteps Y (store g)) (store g)) (stored-passes present g w)
-    ∙ ap (λ h. after (askEdit (textLimits (h .n)) edit) (λ Y. store (run Y h)) (store g)) (read-back present g w)
+    ap (λ q. after (q >> askEdit (textLimits (graphOf (store g) .n)) edit) (λ Y. afterSteps Y (store g)) (store g)) (stored-passes g w)
+    ∙ ap (λ h. after (askEdit (textLimits (h .n)) edit) (λ Y. store (run Y h)) (store g)) (read-back g w)
     ∙ ap (λ q. after q (λ Y. store (run Y g)) (store g)) e
 
 module _ (book : List ℕ) (rules : List (Expr rule)) where
@@ -47,10 +47,10 @@ module _ (book : List ℕ) (rules : List (Expr rule)) where
   pub keeps : (g : Graph) → Kept g → Keeps book (store g)
   keeps g k =
       record {
-        sound = stored-passes present g (k .within);
+        sound = stored-passes g (k .within);
         rules = rules;
-        book-read = subst (λ h. askBook (textLimits (h .n)) book ≡ passed rules) (sym (read-back present g (k .within))) (k .book-read);
-        hold = subst (λ h. Hold h rules) (sym (read-back present g (k .within))) (k .hold);
+        book-read = subst (λ h. askBook (textLimits (h .n)) book ≡ passed rules) (sym (read-back g (k .within))) (k .book-read);
+        hold = subst (λ h. Hold h rules) (sym (read-back g (k .within))) (k .hold);
       }
 
   -- The clerk's graph after a call.
@@ -62,7 +62,7 @@ module _ (book : List ℕ) (rules : List (Expr rule)) where
       go (passed Z) = refl
       go (refused n p) = refl
 
-  still-kept : (g : Graph) (c : Fed) → Kept g → Kept (clerkGraph rules g c)
+  pub still-kept : (g : Graph) (c : Fed) → Kept g → Kept (clerkGraph rules g c)
   unfolding after
   still-kept g c k = subst Kept (sym (graph-after g c)) (go (askSteps rules g c) refl)
     where

@@ -2,52 +2,74 @@
 use mathlib.Core.Path.{_≡_, refl, sym, ap, ap₂, _∙_, subst}
 use mathlib.Core.Bool.{Bool, true, false, not, _&&_, _||_, cond, and-true, and-false}
 use mathlib.Core.List.{List, [], _∷_}
-use Prim.Native.Nat.{ℕ, _+_, _-_, _^_, _≤_, _<_}
+use Prim.Native.Nat.{ℕ, _+_, _-_, _≤_, _<_}
 use native.Mathlib.Omega.{arith}
-use lib.Dec.{eqb, leb, lit<, ltb→lt}
-use borrow.Author.Tests.{lt-ltb}
+use lib.Dec.{eqb, leb, ltb, lit<, ltb→lt}
+use borrow.Author.Tests.{ltb-false}
 use lib.ListN.{length, getD, drop}
 use Rattle.logic.specs.Syntax.{node, arrow, Expr, all, none, label, nominal, complement, and, or, some, every, atLeast, atMost}
 use Rattle.logic.specs.Graph.{Graph, Nodes, Pairs, isNode}
 use Rattle.logic.specs.Meaning.{value}
-use Rattle.logic.specs.Limits.{ranges, InRange}
+use Rattle.logic.specs.Limits.{ranges, InRange, NodesIn, PairsIn}
 use Rattle.logic.proofs.Below.{count-cong}
+use Rattle.logic.proofs.Inside.{no-node, value-in}
 use Rattle.words.specs.Words.{setOf, member, combined}
-use Rattle.words.proofs.SetLaws.{setOf-cong, setOf-none, member-zero, setOf-member-lt, member-setOf, combined-sets}
+use Rattle.words.proofs.SetLaws.{setOf-cong, setOf-none, member-zero, setOf-member-lt, member-setOf, member-of, combined-sets}
 use Rattle.sheet.specs.Sheet.{graphOf, Rows}
-use Rattle.sheet.proofs.Loads.{sheet-nodes}
 use Rattle.text.specs.Code.{code}
 use Rattle.text.specs.Stands.{Stands}
-use Rattle.rows.specs.Operations.{quantified, quantifiedNodes, answered, least, looked, turn}
+use Rattle.rows.specs.Operations.{quantified, quantifiedNodes, answered, least, looked, turn, Among}
 use Rattle.rows.proofs.Quantifiers.{quantified-is, set-small}
-use Rattle.eval.specs.Evaluated.{Opened, IsSet, IsSetWithin, IsRelation, IsTurned}
+use Rattle.eval.specs.Evaluated.{Opened, Used, IsSet, IsSetWithin, IsRelation, IsTurned}
 use Rattle.eval.proofs.ArrowCases.{as-kind}
 use Rattle.eval.proofs.Places.{first-number, code-at, inside-at, Operand, Operands, operand-at, operands-at}
 
--- below n there is a node
-pub node-there : (sheet : List ℕ) (n : ℕ) → n ≡ graphOf sheet .n → (i : ℕ) → i < n → isNode (graphOf sheet) i ≡ true
-node-there sheet n e i l = sheet-nodes sheet i ∙ lt-ltb i (graphOf sheet .n) (omega (arith, e))
+-- What is asked of nodes in use may take them for nodes.
+in-use : (u b : Bool) (f : Bool → Bool) → (b ≡ false → u ≡ false) → (u && f b) ≡ (u && f true)
+in-use u true f h = refl
+in-use u false f h = rw (h refl)
+
+-- What only nodes have, nodes have.
+pub only-nodes : (b x : Bool) → (b ≡ false → x ≡ false) → (b && x) ≡ x
+only-nodes true x h = refl
+only-nodes false x h = sym (h refl)
+
+-- the word of the nodes in use
+pub all-members : {sheet : List ℕ} {n all : ℕ} → Opened sheet n all → (i : ℕ) → member all i ≡ isNode (graphOf sheet) i
+all-members {sheet} {n} o i =
+    let g = graphOf sheet in
+    ap (λ (y : ℕ). member y i) (o .nodes) ∙ member-of n (isNode g) i ∙ only-nodes (ltb i n) (isNode g i) (λ h. no-node g i (omega (arith, o .count, ltb-false i n h)))
+
+pub all-used : {sheet : List ℕ} {n all : ℕ} → Opened sheet n all → Used sheet n all
+all-used {sheet} {n} o = record { small = set-small n (isNode (graphOf sheet)) (o .nodes); nodes = λ i h. all-members o i ∙ h }
+
+-- a relation that has nodes in use only
+pub among-all : {sheet : List ℕ} {n all : ℕ} {v : Pairs} → Opened sheet n all → PairsIn (graphOf sheet) v → Among all v
+among-all o p = record { starts = λ i j h. p .starts i j (sym (all-members o i) ∙ h); ends = λ i j h. p .ends i j (sym (all-members o j) ∙ h) }
 
 -- asked of all nodes, the part is the whole
 pub part-whole : (sheet : List ℕ) (n all : ℕ) → Opened sheet n all → (e : Expr node) (x : ℕ) → x ≡ setOf n (λ i. member all i && value (graphOf sheet) e i) → x ≡ setOf n (value (graphOf sheet) e)
 part-whole sheet n w o e x h =
-    h ∙ setOf-cong n _ _ (λ i l. ap (_&& value (graphOf sheet) e i) (ap (λ (y : ℕ). member y i) (o .nodes) ∙ member-setOf n (isNode (graphOf sheet)) i l ∙ node-there sheet n (o .count) i l))
+    h ∙ setOf-cong n _ _ (λ i l. ap (_&& value (graphOf sheet) e i) (all-members o i) ∙ only-nodes (isNode (graphOf sheet) i) (value (graphOf sheet) e i) (value-in (graphOf sheet) (o .within) e i))
 
 pub is-whole : {sheet : List ℕ} {n all at : ℕ} {e : Expr node} {x next : ℕ} → Opened sheet n all → IsSetWithin sheet n at e all x next → IsSet sheet n at e x next
 is-whole {sheet = sheet} {n = n} {all = w} {e = e} {x = x} o h = record { set = part-whole sheet n w o e x (h .set); ends = h .ends }
 
-pub part-small : {sheet : List ℕ} {n at : ℕ} {e : Expr node} {within x next : ℕ} → IsSetWithin sheet n at e within x next → x < 2 ^ n
-part-small {n = n} h = set-small n _ (h .set)
+-- sets of nodes in use
+pub set-used : {sheet : List ℕ} {x : ℕ} (n : ℕ) (p : Nodes) → x ≡ setOf n p → NodesIn (graphOf sheet) p → Used sheet n x
+set-used n p e h = record { small = set-small n p e; nodes = λ i z. ap (λ (y : ℕ). member y i) e ∙ member-of n p i ∙ ap (ltb i n &&_) (h i z) ∙ and-false (ltb i n) }
 
-pub all-small : {sheet : List ℕ} {n all : ℕ} → Opened sheet n all → all < 2 ^ n
-all-small {sheet} {n} o = set-small n (isNode (graphOf sheet)) (o .nodes)
+pub part-used : {sheet : List ℕ} {n at : ℕ} {e : Expr node} {within x next : ℕ} → Used sheet n within → IsSetWithin sheet n at e within x next → Used sheet n x
+part-used {sheet} {n} {e = e} {within} u h = set-used n (λ i. member within i && value (graphOf sheet) e i) (h .set) (λ i z. ap (_&& value (graphOf sheet) e i) (u .nodes i z))
 
-pub all-true : {sheet : List ℕ} {n all : ℕ} → Opened sheet n all → all ≡ setOf n (λ i. true)
-all-true {sheet} {n} o = o .nodes ∙ setOf-cong n _ _ (λ i l. node-there sheet n (o .count) i l)
+pub nominal-used : {sheet : List ℕ} {n x : ℕ} (i : ℕ) → x ≡ setOf n (λ k. isNode (graphOf sheet) k && eqb k i) → Used sheet n x
+nominal-used {sheet} {n} i e = set-used n (λ k. isNode (graphOf sheet) k && eqb k i) e (λ k z. ap (_&& eqb k i) z)
 
-pub minus-small : (n within x w : ℕ) → n ≤ 64 → within < 2 ^ n → x < 2 ^ n → w ≡ combined (λ a b. a && not b) within x → w < 2 ^ n
-minus-small n within x w h p q e =
-    set-small n _ (e ∙ ap₂ (combined (λ a b. a && not b)) (sym (setOf-member-lt n within p)) (sym (setOf-member-lt n x q)) ∙ combined-sets (λ a b. a && not b) refl n (member within) (member x) h)
+pub minus-used : {sheet : List ℕ} (n within x w : ℕ) → n ≤ 64 → Used sheet n within → Used sheet n x → w ≡ combined (λ a b. a && not b) within x → Used sheet n w
+minus-used n within x w h p q e =
+    set-used n (λ i. member within i && not (member x i))
+    (e ∙ ap₂ (combined (λ a b. a && not b)) (sym (setOf-member-lt n within (p .small))) (sym (setOf-member-lt n x (q .small))) ∙ combined-sets (λ a b. a && not b) refl n (member within) (member x) h)
+    (λ i z. ap (_&& not (member x i)) (p .nodes i z))
 
 -- asked of none, there is none
 pub nothing-asked : (n within : ℕ) (p : Nodes) → within ≡ 0 → 0 ≡ setOf n (λ i. member within i && p i)
@@ -55,17 +77,20 @@ nothing-asked n within p e = sym (setOf-cong n _ (λ i. false) (λ i l. ap (_&& 
 
 quantified-cong : (c m n : ℕ) (v w u : Nodes) → ((j : ℕ) → j < n → w j ≡ u j) → quantified c m n v w ≡ quantified c m n v u
 quantified-cong c m n v w u h =
-    quantified-is c m n v w
-    ∙ ap (answered c) (ap (leb (least c m)) (count-cong n _ _ (λ j l. ap (λ (b : Bool). v j && looked c b) (h j l))))
-    ∙ sym (quantified-is c m n v u)
-
-nodes-there : (c m n : ℕ) (nodes : Nodes) (v : Pairs) (w : Nodes) (i : ℕ) → nodes i ≡ true → quantified c m n (v i) w ≡ quantifiedNodes c m n nodes v w i
-unfolding quantifiedNodes
-nodes-there c m n nodes v w i e = go (eqb c 0x08) (quantified c m n (v i) w)
+    quantified-is c m n (λ j. true) v w (λ j z. absurd (no z))
+    ∙ ap (answered c) (ap (leb (least c m)) (count-cong n _ _ (λ j l. ap (λ (b : Bool). v j && looked c true b) (h j l))))
+    ∙ sym (quantified-is c m n (λ j. true) v u (λ j z. absurd (no z)))
   where
-    go : (b q : Bool) → q ≡ cond b q (nodes i && q)
+    no : true ≡ false → ⊥
+    no z = omega (arith, ap {B = ℕ} (λ (b : Bool). cond b 1 0) z)
+
+nodes-there : (c m n : ℕ) (nodes : Nodes) (v : Pairs) (w : Nodes) (i : ℕ) (u : Bool) → (nodes i ≡ false → u ≡ false) → (u && quantified c m n (v i) w) ≡ (u && quantifiedNodes c m n nodes v w i)
+unfolding quantifiedNodes
+nodes-there c m n nodes v w i u h = ap (u &&_) (go (eqb c 0x08) (quantified c m n (v i) w)) ∙ sym (in-use u (nodes i) (λ b. cond (eqb c 0x08) (quantified c m n (v i) w) (b && quantified c m n (v i) w)) h)
+  where
+    go : (b q : Bool) → q ≡ cond b q (true && q)
     go true q = refl
-    go false q = sym (ap (_&& q) e)
+    go false q = refl
 
 module _ (n : ℕ) (text : List ℕ) (at : ℕ) where
   -- 01 to 04
@@ -113,10 +138,10 @@ module _ (n : ℕ) (text : List ℕ) (at : ℕ) where
   leaf-node (is-label c l e r) p = absurd (omega arith)
   leaf-node (is-nominal c l e r) p = omega arith
 
-  module _ (sheet : List ℕ) (count : n ≡ graphOf sheet .n) (within z : ℕ) (small : within < 2 ^ n) where
+  module _ (sheet : List ℕ) (count : n ≡ graphOf sheet .n) (within z : ℕ) (u : Used sheet n within) where
     pub all-set : {e : Expr node} → Leaf e → getD text at 0 ≤ 0x01 → z ≡ within → IsSetWithin sheet n at e within z (at + 1)
     unfolding code value
-    all-set (is-all c l) p h = record { set = h ∙ sym (setOf-member-lt n within small) ∙ setOf-cong n _ _ (λ i l. sym (ap (member within i &&_) (node-there sheet n count i l) ∙ and-true (member within i))); ends = refl }
+    all-set (is-all c l) p h = record { set = h ∙ sym (setOf-member-lt n within (u .small)) ∙ setOf-cong n _ _ (λ i l. sym (in-use (member within i) (isNode (graphOf sheet) i) (λ b. b) (u .nodes i) ∙ and-true (member within i))); ends = refl }
     all-set (is-none c l) p h = absurd (omega arith)
     all-set (is-label c l e r) p h = absurd (omega arith)
     all-set (is-nominal c l e r) p h = absurd (omega arith)
@@ -135,7 +160,7 @@ module _ (n : ℕ) (text : List ℕ) (at : ℕ) where
     label-set {e} (is-label {k} c l e₁ r) p q m x h d =
         record {
           set =
-              d ∙ ap₂ (combined _&&_) (sym (setOf-member-lt n within small)) (h ∙ ap₂ (λ (j k : ℕ). setOf j (graphOf sheet .labelled k)) (sym count) e₁)
+              d ∙ ap₂ (combined _&&_) (sym (setOf-member-lt n within (u .small))) (h ∙ ap₂ (λ (j k : ℕ). setOf j (graphOf sheet .labelled k)) (sym count) e₁)
               ∙ combined-sets _&&_ refl n (member within) (graphOf sheet .labelled k) m;
           ends = refl;
         }
@@ -147,7 +172,7 @@ module _ (n : ℕ) (text : List ℕ) (at : ℕ) where
     nominal-set (is-none c l) p h = absurd (omega arith)
     nominal-set (is-label c l e r) p h = absurd (omega arith)
     nominal-set (is-nominal {i} c l e r) p h =
-        record { set = h ∙ setOf-cong n _ _ (λ k o. ap (member within k &&_) (ap (eqb k) e ∙ ap (_&& eqb k i) (sym (node-there sheet n count k o)))); ends = refl }
+        record { set = h ∙ setOf-cong n _ _ (λ k o. ap (λ (j : ℕ). member within k && eqb k j) e ∙ sym (in-use (member within k) (isNode (graphOf sheet) k) (λ b. b && eqb k i) (u .nodes k))); ends = refl }
 
   -- 05
   pub record IsComplement (e : Expr node) : Type 0 where
@@ -245,7 +270,7 @@ module _ (n : ℕ) (text : List ℕ) (at : ℕ) where
   as-quantifier (and E F) h l k f g = absurd (omega (arith, code-at _ text at _ h))
   as-quantifier (or E F) h l k f g = absurd (omega (arith, code-at _ text at _ h))
 
-  module _ (sheet : List ℕ) (all : ℕ) (o : Opened sheet n all) (within : ℕ) (small : within < 2 ^ n) (e : Expr node) where
+  module _ (sheet : List ℕ) (all : ℕ) (o : Opened sheet n all) (within : ℕ) (u : Used sheet n within) (e : Expr node) where
     pub complement-set : IsComplement e → (x nx z : ℕ)
         → ((f : Expr node) → Stands (ranges n) text (at + 1) f → IsSetWithin sheet n (at + 1) f within x nx)
         → z ≡ combined (λ a b. a && not b) within x
@@ -256,9 +281,9 @@ module _ (n : ℕ) (text : List ℕ) (at : ℕ) where
         let a = p (h .E) (h .parts .first) in
         record {
           set =
-              r ∙ ap₂ (combined (λ a b. a && not b)) (sym (setOf-member-lt n within small)) (a .set)
+              r ∙ ap₂ (combined (λ a b. a && not b)) (sym (setOf-member-lt n within (u .small))) (a .set)
               ∙ combined-sets (λ a b. a && not b) refl n (member within) (λ i. member within i && value g (h .E) i) (omega (arith, o .few))
-              ∙ setOf-cong n _ (λ i. member within i && value g (complement (h .E)) i) (λ i l. go (member within i) (value g (h .E) i) ∙ ap (λ (b : Bool). member within i && (b && not (value g (h .E) i))) (sym (node-there sheet n (o .count) i l)))
+              ∙ setOf-cong n _ (λ i. member within i && value g (complement (h .E)) i) (λ i l. go (member within i) (value g (h .E) i) ∙ sym (in-use (member within i) (isNode g i) (λ b. b && not (value g (h .E) i)) (u .nodes i)))
               ∙ ap (λ (f : Expr node). setOf n (λ i. member within i && value g f i)) (sym (h .is));
           ends = omega (arith, a .ends, h .parts .size);
         }
@@ -300,7 +325,7 @@ module _ (n : ℕ) (text : List ℕ) (at : ℕ) where
         let a = p (h .E) (h .parts .first) in
         let b = q (h .F) (h .parts .second nx (a .ends)) in
         let rest : w ≡ setOf n (λ i. member within i && not (member within i && value g (h .E) i)) =
-        s ∙ ap₂ (combined (λ a b. a && not b)) (sym (setOf-member-lt n within small)) (a .set)
+        s ∙ ap₂ (combined (λ a b. a && not b)) (sym (setOf-member-lt n within (u .small))) (a .set)
         ∙ combined-sets (λ a b. a && not b) refl n (member within) (λ i. member within i && value g (h .E) i) (omega (arith, o .few)) in
         record {
           set =
@@ -331,11 +356,12 @@ module _ (n : ℕ) (text : List ℕ) (at : ℕ) where
         record {
           set =
               r
-              ∙ setOf-cong n _ _ (λ i l. ap (member within i &&_) (
+              ∙ setOf-cong n _ _ (λ i l.
+              ap (member within i &&_) (
               ap (λ (v : Pairs). quantified c m n (v i) (member x)) (sym (d .means g)) ∙ ends i
-              ∙ ap (λ (y : ℕ). quantified c m y (value g (h .R) i) (value g (h .E))) (o .count)
-              ∙ nodes-there c m (g .n) (isNode g) (value g (h .R)) (value g (h .E)) i (node-there sheet n (o .count) i l)
-              ∙ ap (λ (v : Nodes). v i) (sym (h .means g))));
+              ∙ ap (λ (y : ℕ). quantified c m y (value g (h .R) i) (value g (h .E))) (o .count))
+              ∙ nodes-there c m (g .n) (isNode g) (value g (h .R)) (value g (h .E)) i (member within i) (u .nodes i)
+              ∙ ap (λ (v : Nodes). member within i && v i) (sym (h .means g)));
           ends = omega (arith, d .ends, s, b .ends, h .parts .size);
         }
 
@@ -343,12 +369,12 @@ module _ (n : ℕ) (text : List ℕ) (at : ℕ) where
         → ((f : Expr arrow) → Stands (ranges n) text (at + k) f → IsTurned n text (at + k) f turned next)
         → ((f : Expr arrow) → Stands (ranges n) text next f → IsRelation sheet n next f rows nx)
         → ((f : Expr node) → Stands (ranges n) text nx f → IsSetWithin sheet n nx f all x ny)
-        → ((v : Pairs) → Rows n v rows → z ≡ setOf n (λ i. member within i && quantified (getD text at 0) (getD text (at + k - 1) 0) n (turn turned v i) (member x)))
+        → ((v : Pairs) → Among all v → Rows n v rows → z ≡ setOf n (λ i. member within i && quantified (getD text at 0) (getD text (at + k - 1) 0) n (turn turned v i) (member x)))
         → IsSetWithin sheet n at e within z ny
     quantifier-set k h turned next rows x nx ny z t p q r =
         let d = t (h .R) (h .parts .first) in
         let a = p (d .R) (d .stands) in
-        quantifier-part k h turned next x nx ny z d (a .ends) q (r (value (graphOf sheet) (d .R)) (a .rows-are))
+        quantifier-part k h turned next x nx ny z d (a .ends) q (r (value (graphOf sheet) (d .R)) (among-all o (value-in (graphOf sheet) (o .within) (d .R))) (a .rows-are))
 
     -- over 11, or 12 11
     pub quantifier-kind : (k : ℕ) → IsQuantifier k e → (turned : Bool) (next x ny z : ℕ)

@@ -1,6 +1,6 @@
 -- The cases of a rule by its code byte, and when each holds.
 use mathlib.Core.Path.{_≡_, refl, sym, ap, ap₂, _∙_}
-use mathlib.Core.Bool.{Bool, true, false, not, _&&_, _||_, cond}
+use mathlib.Core.Bool.{Bool, true, false, not, _&&_, _||_, cond, and-true}
 use mathlib.Core.List.{List, [], _∷_}
 use Prim.Native.Nat.{ℕ, _+_, _≤_, _<_}
 use native.Mathlib.Omega.{arith}
@@ -12,13 +12,14 @@ use Rattle.logic.specs.Graph.{Graph, Nodes, Pairs, isNode, allBelow, implies}
 use Rattle.logic.specs.Meaning.{value}
 use Rattle.logic.specs.Limits.{ranges, InRange}
 use Rattle.logic.proofs.Below.{all-cong}
+use Rattle.logic.proofs.Inside.{value-in}
 use Rattle.words.specs.Words.{setOf, member}
 use Rattle.words.proofs.SetLaws.{member-setOf}
 use Rattle.sheet.specs.Sheet.{graphOf, Rows}
 use Rattle.text.specs.Code.{code}
 use Rattle.text.specs.Stands.{Stands}
 use Rattle.eval.specs.Evaluated.{Opened, IsSetWithin, IsRelation, IsTruth, ruleOperation, decided}
-use Rattle.eval.proofs.NodeCases.{node-there, part-whole}
+use Rattle.eval.proofs.NodeCases.{only-nodes, part-whole}
 use Rattle.eval.proofs.Places.{first-number, second-number, code-at, Operand, Operands, operand-at, operands-at}
 
 module _ (n : ℕ) (text : List ℕ) (at : ℕ) where
@@ -218,7 +219,8 @@ module _ (n : ℕ) (text : List ℕ) (at : ℕ) where
         record {
           truth =
               r n (λ k. member w k && value g (h .E) k) l (s .set)
-              ∙ ap (_&& value g (h .E) i) (ap (λ (z : ℕ). member z i) d ∙ member-setOf n _ i l ∙ ap₂ _&&_ (node-there sheet n (o .count) i l) (eq-eqb i i refl))
+              ∙ ap (_&& value g (h .E) i) (ap (λ (z : ℕ). member z i) d ∙ member-setOf n _ i l ∙ ap (isNode g i &&_) (eq-eqb i i refl) ∙ and-true (isNode g i))
+              ∙ only-nodes (isNode g i) (value g (h .E) i) (value-in g (o .within) (h .E) i)
               ∙ ap (value g (h .E)) (h .reads) ∙ ap (value g) (sym (h .is));
           ends = omega (arith, s .ends, h .parts .size);
         }

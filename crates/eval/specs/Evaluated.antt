@@ -2,13 +2,13 @@
 use mathlib.Core.Path.{_≡_}
 use mathlib.Core.Bool.{Bool, not, _&&_, _||_, cond}
 use mathlib.Core.List.{List}
-use Prim.Native.Nat.{ℕ, _+_, _≤_}
+use Prim.Native.Nat.{ℕ, _+_, _^_, _<_, _≤_}
 use lib.Dec.{eqb}
 use lib.ListN.{length}
 use Rattle.logic.specs.Syntax.{Expr, node, arrow, rule}
 use Rattle.logic.specs.Graph.{Graph, Pairs, isNode}
 use Rattle.logic.specs.Meaning.{value}
-use Rattle.logic.specs.Limits.{maxNodes, ranges}
+use Rattle.logic.specs.Limits.{maxNodes, ranges, Within, NodesIn}
 use Rattle.words.specs.Words.{setOf, member}
 use Rattle.sheet.specs.Sheet.{graphOf, Rows}
 use Rattle.sheet.specs.Questions.{Sound}
@@ -16,12 +16,18 @@ use Rattle.text.specs.Code.{code}
 use Rattle.text.specs.Stands.{Stands}
 use Rattle.rows.specs.Operations.{turn, arrowOperation}
 
--- A sound sheet with its n and the word of its nodes, as they are handed down.
+-- A sound sheet with its n and the word of its nodes in use, as they are handed down; its graph is within the limits.
 pub record Opened (sheet : List ℕ) (n all : ℕ) : Type 0 where
   pub sound : Sound sheet
   pub count : n ≡ graphOf sheet .n
   pub few : n ≤ maxNodes
   pub nodes : all ≡ setOf n (isNode (graphOf sheet))
+  pub within : Within (graphOf sheet)
+
+-- The nodes that are asked about are in use.
+pub record Used (sheet : List ℕ) (n within : ℕ) : Type 0 where
+  pub small : within < 2 ^ n
+  pub nodes : NodesIn (graphOf sheet) (member within)
 
 pub record IsSet (sheet : List ℕ) (n at : ℕ) (e : Expr node) (x next : ℕ) : Type 0 where
   pub set : x ≡ setOf n (value (graphOf sheet) e)

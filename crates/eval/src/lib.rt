@@ -5,14 +5,14 @@
 // Stack: 704 bytes for a level of 05 to 0B, 688 for one of 12 to 16, 160 for one of 25 to 27.
 ghost use mathlib.Core.Path.{_≡_};
 ghost use mathlib.Core.Bool.{true};
-ghost use Prim.Native.Nat.{_^_, _<_, _≤_};
+ghost use Prim.Native.Nat.{_<_, _≤_};
 ghost use lib.ListN.{length, getD, replicate};
 ghost use Rattle.logic.specs.Syntax.{Expr, «node», arrow, rule};
 ghost use Rattle.logic.specs.Limits.{ranges, maxNodes};
 ghost use Rattle.sheet.specs.Sheet.{graphOf};
 ghost use Rattle.sheet.specs.Questions.{Sound};
 ghost use Rattle.text.specs.Stands.{Stands, SomeStands};
-ghost use Rattle.eval.specs.Evaluated.{Opened, IsSet, IsSetWithin, IsRelation, IsJoined, IsTruth, IsTurned, decided};
+ghost use Rattle.eval.specs.Evaluated.{Opened, Used, IsSet, IsSetWithin, IsRelation, IsJoined, IsTruth, IsTurned, decided};
 use logic::Arrow;
 use logic::Label;
 use logic::Node;
@@ -37,7 +37,7 @@ pub struct Turned {
 
 // 01 to 04, of the nodes within.
 fn leaf_node(sheet: &[u8], n: usize, within: u64, text: &[u8], at: usize) -> NodeSet
-    requires { ⌜ Sound (now sheet) × (n ≡ graphOf (now sheet) .n) × (n ≤ maxNodes) × (within < 2 ^ n) × SomeStands (ranges n) (now text) at node × (getD (now text) at 0 ≤ 0x04) ⌝ }
+    requires { ⌜ Sound (now sheet) × (n ≡ graphOf (now sheet) .n) × (n ≤ maxNodes) × Used (now sheet) n within × SomeStands (ranges n) (now text) at node × (getD (now text) at 0 ≤ 0x04) ⌝ }
     ensures { λ r. ⌜ ((e : Expr node) → Stands (ranges n) (now (text .entry)) at e → IsSetWithin (now (sheet .entry)) n at e within (r .set) (r .next)) ⌝ }
 {
     let c = text[at];
@@ -142,7 +142,7 @@ fn behind_turns(n: usize, text: &[u8], at: usize) -> Turned
 // The set that a node expression means, of the nodes within: an expression that is asked of no node is passed over, and of two operands
 // the second is asked of those nodes only that the first leaves open.
 fn node_within(sheet: &[u8], n: usize, all: u64, within: u64, text: &[u8], at: usize) -> NodeSet
-    requires { ⌜ Opened (now sheet) n all × (within < 2 ^ n) × SomeStands (ranges n) (now text) at node ⌝ }
+    requires { ⌜ Opened (now sheet) n all × Used (now sheet) n within × SomeStands (ranges n) (now text) at node ⌝ }
     ensures { λ r. ⌜ ((e : Expr node) → Stands (ranges n) (now (text .entry)) at e → IsSetWithin (now (sheet .entry)) n at e within (r .set) (r .next)) ⌝ }
 {
     if within == 0 {

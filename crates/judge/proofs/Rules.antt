@@ -5,15 +5,16 @@ use mathlib.Core.List.{List, [], _∷_, _++_, append-assoc}
 use Prim.Native.Nat.{ℕ, _+_, _-_, _≤_, _<_}
 use native.Mathlib.Numerals.{add-one}
 use native.Mathlib.Omega.{arith}
-use lib.ListN.{length, drop, length-append}
+use lib.ListN.{length, getD, drop, length-append}
 use Rattle.answer.specs.Asked.{passed, refused}
 use Rattle.logic.specs.Syntax.{Expr, rule}
 use Rattle.logic.specs.Graph.{isNode}
 use Rattle.logic.specs.Meaning.{value}
 use Rattle.logic.specs.Limits.{maxNodes, ranges}
 use Rattle.words.specs.Words.{setOf}
-use Rattle.sheet.specs.Sheet.{graphOf}
+use Rattle.sheet.specs.Sheet.{present, graphOf}
 use Rattle.sheet.specs.Questions.{Sound}
+use Rattle.sheet.proofs.Opening.{opening}
 use Rattle.text.specs.Code.{code, bookCode}
 use Rattle.text.specs.Stands.{Stands, RulesInRange}
 use Rattle.eval.specs.Evaluated.{Opened, IsTruth}
@@ -23,8 +24,8 @@ use Rattle.judge.specs.Questions.{askRules}
 use Rattle.judge.specs.Judging.{RulesStand, noPart, brokenPart}
 
 -- What the evaluators ask of the sheet.
-pub opened : (sheet : List ℕ) (n all : ℕ) → Sound sheet → n ≡ graphOf sheet .n → n ≤ maxNodes → all ≡ setOf (graphOf sheet .n) (isNode (graphOf sheet)) → Opened sheet n all
-opened sheet n all s e f a = record { sound = s; count = e; few = f; nodes = a ∙ ap (λ (m : ℕ). setOf m (isNode (graphOf sheet))) (sym e) }
+pub opened : (sheet : List ℕ) (n all : ℕ) → ((p : ℕ) → getD sheet p 0 < 256) → Sound sheet → n ≡ graphOf sheet .n → n ≤ maxNodes → all ≡ setOf (graphOf sheet .n) (isNode (graphOf sheet)) → Opened sheet n all
+opened sheet n all b s e f a = record { sound = s; count = e; few = f; nodes = a ∙ ap (λ (m : ℕ). setOf m (isNode (graphOf sheet))) (sym e); within = opening present sheet b s .within }
 
 -- The ranges by the count that was read from the sheet.
 pub for-count : (n m : ℕ) (text : List ℕ) (at end : ℕ) (rules : List (Expr rule)) → n ≡ m → RulesStand (ranges m) text at end rules → RulesStand (ranges n) text at end rules

@@ -50,6 +50,13 @@ any-one (suc n) v i l e = go (decLt i n) (any-one n v i)
     go (yes k) r = ap (_|| v n) (r k e)
     go (no k) r = let q : n ≡ i = omega arith in ap (anyBelow n v ||_) (ap v q ∙ e) ∙ or-true (anyBelow n v)
 
+pub any-not : (n : ℕ) (v : Nodes) → anyBelow n v ≡ false → (i : ℕ) → i < n → v i ≡ false
+any-not n v h i l = go (v i) refl
+  where
+    go : (b : Bool) → v i ≡ b → v i ≡ false
+    go true e = let z : _≡_ {A = ℕ} 0 1 = cc (sym (any-one n v i l e) ∙ h) in absurd (omega arith)
+    go false e = e
+
 pub any-and : (n : ℕ) (v : Nodes) (c : Bool) → anyBelow n (λ i. v i && c) ≡ (anyBelow n v && c)
 unfolding anyBelow
 any-and zero v c = refl

@@ -1,7 +1,7 @@
 -- On a graph within the limits no value reaches beyond the graph's nodes, taking away is the difference of Definition 3.2,
 -- and an edit leaves a graph within the limits.
 use mathlib.Core.Path.{_≡_, refl, _∙_, ap, fun-ext}
-use mathlib.Core.Bool.{Bool, true, false, not, _&&_, _||_, cond, and-false, and-self}
+use mathlib.Core.Bool.{Bool, true, false, not, _&&_, _||_, cond, and-false}
 use Prim.Native.Nat.{ℕ, _≤_, _<_}
 use native.Mathlib.Omega.{arith}
 use lib.Dec.{T, ltb, eqb, ltb→lt, eqb→eq}
@@ -23,11 +23,6 @@ Inside rule g v = Unit {0}
 pub no-node : (g : Graph) (i : ℕ) → g .n ≤ i → isNode g i ≡ false
 unfolding isNode
 no-node g i h = ap (_&& g .inUse i) (le-ltb i (g .n) h)
-
--- on today's sheets all others are
-pub all-nodes : (g : Graph) → Within g → (i : ℕ) → isNode g i ≡ ltb i (g .n)
-unfolding isNode
-all-nodes g w i = ap (ltb i (g .n) &&_) (w .all-used i) ∙ and-self (ltb i (g .n))
 
 -- A graph within the limits has a node.
 pub some-n : (g : Graph) → Within g → 1 ≤ g .n
@@ -105,7 +100,6 @@ module _ (g : Graph) (w : Within g) where
         some-node = w .some-node;
         few-nodes = w .few-nodes;
         use-below = w .use-below;
-        all-used = w .all-used;
         labels-in = update-all (NodesIn g) (g .labelled) k v (w .labels-in) h;
         arrows-in = λ a. record { starts = w .arrows-in a .starts; ends = w .arrows-in a .ends };
         no-more-labels = λ x i l. update-beyond (λ u. (i : ℕ) → u i ≡ false) (g .labelled) k labelCount v b (λ x l i. w .no-more-labels x i l) x l i;
@@ -119,14 +113,13 @@ module _ (g : Graph) (w : Within g) where
         some-node = w .some-node;
         few-nodes = w .few-nodes;
         use-below = w .use-below;
-        all-used = w .all-used;
         labels-in = w .labels-in;
         arrows-in = λ x. let q : PairsIn g (update (g .joined) a v x) = update-all (PairsIn g) (g .joined) a v (w .arrows-in) h x in record { starts = q .starts; ends = q .ends };
         no-more-labels = w .no-more-labels;
         no-more-arrows = λ x i j l. update-beyond (λ u. (i j : ℕ) → u i j ≡ false) (g .joined) a arrowCount v b (λ x l i j. w .no-more-arrows x i j l) x l i j;
       }
 
-cond-both : {A : Type 0} (P : A → Type 0) (b : Bool) (x y : A) → P x → P y → P (cond b x y)
+pub cond-both : {A : Type 0} (P : A → Type 0) (b : Bool) (x y : A) → P x → P y → P (cond b x y)
 cond-both P true x y p q = p
 cond-both P false x y p q = q
 

@@ -23,13 +23,11 @@ pub record PairsIn (g : Graph) (v : Pairs) : Type 0 where
   pub starts : (i j : ℕ) → isNode g i ≡ false → v i j ≡ false
   pub ends : (i j : ℕ) → isNode g j ≡ false → v i j ≡ false
 
--- A graph within the limits: one that a sheet can store. Closed nodes have no labels and no arrows (labels-in, arrows-in), and
--- on today's sheets all n nodes are in use.
+-- A graph within the limits: one that a sheet can store. Closed nodes have no labels and no arrows (labels-in, arrows-in).
 pub record Within (g : Graph) : Type 0 where
   pub some-node : anyBelow (g .n) (g .inUse) ≡ true
   pub few-nodes : g .n ≤ maxNodes
   pub use-below : (i : ℕ) → g .n ≤ i → g .inUse i ≡ false
-  pub all-used : (i : ℕ) → g .inUse i ≡ ltb i (g .n)
   pub labels-in : (k : ℕ) → NodesIn g (g .labelled k)
   pub arrows-in : (a : ℕ) → PairsIn g (g .joined a)
   pub no-more-labels : (k i : ℕ) → labelCount ≤ k → g .labelled k i ≡ false

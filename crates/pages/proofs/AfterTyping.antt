@@ -20,7 +20,8 @@ use Rattle.sheet.proofs.ReadBack.{read-back}
 use Rattle.pages.specs.Typed.{Block, arrows, labels, askPage, marked, typed, askType, typedSheet}
 use Rattle.pages.specs.Prints.{pageOf}
 use Rattle.pages.proofs.TypeLaws.{both-passed}
-use Rattle.pages.proofs.Accepted.{accepted-right, accepted-page, typed-within}
+use Rattle.pages.proofs.RightLines.{typed-alike, typed-within}
+use Rattle.pages.proofs.Accepted.{Right, accepted-right, accepted-page, head-block}
 
 -- The number of a block in the sheet.
 abbrev pub blockNumber : Block → ℕ
@@ -35,36 +36,43 @@ other-labels g page a = refl
 other-arrows : (g : Graph) (page : List ℕ) (b : Block) (c : ℕ) → suc c ≢ blockNumber b → arrowBlock present (typed g page b) c ≡ arrowBlock present g c
 unfolding arrowBlock typed update
 other-arrows g page (arrows a) c d =
-    ap (λ (x : Bool). block present (2 ∷ suc c ∷ 0 ∷ []) maxNodes (λ i. setOf (g .n) (cond x (λ i j. isNode g i && marked g page i j) (g .joined c) i))) (ne-eqb c a (λ e. d (ap suc e)))
+    ap (λ (x : Bool). block (present .sums) (2 ∷ suc c ∷ 0 ∷ []) maxNodes (λ i. setOf (g .n) (cond x (λ i j. isNode g i && marked g page i j) (g .joined c) i))) (ne-eqb c a (λ e. d (ap suc e)))
 other-arrows g page labels c d = refl
 
 module _ (sheet page : List ℕ) (are-bytes : (p : ℕ) → getD sheet p 0 < 256) (b : Block) (done : askType sheet page ≡ passed b) where
   abbrev g : Graph
   g = graphOf sheet
 
-  asked : Sound sheet × (askPage (g .n) page ≡ passed b)
+  asked : Sound sheet × (askPage g page ≡ passed b)
   unfolding askType
-  asked = both-passed (askSheet sheet) (askPage (g .n) page) b done
+  asked = both-passed (askSheet sheet) (askPage g page) b done
 
   within : Within g
   within = opening present sheet are-bytes (asked .0) .within
 
+  right : Right g page b
+  right = accepted-right g page b (asked .1)
+
   whole : Within (typed g page b)
-  whole = typed-within g within page b (accepted-page g within page b (accepted-right (g .n) page b (asked .1)) .0)
+  whole = typed-within g page within b (head-block (g .n) page b (right .head))
 
   pub sheet-after : typedSheet sheet page ≡ store (typed g page b)
   unfolding typedSheet after
   sheet-after = ap (λ x. after x (λ c. store (typed g page c)) sheet) done
 
   pub sound-after : Sound (typedSheet sheet page)
-  sound-after = ap askSheet sheet-after ∙ stored-passes present (typed g page b) whole
+  sound-after = ap askSheet sheet-after ∙ stored-passes (typed g page b) whole
 
   pub graph-after : graphOf (typedSheet sheet page) ≡ typed g page b
-  graph-after = ap graphOf sheet-after ∙ read-back present (typed g page b) whole
+  graph-after = ap graphOf sheet-after ∙ read-back (typed g page b) whole
+
+  -- The nodes in use are as they were.
+  pub used-after : graphOf (typedSheet sheet page) .inUse ≡ g .inUse
+  used-after = ap (λ (h : Graph). h .inUse) graph-after ∙ typed-alike g page b .in-use
 
   -- The block has become the page.
   pub page-after : pageOf (graphOf (typedSheet sheet page)) b ≡ page
-  page-after = ap (λ h. pageOf h b) graph-after ∙ sym (accepted-page g within page b (accepted-right (g .n) page b (asked .1)) .1)
+  page-after = ap (λ h. pageOf h b) graph-after ∙ sym (accepted-page g page b right)
 
   -- Every other block is as it was.
   pub others-after : (c : ℕ) → c < blockCount → c ≢ blockNumber b → blockOf (typedSheet sheet page) c ≡ blockOf sheet c

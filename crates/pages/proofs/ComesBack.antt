@@ -10,36 +10,36 @@ use lib.Dec.{eqb, ltb, leb}
 use lib.ListN.{length, getD}
 use Rattle.answer.specs.Asked.{passed, _>>_, is, after}
 use Rattle.answer.specs.Outputs.{askRoom}
-use Rattle.logic.specs.Graph.{Graph, Pairs, isNode}
+use Rattle.logic.specs.Graph.{Graph, Nodes, Pairs, isNode}
 use Rattle.logic.specs.Limits.{Within, labelCount, arrowCount}
 use Rattle.logic.specs.Steps.{update}
-use Rattle.logic.proofs.Inside.{no-node, all-nodes}
+use Rattle.logic.proofs.Inside.{no-node}
 use Rattle.sheet.specs.Sheet.{present, store, graphOf}
 use Rattle.sheet.specs.Questions.{askSheet, Sound}
+use Rattle.sheet.proofs.Blocks.{line-label}
 use Rattle.sheet.proofs.Opening.{opening, is-yes}
 use Rattle.pages.specs.Page.{arrowPage, labelPage}
 use Rattle.pages.specs.Print.{askPrintArrow, askPrintLabels}
-use Rattle.pages.specs.Typed.{lineOf, marks, Block, arrows, labels, askPage, marked, typed, askType, typedSheet}
+use Rattle.pages.specs.Typed.{pageLine, marks, Block, arrows, labels, linesOf, askPage, marked, typed, askType, typedSheet}
 use Rattle.pages.specs.Prints.{pageOf, HasBlock}
 use Rattle.pages.proofs.TypeLaws.{both-passed}
-use Rattle.pages.proofs.RightLines.{marks-of-line}
-use Rattle.pages.proofs.Accepted.{arrow-line, label-line, printed-right, right-accepted}
+use Rattle.pages.proofs.PageParts.{setAt, page-line}
+use Rattle.pages.proofs.RightLines.{marks-of-line, nodes-kept, pairs-kept}
+use Rattle.pages.proofs.Accepted.{printed-right, right-accepted}
 
 -- the marks of a printed page are what the graph has
 module _ (g : Graph) (w : Within g) where
-  node-there : (i : ℕ) → i < g .n → isNode g i ≡ true
-  node-there i l = all-nodes g w i ∙ lt-ltb i (g .n) l
+  line-marks : (b : Block) (x j : ℕ) → x < linesOf (g .n) b → j < g .n → marks (pageLine (pageOf g b) (suc x)) j ≡ setAt g b x j
+  line-marks b x j l k = ap (λ line. marks line j) (page-line g b x l) ∙ marks-of-line (g .n) x (w .few-nodes) (setAt g b x) j k
 
   arrow-marks : (a i j : ℕ) → (isNode g i && marked g (arrowPage g a) i j) ≡ g .joined a i j
   arrow-marks a i j = go (decLt i (g .n)) (decLt j (g .n))
     where
       go : Dec (i < g .n) → Dec (j < g .n) → (isNode g i && marked g (arrowPage g a) i j) ≡ g .joined a i j
-      go (yes l) (yes m) =
-          ap₂ (λ x y. x && (y && marks (lineOf (arrowPage g a) (suc i)) j)) (node-there i l) (node-there j m)
-          ∙ ap (λ line. marks line j) (arrow-line g w a i l) ∙ marks-of-line (g .n) i (w .few-nodes) (g .joined a i) j m
+      go (yes l) (yes m) = ap (λ x. isNode g i && (isNode g j && x)) (line-marks (arrows a) i j l m) ∙ pairs-kept g (g .joined a) (w .arrows-in a) i j
       go (yes l) (no m) =
           let e : isNode g j ≡ false = no-node g j (omega arith) in
-          ap (λ y. isNode g i && (y && marks (lineOf (arrowPage g a) (suc i)) j)) e ∙ and-false (isNode g i) ∙ sym (w .arrows-in a .ends i j e)
+          ap (λ y. isNode g i && (y && marks (pageLine (arrowPage g a) (suc i)) j)) e ∙ and-false (isNode g i) ∙ sym (w .arrows-in a .ends i j e)
       go (no l) m =
           let e : isNode g i ≡ false = no-node g i (omega arith) in
           ap (λ x. x && marked g (arrowPage g a) i j) e ∙ sym (w .arrows-in a .starts i j e)
@@ -49,11 +49,11 @@ module _ (g : Graph) (w : Within g) where
     where
       go : Dec (k < labelCount) → Dec (i < g .n) → (ltb k labelCount && marked g (labelPage g) k i) ≡ g .labelled k i
       go (yes l) (yes m) =
-          ap₂ (λ x y. x && (y && marks (lineOf (labelPage g) (suc k)) i)) (lt-ltb k labelCount l) (node-there i m)
-          ∙ ap (λ line. marks line i) (label-line g w k l) ∙ marks-of-line (g .n) k (w .few-nodes) (g .labelled k) i m
+          ap₂ (λ x y. x && (isNode g i && y)) (lt-ltb k labelCount l) (line-marks labels k i (omega arith) m ∙ ap (λ (v : Nodes). v i) (line-label g k l))
+          ∙ nodes-kept g (g .labelled k) (w .labels-in k) i
       go (yes l) (no m) =
           let e : isNode g i ≡ false = no-node g i (omega arith) in
-          ap (λ y. ltb k labelCount && (y && marks (lineOf (labelPage g) (suc k)) i)) e ∙ and-false (ltb k labelCount) ∙ sym (w .labels-in k i e)
+          ap (λ y. ltb k labelCount && (y && marks (pageLine (labelPage g) (suc k)) i)) e ∙ and-false (ltb k labelCount) ∙ sym (w .labels-in k i e)
       go (no l) m = ap (λ x. x && marked g (labelPage g) k i) (le-ltb k labelCount (omega arith)) ∙ sym (w .no-more-labels k i (omega arith))
 
   -- so the graph with them is the graph
@@ -79,7 +79,7 @@ module _ (sheet : List ℕ) (are-bytes : (p : ℕ) → getD sheet p 0 < 256) (so
 
   pub page-accepted : (b : Block) → HasBlock b → askType sheet (pageOf g b) ≡ passed b
   unfolding askType _>>_
-  page-accepted b h = ap (λ x. x >> askPage (g .n) (pageOf g b)) sound ∙ right-accepted (g .n) (pageOf g b) b (printed-right g (opening present sheet are-bytes sound .within) b h)
+  page-accepted b h = ap (λ x. x >> askPage g (pageOf g b)) sound ∙ right-accepted g (pageOf g b) b (printed-right g g (opening present sheet are-bytes sound .within) (record { nodes = refl; in-use = refl }) b h)
 
   pub sheet-back : (b : Block) → HasBlock b → typedSheet sheet (pageOf g b) ≡ sheet
   unfolding typedSheet after

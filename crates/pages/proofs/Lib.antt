@@ -2,8 +2,8 @@ pub mod LineLaws
 pub mod PageLaws
 pub mod PrintLaws
 pub mod TypeLaws
-pub mod RightLines
 pub mod PageParts
+pub mod RightLines
 pub mod Accepted
 pub mod ComesBack
 pub mod PlaceOf51

@@ -6,13 +6,13 @@ use Prim.Native.Nat.{ℕ, zero, suc, _+_, _≤_, _<_}
 use native.Mathlib.Numerals.{add-one}
 use native.Mathlib.Omega.{arith}
 use native.Mathlib.Decide.{decLt}
-use borrow.Author.Tests.{le-ltb}
+use borrow.Author.Tests.{lt-ltb, le-ltb}
 use lib.Dec.{eqb, ltb}
 use lib.ListN.{length, getD, set, take, drop, replicate, length-append, length-set, length-drop, drop-of-length-le}
 use lib.Seq.{drop-cons, take-suc-set, take-at, set-split, length-take-le}
-use Rattle.logic.specs.Graph.{Nodes}
+use Rattle.logic.specs.Graph.{Graph, Nodes, isNode}
 use Rattle.words.specs.Words.{setOf, member}
-use Rattle.words.proofs.SetLaws.{member-setOf}
+use Rattle.words.proofs.SetLaws.{setOf-cong, member-setOf}
 use Rattle.seal.specs.Seal.{sameBytes}
 use Rattle.line.specs.Line.{digits}
 use Rattle.line.proofs.LineLaws.{digits-length}
@@ -46,6 +46,11 @@ setLine-cong n x v w h = simp (square-cong n v w)
 
 pub setLine-word : (n x : ℕ) (v : Nodes) (row : ℕ) → row ≡ setOf n v → setLine n x (member row) ≡ setLine n x v
 setLine-word n x v row e = setLine-cong n x (member row) v (λ i l. ap (λ r. member r i) e ∙ member-setOf n v i l)
+
+-- of the numbers below n the nodes in use are the nodes
+pub nodes-used : (g : Graph) → setOf (g .n) (isNode g) ≡ setOf (g .n) (g .inUse)
+unfolding isNode
+nodes-used g = setOf-cong (g .n) (isNode g) (g .inUse) (λ i l. ap (_&& g .inUse i) (lt-ltb i (g .n) l))
 
 -- a line of which the front is written: one byte more, and the last byte
 pub front-more : (l f : List ℕ) (p b : ℕ) → 3 + p < length l → take (3 + p) l ≡ f → take (3 + (p + 1)) (set l (3 + p) b) ≡ f ++ (b ∷ [])

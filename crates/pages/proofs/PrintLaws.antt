@@ -15,10 +15,10 @@ use Rattle.answer.specs.Asked.{passed, refused, _>>_, is}
 use Rattle.answer.specs.Outputs.{askRoom, writtenAtStart}
 use Rattle.answer.proofs.OutputLaws.{room-short, room-enough}
 use Rattle.logic.specs.Graph.{Graph}
-use Rattle.sheet.specs.Sheet.{graphOf}
+use Rattle.sheet.specs.Sheet.{graphOf, lineOf}
 use Rattle.sheet.specs.Questions.{askSheet}
 use Rattle.sheet.proofs.Blocks.{length-chunks}
-use Rattle.pages.specs.Page.{headLine, setLine, rowLines, arrowPage, labelLines, labelPage}
+use Rattle.pages.specs.Page.{headLine, setLine, rowLines, arrowPage, labelPageLines, labelLines, labelPage}
 use Rattle.pages.specs.Print.{askPrintArrow, askPrintLabels}
 use Rattle.pages.proofs.PageLaws.{length-headLine, length-setLine}
 
@@ -28,11 +28,11 @@ length-arrowPage g a =
     length-append (headLine 0x41 a) _
     ∙ omega (arith, length-headLine 0x41 a, length-chunks 64 (λ i. setLine (g .n) i (g .joined a i)) (λ i. length-setLine (g .n) i (g .joined a i)) (g .n) 0)
 
-pub length-labelPage : (g : Graph) → length (labelPage g) ≡ 64 * 48 + 64
+pub length-labelPage : (g : Graph) → length (labelPage g) ≡ 64 * labelPageLines + 64
 unfolding labelPage labelLines
 length-labelPage g =
     length-append (headLine 0x4C (g .n)) _
-    ∙ omega (arith, length-headLine 0x4C (g .n), length-chunks 64 (λ k. setLine (g .n) k (g .labelled k)) (λ k. length-setLine (g .n) k (g .labelled k)) 48 0)
+    ∙ omega (arith, length-headLine 0x4C (g .n), length-chunks 64 (λ k. setLine (g .n) k (lineOf g k)) (λ k. length-setLine (g .n) k (lineOf g k)) labelPageLines 0)
 
 module _ (sheet : List ℕ) (a : Answer) (check : asked a ≡ askSheet sheet) (room : ℕ) where
   -- 1 to 4
@@ -68,11 +68,11 @@ module _ (sheet : List ℕ) (a : Answer) (check : asked a ≡ askSheet sheet) (r
       pub enough-arrow : (arrow : ℕ) → arrow < 16 → 64 * n + 64 ≤ room → askPrintArrow sheet arrow room ≡ passed (arrowPage (graphOf sheet) arrow)
       enough-arrow arrow l s = to-room arrow l ∙ room-enough _ room _ (size-is arrow) s
 
-    pub short-labels : room < 3136 → askPrintLabels sheet room ≡ refused 33 3136
-    short-labels s = labels-room ∙ room-short _ room 3136 (sym (length-labelPage (graphOf sheet))) s
+    pub short-labels : room < 3200 → askPrintLabels sheet room ≡ refused 33 3200
+    short-labels s = labels-room ∙ room-short _ room 3200 (sym (length-labelPage (graphOf sheet))) s
 
-    pub enough-labels : 3136 ≤ room → askPrintLabels sheet room ≡ passed (labelPage (graphOf sheet))
-    enough-labels s = labels-room ∙ room-enough _ room 3136 (sym (length-labelPage (graphOf sheet))) s
+    pub enough-labels : 3200 ≤ room → askPrintLabels sheet room ≡ passed (labelPage (graphOf sheet))
+    enough-labels s = labels-room ∙ room-enough _ room 3200 (sym (length-labelPage (graphOf sheet))) s
 
 -- the head written, and then the lines behind it
 module _ (output head : List ℕ) (whole : length head ≡ 64) (room : 64 ≤ length output) where

@@ -1,15 +1,17 @@
--- A line is right exactly when some set of nodes gives it.
-use mathlib.Core.Path.{_≡_, refl, _∙_, ap}
-use mathlib.Core.Bool.{Bool, true, false, cond}
+-- A line is right exactly when some graph with the same nodes in use has it there.
+use mathlib.Core.Path.{_≡_, refl, sym, _∙_, ap, ap₂, subst}
+use mathlib.Core.Bool.{Bool, true, false, _&&_, cond, and-false}
 use mathlib.Core.List.{List, [], _∷_, _++_}
 use Prim.Native.Nat.{ℕ, zero, suc, _+_, _≤_, _<_}
 use native.Mathlib.Omega.{arith}
-use borrow.Author.Tests.{lt-ltb}
-use lib.Dec.{eqb}
+use borrow.Author.Tests.{lt-ltb, le-ltb, eq-eqb}
+use lib.Dec.{eqb, ltb, lt→ltb}
 use lib.ListN.{length, getD, List·getD-append}
 use lib.Seq.{getD-append-add}
-use Rattle.logic.specs.Graph.{Nodes}
-use Rattle.logic.specs.Limits.{maxNodes}
+use Rattle.logic.specs.Graph.{Graph, Nodes, Pairs, isNode}
+use Rattle.logic.specs.Limits.{maxNodes, labelCount, arrowCount, NodesIn, PairsIn, Within}
+use Rattle.logic.specs.Steps.{update}
+use Rattle.logic.proofs.Inside.{rejoin-within}
 use Rattle.seal.specs.Seal.{sameBytes}
 use Rattle.seal.proofs.SealLaws.{same-refl, same-is}
 use Rattle.line.specs.Line.{digits}
@@ -17,9 +19,10 @@ use Rattle.line.proofs.LineLaws.{digits-length}
 use Rattle.sheet.specs.Sheet.{chunks}
 use Rattle.sheet.proofs.Blocks.{length-chunks}
 use Rattle.pages.specs.Page.{square, setLine}
-use Rattle.pages.specs.Typed.{marks, lineRight}
-use Rattle.pages.specs.Prints.{IsLine}
+use Rattle.pages.specs.Typed.{pageLine, marks, Block, arrows, labels, linesOf, hasRows, setShown, lineRight, marked, typed}
+use Rattle.pages.specs.Prints.{pageOf, HasBlock, Alike, IsLine}
 use Rattle.pages.proofs.LineLaws.{setLine-cong}
+use Rattle.pages.proofs.PageParts.{setAt, page-line}
 
 singles : (f : ℕ → ℕ) (m i j : ℕ) → j < m → getD (chunks m i (λ k. f k ∷ [])) j 0 ≡ f (i + j)
 unfolding chunks
@@ -50,13 +53,102 @@ module _ (n x : ℕ) where
   marks-of-line few v j h =
       ap (λ b. eqb b 0x23) (square-at v j (omega arith)) ∙ ap (λ (b : Bool). eqb (cond b (cond (v j) 0x23 0x2E) 0x20) 0x23) (lt-ltb j n h) ∙ shows (v j)
 
-  pub line-right : n ≤ maxNodes → (line : List ℕ) → IsLine n x line → lineRight n x line ≡ true
-  unfolding lineRight
-  line-right few line s =
-      ap (λ l. sameBytes l (setLine n x (marks l))) (s .is-line)
-      ∙ ap (sameBytes (setLine n x (s .set))) (setLine-cong n x (marks (setLine n x (s .set))) (s .set) (marks-of-line few (s .set)))
-      ∙ same-refl (setLine n x (s .set))
+-- sets of nodes in use
+pub nodes-kept : (g : Graph) (v : Nodes) → NodesIn g v → (i : ℕ) → (isNode g i && v i) ≡ v i
+nodes-kept g v h i = go (isNode g i) (v i) (h i)
+  where
+    go : (b x : Bool) → (b ≡ false → x ≡ false) → (b && x) ≡ x
+    go true x k = refl
+    go false x k = sym (k refl)
 
-  pub right-line : (line : List ℕ) → lineRight n x line ≡ true → IsLine n x line
+pub pairs-kept : (g : Graph) (v : Pairs) → PairsIn g v → (i j : ℕ) → (isNode g i && (isNode g j && v i j)) ≡ v i j
+pairs-kept g v h i j = ap (isNode g i &&_) (nodes-kept g (v i) (λ k e. h .ends i k e) j) ∙ nodes-kept g (λ k. v k j) (λ k e. h .starts k j e) i
+
+-- the set that a line has by its marks: a graph's own, the same for graphs alike
+module _ (g : Graph) (x : ℕ) where
+  shown-own : Within g → (b : Block) (j : ℕ) → setShown g (hasRows b) x (setAt g b x) j ≡ setAt g b x j
+  shown-own w (arrows a) j = pairs-kept g (g .joined a) (w .arrows-in a) x j
+  shown-own w labels j = go (ltb x labelCount)
+    where
+      go : (c : Bool) → cond c (isNode g j && cond c (g .labelled x) (g .inUse) j) (g .inUse j) ≡ cond c (g .labelled x) (g .inUse) j
+      go true = nodes-kept g (g .labelled x) (w .labels-in x) j
+      go false = refl
+
+  shown-cong : (r : Bool) (v w : Nodes) (j : ℕ) → v j ≡ w j → setShown g r x v j ≡ setShown g r x w j
+  shown-cong true v w j e = ap (λ b. isNode g x && (isNode g j && b)) e
+  shown-cong false v w j e = ap (λ b. cond (ltb x labelCount) (isNode g j && b) (g .inUse j)) e
+
+  module _ (h : Graph) (e : Alike g h) where
+    same-node : (i : ℕ) → isNode g i ≡ isNode h i
+    unfolding isNode
+    same-node i = sym (ap₂ (λ m (u : Nodes). ltb i m && u i) (e .nodes) (e .in-use))
+
+    shown-alike : (r : Bool) (v : Nodes) (j : ℕ) → setShown g r x v j ≡ setShown h r x v j
+    shown-alike true v j = ap₂ (λ a b. a && (b && v j)) (same-node x) (same-node j)
+    shown-alike false v j = ap₂ (λ a b. cond (ltb x labelCount) (a && v j) b) (same-node j) (sym (ap (λ (u : Nodes). u j) (e .in-use)))
+
+    -- the line of a graph alike
+    pub alike-line : (b : Block) → x < linesOf (g .n) b → pageLine (pageOf h b) (suc x) ≡ setLine (g .n) x (setAt h b x)
+    alike-line b l = page-line h b x (subst (λ m. x < linesOf m b) (sym (e .nodes)) l) ∙ ap (λ m. setLine m x (setAt h b x)) (e .nodes)
+
+-- A LINE OF A GRAPH ALIKE IS RIGHT.
+pub line-right : (g : Graph) → g .n ≤ maxNodes → (b : Block) (x : ℕ) → x < linesOf (g .n) b → (line : List ℕ) → IsLine g b x line → lineRight g (hasRows b) x line ≡ true
+unfolding lineRight
+line-right g few b x l line s =
+    let h = s .graph in
+    let v = setAt h b x in
+    ap (λ t. sameBytes t (setLine (g .n) x (setShown g (hasRows b) x (marks t)))) (s .is-line ∙ alike-line g x h (s .alike) b l)
+    ∙ ap (sameBytes (setLine (g .n) x v)) (setLine-cong (g .n) x (setShown g (hasRows b) x (marks (setLine (g .n) x v))) v (λ j k. shown-cong g x (hasRows b) (marks (setLine (g .n) x v)) v j (marks-of-line (g .n) x few v j k) ∙ shown-alike g x h (s .alike) (hasRows b) v j ∙ shown-own h x (s .within) b j))
+    ∙ same-refl (setLine (g .n) x v)
+
+-- the graph with a page's marks
+module _ (g : Graph) (page : List ℕ) where
+  pub typed-alike : (b : Block) → Alike g (typed g page b)
+  unfolding typed
+  typed-alike (arrows a) = record { nodes = refl; in-use = refl }
+  typed-alike labels = record { nodes = refl; in-use = refl }
+
+  pub marked-in : PairsIn g (λ i j. isNode g i && marked g page i j)
+  marked-in =
+      record {
+        starts = λ i j e. ap (_&& marked g page i j) e;
+        ends = λ i j e. ap (λ b. isNode g i && (b && marks (pageLine page (suc i)) j)) e ∙ and-false (isNode g i);
+      }
+
+  pub typed-within : Within g → (b : Block) → HasBlock b → Within (typed g page b)
+  unfolding typed isNode
+  typed-within w (arrows a) h = rejoin-within g w a (λ i j. isNode g i && marked g page i j) (lt→ltb a arrowCount h) marked-in
+  typed-within w labels h =
+      record {
+        some-node = w .some-node;
+        few-nodes = w .few-nodes;
+        use-below = w .use-below;
+        labels-in = λ k i e. ap (λ x. ltb k labelCount && (x && marks (pageLine page (suc k)) i)) e ∙ and-false (ltb k labelCount);
+        arrows-in = λ a. record { starts = w .arrows-in a .starts; ends = w .arrows-in a .ends };
+        no-more-labels = λ k i l. ap (_&& marked g page k i) (le-ltb k labelCount l);
+        no-more-arrows = w .no-more-arrows;
+      }
+
+  typed-set : (b : Block) (x j : ℕ) → setAt (typed g page b) b x j ≡ setShown g (hasRows b) x (marks (pageLine page (suc x))) j
+  unfolding typed update
+  typed-set (arrows a) x j = ap (λ (c : Bool). cond c (λ i k. isNode g i && marked g page i k) (g .joined a) x j) (eq-eqb a a refl)
+  typed-set labels x j = go (ltb x labelCount)
+    where
+      go : (c : Bool) → cond c (λ i. c && marked g page x i) (g .inUse) j ≡ cond c (marked g page x j) (g .inUse j)
+      go true = refl
+      go false = refl
+
+  -- a line that is right is its line
+  pub typed-line : (b : Block) (x : ℕ) → lineRight g (hasRows b) x (pageLine page (suc x)) ≡ true → pageLine page (suc x) ≡ setLine (g .n) x (setAt (typed g page b) b x)
   unfolding lineRight
-  right-line line e = record { set = marks line; is-line = same-is line (setLine n x (marks line)) e }
+  typed-line b x e = same-is (pageLine page (suc x)) _ e ∙ setLine-cong (g .n) x _ _ (λ j l. sym (typed-set b x j))
+
+  -- A RIGHT LINE IS ONE OF A GRAPH ALIKE.
+  pub right-line : Within g → (b : Block) → HasBlock b → (x : ℕ) → x < linesOf (g .n) b → lineRight g (hasRows b) x (pageLine page (suc x)) ≡ true → IsLine g b x (pageLine page (suc x))
+  right-line w b h x l e =
+      record {
+        graph = typed g page b;
+        within = typed-within w b h;
+        alike = typed-alike b;
+        is-line = typed-line b x e ∙ sym (alike-line g x (typed g page b) (typed-alike b) b l);
+      }

@@ -1,14 +1,14 @@
--- The squared sheet on paper (document 02, item 1): pages of lines of 64 bytes, the line feed included. Bytes are ASCII: 20 blank, 0A line feed,
+-- The squared sheet on paper (document 02, items 1 and 6): pages of lines of 64 bytes, the line feed included. Bytes are ASCII: 20 blank, 0A line feed,
 -- 23 #, 2E ., 41 A, 4C L.
 use mathlib.Core.Bool.{cond}
 use mathlib.Core.List.{List, [], _∷_, _++_}
-use Prim.Native.Nat.{ℕ}
+use Prim.Native.Nat.{ℕ, _+_}
 use lib.Dec.{ltb}
 use lib.ListN.{replicate}
 use Rattle.logic.specs.Graph.{Graph, Nodes}
 use Rattle.logic.specs.Limits.{maxNodes, labelCount}
 use Rattle.line.specs.Line.{digits}
-use Rattle.sheet.specs.Sheet.{chunks}
+use Rattle.sheet.specs.Sheet.{chunks, lineOf}
 
 abbrev pub lineBytes : ℕ
 lineBytes = 64
@@ -32,9 +32,12 @@ rowLines g a = chunks (g .n) 0 (λ i. setLine (g .n) i (g .joined a i))
 unfoldable pub arrowPage : Graph → ℕ → List ℕ
 arrowPage g a = headLine 0x41 a ++ rowLines g a
 
--- The label page: L, two digits of n; then 48 such lines, one per label.
+-- The label page: L, two digits of n; then 48 such lines, one per label, and a last, 48, for the nodes in use.
+abbrev pub labelPageLines : ℕ
+labelPageLines = labelCount + 1
+
 unfoldable pub labelLines : Graph → List ℕ
-labelLines g = chunks labelCount 0 (λ k. setLine (g .n) k (g .labelled k))
+labelLines g = chunks labelPageLines 0 (λ k. setLine (g .n) k (lineOf g k))
 
 unfoldable pub labelPage : Graph → List ℕ
 labelPage g = headLine 0x4C (g .n) ++ labelLines g

@@ -1,11 +1,11 @@
--- The pages that graphs print, and the lines that sets give.
+-- The pages that graphs print, and their lines.
 use mathlib.Core.Path.{_≡_}
 use mathlib.Core.List.{List}
-use Prim.Native.Nat.{ℕ, _<_}
-use Rattle.logic.specs.Graph.{Graph, Nodes}
+use Prim.Native.Nat.{ℕ, suc, _<_}
+use Rattle.logic.specs.Graph.{Graph}
 use Rattle.logic.specs.Limits.{Within, arrowCount}
-use Rattle.pages.specs.Page.{setLine, arrowPage, labelPage}
-use Rattle.pages.specs.Typed.{Block, arrows, labels}
+use Rattle.pages.specs.Page.{arrowPage, labelPage}
+use Rattle.pages.specs.Typed.{pageLine, Block, arrows, labels}
 
 -- The page of a block.
 abbrev pub pageOf : Graph → Block → List ℕ
@@ -17,15 +17,22 @@ abbrev pub HasBlock : Block → Type 0
 HasBlock (arrows a) = a < arrowCount
 HasBlock labels = Unit {0}
 
--- Some graph of n nodes, within the limits, prints this page for this block.
-pub record Prints (n : ℕ) (page : List ℕ) (b : Block) : Type 0 where
+-- A graph of as many nodes, the same of them in use.
+pub record Alike (g h : Graph) : Type 0 where
+  pub nodes : h .n ≡ g .n
+  pub in-use : h .inUse ≡ g .inUse
+
+-- Some graph like this one, within the limits, prints this page for this block.
+pub record Prints (g : Graph) (page : List ℕ) (b : Block) : Type 0 where
   pub graph : Graph
   pub within : Within graph
-  pub nodes : graph .n ≡ n
+  pub alike : Alike g graph
   pub block : HasBlock b
   pub is-page : page ≡ pageOf graph b
 
--- Some set of nodes gives this line as that of number x.
-pub record IsLine (n x : ℕ) (line : List ℕ) : Type 0 where
-  pub set : Nodes
-  pub is-line : line ≡ setLine n x set
+-- Some such graph has this line as that of number x on the page of this block.
+pub record IsLine (g : Graph) (b : Block) (x : ℕ) (line : List ℕ) : Type 0 where
+  pub graph : Graph
+  pub within : Within graph
+  pub alike : Alike g graph
+  pub is-line : line ≡ pageLine (pageOf graph b) (suc x)

@@ -6,11 +6,14 @@ ghost use Rattle.logic.specs.Limits.{maxNodes};
 ghost use Rattle.words.specs.Words.{setOf, member};
 ghost use Rattle.seal.specs.Seal.{sameBytes};
 ghost use Rattle.pages.specs.Page.{lineBytes, headLine, square, setLine};
-ghost use Rattle.pages.specs.Typed.{marks, lineRight};
+ghost use Rattle.pages.specs.Typed.{marks};
 use sheet::Sheet;
 
 // The bytes of a line, its line feed included.
 pub const LINE: usize = 64;
+
+// The lines behind the label page's head: one per label, and one for the nodes in use.
+pub const LABEL_LINES: usize = Sheet::LABELS + 1;
 
 // The square of column j in the row of a set. Inner: j is the number of a bit.
 fn square(n: usize, row: u64, j: usize) -> u8
@@ -84,10 +87,10 @@ pub fn same(a: &[u8], b: &[u8]) -> bool
     true
 }
 
-// Whether the line is what printing could give as that of number x: the line of its own marks, whose set is given.
+// Whether the line is that of number x of a set.
 pub fn line_is(line: &[u8], n: usize, x: usize, set: u64) -> bool
-    requires { ⌜ (length (now line) ≡ lineBytes) × (set ≡ setOf n (marks (now line))) ⌝ }
-    ensures { λ r. ⌜ r ≡ lineRight n x (now (line .entry)) ⌝ }
+    requires { ⌜ length (now line) ≡ lineBytes ⌝ }
+    ensures { λ r. ⌜ r ≡ sameBytes (now (line .entry)) (setLine n x (member set)) ⌝ }
 {
     let mut wanted = [0u8; LINE];
     put_line(&mut wanted, n, x, set);

@@ -3,11 +3,13 @@ ghost use mathlib.Core.Path.{_≡_};
 ghost use Prim.Native.Nat.{_*_, _<_, _≤_};
 ghost use lib.ListN.{length};
 ghost use Rattle.answer.specs.Outputs.{writtenAsked, writtenLength, writtenAtStart, writtenOutput};
-ghost use Rattle.logic.specs.Limits.{maxNodes, arrowCount, labelCount};
-ghost use Rattle.sheet.specs.Sheet.{graphOf};
+ghost use Rattle.logic.specs.Limits.{maxNodes, arrowCount};
+ghost use Rattle.words.specs.Words.{setOf};
+ghost use Rattle.sheet.specs.Sheet.{graphOf, lineOf};
 ghost use Rattle.sheet.specs.Questions.{Sound};
-ghost use Rattle.pages.specs.Page.{lineBytes, rowLines, labelLines};
+ghost use Rattle.pages.specs.Page.{lineBytes, rowLines, labelPageLines, labelLines};
 ghost use Rattle.pages.specs.Print.{askPrintArrow, askPrintLabels};
+use crate::lines::LABEL_LINES;
 use crate::lines::LINE;
 use crate::lines::put_head;
 use crate::lines::put_line;
@@ -38,21 +40,27 @@ fn put_row_lines(sheet: &[u8], n: usize, a: Arrow, out: &mut [u8])
     }
 }
 
-// A line for each label likewise.
+// The set of line k of the label page: of a label, or of the nodes in use. Inner: the sheet is sound, and the page has that line.
+fn line_word(sheet: &[u8], k: usize) -> u64
+    requires { ⌜ Sound (now sheet) × (k < labelPageLines) ⌝ }
+    ensures { λ r. ⌜ r ≡ setOf (graphOf (now (sheet .entry)) .n) (lineOf (graphOf (now (sheet .entry))) k) ⌝ }
+{
+    if k < Sheet::LABELS {
+        return Sheet::label_word(sheet, Label(k as u8));
+    }
+    Sheet::all_nodes(sheet)
+}
+
+// A line for each label likewise, and one for the nodes in use.
 fn put_label_lines(sheet: &[u8], n: usize, out: &mut [u8])
-    requires { ⌜ Sound (now sheet) × (n ≡ graphOf (now sheet) .n) × (n ≤ maxNodes) × (lineBytes * labelCount ≤ length (now out)) ⌝ }
+    requires { ⌜ Sound (now sheet) × (n ≡ graphOf (now sheet) .n) × (n ≤ maxNodes) × (lineBytes * labelPageLines ≤ length (now out)) ⌝ }
     ensures { λ _. ⌜ now (out .exit) ≡ writtenAtStart (labelLines (graphOf (now (sheet .entry)))) (now (out .entry)) ⌝ }
 {
     let mut k = 0;
-    while k < Sheet::LABELS {
+    while k < LABEL_LINES {
         let from = LINE * k;
         let to = from + LINE;
-        put_line(
-            &mut out[from..to],
-            n,
-            k,
-            Sheet::label_word(sheet, Label(k as u8)),
-        );
+        put_line(&mut out[from..to], n, k, line_word(sheet, k));
         k += 1;
     }
 }
@@ -88,7 +96,7 @@ pub fn print_labels(sheet: &[u8], out: &mut [u8]) -> Written
     if let Answer::Refused(r) = answer {
         return Written::Refused(r);
     }
-    let size = LINE * Sheet::LABELS + LINE;
+    let size = LINE * LABEL_LINES + LINE;
     if out.len() < size {
         return Written::Refused(Refusal::OutputLength { place: size });
     }

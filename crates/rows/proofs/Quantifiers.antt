@@ -6,19 +6,24 @@ use native.Mathlib.Nat.{lt-of-lt-of-le}
 use native.Mathlib.Numerals.{add-one}
 use native.Mathlib.Omega.{arith}
 use lib.Count.{ones}
-use lib.Dec.{eqb, leb}
+use lib.Dec.{eqb, leb, ltb}
 use lib.Pow.{pow-mono}
 use borrow.Author.Tests.{leb-true, leb-false, le-leb, lt-leb}
 use Rattle.logic.specs.Graph.{Nodes, Pairs, anyBelow, allBelow, countBelow, implies}
 use Rattle.logic.proofs.Below.{none-outside, count-cong, one-or-more, leave, count-leave}
 use Rattle.words.specs.Words.{setOf, member, combined}
-use Rattle.words.proofs.SetLaws.{setOf-lt, setOf-cong, setOf-member-lt, setOf-empty, setOf-none, ones-setOf, member-setOf, combined-sets}
-use Rattle.rows.specs.Operations.{quantified, enough, least, looked, answered}
+use Rattle.words.proofs.SetLaws.{setOf-lt, setOf-cong, setOf-member-lt, setOf-empty, setOf-none, setOf-lowest, ones-setOf, member-setOf, combined-sets}
+use Rattle.rows.specs.Operations.{quantified, enough, least, looked, answered, Among}
 
-pub quantified-is : (c m n : ℕ) (v w : Nodes) → quantified c m n v w ≡ answered c (enough (least c m) n v (λ j. looked c (w j)))
+-- An end is a node.
+pub quantified-is : (c m n : ℕ) (nodes v w : Nodes) → ((j : ℕ) → nodes j ≡ false → v j ≡ false) → quantified c m n v w ≡ answered c (enough (least c m) n v (λ j. looked c (nodes j) (w j)))
 unfolding quantified
-quantified-is c m n v w = go (eqb c 0x08) (eqb c 0x09) (eqb c 0x0A)
+quantified-is c m n nodes v w ends = go (eqb c 0x08) (eqb c 0x09) (eqb c 0x0A)
   where
+    there : (x y z : Bool) → (y ≡ false → x ≡ false) → (x && not z) ≡ (x && (y && not z))
+    there x true z h = refl
+    there x false z h = rw (h refl)
+
     most : (k : ℕ) → leb k m ≡ not (leb (m + 1) k)
     most k = by (leb k m) refl
       where
@@ -28,9 +33,11 @@ quantified-is c m n v w = go (eqb c 0x08) (eqb c 0x09) (eqb c 0x0A)
 
     go : (a b d : Bool)
         → cond a (anyBelow n (λ j. v j && w j)) (cond b (allBelow n (λ j. implies (v j) (w j))) (cond d (leb m (countBelow n (λ j. v j && w j))) (leb (countBelow n (λ j. v j && w j)) m)))
-        ≡ (let x = leb (cond a 1 (cond b 1 (cond d m (m + 1)))) (countBelow n (λ j. v j && cond a (w j) (cond b (not (w j)) (w j)))) in cond a x (cond b (not x) (cond d x (not x))))
+        ≡ (let x = leb (cond a 1 (cond b 1 (cond d m (m + 1)))) (countBelow n (λ j. v j && cond a (w j) (cond b (nodes j && not (w j)) (w j)))) in cond a x (cond b (not x) (cond d x (not x))))
     go true b d = sym (one-or-more n (λ j. v j && w j))
-    go false true d = sym (none-outside n v w) ∙ ap not (sym (one-or-more n (λ j. v j && not (w j))))
+    go false true d =
+        sym (none-outside n v w) ∙ ap not (sym (one-or-more n (λ j. v j && not (w j))))
+        ∙ ap (λ (k : ℕ). not (leb 1 k)) (count-cong n _ _ (λ j l. there (v j) (nodes j) (w j) (ends j)))
     go false false true = refl
     go false false false = most (countBelow n (λ j. v j && w j))
 
@@ -68,8 +75,8 @@ pub set-small : (n : ℕ) {x : ℕ} (p : Nodes) → x ≡ setOf n p → x < 2 ^ 
 set-small n {x} p e = subst (λ (y : ℕ). y < 2 ^ n) (sym e) (setOf-lt n p)
 
 -- none wanted: all have them
-pub none-wanted : (k n : ℕ) (v : Pairs) (w : Nodes) → k ≡ 0 → setOf n (λ i. true) ≡ setOf n (λ j. enough k n (λ i. v i j) w)
-none-wanted k n v w e = setOf-cong n _ _ (λ j l. sym (ap (λ (x : ℕ). leb x (countBelow n (λ i. v i j && w i))) e ∙ le-leb 0 (countBelow n (λ i. v i j && w i)) (omega arith)))
+pub none-wanted : (k n x : ℕ) (v : Pairs) (w : Nodes) → n ≤ 64 → k ≡ 0 → x ≡ setOf 64 (λ j. ltb j n) → x ≡ setOf n (λ j. enough k n (λ i. v i j) w)
+none-wanted k n x v w h e f = f ∙ setOf-lowest n 64 h ∙ setOf-cong n _ _ (λ j l. sym (ap (λ (x : ℕ). leb x (countBelow n (λ i. v i j && w i))) e ∙ le-leb 0 (countBelow n (λ i. v i j && w i)) (omega arith)))
 
 pub wanted-is : (k n : ℕ) {m : ℕ} (v : Pairs) (w : Nodes) → k ≡ m → setOf n (λ j. enough m n (λ i. v i j) w) ≡ setOf n (λ j. enough k n (λ i. v i j) w)
 wanted-is k n v w e = ap (λ (x : ℕ). setOf n (λ j. enough x n (λ i. v i j) w)) (sym e)
@@ -88,39 +95,40 @@ any-more n i v r row z h p q e =
 pub any-end : (n i : ℕ) (v : Pairs) (r : ℕ) → i ≤ n → n ≤ i → r ≡ setOf n (λ j. anyBelow i (λ k. v k j)) → r ≡ setOf n (λ j. anyBelow n (λ k. v k j))
 any-end n i v r h l e = let q : i ≡ n = omega arith in e ∙ ap (λ (m : ℕ). setOf n (λ j. anyBelow m (λ k. v k j))) q
 
-pub any-wanted : (k n e all : ℕ) (v : Pairs) → k ≡ 1 → e ≡ all → all ≡ setOf n (λ i. true) → setOf n (λ j. anyBelow n (λ i. v i j)) ≡ setOf n (λ j. enough k n (λ i. v i j) (member e))
+pub any-wanted : (k n e all : ℕ) (v : Pairs) → k ≡ 1 → e ≡ all → Among all v → setOf n (λ j. anyBelow n (λ i. v i j)) ≡ setOf n (λ j. enough k n (λ i. v i j) (member e))
 any-wanted k n e all v q f a =
     setOf-cong n _ _ (λ j l. sym (
     ap (λ (x : ℕ). enough x n (λ i. v i j) (member e)) q
-    ∙ ap (leb 1) (count-cong n _ (λ i. v i j) (λ i m. ap (v i j &&_) (ap (λ (x : ℕ). member x i) (f ∙ a) ∙ member-setOf n (λ i. true) i m) ∙ and-true (v i j)))
+    ∙ ap (leb 1) (count-cong n _ (λ i. v i j) (λ i m. ap (λ (x : ℕ). v i j && member x i) f ∙ both (v i j) (member all i) (a .starts i j)))
     ∙ one-or-more n (λ i. v i j)))
-
-pub all-asked : (n all : ℕ) (p : Nodes) → all ≡ setOf n (λ i. true) → setOf n (λ i. member all i && p i) ≡ setOf n p
-all-asked n all p e = setOf-cong n _ _ (λ i l. ap (_&& p i) (ap (λ (x : ℕ). member x i) e ∙ member-setOf n (λ i. true) i l))
+  where
+    both : (x y : Bool) → (y ≡ false → x ≡ false) → (x && y) ≡ x
+    both x true h = and-true x
+    both x false h = rw (h refl)
 
 -- What the code looks at and answers is what it means, of the nodes within.
-module _ (c m n within e : ℕ) where
-  abbrev answer-of : (p : Pairs) → ℕ
-  answer-of p = setOf n (λ i. member within i && answered c (enough (least c m) n (p i) (λ j. looked c (member e j))))
+module _ (c m n all within e : ℕ) (p : Pairs) (ends : (i j : ℕ) → member all j ≡ false → p i j ≡ false) where
+  abbrev looked-at : Nodes
+  looked-at j = looked c (member all j) (member e j)
 
-  pub answer-is : (p : Pairs) → answer-of p ≡ setOf n (λ i. member within i && quantified c m n (p i) (member e))
-  answer-is p = setOf-cong n _ _ (λ i l. ap (member within i &&_) (sym (quantified-is c m n (p i) (member e))))
+  answer-is : setOf n (λ i. member within i && answered c (enough (least c m) n (p i) looked-at)) ≡ setOf n (λ i. member within i && quantified c m n (p i) (member e))
+  answer-is = setOf-cong n _ _ (λ i l. ap (member within i &&_) (sym (quantified-is c m n (member all) (p i) (member e) (ends i))))
 
-  module _ (k f x r : ℕ) (p : Pairs) (h : n ≤ 64) (q : k ≡ least c m) (s : f ≡ setOf n (λ i. looked c (member e i)))
+  module _ (k f x r : ℕ) (h : n ≤ 64) (q : k ≡ least c m) (s : f ≡ setOf n looked-at)
       (a : (u : Nodes) → r ≡ setOf n u → x ≡ setOf n (λ i. member within i && answered c (u i))) where
     pub by-columns : r ≡ setOf n (λ i. enough k n (p i) (member f)) → x ≡ setOf n (λ i. member within i && quantified c m n (p i) (member e))
     by-columns d =
-        a (λ i. enough (least c m) n (p i) (λ j. looked c (member e j)))
+        a (λ i. enough (least c m) n (p i) looked-at)
         (d ∙ ap (λ (y : ℕ). setOf n (λ i. enough y n (p i) (member f))) q
-        ∙ setOf-cong n _ _ (λ i l. ap (leb (least c m)) (count-cong n _ _ (λ j o. ap (p i j &&_) (ap (λ (y : ℕ). member y j) s ∙ member-setOf n (λ j. looked c (member e j)) j o)))))
-        ∙ answer-is p
+        ∙ setOf-cong n _ _ (λ i l. ap (leb (least c m)) (count-cong n _ _ (λ j o. ap (p i j &&_) (ap (λ (y : ℕ). member y j) s ∙ member-setOf n looked-at j o)))))
+        ∙ answer-is
 
-    pub by-rows : r ≡ setOf n (λ i. member within i && enough k n (p i) (λ j. looked c (member e j))) → x ≡ setOf n (λ i. member within i && quantified c m n (p i) (member e))
+    pub by-rows : r ≡ setOf n (λ i. member within i && enough k n (p i) looked-at) → x ≡ setOf n (λ i. member within i && quantified c m n (p i) (member e))
     by-rows d =
-        a (λ i. member within i && enough (least c m) n (p i) (λ j. looked c (member e j)))
-        (d ∙ ap (λ (y : ℕ). setOf n (λ i. member within i && enough y n (p i) (λ j. looked c (member e j)))) q)
-        ∙ setOf-cong n _ _ (λ i l. go (member within i) (enough (least c m) n (p i) (λ j. looked c (member e j))))
-        ∙ answer-is p
+        a (λ i. member within i && enough (least c m) n (p i) looked-at)
+        (d ∙ ap (λ (y : ℕ). setOf n (λ i. member within i && enough y n (p i) looked-at)) q)
+        ∙ setOf-cong n _ _ (λ i l. go (member within i) (enough (least c m) n (p i) looked-at))
+        ∙ answer-is
       where
         go : (b y : Bool) → (b && answered c (b && y)) ≡ (b && answered c y)
         go true y = refl

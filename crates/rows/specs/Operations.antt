@@ -1,13 +1,13 @@
 -- What the codes with operands do, said of members: document 004, Table II, by the code bytes of document 01.
 use mathlib.Core.Path.{_≡_}
-use mathlib.Core.Bool.{Bool, not, _&&_, _||_, cond}
+use mathlib.Core.Bool.{Bool, false, not, _&&_, _||_, cond}
 use mathlib.Core.List.{List}
 use Prim.Native.Nat.{ℕ, _+_, _≤_, _<_}
 use lib.Dec.{eqb, leb}
 use lib.ListN.{getD}
 use Rattle.logic.specs.Graph.{Nodes, Pairs, anyBelow, allBelow, countBelow, implies}
 use Rattle.logic.specs.Limits.{maxNodes, arrowCount}
-use Rattle.words.specs.Words.{combined}
+use Rattle.words.specs.Words.{member, combined}
 use Rattle.sheet.specs.Sheet.{graphOf}
 use Rattle.sheet.specs.Questions.{Sound}
 
@@ -35,12 +35,12 @@ pub record Masked (n : ℕ) (rows : List ℕ) (e : ℕ) (r : List ℕ) : Type 0 
 abbrev pub enough : (k n : ℕ) → Nodes → Nodes → Bool
 enough k n v w = leb k (countBelow n (λ j. v j && w j))
 
--- by code: how many, of those in the set or (09) of those not in it, and whether (09, 0B) not to have them is wanted
+-- by code: how many, of those in the set or (09) of the nodes that are not in it, and whether (09, 0B) not to have them is wanted
 abbrev pub least : ℕ → ℕ → ℕ
 least c m = cond (eqb c 0x08) 1 (cond (eqb c 0x09) 1 (cond (eqb c 0x0A) m (m + 1)))
 
-abbrev pub looked : ℕ → Bool → Bool
-looked c x = cond (eqb c 0x08) x (cond (eqb c 0x09) (not x) x)
+abbrev pub looked : ℕ → Bool → Bool → Bool
+looked c node x = cond (eqb c 0x08) x (cond (eqb c 0x09) (node && not x) x)
 
 abbrev pub answered : ℕ → Bool → Bool
 answered c x = cond (eqb c 0x08) x (cond (eqb c 0x09) (not x) (cond (eqb c 0x0A) x (not x)))
@@ -48,6 +48,11 @@ answered c x = cond (eqb c 0x08) x (cond (eqb c 0x09) (not x) (cond (eqb c 0x0A)
 -- rows for columns, or as they are
 abbrev pub turn : Bool → Pairs → Pairs
 turn b v i j = cond b (v j i) (v i j)
+
+-- Of inner functions: the pairs join members of `all` only.
+pub record Among (all : ℕ) (v : Pairs) : Type 0 where
+  pub starts : (i j : ℕ) → member all i ≡ false → v i j ≡ false
+  pub ends : (i j : ℕ) → member all j ≡ false → v i j ≡ false
 
 -- Of inner functions: the sheet is sound with these n nodes, and a is one of its arrows.
 pub record OfSheet (sheet : List ℕ) (n a : ℕ) : Type 0 where

@@ -1,5 +1,5 @@
 // Node sets as words and arrow relations as rows of words: what each code with operands does to them.
-// Relations have 64 rows, of which the first n count; they are changed in place. `all` is the word of the graph's nodes.
+// Relations have 64 rows, of which the first n count; they are changed in place. `all` is the word of the graph's nodes in use.
 ghost use mathlib.Core.Path.{_≡_};
 ghost use mathlib.Core.Bool.{true, _&&_};
 ghost use Prim.Native.Nat.{ℕ, _^_, _<_, _≤_};
@@ -10,7 +10,7 @@ ghost use Rattle.logic.specs.Limits.{maxNodes, arrowCount};
 ghost use Rattle.words.specs.Words.{setOf, member, combined};
 ghost use Rattle.sheet.specs.Sheet.{graphOf, Rows};
 ghost use Rattle.sheet.specs.Questions.{Sound};
-ghost use Rattle.rows.specs.Operations.{arrowOperation, quantified, enough, least, looked, answered, turn, OfSheet, Masked};
+ghost use Rattle.rows.specs.Operations.{arrowOperation, quantified, enough, least, looked, answered, turn, Among, OfSheet, Masked};
 use logic::Arrow;
 use logic::Node;
 use sheet::Sheet;
@@ -206,7 +206,7 @@ fn kind_ends_of_two(sheet: &[u8], n: usize, a: Arrow, e: u64) -> u64
 }
 
 // The ends of all of them.
-fn kind_all_ends(sheet: &[u8], n: usize, a: Arrow) -> u64
+pub fn kind_all_ends(sheet: &[u8], n: usize, a: Arrow) -> u64
     requires { ⌜ OfSheet (now sheet) n (a .0) ⌝ }
     ensures { λ r. ⌜ r ≡ setOf n (λ j. anyBelow n (λ i. graphOf (now (sheet .entry)) .joined (a .0) i j)) ⌝ }
 {
@@ -301,7 +301,7 @@ fn least(c: u8, m: u8) -> usize
 
 // in which set,
 fn looked(c: u8, all: u64, e: u64) -> u64
-    ensures { λ r. ⌜ ((n : ℕ) (w : Nodes) → n ≤ 64 → all ≡ setOf n (λ i. true) → e ≡ setOf n w → r ≡ setOf n (λ i. looked c (w i))) ⌝ }
+    ensures { λ r. ⌜ ((n : ℕ) (nodes w : Nodes) → n ≤ 64 → all ≡ setOf n nodes → e ≡ setOf n w → r ≡ setOf n (λ i. looked c (nodes i) (w i))) ⌝ }
 {
     if c == 0x08 {
         e
@@ -329,11 +329,11 @@ fn answered(c: u8, within: u64, r: u64) -> u64
 
 // The nodes that k or more rows of e end in. The rows may be used up.
 fn ends(k: usize, n: usize, all: u64, rows: &mut [u64], e: u64) -> u64
-    requires { ⌜ (n ≤ maxNodes) × (length (now rows) ≡ 64) × (e < 2 ^ n) × (all < 2 ^ n) ⌝ }
-    ensures { λ r. ⌜ ((v : Pairs) → all ≡ setOf n (λ i. true) → Rows n v (now (rows .entry)) → r ≡ setOf n (λ j. enough k n (λ i. v i j) (member e))) × (length (now (rows .exit)) ≡ 64) ⌝ }
+    requires { ⌜ (n ≤ maxNodes) × (length (now rows) ≡ 64) × (e < 2 ^ n) ⌝ }
+    ensures { λ r. ⌜ ((v : Pairs) → Among all v → Rows n v (now (rows .entry)) → r ≡ setOf n (λ j. enough k n (λ i. v i j) (member e))) × (length (now (rows .exit)) ≡ 64) ⌝ }
 {
     if k == 0 {
-        all
+        words::lowest(n)
     } else if k == 1 {
         if e == all {
             all_ends(n, rows)
@@ -359,8 +359,8 @@ pub fn quantified(
     rows: &mut [u64],
     e: u64,
 ) -> u64
-    requires { ⌜ (n ≤ maxNodes) × (length (now rows) ≡ 64) × (within < 2 ^ n) × (all ≡ setOf n (λ i. true)) × (e < 2 ^ n) ⌝ }
-    ensures { λ r. ⌜ ((v : Pairs) → Rows n v (now (rows .entry)) → r ≡ setOf n (λ i. member within i && quantified c m n (turn turned v i) (member e))) × (length (now (rows .exit)) ≡ 64) ⌝ }
+    requires { ⌜ (n ≤ maxNodes) × (length (now rows) ≡ 64) × (within < 2 ^ n) × (all < 2 ^ n) × (e < 2 ^ n) ⌝ }
+    ensures { λ r. ⌜ ((v : Pairs) → Among all v → Rows n v (now (rows .entry)) → r ≡ setOf n (λ i. member within i && quantified c m n (turn turned v i) (member e))) × (length (now (rows .exit)) ≡ 64) ⌝ }
 {
     let k = least(c, m);
     let f = looked(c, all, e);
@@ -385,11 +385,11 @@ pub fn straight(code: u8, c: u8, m: u8, turned: bool) -> bool
 
 // The nodes that k or more arrows of that kind from e end in. Inner: k is 2 at most.
 fn kind_ends(k: usize, sheet: &[u8], n: usize, all: u64, a: Arrow, e: u64) -> u64
-    requires { ⌜ (k ≤ 2) × OfSheet (now sheet) n (a .0) × (all ≡ setOf n (λ i. true)) × (e < 2 ^ n) ⌝ }
+    requires { ⌜ (k ≤ 2) × OfSheet (now sheet) n (a .0) × Among all (graphOf (now sheet) .joined (a .0)) × (e < 2 ^ n) ⌝ }
     ensures { λ r. ⌜ r ≡ setOf n (λ j. enough k n (λ i. graphOf (now (sheet .entry)) .joined (a .0) i j) (member e)) ⌝ }
 {
     if k == 0 {
-        all
+        words::lowest(n)
     } else if k == 1 {
         if e == all {
             kind_all_ends(sheet, n, a)
@@ -413,7 +413,7 @@ pub fn quantified_kind(
     a: Arrow,
     e: u64,
 ) -> u64
-    requires { ⌜ OfSheet (now sheet) n (a .0) × (within < 2 ^ n) × (all ≡ setOf n (λ i. true)) × (e < 2 ^ n) × (turned ≡ true → least c m ≤ 2) ⌝ }
+    requires { ⌜ OfSheet (now sheet) n (a .0) × (within < 2 ^ n) × (all < 2 ^ n) × Among all (graphOf (now sheet) .joined (a .0)) × (e < 2 ^ n) × (turned ≡ true → least c m ≤ 2) ⌝ }
     ensures { λ r. ⌜ r ≡ setOf n (λ i. member within i && quantified c m n (turn turned (graphOf (now (sheet .entry)) .joined (a .0)) i) (member e)) ⌝ }
 {
     let k = least(c, m);

@@ -9,9 +9,9 @@ use Rattle.answer.specs.Answers.{refusalNumber, refusalPlace, asked}
 use Rattle.answer.specs.Asked.{passed, refused, _>>_, is}
 use Prim.Native.Nat.{ℕ}
 use Rattle.sheet.specs.Questions.{askSheetIn, SoundIn}
-use Rattle.seal.specs.Seal.{Form}
+use Rattle.sheet.specs.Sheet.{SheetForm}
 
-module _ (φ : Form) where
+module _ (φ : SheetForm) where
   module _ (t : List ℕ) (a : Answer) (e : asked a ≡ askSheetIn φ t) where
     pub done-sound : a ≡ Done → SoundIn φ t
     done-sound d = sym e ∙ ap asked d

@@ -1,9 +1,11 @@
 -- The bytes of a stored block: where its head, its words and its zeros stand.
 use mathlib.Core.Path.{_≡_, refl, sym, _∙_, ap, ap₂}
+use mathlib.Core.Bool.{Bool, true, false, cond}
 use mathlib.Core.List.{List, [], _∷_, _++_}
 use Prim.Native.Nat.{ℕ, zero, suc, _+_, _-_, _*_, _/_, _%_, _^_, _≤_, _<_}
 use native.Mathlib.Nat.{mul-zero, zero-add, mul-suc}
 use native.Mathlib.Omega.{arith}
+use borrow.Author.Tests.{lt-ltb, le-ltb}
 use lib.ListN.{getD, length, replicate, length-append, length-replicate, getD-replicate, List·getD-append}
 use lib.Seq.{getD-append-add}
 use Rattle.logic.specs.Graph.{Graph}
@@ -14,7 +16,7 @@ use Rattle.words.proofs.BitLaws.{member-shr}
 use Rattle.words.proofs.WordLaws.{length-bytes, getD-bytes}
 use Rattle.seal.specs.Seal.{blockBytes, Form}
 use Rattle.seal.proofs.SealLaws.{length-sealed, getD-sealed}
-use Rattle.sheet.specs.Sheet.{sheetBytes, chunks, block, labelBlock, arrowBlock, storeIn, padding}
+use Rattle.sheet.specs.Sheet.{sheetBytes, chunks, block, SheetForm, lineOf, lineCount, labelBlock, arrowBlock, storeIn, padding}
 
 module _ (w : ℕ) (f : ℕ → List ℕ) (len : (i : ℕ) → length (f i) ≡ w) where
   pub length-chunks : (m i : ℕ) → length (chunks m i f) ≡ w * m
@@ -58,7 +60,13 @@ abbrev pub labelHead : Graph → List ℕ
 labelHead g = 1 ∷ 0 ∷ g .n ∷ []
 
 abbrev pub labelWord : Graph → ℕ → ℕ
-labelWord g k = setOf (g .n) (g .labelled k)
+labelWord g k = setOf (g .n) (lineOf g k)
+
+pub line-label : (g : Graph) (k : ℕ) → k < labelCount → lineOf g k ≡ g .labelled k
+line-label g k l = ap (λ b. cond b (g .labelled k) (g .inUse)) (lt-ltb k labelCount l)
+
+pub line-use : (g : Graph) (k : ℕ) → labelCount ≤ k → lineOf g k ≡ g .inUse
+line-use g k l = ap (λ b. cond b (g .labelled k) (g .inUse)) (le-ltb k labelCount l)
 
 abbrev pub arrowHead : ℕ → List ℕ
 arrowHead a = 2 ∷ suc a ∷ 0 ∷ []
@@ -122,20 +130,32 @@ module _ (φ : Form) where
         (ap (λ q. getD (block φ head m f) q 0) (omega arith) ∙ word-byte ((p - 16) / 8) (p % 8) (omega arith) (omega arith))
         ∙ ap₂ (λ j r. member (byteOf (f ((p - 16) / 8)) j) r) (omega arith) (omega arith) ∙ bit-of-byte (f ((p - 16) / 8)) (p % 8 * 8 + i)
 
-  -- The blocks of a graph: their words fit, their heads, their words.
-  pub labels-fit : 16 + 8 * labelCount ≤ φ .bodyBytes
-  labels-fit = omega arith
+-- A block 0 without the nodes in use has a line less.
+pub lines-range : (b : Bool) → (labelCount ≤ cond b (labelCount + 1) labelCount) × (cond b (labelCount + 1) labelCount ≤ labelCount + 1)
+lines-range true = (omega arith, omega arith)
+lines-range false = (omega arith, omega arith)
 
-  pub rows-fit : 16 + 8 * maxNodes ≤ φ .bodyBytes
-  rows-fit = omega arith
+module _ (φ : SheetForm) where
+  pub label-lines : labelCount ≤ lineCount φ
+  label-lines = lines-range (φ .holdsUse) .0
+
+  pub few-lines : lineCount φ ≤ labelCount + 1
+  few-lines = lines-range (φ .holdsUse) .1
+
+  -- The blocks of a graph: their words fit, their heads, their words.
+  pub labels-fit : 16 + 8 * lineCount φ ≤ φ .sums .bodyBytes
+  labels-fit = omega (arith, few-lines, φ .sums .whole, φ .sums .few)
+
+  pub rows-fit : 16 + 8 * maxNodes ≤ φ .sums .bodyBytes
+  rows-fit = omega (arith, φ .sums .whole, φ .sums .few)
 
   pub length-labelBlock : (g : Graph) → length (labelBlock φ g) ≡ blockBytes
   unfolding labelBlock
-  length-labelBlock g = length-block (labelHead g) labelCount (labelWord g) refl labels-fit
+  length-labelBlock g = length-block (φ .sums) (labelHead g) (lineCount φ) (labelWord g) refl labels-fit
 
   pub length-arrowBlock : (g : Graph) (a : ℕ) → length (arrowBlock φ g a) ≡ blockBytes
   unfolding arrowBlock
-  length-arrowBlock g a = length-block (arrowHead a) maxNodes (rowWord g a) refl rows-fit
+  length-arrowBlock g a = length-block (φ .sums) (arrowHead a) maxNodes (rowWord g a) refl rows-fit
 
   pub length-store : (g : Graph) → length (storeIn φ g) ≡ sheetBytes
   unfolding storeIn
@@ -143,14 +163,14 @@ module _ (φ : Form) where
 
   pub n-is : (g : Graph) → getD (storeIn φ g) 2 0 ≡ g .n
   unfolding storeIn labelBlock
-  n-is g = List·getD-append (labelBlock φ g) (chunks arrowCount 0 (arrowBlock φ g)) 0 2 (omega (arith, length-labelBlock g)) ∙ head-at (labelHead g) labelCount (labelWord g) refl labels-fit 2 (omega arith)
+  n-is g = List·getD-append (labelBlock φ g) (chunks arrowCount 0 (arrowBlock φ g)) 0 2 (omega (arith, length-labelBlock g)) ∙ head-at (φ .sums) (labelHead g) (lineCount φ) (labelWord g) refl labels-fit 2 (omega arith)
 
-  -- byte j of label k, and of row i of arrow a
-  pub label-byte : (g : Graph) (k j : ℕ) → k < labelCount → j < 8 → getD (storeIn φ g) (16 + 8 * k + j) 0 ≡ byteOf (labelWord g k) j
+  -- byte j of line k, and of row i of arrow a
+  pub label-byte : (g : Graph) (k j : ℕ) → k < lineCount φ → j < 8 → getD (storeIn φ g) (16 + 8 * k + j) 0 ≡ byteOf (labelWord g k) j
   unfolding storeIn labelBlock
   label-byte g k j h l =
-      List·getD-append (labelBlock φ g) (chunks arrowCount 0 (arrowBlock φ g)) 0 (16 + 8 * k + j) (omega (arith, length-labelBlock g))
-      ∙ ap (λ p. getD (labelBlock φ g) p 0) (omega arith) ∙ word-byte (labelHead g) labelCount (labelWord g) refl labels-fit k j h l
+      List·getD-append (labelBlock φ g) (chunks arrowCount 0 (arrowBlock φ g)) 0 (16 + 8 * k + j) (omega (arith, length-labelBlock g, few-lines))
+      ∙ ap (λ p. getD (labelBlock φ g) p 0) (omega arith) ∙ word-byte (φ .sums) (labelHead g) (lineCount φ) (labelWord g) refl labels-fit k j h l
 
   pub arrow-byte : (g : Graph) (a i j : ℕ) → a < arrowCount → i < maxNodes → j < 8 → getD (storeIn φ g) (blockBytes * (a + 1) + (16 + 8 * i) + j) 0 ≡ byteOf (rowWord g a i) j
   unfolding storeIn arrowBlock
@@ -158,4 +178,4 @@ module _ (φ : Form) where
       ap (λ p. getD (storeIn φ g) p 0) (omega (arith, length-labelBlock g))
       ∙ getD-append-add (labelBlock φ g) (chunks arrowCount 0 (arrowBlock φ g)) (blockBytes * a + (16 + (8 * i + j))) 0
       ∙ getD-chunks blockBytes (arrowBlock φ g) (length-arrowBlock g) arrowCount 0 a (16 + (8 * i + j)) h (omega arith)
-      ∙ ap (λ b. getD (arrowBlock φ g b) (16 + (8 * i + j)) 0) (zero-add a) ∙ word-byte (arrowHead a) maxNodes (rowWord g a) refl rows-fit i j h′ l
+      ∙ ap (λ b. getD (arrowBlock φ g b) (16 + (8 * i + j)) 0) (zero-add a) ∙ word-byte (φ .sums) (arrowHead a) maxNodes (rowWord g a) refl rows-fit i j h′ l

@@ -1,12 +1,12 @@
 -- What stands in a sound sheet: its n, its labels and its rows.
 use mathlib.Core.Path.{_≡_, sym, ap, _∙_}
-use mathlib.Core.Bool.{true, and-self}
+use mathlib.Core.Bool.{true, _&&_, cond}
 use mathlib.Core.List.{List}
 use Prim.Native.Nat.{ℕ, _+_, _*_, _^_, _≤_, _<_}
 use native.Mathlib.Nat.{lt-of-lt-of-le}
 use native.Mathlib.Omega.{arith}
 use borrow.Author.Tests.{eqb-true, lt-ltb}
-use lib.Dec.{eqb, ltb}
+use lib.Dec.{eqb}
 use lib.ListN.{length, getD, take}
 use lib.Pow.{pow-mono}
 use Rattle.answer.specs.Asked.{passed, is}
@@ -14,51 +14,56 @@ use Rattle.logic.specs.Graph.{Graph, Nodes, isNode}
 use Rattle.logic.proofs.Inside.{some-n}
 use Rattle.logic.specs.Limits.{Within, maxNodes, labelCount, arrowCount}
 use Rattle.words.specs.Words.{setOf, wordAt}
-use Rattle.words.proofs.SetLaws.{setOf-lt, setOf-cong, setOf-lowest}
+use Rattle.words.proofs.SetLaws.{setOf-lt, setOf-cong}
 use Rattle.words.proofs.WordLaws.{wordAt-of}
-use Rattle.seal.specs.Seal.{sealRight, blockBytes, Form}
-use Rattle.sheet.specs.Sheet.{sheetBytes, storeIn, graphOf, blockCount}
+use Rattle.seal.specs.Seal.{sealRight, blockBytes}
+use Rattle.sheet.specs.Sheet.{SheetForm, lineOf, lineCount, sheetBytes, storeIn, graphIn, blockCount}
 use Rattle.sheet.specs.Questions.{blockOf, askBlock, askBlocks, askSheetIn, SoundIn}
-use Rattle.sheet.proofs.Blocks.{labelWord, rowWord, label-byte, arrow-byte, length-store}
+use Rattle.sheet.proofs.Blocks.{labelWord, line-label, label-lines, few-lines, rowWord, label-byte, arrow-byte, length-store}
 use Rattle.sheet.proofs.Opening.{is-yes, both-yes, block-ok, opening}
 
 small : (n : ℕ) (v : Nodes) → n ≤ maxNodes → setOf n v < 2 ^ 64
 small n v h = let m : n ≤ 64 = omega arith in lt-of-lt-of-le (setOf-lt n v) (pow-mono m)
 
--- the nodes below n are all nodes
-pub sheet-nodes : (t : List ℕ) (i : ℕ) → isNode (graphOf t) i ≡ ltb i (graphOf t .n)
-unfolding isNode graphOf
-sheet-nodes t i = and-self (ltb i (getD t 2 0))
-
-pub lowest-nodes : (t : List ℕ) → graphOf t .n ≤ maxNodes → setOf 64 (λ i. ltb i (graphOf t .n)) ≡ setOf (graphOf t .n) (isNode (graphOf t))
-lowest-nodes t h = let n : ℕ = graphOf t .n in setOf-lowest n 64 (omega arith) ∙ setOf-cong n (λ i. true) (isNode (graphOf t)) (λ i l. sym (sheet-nodes t i ∙ lt-ltb i n l))
-
-module _ (φ : Form) where
+module _ (φ : SheetForm) where
   pub sound-length : (t : List ℕ) → SoundIn φ t → length t ≡ sheetBytes
   unfolding askSheetIn
   sound-length t e = eqb-true (length t) sheetBytes (is-yes _ 1 0 (both-yes (is (eqb (length t) sheetBytes) 1 0) (askBlocks φ t blockCount 0) e .0))
 
   -- its first block is sealed
-  pub sound-seal : (t : List ℕ) → SoundIn φ t → sealRight φ (take blockBytes t) ≡ true
+  pub sound-seal : (t : List ℕ) → SoundIn φ t → sealRight (φ .sums) (take blockBytes t) ≡ true
   unfolding askSheetIn askBlocks
   sound-seal t e =
       let blocks : askBlocks φ t blockCount 0 ≡ passed tt = both-yes _ _ e .1 in
-      let first : askBlock φ (getD t 2 0) 0 (blockOf t 0) ≡ passed tt = both-yes _ (askBlocks φ t arrowCount 1) blocks .0 in
-      block-ok φ (getD t 2 0) 0 (blockOf t 0) first .check
+      let first : askBlock φ (getD t 2 0) (isNode (graphIn φ t)) 0 (blockOf t 0) ≡ passed tt = both-yes _ (askBlocks φ t arrowCount 1) blocks .0 in
+      block-ok φ (getD t 2 0) (isNode (graphIn φ t)) 0 (blockOf t 0) first .check
 
-  stored-label : (g : Graph) (k : ℕ) → g .n ≤ maxNodes → k < labelCount → wordAt (storeIn φ g) (16 + 8 * k) ≡ labelWord g k
-  stored-label g k s h = wordAt-of (storeIn φ g) (16 + 8 * k) (labelWord g k) (omega (arith, length-store φ g)) (small (g .n) (g .labelled k) s) (λ j l. label-byte φ g k j h l)
+  stored-line : (g : Graph) (k : ℕ) → g .n ≤ maxNodes → k < lineCount φ → wordAt (storeIn φ g) (16 + 8 * k) ≡ labelWord g k
+  stored-line g k s h = wordAt-of (storeIn φ g) (16 + 8 * k) (labelWord g k) (omega (arith, length-store φ g, few-lines φ)) (small (g .n) (lineOf g k) s) (λ j l. label-byte φ g k j h l)
 
   stored-row : (g : Graph) (a i : ℕ) → g .n ≤ maxNodes → a < arrowCount → i < maxNodes → wordAt (storeIn φ g) (blockBytes * (a + 1) + (16 + 8 * i)) ≡ rowWord g a i
   stored-row g a i s h l =
       wordAt-of (storeIn φ g) (blockBytes * (a + 1) + (16 + 8 * i)) (rowWord g a i) (omega (arith, length-store φ g)) (small (g .n) (g .joined a i) s) (λ j b. arrow-byte φ g a i j h l b)
 
   module _ (t : List ℕ) (bytes : (p : ℕ) → getD t p 0 < 256) (sound : SoundIn φ t) where
-    pub sound-n : (1 ≤ graphOf t .n) × (graphOf t .n ≤ maxNodes)
-    sound-n = let w : Within (graphOf t) = opening φ t bytes sound .within in (some-n (graphOf t) w, w .few-nodes)
+    abbrev g : Graph
+    g = graphIn φ t
 
-    pub sound-label : (k : ℕ) → k < labelCount → wordAt t (16 + 8 * k) ≡ labelWord (graphOf t) k
-    sound-label k h = ap (λ s. wordAt s (16 + 8 * k)) (opening φ t bytes sound .stored) ∙ stored-label (graphOf t) k (sound-n .1) h
+    pub sound-n : (1 ≤ g .n) × (g .n ≤ maxNodes)
+    sound-n = let w : Within g = opening φ t bytes sound .within in (some-n g w, w .few-nodes)
 
-    pub sound-row : (a i : ℕ) → a < arrowCount → i < graphOf t .n → wordAt t (blockBytes * (a + 1) + (16 + 8 * i)) ≡ rowWord (graphOf t) a i
-    sound-row a i h l = ap (λ s. wordAt s (blockBytes * (a + 1) + (16 + 8 * i))) (opening φ t bytes sound .stored) ∙ stored-row (graphOf t) a i (sound-n .1) h (omega (arith, sound-n .1))
+    sound-line : (k : ℕ) → k < lineCount φ → wordAt t (16 + 8 * k) ≡ labelWord g k
+    sound-line k h = ap (λ s. wordAt s (16 + 8 * k)) (opening φ t bytes sound .stored) ∙ stored-line g k (sound-n .1) h
+
+    pub sound-label : (k : ℕ) → k < labelCount → wordAt t (16 + 8 * k) ≡ setOf (g .n) (g .labelled k)
+    sound-label k h = sound-line k (omega (arith, label-lines φ)) ∙ ap (setOf (g .n)) (line-label g k h)
+
+    -- the nodes in use, where block 0 holds them
+    pub sound-used : φ .holdsUse ≡ true → wordAt t (16 + 8 * labelCount) ≡ setOf (g .n) (isNode g)
+    unfolding isNode
+    sound-used e =
+        let m : lineCount φ ≡ labelCount + 1 = ap (λ b. cond b (labelCount + 1) labelCount) e in
+        sound-line labelCount (omega arith) ∙ setOf-cong (g .n) (g .inUse) (isNode g) (λ i l. sym (ap (_&& g .inUse i) (lt-ltb i (g .n) l)))
+
+    pub sound-row : (a i : ℕ) → a < arrowCount → i < g .n → wordAt t (blockBytes * (a + 1) + (16 + 8 * i)) ≡ rowWord g a i
+    sound-row a i h l = ap (λ s. wordAt s (blockBytes * (a + 1) + (16 + 8 * i))) (opening φ t bytes sound .stored) ∙ stored-row g a i (sound-n .1) h (omega (arith, sound-n .1))

@@ -1,40 +1,62 @@
 -- What the questions notice of a sound sheet: every byte changed, and every two unequal neighbours of a block's body exchanged, with 2 and the block.
-use mathlib.Core.Path.{_≡_, sym, ap, ap₂, _∙_}
-use mathlib.Core.Bool.{true, false}
+use mathlib.Core.Path.{_≡_, sym, ap, ap₂, _∙_, fun-ext}
+use mathlib.Core.Bool.{Bool, true, false, _&&_, cond}
 use mathlib.Core.List.{List}
 use mathlib.Core.Logic.{_⊎_, ⊎-elim}
 use Prim.Native.Nat.{ℕ, zero, suc, _+_, _-_, _*_, _/_, _%_, _≤_, _<_}
 use native.Mathlib.Nat.{le-refl, eq-or-lt-of-le}
 use native.Mathlib.Decide.{decLt}
 use native.Mathlib.Omega.{arith}
-use borrow.Author.Tests.{eqb-true, eq-eqb}
-use lib.Dec.{eqb, lit≤}
+use borrow.Author.Tests.{eqb-true, eq-eqb, le-ltb}
+use lib.Dec.{eqb, ltb, lit≤}
 use lib.ListN.{length, getD, take, drop, set, length-set, length-drop, List·getD-eq-default}
 use lib.Seq.{getD-take, getD-drop, take-set-lt, take-set-le, drop-set-add, length-take-le}
 use Rattle.answer.specs.Asked.{Asked, passed, refused, _>>_, is}
-use Rattle.seal.specs.Seal.{blockBytes, Form, sealRight, exchanged}
+use Rattle.logic.specs.Graph.{Nodes, isNode}
+use Rattle.logic.specs.Limits.{labelCount}
+use Rattle.words.specs.Words.{member}
+use Rattle.seal.specs.Seal.{blockBytes, sealRight, exchanged}
 use Rattle.seal.proofs.Noticed.{change-noticed, exchange-noticed}
-use Rattle.sheet.specs.Sheet.{present, sheetBytes, blockCount}
+use Rattle.sheet.specs.Sheet.{SheetForm, present, sheetBytes, blockCount, bitIn, usedIn, graphIn}
 use Rattle.sheet.specs.Questions.{blockOf, headRight, zeroRight, askBlock, askBlocks, askSheetIn, askSheet, SoundIn, Sound}
 use Rattle.sheet.specs.Noticed.{AsksSheetFirst}
 use Rattle.sheet.proofs.Opening.{is-yes, both-yes, block-ok}
 
-module _ (f : Form) where
-  pub blocks-passed : (t : List ℕ) (m b : ℕ) → askBlocks f t m b ≡ passed tt → (j : ℕ) → b ≤ j → j < b + m → askBlock f (getD t 2 0) j (blockOf t j) ≡ passed tt
+-- block 0 tells n and the nodes in use
+pub byte-2 : (v : List ℕ) → getD (blockOf v 0) 2 0 ≡ getD v 2 0
+byte-2 v = getD-take blockBytes (drop (blockBytes * 0) v) 2 0 (omega arith)
+
+bit-0 : (v : List ℕ) (i : ℕ) → bitIn v (16 + 8 * labelCount) i ≡ bitIn (blockOf v 0) (16 + 8 * labelCount) i
+bit-0 v i = go (decLt i 64)
+  where
+    go : Dec (i < 64) → bitIn v (16 + 8 * labelCount) i ≡ bitIn (blockOf v 0) (16 + 8 * labelCount) i
+    go (yes l) = ap (λ x. ltb i 64 && member x (i % 8)) (sym (getD-take blockBytes (drop (blockBytes * 0) v) (16 + 8 * labelCount + i / 8) 0 (omega arith)))
+    go (no l) = let e : ltb i 64 ≡ false = le-ltb i 64 (omega arith) in ap (_&& member (getD v (16 + 8 * labelCount + i / 8) 0) (i % 8)) e ∙ sym (ap (_&& member (getD (blockOf v 0) (16 + 8 * labelCount + i / 8) 0) (i % 8)) e)
+
+pub nodes-0 : (f : SheetForm) (v : List ℕ) → isNode (graphIn f v) ≡ (λ i. ltb i (getD (blockOf v 0) 2 0) && usedIn f (blockOf v 0) i)
+unfolding isNode graphIn
+nodes-0 f v = fun-ext (λ i. ap₂ (λ m c. ltb i m && c) (sym (byte-2 v)) (go i (f .holdsUse)))
+  where
+    go : (i : ℕ) (c : Bool) → cond c (bitIn v (16 + 8 * labelCount)) (λ j. ltb j (getD v 2 0)) i ≡ cond c (bitIn (blockOf v 0) (16 + 8 * labelCount)) (λ j. ltb j (getD (blockOf v 0) 2 0)) i
+    go i true = bit-0 v i
+    go i false = ap (ltb i) (sym (byte-2 v))
+
+module _ (f : SheetForm) where
+  pub blocks-passed : (t : List ℕ) (m b : ℕ) → askBlocks f t m b ≡ passed tt → (j : ℕ) → b ≤ j → j < b + m → askBlock f (getD t 2 0) (isNode (graphIn f t)) j (blockOf t j) ≡ passed tt
   unfolding askBlocks
   blocks-passed t zero b e j h k = absurd (omega arith)
   blocks-passed t (suc m) b e j h k =
-      let both = both-yes (askBlock f (getD t 2 0) b (blockOf t b)) (askBlocks f t m (suc b)) e in
-      ⊎-elim (λ g. ap (λ i. askBlock f (getD t 2 0) i (blockOf t i)) (sym g) ∙ both .0) (λ g. blocks-passed t m (suc b) (both .1) j g (omega arith)) (eq-or-lt-of-le h)
+      let both = both-yes (askBlock f (getD t 2 0) (isNode (graphIn f t)) b (blockOf t b)) (askBlocks f t m (suc b)) e in
+      ⊎-elim (λ g. ap (λ i. askBlock f (getD t 2 0) (isNode (graphIn f t)) i (blockOf t i)) (sym g) ∙ both .0) (λ g. blocks-passed t m (suc b) (both .1) j g (omega arith)) (eq-or-lt-of-le h)
 
   -- the first block that is refused
-  first-refused : (t : List ℕ) (m i b q : ℕ) → i ≤ b → b < i + m → ((j : ℕ) → i ≤ j → j < b → askBlock f (getD t 2 0) j (blockOf t j) ≡ passed tt)
-      → askBlock f (getD t 2 0) b (blockOf t b) ≡ refused q b → askBlocks f t m i ≡ refused q b
+  first-refused : (t : List ℕ) (m i b q : ℕ) → i ≤ b → b < i + m → ((j : ℕ) → i ≤ j → j < b → askBlock f (getD t 2 0) (isNode (graphIn f t)) j (blockOf t j) ≡ passed tt)
+      → askBlock f (getD t 2 0) (isNode (graphIn f t)) b (blockOf t b) ≡ refused q b → askBlocks f t m i ≡ refused q b
   unfolding askBlocks _>>_
   first-refused t zero i b q h k before e = absurd (omega arith)
   first-refused t (suc m) i b q h k before e =
       ⊎-elim
-      (λ g. ap (λ a. a >> askBlocks f t m (suc i)) (ap (λ c. askBlock f (getD t 2 0) c (blockOf t c)) g ∙ e))
+      (λ g. ap (λ a. a >> askBlocks f t m (suc i)) (ap (λ c. askBlock f (getD t 2 0) (isNode (graphIn f t)) c (blockOf t c)) g ∙ e))
       (λ g. ap (λ a. a >> askBlocks f t m (suc i)) (before i (le-refl i) g) ∙ first-refused t m (suc i) b q g (omega arith) (λ j l u. before j (omega arith) u) e)
       (eq-or-lt-of-le h)
 
@@ -45,19 +67,18 @@ module _ (f : Form) where
       (eqb-true (length t) sheetBytes (is-yes (eqb (length t) sheetBytes) 1 0 (both .0)), both .1)
 
   -- A sheet of which the blocks before block b are those of a sound sheet and block b has not the right check bytes.
-  pub damaged : (t u : List ℕ) (b : ℕ) → SoundIn f t → b < blockCount → length u ≡ length t → ((j : ℕ) → j < b → blockOf u j ≡ blockOf t j) → sealRight f (blockOf u b) ≡ false → askSheetIn f u ≡ refused 2 b
+  pub damaged : (t u : List ℕ) (b : ℕ) → SoundIn f t → b < blockCount → length u ≡ length t → ((j : ℕ) → j < b → blockOf u j ≡ blockOf t j) → sealRight (f .sums) (blockOf u b) ≡ false → askSheetIn f u ≡ refused 2 b
   unfolding askSheetIn askBlock is _>>_
   damaged t u b sound h n same broken =
       let parts = sound-parts t sound in
       ap (λ a. is a 1 0 >> askBlocks f u blockCount 0) (eq-eqb (length u) sheetBytes (n ∙ parts .0))
-      ∙ first-refused u blockCount 0 b 2 (omega arith) (omega arith) before (ap (λ a. is a 2 b >> (is (headRight b (blockOf u b)) 3 b >> is (zeroRight f (getD u 2 0) b (blockOf u b)) 4 b)) broken)
+      ∙ first-refused u blockCount 0 b 2 (omega arith) (omega arith) before (ap (λ a. is a 2 b >> (is (headRight f b (blockOf u b)) 3 b >> is (zeroRight f (getD u 2 0) (isNode (graphIn f u)) b (blockOf u b)) 4 b)) broken)
     where
-      byte-2 : (v : List ℕ) → getD (blockOf v 0) 2 0 ≡ getD v 2 0
-      byte-2 v = getD-take blockBytes (drop (blockBytes * 0) v) 2 0 (omega arith)
-
-      before : (j : ℕ) → 0 ≤ j → j < b → askBlock f (getD u 2 0) j (blockOf u j) ≡ passed tt
+      before : (j : ℕ) → 0 ≤ j → j < b → askBlock f (getD u 2 0) (isNode (graphIn f u)) j (blockOf u j) ≡ passed tt
       before j l k =
-          ap₂ (λ c d. askBlock f c j d) (sym (byte-2 u) ∙ ap (λ c. getD c 2 0) (same 0 (omega arith)) ∙ byte-2 t) (same j k)
+          let first : blockOf u 0 ≡ blockOf t 0 = same 0 (omega arith) in
+          ap₂ (λ c d. askBlock f c (isNode (graphIn f u)) j d) (sym (byte-2 u) ∙ ap (λ c. getD c 2 0) first ∙ byte-2 t) (same j k)
+          ∙ ap (λ (v : Nodes). askBlock f (getD t 2 0) v j (blockOf t j)) (nodes-0 f u ∙ ap (λ (c : List ℕ). λ i. ltb i (getD c 2 0) && usedIn f c i) first ∙ sym (nodes-0 f t))
           ∙ blocks-passed t blockCount 0 (sound-parts t sound .1) j l (omega arith)
 
 -- one block of a sheet, and the blocks before it, after a byte of it is changed
@@ -85,23 +106,23 @@ module _ (t : List ℕ) (n : length t ≡ sheetBytes) (b : ℕ) (h : b < blockCo
       go (no l) = omega (arith, List·getD-eq-default (blockOf t b) 0 {n = q} (omega (arith, length-block)))
 
 -- Of every sound sheet whose form has a modulus above 255:
-module _ (f : Form) (above : 256 ≤ f .modulus) (t : List ℕ) (small : (p : ℕ) → getD t p 0 < 256) (sound : SoundIn f t) where
+module _ (f : SheetForm) (above : 256 ≤ f .sums .modulus) (t : List ℕ) (small : (p : ℕ) → getD t p 0 < 256) (sound : SoundIn f t) where
   n : length t ≡ sheetBytes
   n = sound-parts f t sound .0
 
-  block-right : (b : ℕ) → b < blockCount → sealRight f (blockOf t b) ≡ true
-  block-right b h = block-ok f (getD t 2 0) b (blockOf t b) (blocks-passed f t blockCount 0 (sound-parts f t sound .1) b (omega arith) (omega arith)) .check
+  block-right : (b : ℕ) → b < blockCount → sealRight (f .sums) (blockOf t b) ≡ true
+  block-right b h = block-ok f (getD t 2 0) (isNode (graphIn f t)) b (blockOf t b) (blocks-passed f t blockCount 0 (sound-parts f t sound .1) b (omega arith) (omega arith)) .check
 
   change-at : (b q x : ℕ) → b < blockCount → q < blockBytes → x < 256 → (x ≡ getD t (blockBytes * b + q) 0 → ⊥) → askSheetIn f (set t (blockBytes * b + q) x) ≡ refused 2 b
   change-at b q x h l k other =
       damaged f t (set t (blockBytes * b + q) x) b sound h (length-set t (blockBytes * b + q) x) (λ j m. before-set t n b h q x j m)
-      (ap (sealRight f) (block-set t n b h q x l)
-      ∙ change-noticed f above (blockOf t b) (length-block t n b h) (block-small t n b h small) (block-right b h) q x l k (λ e. other (e ∙ block-byte t n b h q l)))
+      (ap (sealRight (f .sums)) (block-set t n b h q x l)
+      ∙ change-noticed (f .sums) above (blockOf t b) (length-block t n b h) (block-small t n b h small) (block-right b h) q x l k (λ e. other (e ∙ block-byte t n b h q l)))
 
-  exchange-at : (b q : ℕ) → b < blockCount → suc q < f .bodyBytes → (getD t (blockBytes * b + q) 0 ≡ getD t (blockBytes * b + suc q) 0 → ⊥) → askSheetIn f (exchanged t (blockBytes * b + q)) ≡ refused 2 b
+  exchange-at : (b q : ℕ) → b < blockCount → suc q < f .sums .bodyBytes → (getD t (blockBytes * b + q) 0 ≡ getD t (blockBytes * b + suc q) 0 → ⊥) → askSheetIn f (exchanged t (blockBytes * b + q)) ≡ refused 2 b
   unfolding exchanged
   exchange-at b q h l other =
-      let l2 : suc q < blockBytes = omega (arith, f .whole) in
+      let l2 : suc q < blockBytes = omega (arith, f .sums .whole) in
       let l1 : q < blockBytes = omega arith in
       let e : suc (blockBytes * b + q) ≡ blockBytes * b + suc q = omega arith in
       let x : ℕ = getD t (blockBytes * b + q) 0 in
@@ -113,8 +134,8 @@ module _ (f : Form) (above : 256 ≤ f .modulus) (t : List ℕ) (small : (p : �
       ap (λ i. askSheetIn f (set (set t (blockBytes * b + q) (getD t i 0)) i x)) e
       ∙ damaged f t (set u (blockBytes * b + suc q) x) b sound h (length-set u (blockBytes * b + suc q) x ∙ length-set t (blockBytes * b + q) y)
       (λ j m. before-set u nu b h (suc q) x j m ∙ before-set t n b h q y j m)
-      (ap (sealRight f) (block-set u nu b h (suc q) x l2 ∙ ap (λ k. set k (suc q) x) (block-set t n b h q y l1) ∙ ap₂ (λ v w. set (set (blockOf t b) q v) (suc q) w) (sym ey) (sym ex))
-      ∙ exchange-noticed f above (blockOf t b) (length-block t n b h) (block-small t n b h small) (block-right b h) q l (λ g. other (sym ex ∙ g ∙ ey)))
+      (ap (sealRight (f .sums)) (block-set u nu b h (suc q) x l2 ∙ ap (λ k. set k (suc q) x) (block-set t n b h q y l1) ∙ ap₂ (λ v w. set (set (blockOf t b) q v) (suc q) w) (sym ey) (sym ex))
+      ∙ exchange-noticed (f .sums) above (blockOf t b) (length-block t n b h) (block-small t n b h small) (block-right b h) q l (λ g. other (sym ex ∙ g ∙ ey)))
 
   -- every byte changed,
   pub sheet-change : (p x : ℕ) → p < sheetBytes → x < 256 → (x ≡ getD t p 0 → ⊥) → askSheetIn f (set t p x) ≡ refused 2 (p / blockBytes)
@@ -123,7 +144,7 @@ module _ (f : Form) (above : 256 ≤ f .modulus) (t : List ℕ) (small : (p : �
       ap (λ i. askSheetIn f (set t i x)) (sym e) ∙ change-at (p / blockBytes) (p % blockBytes) x (omega arith) (omega arith) k (λ g. other (g ∙ ap (λ i. getD t i 0) e))
 
   -- and every two unequal neighbours of a block's body exchanged.
-  pub sheet-exchange : (p : ℕ) → p < sheetBytes → suc (p % blockBytes) < f .bodyBytes → (getD t p 0 ≡ getD t (suc p) 0 → ⊥) → askSheetIn f (exchanged t p) ≡ refused 2 (p / blockBytes)
+  pub sheet-exchange : (p : ℕ) → p < sheetBytes → suc (p % blockBytes) < f .sums .bodyBytes → (getD t p 0 ≡ getD t (suc p) 0 → ⊥) → askSheetIn f (exchanged t p) ≡ refused 2 (p / blockBytes)
   sheet-exchange p h l other =
       let e : blockBytes * (p / blockBytes) + p % blockBytes ≡ p = omega arith in
       let g : blockBytes * (p / blockBytes) + suc (p % blockBytes) ≡ suc p = omega arith in
@@ -134,12 +155,12 @@ module _ (t : List ℕ) (small : (p : ℕ) → getD t p 0 < 256) (sound : Sound 
   pub every-change : (p x : ℕ) → p < sheetBytes → x < 256 → (x ≡ getD t p 0 → ⊥) → askSheet (set t p x) ≡ refused 2 (p / blockBytes)
   every-change = sheet-change present (lit≤ tt) t small sound
 
-  pub every-exchange : (p : ℕ) → p < sheetBytes → suc (p % blockBytes) < present .bodyBytes → (getD t p 0 ≡ getD t (suc p) 0 → ⊥) → askSheet (exchanged t p) ≡ refused 2 (p / blockBytes)
+  pub every-exchange : (p : ℕ) → p < sheetBytes → suc (p % blockBytes) < present .sums .bodyBytes → (getD t p 0 ≡ getD t (suc p) 0 → ⊥) → askSheet (exchanged t p) ≡ refused 2 (p / blockBytes)
   every-exchange = sheet-exchange present (lit≤ tt) t small sound
 
   module _ {A : Type 0} (call : List ℕ → Asked A) (asks : AsksSheetFirst call) where
     pub every-caller-notices : (p x : ℕ) → p < sheetBytes → x < 256 → (x ≡ getD t p 0 → ⊥) → call (set t p x) ≡ refused 2 (p / blockBytes)
     every-caller-notices p x h k other = asks .first (set t p x) 2 (p / blockBytes) (every-change p x h k other)
 
-    pub every-caller-notices-exchange : (p : ℕ) → p < sheetBytes → suc (p % blockBytes) < present .bodyBytes → (getD t p 0 ≡ getD t (suc p) 0 → ⊥) → call (exchanged t p) ≡ refused 2 (p / blockBytes)
+    pub every-caller-notices-exchange : (p : ℕ) → p < sheetBytes → suc (p % blockBytes) < present .sums .bodyBytes → (getD t p 0 ≡ getD t (suc p) 0 → ⊥) → call (exchanged t p) ≡ refused 2 (p / blockBytes)
     every-caller-notices-exchange p h l other = asks .first (exchanged t p) 2 (p / blockBytes) (every-exchange p h l other)

@@ -1,7 +1,7 @@
 -- What writing words into a block of a stored sheet makes of the sheet.
 use mathlib.Core.Logic.{_≢_}
 use mathlib.Core.Path.{_≡_, refl, sym, ap, ap₂, _∙_}
-use mathlib.Core.Bool.{cond}
+use mathlib.Core.Bool.{true, cond}
 use mathlib.Core.List.{List, _++_, append-assoc, append-nil}
 use Prim.Native.Nat.{ℕ, zero, suc, _+_, _-_, _*_, _≤_, _<_}
 use native.Mathlib.Nat.{zero-add}
@@ -13,15 +13,16 @@ use lib.ListN.{length, getD, take, drop, replicate, length-append, length-replic
 use lib.Seq.{take-at, drop-at}
 use Rattle.logic.specs.Graph.{Graph, Nodes, Pairs}
 use Rattle.logic.specs.Limits.{Within, PairsIn, maxNodes, labelCount, arrowCount}
+use Rattle.logic.specs.Closing.{withUse}
 use Rattle.logic.specs.Steps.{update, relabel, rejoin}
 use Rattle.logic.proofs.Inside.{no-node}
 use Rattle.words.specs.Words.{setOf, bytes, putWord}
 use Rattle.words.proofs.SetLaws.{setOf-cong}
 use Rattle.words.proofs.WordLaws.{length-bytes}
 use Rattle.seal.specs.Seal.{seal, sealed, reseal, blockBytes, Form}
-use Rattle.sheet.specs.Sheet.{chunks, block, labelBlock, arrowBlock, storeIn, relabelAll, Rows, padding}
+use Rattle.sheet.specs.Sheet.{chunks, block, SheetForm, lineOf, lineCount, labelBlock, arrowBlock, storeIn, withLines, relabelAll, Rows, padding}
 use Rattle.sheet.specs.Writes.{putRows}
-use Rattle.sheet.proofs.Blocks.{wordsOf, bodyOf, length-words, length-body, length-chunks, labelHead, labelWord, arrowHead, rowWord, length-labelBlock, length-arrowBlock, labels-fit, rows-fit}
+use Rattle.sheet.proofs.Blocks.{wordsOf, bodyOf, length-words, length-body, length-chunks, labelHead, labelWord, line-label, line-use, label-lines, arrowHead, rowWord, length-labelBlock, length-arrowBlock, labels-fit, rows-fit}
 
 -- a word is put where 8 bytes stand
 put-mid : (A B D : List ℕ) (at x : ℕ) → length A ≡ at → length B ≡ 8 → putWord (A ++ (B ++ D)) at x ≡ A ++ (bytes 8 x ++ D)
@@ -67,14 +68,14 @@ module _ (φ : Form) where
 
   module _ (head : List ℕ) (h3 : length head ≡ 3) (m : ℕ) (c : List ℕ) where
     -- a word is put into a block
-    put-raw : (f h : ℕ → ℕ) (k x : ℕ) → k < m → h k ≡ x → ((j : ℕ) → j ≢ k → f j ≡ h j) → putWord (raw head m f c) (16 + 8 * k) x ≡ raw head m h c
+    pub put-raw : (f h : ℕ → ℕ) (k x : ℕ) → k < m → h k ≡ x → ((j : ℕ) → j < m → j ≢ k → f j ≡ h j) → putWord (raw head m f c) (16 + 8 * k) x ≡ raw head m h c
     put-raw f h k x l e same =
         let s : k + suc (m - suc k) ≡ m = omega arith in
         ap (λ y. putWord y (16 + 8 * k) x) (parts f s)
         ∙ put-mid ((head ++ replicate 13 0) ++ wordsOf k f) (bytes 8 (f (0 + k))) _ (16 + 8 * k) x
         (length-append (head ++ replicate 13 0) _ ∙ omega (arith, length-append head (replicate 13 0), length-replicate {A = ℕ} 13 0, length-words k f)) (length-bytes 8 (f (0 + k)))
         ∙ ap₂ (λ y z. ((head ++ replicate 13 0) ++ y) ++ (bytes 8 x ++ ((z ++ replicate (padding φ m) 0) ++ c)))
-        (chunks-same k 0 _ _ (λ j a b. ap (bytes 8) (same j (λ q. omega arith)))) (chunks-same (m - suc k) (suc (0 + k)) _ _ (λ j a b. ap (bytes 8) (same j (λ q. omega arith))))
+        (chunks-same k 0 _ _ (λ j a b. ap (bytes 8) (same j (omega arith) (λ q. omega arith)))) (chunks-same (m - suc k) (suc (0 + k)) _ _ (λ j a b. ap (bytes 8) (same j (omega arith) (λ q. omega arith))))
         ∙ ap (λ y. ((head ++ replicate 13 0) ++ wordsOf k h) ++ (bytes 8 y ++ ((chunks (m - suc k) (suc (0 + k)) (λ x. bytes 8 (h x)) ++ replicate (padding φ m) 0) ++ c))) (sym e ∙ ap h (sym (zero-add k)))
         ∙ sym (parts h s)
       where
@@ -97,7 +98,7 @@ module _ (φ : Form) where
     put-rows-raw f rows zero l = sym (ap (λ w. (head ++ replicate 13 0 ++ w ++ replicate (padding φ m) 0) ++ c) (chunks-same m 0 _ _ (λ j a b. ap (λ d. bytes 8 (cond d (getD rows j 0) (f j))) (le-ltb j 0 (omega arith)))))
     put-rows-raw f rows (suc i) l =
         ap (λ y. putWord y (16 + 8 * i) (getD rows i 0)) (put-rows-raw f rows i (omega arith))
-        ∙ put-raw (mixed i rows f) (mixed (suc i) rows f) i (getD rows i 0) (omega arith) (ap (λ b. cond b (getD rows i 0) (f i)) (lt-ltb i (suc i) (omega arith))) (λ j q. go j q (decLt j i))
+        ∙ put-raw (mixed i rows f) (mixed (suc i) rows f) i (getD rows i 0) (omega arith) (ap (λ b. cond b (getD rows i 0) (f i)) (lt-ltb i (suc i) (omega arith))) (λ j s q. go j q (decLt j i))
       where
         go : (j : ℕ) → j ≢ i → Dec (j < i) → cond (ltb j i) (getD rows j 0) (f j) ≡ cond (ltb j (suc i)) (getD rows j 0) (f j)
         go j q (yes a) = ap (λ b. cond b (getD rows j 0) (f j)) (lt-ltb j i a ∙ sym (lt-ltb j (suc i) (omega arith)))
@@ -115,6 +116,7 @@ module _ (φ : Form) where
         go j u (yes a) = ap (λ b. cond b (getD rows j 0) (f j)) (lt-ltb j n a) ∙ new j a
         go j u (no a) = ap (λ b. cond b (getD rows j 0) (f j)) (le-ltb j n (omega arith)) ∙ old j (omega arith) u
 
+module _ (φ : SheetForm) where
   -- what stands before, in and behind the block of arrow a
   module _ (g : Graph) where
     store-at : (a : ℕ) → a < arrowCount → storeIn φ g ≡ (labelBlock φ g ++ chunks a 0 (arrowBlock φ g)) ++ (arrowBlock φ g a ++ chunks (arrowCount - suc a) (suc a) (arrowBlock φ g))
@@ -128,71 +130,87 @@ module _ (φ : Form) where
     length-before : (a : ℕ) → length (labelBlock φ g ++ chunks a 0 (arrowBlock φ g)) ≡ blockBytes * a + blockBytes
     length-before a = length-append (labelBlock φ g) _ ∙ omega (arith, length-labelBlock φ g, length-chunks blockBytes (arrowBlock φ g) (length-arrowBlock φ g) a 0)
 
-  label-raw : (g : Graph) → labelBlock φ g ≡ raw (labelHead g) labelCount (labelWord g) (seal φ (bodyOf φ (labelHead g) labelCount (labelWord g)))
+  label-raw : (g : Graph) → labelBlock φ g ≡ raw (φ .sums) (labelHead g) (lineCount φ) (labelWord g) (seal (φ .sums) (bodyOf (φ .sums) (labelHead g) (lineCount φ) (labelWord g)))
   unfolding labelBlock block sealed
   label-raw g = refl
 
-  arrow-raw : (g : Graph) (a : ℕ) → arrowBlock φ g a ≡ raw (arrowHead a) maxNodes (rowWord g a) (seal φ (bodyOf φ (arrowHead a) maxNodes (rowWord g a)))
+  arrow-raw : (g : Graph) (a : ℕ) → arrowBlock φ g a ≡ raw (φ .sums) (arrowHead a) maxNodes (rowWord g a) (seal (φ .sums) (bodyOf (φ .sums) (arrowHead a) maxNodes (rowWord g a)))
   unfolding arrowBlock block sealed
   arrow-raw g a = refl
 
-  -- the label block with label k replaced, and sealed
-  label-put : (g : Graph) (v : Nodes) (k x : ℕ) → k < labelCount → x ≡ setOf (g .n) v → reseal φ (putWord (labelBlock φ g) (16 + 8 * k) x) ≡ labelBlock φ (relabel g k v)
-  unfolding labelBlock
-  label-put g v k x h q =
-      ap (λ y. reseal φ (putWord y (16 + 8 * k) x)) (label-raw g)
-      ∙ ap (reseal φ) (put-raw (labelHead g) refl labelCount (seal φ (bodyOf φ (labelHead g) labelCount (labelWord g)))
-      (labelWord g) (labelWord (relabel g k v)) k x h (ap (setOf (g .n)) (update-same (g .labelled) k v) ∙ sym q) (λ j d. ap (setOf (g .n)) (update-other (g .labelled) k v j d)))
-      ∙ seal-raw (labelHead g) refl labelCount _ (labelWord (relabel g k v)) (labels-fit φ)
+  -- block 0 with line k replaced, and sealed
+  module _ (g : Graph) (v : ℕ → Nodes) (u : Nodes) (k x : ℕ) (h : k < lineCount φ) (q : x ≡ labelWord (withLines g v u) k) (same : (j : ℕ) → j < lineCount φ → j ≢ k → lineOf g j ≡ lineOf (withLines g v u) j) where
+    line-put : reseal (φ .sums) (putWord (labelBlock φ g) (16 + 8 * k) x) ≡ labelBlock φ (withLines g v u)
+    unfolding labelBlock
+    line-put =
+        ap (λ y. reseal (φ .sums) (putWord y (16 + 8 * k) x)) (label-raw g)
+        ∙ ap (reseal (φ .sums)) (put-raw (φ .sums) (labelHead g) refl (lineCount φ) (seal (φ .sums) (bodyOf (φ .sums) (labelHead g) (lineCount φ) (labelWord g)))
+        (labelWord g) (labelWord (withLines g v u)) k x h (sym q) (λ j l d. ap (setOf (g .n)) (same j l d)))
+        ∙ seal-raw (φ .sums) (labelHead g) refl (lineCount φ) _ (labelWord (withLines g v u)) (labels-fit φ)
+
+    line-written : (t : List ℕ) → t ≡ storeIn φ g → reseal (φ .sums) (putWord (take blockBytes t) (16 + 8 * k) x) ++ drop blockBytes t ≡ storeIn φ (withLines g v u)
+    unfolding storeIn arrowBlock
+    line-written t e =
+        ap₂ (λ y z. reseal (φ .sums) (putWord y (16 + 8 * k) x) ++ z)
+        (ap (take blockBytes) e ∙ take-at (labelBlock φ g) (chunks arrowCount 0 (arrowBlock φ g)) blockBytes (length-labelBlock φ g)) (ap (drop blockBytes) e ∙ drop-at (labelBlock φ g) (chunks arrowCount 0 (arrowBlock φ g)) blockBytes (length-labelBlock φ g))
+        ∙ ap (_++ chunks arrowCount 0 (arrowBlock φ g)) line-put
 
   -- Labels: in the sheet that stores g, word k of block 0 replaced, and the block sealed.
-  pub relabelled : (g : Graph) (v : Nodes) (k x : ℕ) (t : List ℕ) → k < labelCount → t ≡ storeIn φ g → x ≡ setOf (g .n) v → reseal φ (putWord (take blockBytes t) (16 + 8 * k) x) ++ drop blockBytes t ≡ storeIn φ (relabel g k v)
-  unfolding storeIn arrowBlock
+  pub relabelled : (g : Graph) (v : Nodes) (k x : ℕ) (t : List ℕ) → k < labelCount → t ≡ storeIn φ g → x ≡ setOf (g .n) v → reseal (φ .sums) (putWord (take blockBytes t) (16 + 8 * k) x) ++ drop blockBytes t ≡ storeIn φ (relabel g k v)
   relabelled g v k x t h e q =
-      ap₂ (λ y z. reseal φ (putWord y (16 + 8 * k) x) ++ z)
-      (ap (take blockBytes) e ∙ take-at (labelBlock φ g) (chunks arrowCount 0 (arrowBlock φ g)) blockBytes (length-labelBlock φ g)) (ap (drop blockBytes) e ∙ drop-at (labelBlock φ g) (chunks arrowCount 0 (arrowBlock φ g)) blockBytes (length-labelBlock φ g))
-      ∙ ap (_++ chunks arrowCount 0 (arrowBlock φ g)) (label-put g v k x h q)
+      line-written g (update (g .labelled) k v) (g .inUse) k x (omega (arith, label-lines φ))
+      (q ∙ ap (setOf (g .n)) (sym (line-label (relabel g k v) k h ∙ update-same (g .labelled) k v)))
+      (λ j l d. ap (λ (w : Nodes). cond (ltb j labelCount) w (g .inUse)) (update-other (g .labelled) k v j d)) t e
+
+  -- Where block 0 holds the nodes in use: line 48 replaced.
+  pub reused : (g : Graph) (u : Nodes) (x : ℕ) (t : List ℕ) → φ .holdsUse ≡ true → t ≡ storeIn φ g → x ≡ setOf (g .n) u → reseal (φ .sums) (putWord (take blockBytes t) (16 + 8 * labelCount) x) ++ drop blockBytes t ≡ storeIn φ (withUse g u)
+  reused g u x t held e q =
+      let m : lineCount φ ≡ labelCount + 1 = ap (λ b. cond b (labelCount + 1) labelCount) held in
+      line-written g (g .labelled) u labelCount x (omega arith) q (λ j l d. other j (omega arith) d) t e
+    where
+      other : (j : ℕ) → j < labelCount + 1 → j ≢ labelCount → lineOf g j ≡ lineOf (withUse g u) j
+      other j l d = let b : j < labelCount = omega (arith, d) in line-label g j b ∙ sym (line-label (withUse g u) j b)
 
   -- All labels: in the sheet that stores g, the words of block 0 replaced, and the block sealed.
   module _ (g : Graph) (v : ℕ → Nodes) (rows : List ℕ) (new : (k : ℕ) → k < labelCount → getD rows k 0 ≡ setOf (g .n) (v k)) where
-    labels-put : reseal φ (putRows labelCount rows (labelBlock φ g)) ≡ labelBlock φ (relabelAll g v)
+    labels-put : reseal (φ .sums) (putRows labelCount rows (labelBlock φ g)) ≡ labelBlock φ (relabelAll g v)
     unfolding labelBlock
     labels-put =
-        ap (λ y. reseal φ (putRows labelCount rows y)) (label-raw g)
-        ∙ put-rows-block (labelHead g) refl labelCount (seal φ (bodyOf φ (labelHead g) labelCount (labelWord g))) (labelWord g) (labelWord (relabelAll g v)) rows labelCount (omega arith) (labels-fit φ)
-        new (λ k l u. absurd (omega arith))
+        ap (λ y. reseal (φ .sums) (putRows labelCount rows y)) (label-raw g)
+        ∙ put-rows-block (φ .sums) (labelHead g) refl (lineCount φ) (seal (φ .sums) (bodyOf (φ .sums) (labelHead g) (lineCount φ) (labelWord g))) (labelWord g) (labelWord (relabelAll g v)) rows labelCount (label-lines φ) (labels-fit φ)
+        (λ k l. new k l ∙ ap (setOf (g .n)) (sym (line-label (relabelAll g v) k l))) (λ k l u. ap (setOf (g .n)) (line-use g k l ∙ sym (line-use (relabelAll g v) k l)))
 
-    pub all-relabelled : (t : List ℕ) → t ≡ storeIn φ g → reseal φ (putRows labelCount rows (take blockBytes t)) ++ drop blockBytes t ≡ storeIn φ (relabelAll g v)
+    pub all-relabelled : (t : List ℕ) → t ≡ storeIn φ g → reseal (φ .sums) (putRows labelCount rows (take blockBytes t)) ++ drop blockBytes t ≡ storeIn φ (relabelAll g v)
     unfolding storeIn arrowBlock
     all-relabelled t e =
-        ap₂ (λ y z. reseal φ (putRows labelCount rows y) ++ z)
+        ap₂ (λ y z. reseal (φ .sums) (putRows labelCount rows y) ++ z)
         (ap (take blockBytes) e ∙ take-at (labelBlock φ g) (chunks arrowCount 0 (arrowBlock φ g)) blockBytes (length-labelBlock φ g)) (ap (drop blockBytes) e ∙ drop-at (labelBlock φ g) (chunks arrowCount 0 (arrowBlock φ g)) blockBytes (length-labelBlock φ g))
         ∙ ap (_++ chunks arrowCount 0 (arrowBlock φ g)) labels-put
 
   module _ (g : Graph) (w : Within g) (v : Pairs) (inside : PairsIn g v) (a : ℕ) (rows : List ℕ) (r : Rows (g .n) v rows) where
-    arrow-put : reseal φ (putRows (g .n) rows (arrowBlock φ g a)) ≡ arrowBlock φ (rejoin g a v) a
+    arrow-put : reseal (φ .sums) (putRows (g .n) rows (arrowBlock φ g a)) ≡ arrowBlock φ (rejoin g a v) a
     unfolding arrowBlock
     arrow-put =
-        ap (λ y. reseal φ (putRows (g .n) rows y)) (arrow-raw g a)
-        ∙ put-rows-block (arrowHead a) refl maxNodes (seal φ (bodyOf φ (arrowHead a) maxNodes (rowWord g a))) (rowWord g a) (rowWord (rejoin g a v) a) rows (g .n) (w .few-nodes) (rows-fit φ)
+        ap (λ y. reseal (φ .sums) (putRows (g .n) rows y)) (arrow-raw g a)
+        ∙ put-rows-block (φ .sums) (arrowHead a) refl maxNodes (seal (φ .sums) (bodyOf (φ .sums) (arrowHead a) maxNodes (rowWord g a))) (rowWord g a) (rowWord (rejoin g a v) a) rows (g .n) (w .few-nodes) (rows-fit φ)
         (λ i l. r .row i l ∙ ap (λ u. setOf (g .n) (u i)) (sym (update-same (g .joined) a v)))
         (λ i l u. setOf-cong (g .n) _ _ (λ j b. w .arrows-in a .starts i j (no-node g i l) ∙ sym (inside .starts i j (no-node g i l))) ∙ ap (λ u. setOf (g .n) (u i)) (sym (update-same (g .joined) a v)))
 
     other-block : (b : ℕ) → b ≢ a → arrowBlock φ g b ≡ arrowBlock φ (rejoin g a v) b
     unfolding arrowBlock
-    other-block b d = ap (λ u. block φ (arrowHead b) maxNodes (λ i. setOf (g .n) (u i))) (update-other (g .joined) a v b d)
+    other-block b d = ap (λ u. block (φ .sums) (arrowHead b) maxNodes (λ i. setOf (g .n) (u i))) (update-other (g .joined) a v b d)
 
     -- Arrows: in the sheet that stores g, the rows of a's block replaced, and the block sealed.
     pub rejoined : (t : List ℕ) → a < arrowCount → t ≡ storeIn φ g
-        → take (blockBytes * a + blockBytes) t ++ (reseal φ (putRows (g .n) rows (take blockBytes (drop (blockBytes * a + blockBytes) t))) ++ drop blockBytes (drop (blockBytes * a + blockBytes) t)) ≡ storeIn φ (rejoin g a v)
+        → take (blockBytes * a + blockBytes) t ++ (reseal (φ .sums) (putRows (g .n) rows (take blockBytes (drop (blockBytes * a + blockBytes) t))) ++ drop blockBytes (drop (blockBytes * a + blockBytes) t)) ≡ storeIn φ (rejoin g a v)
     unfolding labelBlock
     rejoined t h e =
         let front : List ℕ = labelBlock φ g ++ chunks a 0 (arrowBlock φ g) in
         let back : List ℕ = chunks (arrowCount - suc a) (suc a) (arrowBlock φ g) in
         let s : t ≡ front ++ (arrowBlock φ g a ++ back) = e ∙ store-at g a h in
         let d : drop (blockBytes * a + blockBytes) t ≡ arrowBlock φ g a ++ back = ap (drop (blockBytes * a + blockBytes)) s ∙ drop-at front (arrowBlock φ g a ++ back) (blockBytes * a + blockBytes) (length-before g a) in
-        ap₂ (λ x y. x ++ (reseal φ (putRows (g .n) rows (take blockBytes y)) ++ drop blockBytes y)) (ap (take (blockBytes * a + blockBytes)) s ∙ take-at front (arrowBlock φ g a ++ back) (blockBytes * a + blockBytes) (length-before g a)) d
-        ∙ ap₂ (λ x y. front ++ (reseal φ (putRows (g .n) rows x) ++ y)) (take-at (arrowBlock φ g a) back blockBytes (length-arrowBlock φ g a)) (drop-at (arrowBlock φ g a) back blockBytes (length-arrowBlock φ g a))
+        ap₂ (λ x y. x ++ (reseal (φ .sums) (putRows (g .n) rows (take blockBytes y)) ++ drop blockBytes y)) (ap (take (blockBytes * a + blockBytes)) s ∙ take-at front (arrowBlock φ g a ++ back) (blockBytes * a + blockBytes) (length-before g a)) d
+        ∙ ap₂ (λ x y. front ++ (reseal (φ .sums) (putRows (g .n) rows x) ++ y)) (take-at (arrowBlock φ g a) back blockBytes (length-arrowBlock φ g a)) (drop-at (arrowBlock φ g a) back blockBytes (length-arrowBlock φ g a))
         ∙ ap (λ x. front ++ (x ++ back)) arrow-put
         ∙ ap₂ (λ x y. (labelBlock φ g ++ x) ++ (arrowBlock φ (rejoin g a v) a ++ y)) (chunks-same a 0 _ _ (λ j l u. other-block j (λ q. omega arith))) (chunks-same (arrowCount - suc a) (suc a) _ _ (λ j l u. other-block j (λ q. omega arith)))
         ∙ sym (store-at (rejoin g a v) a h)

@@ -11,16 +11,16 @@ use lib.Dec.{eqb, ltb}
 use lib.ListN.{getD}
 use Rattle.logic.specs.Graph.{Nodes, allBelow, implies}
 use Rattle.logic.specs.Limits.{maxNodes, labelCount}
-use Rattle.logic.proofs.Below.{all-true, all-each, none-outside}
+use Rattle.logic.proofs.Below.{all-cong, all-true, all-each, none-outside}
 use Rattle.words.specs.Words.{setOf, member, wordAt}
-use Rattle.words.proofs.SetLaws.{setOf-empty, member-zero, member-setOf}
+use Rattle.words.proofs.SetLaws.{setOf-empty, setOf-none, member-zero, member-setOf}
 use Rattle.words.proofs.WordLaws.{member-wordAt}
-use Rattle.seal.specs.Seal.{Form}
 use Rattle.sheet.specs.Questions.{free, zeroRight}
-use Rattle.sheet.specs.Masks.{wordCount, zerosAt, within, masked, zeroBut}
-use Rattle.sheet.specs.Sheet.{padding}
+use Rattle.sheet.specs.Masks.{wordCount, zerosAt, within, zeroBut, lineMask, rowMask}
+use Rattle.sheet.specs.Sheet.{padding, SheetForm, lineCount}
 use Rattle.sheet.proofs.Passes.{if-clear, if-free}
 use Rattle.sheet.proofs.Opening.{clear, byte-ext, label-gap, arrow-gap}
+use Rattle.sheet.proofs.Blocks.{label-lines, few-lines}
 
 -- two tests that pass together are the same
 pub same-test : (a b : Bool) → (a ≡ true → b ≡ true) → (b ≡ true → a ≡ true) → a ≡ b
@@ -28,58 +28,53 @@ same-test true b f g = sym (f refl)
 same-test false true f g = g refl
 same-test false false f g = refl
 
--- a word within its mask, bit for bit: any set of rows and any set of nodes
-module _ (k : List ℕ) (bytes : (p : ℕ) → getD k p 0 < 256) (rows node : Nodes) (j : ℕ) (h : j < wordCount) where
+-- a word within its mask, bit for bit
+module _ (k : List ℕ) (bytes : (p : ℕ) → getD k p 0 < 256) (node : Nodes) (j : ℕ) (h : j < wordCount) where
   abbrev word : Nodes
   word = member (wordAt k (16 + 8 * j))
 
   abbrev mask : Nodes
-  mask = member (cond (member (setOf 64 rows) j) (setOf 64 node) 0)
+  mask = member (setOf 64 node)
 
-  mask-bit : (r : ℕ) → r < 64 → mask r ≡ (rows j && node r)
-  mask-bit r l = ap (λ b. member (cond b (setOf 64 node) 0) r) (member-setOf 64 rows j (omega arith)) ∙ go (rows j)
-    where
-      go : (b : Bool) → member (cond b (setOf 64 node) 0) r ≡ (b && node r)
-      go true = member-setOf 64 node r l
-      go false = member-zero r
+  within-is : within k (setOf 64 node) j ≡ allBelow 64 (λ r. implies (word r) (mask r))
+  unfolding within
+  within-is = setOf-empty 64 (λ r. word r && not (mask r)) ∙ none-outside 64 word mask
 
-  masked-is : masked k (setOf 64 rows) (setOf 64 node) j ≡ allBelow 64 (λ r. implies (word r) (mask r))
-  unfolding masked within
-  masked-is = setOf-empty 64 (λ r. word r && not (mask r)) ∙ none-outside 64 word mask
+  bit-is : (r : ℕ) → r < 64 → implies (word r) (mask r) ≡ implies (member (getD k (16 + 8 * j + r / 8) 0) (r % 8)) (node r)
+  bit-is r l = ap₂ implies (member-wordAt k (16 + 8 * j) r bytes l) (member-setOf 64 node r l)
 
-  bit-is : (r : ℕ) → r < 64 → implies (word r) (mask r) ≡ implies (member (getD k (16 + 8 * j + r / 8) 0) (r % 8)) (rows j && node r)
-  bit-is r l = ap₂ implies (member-wordAt k (16 + 8 * j) r bytes l) (mask-bit r l)
+  within-bits : within k (setOf 64 node) j ≡ true → (r : ℕ) → r < 64 → implies (member (getD k (16 + 8 * j + r / 8) 0) (r % 8)) (node r) ≡ true
+  within-bits e r l = sym (bit-is r l) ∙ all-each 64 (λ r. implies (word r) (mask r)) (sym within-is ∙ e) r l
 
-  masked-bits : masked k (setOf 64 rows) (setOf 64 node) j ≡ true → (r : ℕ) → r < 64 → implies (member (getD k (16 + 8 * j + r / 8) 0) (r % 8)) (rows j && node r) ≡ true
-  masked-bits e r l = sym (bit-is r l) ∙ all-each 64 (λ r. implies (word r) (mask r)) (sym masked-is ∙ e) r l
+  bits-within : ((r : ℕ) → r < 64 → implies (member (getD k (16 + 8 * j + r / 8) 0) (r % 8)) (node r) ≡ true) → within k (setOf 64 node) j ≡ true
+  bits-within e = within-is ∙ all-true 64 (λ r. implies (word r) (mask r)) (λ r l. bit-is r l ∙ e r l)
 
-  bits-masked : ((r : ℕ) → r < 64 → implies (member (getD k (16 + 8 * j + r / 8) 0) (r % 8)) (rows j && node r) ≡ true) → masked k (setOf 64 rows) (setOf 64 node) j ≡ true
-  bits-masked e = masked-is ∙ all-true 64 (λ r. implies (word r) (mask r)) (λ r l. bit-is r l ∙ e r l)
+-- a word without members is within every mask
+pub within-none : (k : List ℕ) → ((p : ℕ) → getD k p 0 < 256) → (node : Nodes) (j : ℕ) → j < wordCount → within k 0 j ≡ true → within k (setOf 64 node) j ≡ true
+within-none k bytes node j h e =
+    bits-within k bytes node j h (λ r l. if-clear (member (getD k (16 + 8 * j + r / 8) 0) (r % 8)) (node r) (clear (member (getD k (16 + 8 * j + r / 8) 0) (r % 8)) false refl (within-bits k bytes (λ i. false) j h (ap (λ (m : ℕ). within k m j) (setOf-none 64) ∙ e) r l)))
 
-abbrev below : ℕ → Nodes
-below n i = ltb i n
-
-module _ (φ : Form) where
+module _ (φ : SheetForm) where
   -- the words lie in the body
-  words-fit : 16 + 8 * wordCount ≤ φ .bodyBytes
-  words-fit = omega (arith, φ .whole, φ .few)
+  words-fit : 16 + 8 * wordCount ≤ φ .sums .bodyBytes
+  words-fit = omega (arith, φ .sums .whole, φ .sums .few)
 
-  -- a block whose bits are free where the row and the node are there
-  module _ (k : List ℕ) (bytes : (p : ℕ) → getD k p 0 < 256) (n b : ℕ) (rows node : Nodes)
-      (head : (p i : ℕ) → p < 3 → free n b p i ≡ true)
-      (gap : (p i : ℕ) → 3 ≤ p → (p < 16) ⊎ (16 + 8 * wordCount ≤ p) → free n b p i ≡ false)
-      (inner : (p i : ℕ) → 16 ≤ p → p < 16 + 8 * wordCount → free n b p i ≡ (rows ((p - 16) / 8) && node (p % 8 * 8 + i))) where
-    module _ (e : zeroRight φ n b k ≡ true) where
-      bit-free : (p i : ℕ) → p < φ .bodyBytes → i < 8 → implies (member (getD k p 0) i) (free n b p i) ≡ true
+  -- a block whose bits are free where their masks have them
+  module _ (k : List ℕ) (bytes : (p : ℕ) → getD k p 0 < 256) (n : ℕ) (nodes : Nodes) (b : ℕ) (masks : ℕ → Nodes)
+      (head : (p i : ℕ) → p < 3 → free φ n nodes b p i ≡ true)
+      (gap : (p i : ℕ) → 3 ≤ p → (p < 16) ⊎ (16 + 8 * wordCount ≤ p) → free φ n nodes b p i ≡ false)
+      (inner : (p i : ℕ) → 16 ≤ p → p < 16 + 8 * wordCount → free φ n nodes b p i ≡ masks ((p - 16) / 8) (p % 8 * 8 + i)) where
+    module _ (e : zeroRight φ n nodes b k ≡ true) where
+      bit-free : (p i : ℕ) → p < φ .sums .bodyBytes → i < 8 → implies (member (getD k p 0) i) (free φ n nodes b p i) ≡ true
       unfolding zeroRight
-      bit-free p i l s = all-each 8 (λ i. implies (member (getD k p 0) i) (free n b p i)) (all-each (φ .bodyBytes) (λ p. allBelow 8 (λ i. implies (member (getD k p 0) i) (free n b p i))) e p l) i s
+      bit-free p i l s = all-each 8 (λ i. implies (member (getD k p 0) i) (free φ n nodes b p i)) (all-each (φ .sums .bodyBytes) (λ p. allBelow 8 (λ i. implies (member (getD k p 0) i) (free φ n nodes b p i))) e p l) i s
 
-      gap-zero : (p : ℕ) → 3 ≤ p → p < φ .bodyBytes → (p < 16) ⊎ (16 + 8 * wordCount ≤ p) → eqb (getD k p 0) 0 ≡ true
-      gap-zero p l u w = eq-eqb _ _ (byte-ext (getD k p 0) 0 (bytes p) (omega arith) (λ i s. clear (member (getD k p 0) i) (free n b p i) (gap p i l w) (bit-free p i u s) ∙ sym (member-zero i)))
+      gap-zero : (p : ℕ) → 3 ≤ p → p < φ .sums .bodyBytes → (p < 16) ⊎ (16 + 8 * wordCount ≤ p) → eqb (getD k p 0) 0 ≡ true
+      gap-zero p l u w = eq-eqb _ _ (byte-ext (getD k p 0) 0 (bytes p) (omega arith) (λ i s. clear (member (getD k p 0) i) (free φ n nodes b p i) (gap p i l w) (bit-free p i u s) ∙ sym (member-zero i)))
 
-      word-right : (j : ℕ) → j < wordCount → masked k (setOf 64 rows) (setOf 64 node) j ≡ true
-      word-right j l = bits-masked k bytes rows node j (omega arith) (λ r h.
-          ap (implies (member (getD k (16 + 8 * j + r / 8) 0) (r % 8))) (sym (inner (16 + 8 * j + r / 8) (r % 8) (omega arith) (omega arith) ∙ ap₂ (λ x y. rows x && node y) (at-row j r h) (at-node j r h)))
+      word-right : (j : ℕ) → j < wordCount → within k (setOf 64 (masks j)) j ≡ true
+      word-right j l = bits-within k bytes (masks j) j (omega arith) (λ r h.
+          ap (implies (member (getD k (16 + 8 * j + r / 8) 0) (r % 8))) (sym (inner (16 + 8 * j + r / 8) (r % 8) (omega arith) (omega arith) ∙ ap₂ masks (at-row j r h) (at-node j r h)))
           ∙ bit-free (16 + 8 * j + r / 8) (r % 8) (omega arith) (omega arith))
         where
           at-row : (j r : ℕ) → r < 64 → (16 + 8 * j + r / 8 - 16) / 8 ≡ j
@@ -88,19 +83,19 @@ module _ (φ : Form) where
           at-node : (j r : ℕ) → r < 64 → (16 + 8 * j + r / 8) % 8 * 8 + r % 8 ≡ r
           at-node j r h = omega arith
 
-      asks : zeroBut φ (setOf 64 rows) (setOf 64 node) k ≡ true
+      asks : zeroBut (φ .sums) (λ j. setOf 64 (masks j)) k ≡ true
       unfolding zeroBut zerosAt
       asks =
           ap₂ _&&_ (all-true 13 _ (λ j l. gap-zero (3 + j) (omega arith) (omega arith) (inl (omega arith))))
-          (ap₂ _&&_ (all-true wordCount _ word-right) (all-true (padding φ wordCount) _ (λ j l. gap-zero (16 + 8 * wordCount + j) (omega arith) (omega arith) (inr (omega arith)))))
+          (ap₂ _&&_ (all-true wordCount _ word-right) (all-true (padding (φ .sums) wordCount) _ (λ j l. gap-zero (16 + 8 * wordCount + j) (omega arith) (omega arith) (inr (omega arith)))))
 
-    module _ (e : zeroBut φ (setOf 64 rows) (setOf 64 node) k ≡ true) where
-      front : (zerosAt k 3 13 ≡ true) × ((allBelow wordCount (masked k (setOf 64 rows) (setOf 64 node)) && zerosAt k (16 + 8 * wordCount) (padding φ wordCount)) ≡ true)
+    module _ (e : zeroBut (φ .sums) (λ j. setOf 64 (masks j)) k ≡ true) where
+      front : (zerosAt k 3 13 ≡ true) × ((allBelow wordCount (λ j. within k (setOf 64 (masks j)) j) && zerosAt k (16 + 8 * wordCount) (padding (φ .sums) wordCount)) ≡ true)
       unfolding zeroBut
       front = and-eq-true-iff (zerosAt k 3 13) _ .0 e
 
-      behind : (allBelow wordCount (masked k (setOf 64 rows) (setOf 64 node)) ≡ true) × (zerosAt k (16 + 8 * wordCount) (padding φ wordCount) ≡ true)
-      behind = and-eq-true-iff (allBelow wordCount (masked k (setOf 64 rows) (setOf 64 node))) _ .0 (front .1)
+      behind : (allBelow wordCount (λ j. within k (setOf 64 (masks j)) j) ≡ true) × (zerosAt k (16 + 8 * wordCount) (padding (φ .sums) wordCount) ≡ true)
+      behind = and-eq-true-iff (allBelow wordCount (λ j. within k (setOf 64 (masks j)) j)) _ .0 (front .1)
 
       zero-bit : (at c : ℕ) → zerosAt k at c ≡ true → (p i : ℕ) → at ≤ p → p < at + c → member (getD k p 0) i ≡ false
       unfolding zerosAt
@@ -108,52 +103,71 @@ module _ (φ : Form) where
           let s : at + (p - at) ≡ p = omega arith in
           ap (λ x. member (getD k x 0) i) (sym s) ∙ ap (λ x. member x i) (eqb-true _ _ (all-each c (λ j. eqb (getD k (at + j) 0) 0) z (p - at) (omega arith))) ∙ member-zero i
 
-      word-bits : (p i : ℕ) → 16 ≤ p → p < 16 + 8 * wordCount → i < 8 → implies (member (getD k p 0) i) (free n b p i) ≡ true
+      word-bits : (p i : ℕ) → 16 ≤ p → p < 16 + 8 * wordCount → i < 8 → implies (member (getD k p 0) i) (free φ n nodes b p i) ≡ true
       word-bits p i l u s =
           let r : ℕ = p % 8 * 8 + i in
           let at : p ≡ 16 + 8 * ((p - 16) / 8) + r / 8 = omega arith in
           let bit : i ≡ r % 8 = omega arith in
           ap (implies (member (getD k p 0) i)) (inner p i l u)
-          ∙ ap₂ (λ x y. implies (member (getD k x 0) y) (rows ((p - 16) / 8) && node r)) at bit
-          ∙ masked-bits k bytes rows node ((p - 16) / 8) (omega arith) (all-each wordCount (masked k (setOf 64 rows) (setOf 64 node)) (behind .0) ((p - 16) / 8) (omega arith)) r (omega arith)
+          ∙ ap₂ (λ x y. implies (member (getD k x 0) y) (masks ((p - 16) / 8) r)) at bit
+          ∙ within-bits k bytes (masks ((p - 16) / 8)) ((p - 16) / 8) (omega arith) (all-each wordCount (λ j. within k (setOf 64 (masks j)) j) (behind .0) ((p - 16) / 8) (omega arith)) r (omega arith)
 
-      bit-right : (p i : ℕ) → p < φ .bodyBytes → i < 8 → Dec (p < 3) → Dec (p < 16) → Dec (p < 16 + 8 * wordCount) → implies (member (getD k p 0) i) (free n b p i) ≡ true
+      bit-right : (p i : ℕ) → p < φ .sums .bodyBytes → i < 8 → Dec (p < 3) → Dec (p < 16) → Dec (p < 16 + 8 * wordCount) → implies (member (getD k p 0) i) (free φ n nodes b p i) ≡ true
       bit-right p i l s (yes x) d g = if-free (member (getD k p 0) i) _ (head p i x)
       bit-right p i l s (no x) (yes d) g = if-clear _ _ (zero-bit 3 13 (front .0) p i (omega arith) (omega arith))
       bit-right p i l s (no x) (no d) (yes g) = word-bits p i (omega arith) g s
-      bit-right p i l s (no x) (no d) (no g) = if-clear _ _ (zero-bit (16 + 8 * wordCount) (padding φ wordCount) (behind .1) p i (omega arith) (omega arith))
+      bit-right p i l s (no x) (no d) (no g) = if-clear _ _ (zero-bit (16 + 8 * wordCount) (padding (φ .sums) wordCount) (behind .1) p i (omega arith) (omega arith))
 
-      answered : zeroRight φ n b k ≡ true
+      answered : zeroRight φ n nodes b k ≡ true
       unfolding zeroRight
-      answered = all-true (φ .bodyBytes) _ (λ p l. all-true 8 _ (λ i s. bit-right p i l s (decLt p 3) (decLt p 16) (decLt p (16 + 8 * wordCount))))
+      answered = all-true (φ .sums .bodyBytes) _ (λ p l. all-true 8 _ (λ i s. bit-right p i l s (decLt p 3) (decLt p 16) (decLt p (16 + 8 * wordCount))))
 
-    by-masks : zeroBut φ (setOf 64 rows) (setOf 64 node) k ≡ zeroRight φ n b k
+    by-masks : zeroBut (φ .sums) (λ j. setOf 64 (masks j)) k ≡ zeroRight φ n nodes b k
     by-masks = same-test _ _ answered asks
 
-  module _ (k : List ℕ) (bytes : (p : ℕ) → getD k p 0 < 256) (n b : ℕ) where
+  -- the masks that the code has
+  module _ (k : List ℕ) (bytes : (p : ℕ) → getD k p 0 < 256) (n : ℕ) (nodes : Nodes) (b all : ℕ) (is-all : all ≡ setOf 64 nodes) where
+    by-mask : (mask : ℕ → ℕ) (masks : ℕ → Nodes) → ((j : ℕ) → j < wordCount → mask j ≡ setOf 64 (masks j)) → zeroBut (φ .sums) mask k ≡ zeroBut (φ .sums) (λ j. setOf 64 (masks j)) k
+    unfolding zeroBut
+    by-mask mask masks e = ap (λ c. zerosAt k 3 13 && (c && zerosAt k (16 + 8 * wordCount) (padding (φ .sums) wordCount))) (all-cong wordCount _ _ (λ j l. ap (λ (m : ℕ). within k m j) (e j l)))
+
     -- of block 0
-    pub masks-first : b ≡ 0 → zeroBut φ (setOf 64 (below labelCount)) (setOf 64 (below n)) k ≡ zeroRight φ n b k
+    abbrev lineMasks : ℕ → Nodes
+    lineMasks j i = cond (ltb j labelCount) (nodes i) (ltb j (lineCount φ) && ltb i n)
+
+    pub masks-first : b ≡ 0 → zeroBut (φ .sums) (lineMask φ n all) k ≡ zeroRight φ n nodes b k
     unfolding free
     masks-first e =
-        by-masks k bytes n 0 (below labelCount) (below n) (λ p i h. rw (lt-ltb p 3 h)) (λ p i l w. label-gap n p i l (⊎-elim (λ u. inl u) (λ u. inr (omega arith)) w))
-        (λ p i l u. inner p i l (decLt p (16 + 8 * labelCount)))
-        ∙ ap (λ x. zeroRight φ n x k) (sym e)
+        by-mask (lineMask φ n all) lineMasks (λ j l. masks j (ltb j labelCount) (ltb j (lineCount φ)))
+        ∙ by-masks k bytes n nodes 0 lineMasks (λ p i h. rw (lt-ltb p 3 h)) (λ p i l w. label-gap φ n nodes p i l (⊎-elim (λ u. inl u) (λ u. inr (omega (arith, few-lines φ))) w))
+        (λ p i l u. inner p i l (decLt p (16 + 8 * labelCount)) (decLt p (16 + 8 * lineCount φ)))
+        ∙ ap (λ x. zeroRight φ n nodes x k) (sym e)
       where
-        inner : (p i : ℕ) → 16 ≤ p → Dec (p < 16 + 8 * labelCount) → free n 0 p i ≡ (below labelCount ((p - 16) / 8) && below n (p % 8 * 8 + i))
-        inner p i l (yes u) = rw (le-ltb p 3 (omega arith), le-leb 16 p l, lt-ltb p (16 + 8 * labelCount) u, lt-ltb ((p - 16) / 8) labelCount (omega arith))
-        inner p i l (no u) = rw (le-ltb p 3 (omega arith), le-leb 16 p l, le-ltb p (16 + 8 * labelCount) (omega arith), le-ltb ((p - 16) / 8) labelCount (omega arith))
+        masks : (j : ℕ) (c d : Bool) → cond c all (cond d (setOf 64 (λ i. ltb i n)) 0) ≡ setOf 64 (λ i. cond c (nodes i) (d && ltb i n))
+        masks j true d = is-all
+        masks j false true = refl
+        masks j false false = sym (setOf-none 64)
+
+        inner : (p i : ℕ) → 16 ≤ p → Dec (p < 16 + 8 * labelCount) → Dec (p < 16 + 8 * lineCount φ) → free φ n nodes 0 p i ≡ lineMasks ((p - 16) / 8) (p % 8 * 8 + i)
+        inner p i l (yes u) d = rw (le-ltb p 3 (omega arith), le-leb 16 p l, lt-ltb p (16 + 8 * labelCount) u, lt-ltb p (16 + 8 * lineCount φ) (omega (arith, label-lines φ)), lt-ltb ((p - 16) / 8) labelCount (omega arith))
+        inner p i l (no u) (yes d) = rw (le-ltb p 3 (omega arith), le-leb 16 p l, le-ltb p (16 + 8 * labelCount) (omega arith), lt-ltb p (16 + 8 * lineCount φ) d, le-ltb ((p - 16) / 8) labelCount (omega arith), lt-ltb ((p - 16) / 8) (lineCount φ) (omega arith))
+        inner p i l (no u) (no d) = rw (le-ltb p 3 (omega arith), le-leb 16 p l, le-ltb p (16 + 8 * labelCount) (omega arith), le-ltb p (16 + 8 * lineCount φ) (omega arith), le-ltb ((p - 16) / 8) labelCount (omega arith), le-ltb ((p - 16) / 8) (lineCount φ) (omega arith))
 
     -- of a later block
-    pub masks-later : (b ≡ 0 → ⊥) → n ≤ maxNodes → zeroBut φ (setOf 64 (below n)) (setOf 64 (below n)) k ≡ zeroRight φ n b k
+    pub masks-later : (b ≡ 0 → ⊥) → ((i : ℕ) → maxNodes ≤ i → nodes i ≡ false) → zeroBut (φ .sums) (rowMask all) k ≡ zeroRight φ n nodes b k
     unfolding free
-    masks-later e few = go b e
+    masks-later e few = by-mask (rowMask all) (λ j i. nodes j && nodes i) (λ j l. ap (λ c. cond c all 0) (ap (λ x. member x j) is-all ∙ member-setOf 64 nodes j (omega arith)) ∙ masks (nodes j)) ∙ go b e
       where
-        inner : (a p i : ℕ) → 16 ≤ p → Dec (p < 16 + 8 * maxNodes) → free n (suc a) p i ≡ (below n ((p - 16) / 8) && below n (p % 8 * 8 + i))
-        inner a p i l (yes u) = rw (le-ltb p 3 (omega arith), le-leb 16 p l, lt-ltb p (16 + 8 * maxNodes) u)
-        inner a p i l (no u) = rw (le-ltb p 3 (omega arith), le-leb 16 p l, le-ltb p (16 + 8 * maxNodes) (omega arith), le-ltb ((p - 16) / 8) n (omega arith))
+        masks : (c : Bool) → cond c all 0 ≡ setOf 64 (λ i. c && nodes i)
+        masks true = is-all
+        masks false = sym (setOf-none 64)
 
-        go : (b : ℕ) → (b ≡ 0 → ⊥) → zeroBut φ (setOf 64 (below n)) (setOf 64 (below n)) k ≡ zeroRight φ n b k
+        inner : (a p i : ℕ) → 16 ≤ p → Dec (p < 16 + 8 * maxNodes) → free φ n nodes (suc a) p i ≡ (nodes ((p - 16) / 8) && nodes (p % 8 * 8 + i))
+        inner a p i l (yes u) = rw (le-ltb p 3 (omega arith), le-leb 16 p l, lt-ltb p (16 + 8 * maxNodes) u)
+        inner a p i l (no u) = rw (le-ltb p 3 (omega arith), le-leb 16 p l, le-ltb p (16 + 8 * maxNodes) (omega arith), few ((p - 16) / 8) (omega arith))
+
+        go : (b : ℕ) → (b ≡ 0 → ⊥) → zeroBut (φ .sums) (λ j. setOf 64 (λ i. nodes j && nodes i)) k ≡ zeroRight φ n nodes b k
         go zero e = absurd (e refl)
         go (suc a) e =
-            by-masks k bytes n (suc a) (below n) (below n) (λ p i h. rw (lt-ltb p 3 h)) (λ p i l w. arrow-gap n a p i l (⊎-elim (λ u. inl u) (λ u. inr (omega arith)) w))
+            by-masks k bytes n nodes (suc a) (λ j i. nodes j && nodes i) (λ p i h. rw (lt-ltb p 3 h)) (λ p i l w. arrow-gap φ n nodes a p i l (⊎-elim (λ u. inl u) (λ u. inr (omega arith)) w))
             (λ p i l u. inner a p i l (decLt p (16 + 8 * maxNodes)))

@@ -1,14 +1,15 @@
 -- Question 4 as the code asks it: bytes that are zero, and words against masks. `by-masks` of proofs/Zeros says that it is `zeroRight`.
 use mathlib.Core.Path.{_≡_}
-use mathlib.Core.Bool.{Bool, true, not, _&&_, cond}
+use mathlib.Core.Bool.{Bool, true, false, not, _&&_, cond}
 use mathlib.Core.List.{List}
 use Prim.Native.Nat.{ℕ, _+_, _*_, _≤_, _<_}
-use lib.Dec.{eqb}
+use lib.Dec.{eqb, ltb}
 use lib.ListN.{getD}
-use Rattle.logic.specs.Graph.{allBelow}
-use Rattle.words.specs.Words.{member, combined, wordAt}
+use Rattle.logic.specs.Graph.{Nodes, allBelow}
+use Rattle.logic.specs.Limits.{labelCount, maxNodes}
+use Rattle.words.specs.Words.{setOf, member, combined, wordAt}
 use Rattle.seal.specs.Seal.{Form}
-use Rattle.sheet.specs.Sheet.{padding}
+use Rattle.sheet.specs.Sheet.{padding, SheetForm, lineCount, usedIn}
 
 -- The code asks all words that fill a body, the first 61 behind byte 16; what is left of the body is less than a word.
 abbrev pub wordCount : ℕ
@@ -22,13 +23,17 @@ zerosAt k at m = allBelow m (λ j. eqb (getD k (at + j) 0) 0)
 unfoldable pub within : List ℕ → ℕ → ℕ → Bool
 within k mask j = eqb (combined (λ a b. a && not b) (wordAt k (16 + 8 * j)) mask) 0
 
--- Word j of a block has only members of `all`, and none where j is not in `rows`.
-unfoldable pub masked : List ℕ → ℕ → ℕ → ℕ → Bool
-masked k rows all j = within k (cond (member rows j) all 0) j
+-- Bytes 3 to 15 are zero, word j has only members of mask j, and the bytes behind the words are zero.
+unfoldable pub zeroBut : Form → (ℕ → ℕ) → List ℕ → Bool
+zeroBut φ mask k = zerosAt k 3 13 && (allBelow wordCount (λ j. within k (mask j) j) && zerosAt k (16 + 8 * wordCount) (padding φ wordCount))
 
--- Bytes 3 to 15 are zero, each of the words is within its mask, and the bytes behind them are zero.
-unfoldable pub zeroBut : Form → ℕ → ℕ → List ℕ → Bool
-zeroBut φ rows all k = zerosAt k 3 13 && (allBelow wordCount (masked k rows all) && zerosAt k (16 + 8 * wordCount) (padding φ wordCount))
+-- In block 0, labels have nodes in use only; the nodes in use, where it holds them, are below n.
+abbrev pub lineMask : SheetForm → (n all : ℕ) → ℕ → ℕ
+lineMask φ n all j = cond (ltb j labelCount) all (cond (ltb j (lineCount φ)) (setOf 64 (λ i. ltb i n)) 0)
+
+-- In an arrow's block, rows and columns are of nodes in use.
+abbrev pub rowMask : ℕ → ℕ → ℕ
+rowMask all j = cond (member all j) all 0
 
 -- r is 0 exactly when the words `from` to `to` have only members of `mask`.
 pub record Outside (k : List ℕ) (from to mask r : ℕ) : Type 0 where
@@ -39,3 +44,23 @@ pub record Outside (k : List ℕ) (from to mask r : ℕ) : Type 0 where
 pub record Edges (φ : Form) (k : List ℕ) (r : ℕ) : Type 0 where
   pub none : r ≡ 0 → (zerosAt k 3 13 ≡ true) × (zerosAt k (16 + 8 * wordCount) (padding φ wordCount) ≡ true)
   pub some : zerosAt k 3 13 ≡ true → zerosAt k (16 + 8 * wordCount) (padding φ wordCount) ≡ true → r ≡ 0
+
+-- r is 0 exactly when the words of a set have no members at all.
+pub record Bare (k : List ℕ) (words r : ℕ) : Type 0 where
+  pub none : r ≡ 0 → (j : ℕ) → j < wordCount → member words j ≡ true → within k 0 j ≡ true
+  pub some : ((j : ℕ) → j < wordCount → member words j ≡ true → within k 0 j ≡ true) → r ≡ 0
+
+-- r is 0 exactly when each word j has only members of mask j.
+pub record Over (k : List ℕ) (mask : ℕ → ℕ) (r : ℕ) : Type 0 where
+  pub none : r ≡ 0 → (j : ℕ) → j < wordCount → within k (mask j) j ≡ true
+  pub some : ((j : ℕ) → j < wordCount → within k (mask j) j ≡ true) → r ≡ 0
+
+-- Of inner functions: n is the sheet's, and `all` the word of its nodes in use, once n is in range; block 0 tells both.
+pub record Told (φ : SheetForm) (k : List ℕ) (b n all : ℕ) (nodes : Nodes) : Type 0 where
+  pub word : n ≤ maxNodes → all ≡ setOf 64 nodes
+  pub below : (i : ℕ) → n ≤ i → nodes i ≡ false
+  pub first : b ≡ 0 → (n ≡ getD k 2 0) × ((i : ℕ) → nodes i ≡ (ltb i (getD k 2 0) && usedIn φ k i))
+
+pub record SomeTold (φ : SheetForm) (k : List ℕ) (b n all : ℕ) : Type 0 where
+  pub nodes : Nodes
+  pub told : Told φ k b n all nodes

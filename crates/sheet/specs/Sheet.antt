@@ -1,7 +1,7 @@
 -- The sheet: 17 blocks of 512 bytes ("The sheet" of document 01), as the bytes that store a graph and the graph that bytes store,
--- in any form of check bytes; those of today's sheets are item 2's of document 02.
+-- in any form; today's is that of items 2 and 6 of document 02.
 use mathlib.Core.Path.{_≡_}
-use mathlib.Core.Bool.{false, _&&_}
+use mathlib.Core.Bool.{Bool, true, false, _&&_, cond}
 use mathlib.Core.List.{List, [], _∷_, _++_}
 use Prim.Native.Nat.{ℕ, zero, suc, _+_, _-_, _*_, _/_, _%_, _<_}
 use lib.Dec.{ltb}
@@ -31,20 +31,36 @@ chunks (suc m) i f = f i ++ chunks m (suc i) f
 unfoldable pub block : Form → List ℕ → (m : ℕ) → (ℕ → ℕ) → List ℕ
 block φ head m word = sealed φ (head ++ replicate 13 0 ++ chunks m 0 (λ k. bytes 8 (word k)) ++ replicate (padding φ m) 0)
 
--- Block 0: label k is 8 bytes at 16 + 8k, little-endian; bit i is node i.
-unfoldable pub labelBlock : Form → Graph → List ℕ
-labelBlock φ g = block φ (1 ∷ 0 ∷ g .n ∷ []) labelCount (λ k. setOf (g .n) (g .labelled k))
+-- A form of sheets: its check bytes, and whether block 0 holds the nodes in use. Where it does not, all n are.
+pub record SheetForm : Type 0 where
+  pub sums : Form
+  pub holdsUse : Bool
+
+-- Today's; and the forms that only old cards have, by their check bytes.
+abbrev pub present : SheetForm
+present = record { sums = modulo257; holdsUse = true }
+
+abbrev pub former : Form → SheetForm
+former f = record { sums = f; holdsUse = false }
+
+-- The lines of block 0: the nodes with label k; and line 48, at byte 400, the nodes in use.
+abbrev pub lineOf : Graph → ℕ → Nodes
+lineOf g k = cond (ltb k labelCount) (g .labelled k) (g .inUse)
+
+abbrev pub lineCount : SheetForm → ℕ
+lineCount φ = cond (φ .holdsUse) (labelCount + 1) labelCount
+
+-- Block 0: line k is 8 bytes at 16 + 8k, little-endian; bit i is node i.
+unfoldable pub labelBlock : SheetForm → Graph → List ℕ
+labelBlock φ g = block (φ .sums) (1 ∷ 0 ∷ g .n ∷ []) (lineCount φ) (λ k. setOf (g .n) (lineOf g k))
 
 -- Block a + 1: row i of arrow a is 8 bytes at 16 + 8i; bit j is an arrow from i to j.
-unfoldable pub arrowBlock : Form → Graph → ℕ → List ℕ
-arrowBlock φ g a = block φ (2 ∷ suc a ∷ 0 ∷ []) maxNodes (λ i. setOf (g .n) (g .joined a i))
+unfoldable pub arrowBlock : SheetForm → Graph → ℕ → List ℕ
+arrowBlock φ g a = block (φ .sums) (2 ∷ suc a ∷ 0 ∷ []) maxNodes (λ i. setOf (g .n) (g .joined a i))
 
 -- The sheet of a form that stores a graph; today's.
-unfoldable pub storeIn : Form → Graph → List ℕ
+unfoldable pub storeIn : SheetForm → Graph → List ℕ
 storeIn φ g = labelBlock φ g ++ chunks arrowCount 0 (arrowBlock φ g)
-
-abbrev pub present : Form
-present = modulo257
 
 abbrev pub store : Graph → List ℕ
 store g = storeIn present g
@@ -53,23 +69,37 @@ store g = storeIn present g
 abbrev pub bitIn : List ℕ → ℕ → Nodes
 bitIn t p i = ltb i 64 && member (getD t (p + i / 8) 0) (i % 8)
 
--- The graph that a sheet stores. All n nodes are in use.
-unfoldable pub graphOf : List ℕ → Graph
-graphOf t =
+-- The nodes in use that a sheet tells, or its block 0.
+abbrev pub usedIn : SheetForm → List ℕ → Nodes
+usedIn φ t = cond (φ .holdsUse) (bitIn t (16 + 8 * labelCount)) (λ i. ltb i (getD t 2 0))
+
+-- The graph that a sheet of a form stores; one of today's.
+unfoldable pub graphIn : SheetForm → List ℕ → Graph
+graphIn φ t =
     record {
       n = getD t 2 0;
-      inUse = λ i. ltb i (getD t 2 0);
+      inUse = usedIn φ t;
       labelled = λ k i. ltb k labelCount && bitIn t (16 + 8 * k) i;
       joined = λ a i j. ltb a arrowCount && (ltb i maxNodes && bitIn t (blockBytes * (a + 1) + (16 + 8 * i)) j);
     }
 
--- The graph of n nodes with no label and no arrow.
+abbrev pub graphOf : List ℕ → Graph
+graphOf t = graphIn present t
+
+-- A form stores every graph within the limits, but where block 0 does not hold the nodes in use: there all n must be.
+abbrev pub Storable : SheetForm → Graph → Type 0
+Storable φ g = φ .holdsUse ≡ false → (i : ℕ) → g .inUse i ≡ ltb i (g .n)
+
+-- The graph of n nodes, all in use, with no label and no arrow.
 abbrev pub blank : ℕ → Graph
 blank n = record { n = n; inUse = λ i. ltb i n; labelled = λ k i. false; joined = λ a i j. false }
 
--- The graph with the nodes v k for each label k.
+-- The graph with the nodes v k for each label k, and those of u in use; with the labels alone.
+abbrev pub withLines : Graph → (ℕ → Nodes) → Nodes → Graph
+withLines g v u = record { n = g .n; inUse = u; labelled = v; joined = g .joined }
+
 abbrev pub relabelAll : Graph → (ℕ → Nodes) → Graph
-relabelAll g v = record { n = g .n; inUse = g .inUse; labelled = v; joined = g .joined }
+relabelAll g v = withLines g v (g .inUse)
 
 -- Words that hold the rows of a set of pairs: row i is the word of v i, for i below n. What lies behind is free.
 pub record Rows (n : ℕ) (v : Pairs) (rows : List ℕ) : Type 0 where

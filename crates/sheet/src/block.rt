@@ -1,18 +1,20 @@
 // One block of a sheet: its questions, and the writing of its words. Inner: each function is lent a whole block.
 ghost use mathlib.Core.Path.{_≡_};
-ghost use mathlib.Core.Bool.{true};
-ghost use Prim.Native.Nat.{_%_, _^_, _≤_};
+ghost use mathlib.Core.Bool.{true, false, cond};
+ghost use Prim.Native.Nat.{ℕ, _%_, _^_, _<_, _≤_};
 ghost use lib.Dec.{ltb};
 ghost use lib.ListN.{length, replicate};
-ghost use Rattle.answer.specs.Answers.{asked};
+ghost use Rattle.logic.specs.Graph.{Nodes};
 ghost use Rattle.logic.specs.Limits.{maxNodes};
-ghost use Rattle.words.specs.Words.{setOf};
+ghost use Rattle.answer.specs.Answers.{asked};
+ghost use Rattle.words.specs.Words.{setOf, member};
 ghost use Rattle.seal.specs.Seal.{blockBytes, reseal};
 ghost use Rattle.seal.specs.Forms.{formOf};
-ghost use Rattle.sheet.specs.Sheet.{present, padding};
+ghost use Rattle.sheet.specs.Sheet.{present, padding, SheetForm};
+ghost use Rattle.sheet.specs.Forms.{formIn};
 ghost use Rattle.sheet.specs.Questions.{headRight, zeroRight, askBlock};
-ghost use Rattle.sheet.specs.Masks.{wordCount, zeroBut, Outside, Edges};
-ghost use Rattle.sheet.specs.Writes.{putRows, bareBlock};
+ghost use Rattle.sheet.specs.Masks.{wordCount, Outside, Edges, Bare, Over, Told, SomeTold, lineMask, rowMask};
+ghost use Rattle.sheet.specs.Writes.{putRows, blankBlock};
 use super::Sheet;
 use answer::Answer;
 use answer::Refusal;
@@ -29,16 +31,18 @@ pub fn index(x: u8) -> usize
     x as usize
 }
 
-// Question 3: are bytes 0 to 2 of block b right, n from 1 to 60?
-fn head_right(block: &[u8], b: usize) -> bool
+// Question 3: are bytes 0 to 2 of block b right, n from 1 to 60, and is some node below n in use? Inner: `all` is what is told of the nodes.
+fn head_right(block: &[u8], b: usize, all: u64) -> bool
     requires { ⌜ length (now block) ≡ blockBytes ⌝ }
-    ensures { λ r. ⌜ r ≡ headRight b (now (block .entry)) ⌝ }
+    ensures { λ r. ⌜ ((φ : SheetForm) (n : ℕ) (nodes : Nodes) → Told φ (now (block .entry)) b n all nodes → r ≡ headRight φ b (now (block .entry))) ⌝ }
 {
     if b == 0 {
         if block[0] == 1 {
             if block[1] == 0 {
                 if 1 <= block[2] {
-                    return block[2] <= Node::MAX;
+                    if block[2] <= Node::MAX {
+                        return all != 0;
+                    }
                 }
             }
         }
@@ -85,41 +89,72 @@ fn outside(block: &[u8], from: usize, to: usize, mask: u64) -> u64
     r
 }
 
-// Is all zero but bytes 0 to 2 and the words below `used`, and has each of these only members of `all`? One test for all of it, at the end.
-// Inner: a block has that many words.
-fn zero_but(form: Modulo, block: &[u8], used: usize, all: u64) -> bool
-    requires { ⌜ (used ≤ maxNodes) × (length (now block) ≡ blockBytes) ⌝ }
-    ensures { λ r. ⌜ r ≡ zeroBut (formOf form) (setOf 64 (λ i. ltb i used)) all (now (block .entry)) ⌝ }
+// What line 48 may have: the nodes below n, or nothing where block 0 does not hold the nodes in use.
+fn use_mask(held: bool, n: usize) -> u64
+    requires { ⌜ n ≤ maxNodes ⌝ }
+    ensures { λ r. ⌜ r ≡ cond held (setOf 64 (λ i. ltb i n)) 0 ⌝ }
 {
-    let ends = edges(form, block);
-    let over = outside(block, 0, used, all);
-    ends | over | outside(block, used, WORDS, 0) == 0
+    if held { words::lowest(n) } else { 0 }
 }
 
-// Question 4: is all zero that must be zero in block b? Inner: n is in range, by question 3 of block 0.
-fn zero_right(form: Modulo, block: &[u8], b: usize, n: usize) -> bool
+// What lies outside the masks of block 0, all together.
+fn lines_over(held: bool, block: &[u8], n: usize, all: u64) -> u64
     requires { ⌜ (n ≤ maxNodes) × (length (now block) ≡ blockBytes) ⌝ }
-    ensures { λ r. ⌜ r ≡ zeroRight (formOf form) n b (now (block .entry)) ⌝ }
+    ensures { λ r. ⌜ ((φ : SheetForm) → held ≡ φ .holdsUse → Over (now (block .entry)) (lineMask φ n all) r) ⌝ }
 {
-    let all = words::lowest(n);
-    if b == 0 {
-        return zero_but(form, block, Sheet::LABELS, all);
-    }
-    zero_but(form, block, n, all)
+    let labels = outside(block, 0, Sheet::LABELS, all);
+    let line = outside(block, Sheet::LABELS, Sheet::LABELS + 1, use_mask(held, n));
+    labels | line | outside(block, Sheet::LABELS + 1, WORDS, 0)
 }
 
-// Questions 2 to 4 of block b. Inner: n is in range once block 0 has its head.
-pub fn ask_block(form: Modulo, block: &[u8], b: usize, n: usize) -> Answer
-    requires { ⌜ (length (now block) ≡ blockBytes) × (headRight b (now block) ≡ true → n ≤ maxNodes) ⌝ }
-    ensures { λ r. ⌜ asked r ≡ askBlock (formOf form) n b (now (block .entry)) ⌝ }
+// The words of a set, all together. Inner: the set has only numbers of words.
+fn bare(block: &[u8], set: u64) -> u64
+    requires { ⌜ ((j : ℕ) → member set j ≡ true → j < wordCount) × (length (now block) ≡ blockBytes) ⌝ }
+    ensures { λ r. ⌜ Bare (now (block .entry)) set r ⌝ }
 {
-    if !seal::seal_right(form, block) {
+    let mut r = 0;
+    let mut left = set;
+    while 0 < left {
+        r = r | words::minus(words::load(block, 16 + 8 * words::first(left)), 0);
+        left = words::but_first(left);
+    }
+    r
+}
+
+// What lies outside the masks of an arrow's block, all together: rows have nodes in use only, and a closed node has none.
+fn rows_over(block: &[u8], n: usize, all: u64) -> u64
+    requires { ⌜ (n ≤ maxNodes) × (length (now block) ≡ blockBytes) ⌝ }
+    ensures { λ r. ⌜ ((nodes : Nodes) → ((i : ℕ) → n ≤ i → nodes i ≡ false) → all ≡ setOf 64 nodes → Over (now (block .entry)) (rowMask all) r) ⌝ }
+{
+    let rows = outside(block, 0, n, all);
+    let closed = bare(block, words::minus(words::lowest(n), all));
+    rows | closed | outside(block, n, WORDS, 0)
+}
+
+// Question 4: is all zero that must be zero in block b? One test for all of it, at the end. Inner: n is in range, by question 3 of block 0.
+fn zero_right(sums: Modulo, held: bool, block: &[u8], b: usize, n: usize, all: u64) -> bool
+    requires { ⌜ (n ≤ maxNodes) × (length (now block) ≡ blockBytes) ⌝ }
+    ensures { λ r. ⌜ ((nodes : Nodes) → ((i : ℕ) → n ≤ i → nodes i ≡ false) → all ≡ setOf 64 nodes → r ≡ zeroRight (formIn sums held) n nodes b (now (block .entry))) ⌝ }
+{
+    let ends = edges(sums, block);
+    if b == 0 {
+        return ends | lines_over(held, block, n, all) == 0;
+    }
+    ends | rows_over(block, n, all) == 0
+}
+
+// Questions 2 to 4 of block b. Inner: n and `all` are what block 0 tells, and n is in range once it has its head.
+pub fn ask_block(sums: Modulo, held: bool, block: &[u8], b: usize, n: usize, all: u64) -> Answer
+    requires { ⌜ (length (now block) ≡ blockBytes) × (headRight (formIn sums held) b (now block) ≡ true → n ≤ maxNodes) × SomeTold (formIn sums held) (now block) b n all ⌝ }
+    ensures { λ r. ⌜ ((nodes : Nodes) → Told (formIn sums held) (now (block .entry)) b n all nodes → asked r ≡ askBlock (formIn sums held) n nodes b (now (block .entry))) ⌝ }
+{
+    if !seal::seal_right(sums, block) {
         return Answer::Refused(Refusal::CheckBytes { place: b });
     }
-    if !head_right(block, b) {
+    if !head_right(block, b, all) {
         return Answer::Refused(Refusal::BlockHead { place: b });
     }
-    if !zero_right(form, block, b, n) {
+    if !zero_right(sums, held, block, b, n, all) {
         return Answer::Refused(Refusal::NotZero { place: b });
     }
     Answer::Done
@@ -128,7 +163,7 @@ pub fn ask_block(form: Modulo, block: &[u8], b: usize, n: usize) -> Answer
 // Puts the first n of the rows into the block's words, and seals it. Inner: the block has that many.
 pub fn put_words(block: &mut [u8], n: usize, rows: [u64; 64])
     requires { ⌜ (length (now block) ≡ blockBytes) × (n ≤ maxNodes) ⌝ }
-    ensures { λ _. ⌜ now (block .exit) ≡ reseal present (putRows n rows (now (block .entry))) ⌝ }
+    ensures { λ _. ⌜ now (block .exit) ≡ reseal (present .sums) (putRows n rows (now (block .entry))) ⌝ }
 {
     let mut i = 0;
     while i < n {
@@ -149,14 +184,15 @@ fn wipe(block: &mut [u8])
     }
 }
 
-// Makes the block one of three bytes and zeros, and seals it.
-pub fn blank_block(block: &mut [u8], x: u8, y: u8, z: u8)
+// Makes the block one of three bytes, the word of line 48 and zeros, and seals it.
+pub fn blank_block(block: &mut [u8], x: u8, y: u8, z: u8, used: u64)
     requires { ⌜ length (now block) ≡ blockBytes ⌝ }
-    ensures { λ _. ⌜ now (block .exit) ≡ reseal present (bareBlock x y z) ⌝ }
+    ensures { λ _. ⌜ now (block .exit) ≡ reseal (present .sums) (blankBlock x y z used) ⌝ }
 {
     wipe(block);
     block[0] = x;
     block[1] = y;
     block[2] = z;
+    words::store(block, 16 + 8 * Sheet::LABELS, used);
     seal::seal(block);
 }

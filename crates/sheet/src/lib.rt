@@ -8,7 +8,8 @@ ghost use Rattle.logic.specs.Graph.{Nodes, Pairs, isNode};
 ghost use Rattle.logic.specs.Limits.{maxNodes, labelCount, arrowCount, PairsIn};
 ghost use Rattle.logic.specs.Steps.{relabel, rejoin};
 ghost use Rattle.words.specs.Words.{setOf};
-ghost use Rattle.sheet.specs.Sheet.{store, graphOf, blank, relabelAll, Rows};
+ghost use Rattle.sheet.specs.Sheet.{SheetForm, sheetBytes, store, graphIn, graphOf, blank, relabelAll, Rows};
+ghost use Rattle.sheet.specs.Forms.{formIn};
 ghost use Rattle.seal.specs.Forms.{formOf};
 ghost use Rattle.sheet.specs.Questions.{askSheetIn, askSheet, Sound, askBlank, askLabelBit, askArrowBit};
 ghost use Rattle.sheet.specs.Converted.{askConvert, converted};
@@ -50,22 +51,38 @@ impl Sheet {
     pub fn check(sheet: &[u8]) -> Answer
         ensures { λ r. ⌜ asked r ≡ askSheet (now (sheet .entry)) ⌝ }
     {
-        Sheet::check_in(Modulo::M257, sheet)
+        Sheet::check_in(Modulo::M257, true, sheet)
     }
 
-    // The same in one form of check bytes or the other.
-    fn check_in(form: Modulo, sheet: &[u8]) -> Answer
-        ensures { λ r. ⌜ asked r ≡ askSheetIn (formOf form) (now (sheet .entry)) ⌝ }
+    // The word of the nodes in use, as a sheet of a form tells them. Inner: the sheet is whole, and n is its.
+    fn nodes_told(held: bool, sheet: &[u8], n: usize) -> u64
+        requires { ⌜ (length (now sheet) ≡ sheetBytes) × (n ≡ getD (now sheet) 2 0) ⌝ }
+        ensures { λ r. ⌜ ((φ : SheetForm) → held ≡ φ .holdsUse → n ≤ maxNodes → r ≡ setOf 64 (isNode (graphIn φ (now (sheet .entry))))) ⌝ }
+    {
+        if n > Sheet::NODES {
+            return 0;
+        }
+        let below = words::lowest(n);
+        if held {
+            return words::both(below, words::load(sheet, 16 + 8 * Sheet::LABELS));
+        }
+        below
+    }
+
+    // The same in one form of sheets or another.
+    fn check_in(sums: Modulo, held: bool, sheet: &[u8]) -> Answer
+        ensures { λ r. ⌜ asked r ≡ askSheetIn (formIn sums held) (now (sheet .entry)) ⌝ }
     {
         if sheet.len() != Sheet::BYTES {
             return Answer::Refused(Refusal::SheetLength { place: 0 });
         }
         let n = index(sheet[2]);
+        let all = Sheet::nodes_told(held, sheet, n);
         let mut b = 0;
         while b < Sheet::BLOCKS {
             let from = Sheet::BLOCK * b;
             let to = from + Sheet::BLOCK;
-            let answer = block::ask_block(form, &sheet[from..to], b, n);
+            let answer = block::ask_block(sums, held, &sheet[from..to], b, n, all);
             let Answer::Done = answer else {
                 return answer;
             };
@@ -74,7 +91,7 @@ impl Sheet {
         Answer::Done
     }
 
-    // Makes the buffer the sheet of n nodes with no label and no arrow, or leaves it as it is: questions 5 and 1.
+    // Makes the buffer the sheet of n nodes, all in use, with no label and no arrow, or leaves it as it is: questions 5 and 1.
     pub fn blank(buf: &mut [u8], n: usize) -> Answer
         ensures { λ r. ⌜ asked r ≡ askBlank n (length (now (buf .entry))) ⌝ }
         ensures { λ _. ⌜ now (buf .exit) ≡ after (askBlank n (length (now (buf .entry)))) (λ _. store (blank n)) (now (buf .entry)) ⌝ }
@@ -88,26 +105,32 @@ impl Sheet {
         if buf.len() != Sheet::BYTES {
             return Answer::Refused(Refusal::SheetLength { place: 0 });
         }
-        block::blank_block(&mut buf[0..Sheet::BLOCK], 1, 0, n as u8);
+        block::blank_block(&mut buf[0..Sheet::BLOCK], 1, 0, n as u8, words::lowest(n));
         let mut a = 0;
         while a < Sheet::ARROWS {
             let from = Sheet::BLOCK * a + Sheet::BLOCK;
             let to = from + Sheet::BLOCK;
-            block::blank_block(&mut buf[from..to], 2, (a + 1) as u8, 0);
+            block::blank_block(&mut buf[from..to], 2, (a + 1) as u8, 0, 0);
             a += 1;
         }
         Answer::Done
     }
 
-    // Makes an old card today's sheet of the same graph, in the card's own buffer, or leaves it as it is: questions 1 to 4 of the old form.
-    pub fn convert_255(card: &mut [u8]) -> Answer
-        ensures { λ r. ⌜ asked r ≡ askConvert (now (card .entry)) ⌝ }
-        ensures { λ _. ⌜ now (card .exit) ≡ converted (now (card .entry)) ⌝ }
+    // Makes an old card with these sums today's sheet of the same graph, in the card's own buffer, or leaves it as it is: questions 1 to 4 of its form.
+    pub fn convert(sums: Modulo, card: &mut [u8]) -> Answer
+        ensures { λ r. ⌜ asked r ≡ askConvert (formOf sums) (now (card .entry)) ⌝ }
+        ensures { λ _. ⌜ now (card .exit) ≡ converted (formOf sums) (now (card .entry)) ⌝ }
     {
-        let answer = Sheet::check_in(Modulo::M255, card);
+        let answer = Sheet::check_in(sums, false, card);
         let Answer::Done = answer else {
             return answer;
         };
+        let n = index(card[2]);
+        words::store(
+            &mut card[0..Sheet::BLOCK],
+            16 + 8 * Sheet::LABELS,
+            words::lowest(n),
+        );
         let mut b = 0;
         while b < Sheet::BLOCKS {
             let from = Sheet::BLOCK * b;
@@ -161,12 +184,12 @@ impl Sheet {
         index(sheet[2])
     }
 
-    // The set of all its nodes. Inner: the sheet is sound.
+    // The set of its nodes in use. Inner: the sheet is sound.
     pub fn all_nodes(sheet: &[u8]) -> u64
         requires { ⌜ Sound (now sheet) ⌝ }
         ensures { λ r. ⌜ r ≡ setOf (graphOf (now (sheet .entry)) .n) (isNode (graphOf (now (sheet .entry)))) ⌝ }
     {
-        words::lowest(Sheet::node_count(sheet))
+        words::load(sheet, 16 + 8 * Sheet::LABELS)
     }
 
     // The set of the nodes with label k. Inner: the sheet is sound and has that label.

@@ -8,6 +8,7 @@ use Rattle.sheet.specs.Noticed.{AsksSheetFirst}
 use Rattle.judge.specs.Questions.{askSheetAndBook, askJudge}
 use Rattle.apply.specs.Apply.{askApply}
 use Rattle.demands.specs.Enter.{askBefore41, askEnter, enterAnswer}
+use Rattle.closing.specs.Questions.{askNode, askClose, askOpen}
 use Rattle.pages.specs.Print.{askPrintArrow, askPrintLabels}
 use Rattle.pages.specs.Typed.{askType}
 
@@ -41,6 +42,14 @@ judge-first book = record { first = λ sheet q p e. rw e }
 pub apply-first : (edit : List ℕ) → AsksSheetFirst (λ sheet. askApply sheet edit)
 unfolding askApply _>>_ _>>=_
 apply-first edit = record { first = λ sheet q p e. rw e }
+
+pub close-first : (book : List ℕ) (node : ℕ) → AsksSheetFirst (λ sheet. askClose sheet book node)
+unfolding askClose askNode askSheetAndBook _>>_ _>>=_
+close-first book node = record { first = λ sheet q p e. rw e }
+
+pub open-first : (book : List ℕ) (node : ℕ) → AsksSheetFirst (λ sheet. askOpen sheet book node)
+unfolding askOpen askNode askSheetAndBook _>>_ _>>=_
+open-first book node = record { first = λ sheet q p e. rw e }
 
 pub enter-first : (book edit : List ℕ) (room : ℕ) → AsksSheetFirst (λ sheet. enterAnswer sheet book edit room)
 unfolding askEnter askBefore41 askSheetAndBook _>>_ _>>=_ outcome

@@ -2,6 +2,7 @@
 ghost use mathlib.Core.Path.{_≡_};
 ghost use lib.ListN.{length};
 ghost use Rattle.answer.specs.Asked.{after};
+ghost use Rattle.seal.specs.Seal.{modulo257, modulo255};
 ghost use Rattle.sheet.specs.Sheet.{store, blank};
 ghost use Rattle.sheet.specs.Questions.{askSheet, askBlank, askLabelBit, askArrowBit};
 ghost use Rattle.sheet.specs.Converted.{askConvert, converted};
@@ -13,6 +14,7 @@ use crate::Numbers;
 use logic::Arrow;
 use logic::Label;
 use logic::Node;
+use seal::Modulo;
 use sheet::BitRead;
 use sheet::Sheet;
 
@@ -33,10 +35,18 @@ pub extern "C" fn zamiathen_check(sheet: &[u8]) -> Numbers
 
 #[no_mangle]
 pub extern "C" fn zamiathen_convert_255(card: &mut [u8]) -> Numbers
-    ensures { λ r. ⌜ r ≡ numbers (askConvert (now (card .entry))) ⌝ }
-    ensures { λ _. ⌜ now (card .exit) ≡ converted (now (card .entry)) ⌝ }
+    ensures { λ r. ⌜ r ≡ numbers (askConvert modulo255 (now (card .entry))) ⌝ }
+    ensures { λ _. ⌜ now (card .exit) ≡ converted modulo255 (now (card .entry)) ⌝ }
 {
-    crate::answer_numbers(Sheet::convert_255(card))
+    crate::answer_numbers(Sheet::convert(Modulo::M255, card))
+}
+
+#[no_mangle]
+pub extern "C" fn zamiathen_convert_257(card: &mut [u8]) -> Numbers
+    ensures { λ r. ⌜ r ≡ numbers (askConvert modulo257 (now (card .entry))) ⌝ }
+    ensures { λ _. ⌜ now (card .exit) ≡ converted modulo257 (now (card .entry)) ⌝ }
+{
+    crate::answer_numbers(Sheet::convert(Modulo::M257, card))
 }
 
 fn digit(b: bool) -> usize

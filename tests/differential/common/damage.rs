@@ -1,7 +1,7 @@
 //! Damage to a sheet, often with the check bytes mended so that the later questions are reached.
 
 use crate::random::Random;
-use reference::sheet::{Form, BLOCK, SHEET, SUMS_257};
+use reference::sheet::{Form, BLOCK, PRESENT, SHEET};
 
 const BLOCKS: usize = 17;
 
@@ -11,7 +11,7 @@ fn mend(form: Form, sheet: &mut [u8], block: usize) {
 
 /// A sound sheet with one or more faults, or one that a fault happens to leave sound.
 pub fn damaged(random: &mut Random, sheet: Vec<u8>) -> Vec<u8> {
-    damaged_in(random, SUMS_257, sheet)
+    damaged_in(random, PRESENT, sheet)
 }
 
 /// The same with the check bytes of a form.
@@ -28,7 +28,7 @@ pub fn damaged_in(random: &mut Random, form: Form, mut sheet: Vec<u8>) -> Vec<u8
 fn hurt(random: &mut Random, form: Form, sheet: &mut [u8]) {
     let block = random.below(BLOCKS);
     let start = block * BLOCK;
-    match random.below(14) {
+    match random.below(16) {
         0 => sheet[random.below(SHEET)] ^= 1 << random.below(8),
         1 => wrap(&mut sheet[start + random.below(BLOCK)]),
         2..=3 => sheet[start + random.below(3)] = random.pick(&[0, 1, 2, 3, 16, 17, 59, 60, 61, 255]),
@@ -40,12 +40,28 @@ fn hurt(random: &mut Random, form: Form, sheet: &mut [u8]) {
         10 => swap_blocks(random, sheet, start),
         11 => exchange_neighbours(random, &mut sheet[start..start + BLOCK]),
         12 => raise_sum(random, form, &mut sheet[start..start + BLOCK]),
+        13..=14 => other_use(random, sheet),
         _ => random.bytes(BLOCK).iter().enumerate().for_each(|(i, byte)| sheet[start + i] = *byte),
     }
     if !random.one_in(4) {
         mend(form, sheet, block);
         mend(form, sheet, 0);
     }
+}
+
+/// Other nodes in use: none, none below n, one more, one less, or any.
+fn other_use(random: &mut Random, sheet: &mut [u8]) {
+    let word = &mut sheet[400..408];
+    let used = u64::from_le_bytes(word.try_into().expect("8 bytes"));
+    let above = random.word() & random.word() << random.below(64);
+    let other = match random.below(6) {
+        0 => 0,
+        1 => above & 0xF000_0000_0000_0000,
+        2 => used | above,
+        3..=4 => used ^ 1 << random.below(64),
+        _ => random.word(),
+    };
+    word.copy_from_slice(&other.to_le_bytes());
 }
 
 /// 0 and 255 are the same modulo 255.

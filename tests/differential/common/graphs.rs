@@ -1,8 +1,8 @@
-//! Random graphs.
+//! Random graphs, with random sets of nodes in use.
 
 use crate::random::Random;
 use crate::terms::Names;
-use reference::graph::{Graph, Pairs, ARROWS, LABELS};
+use reference::graph::{Graph, Nodes, Pairs, ARROWS, LABELS};
 
 /// How many nodes: each number from 1 to 60 comes, small ones and 60 more often.
 pub fn node_count(random: &mut Random) -> usize {
@@ -13,8 +13,38 @@ pub fn node_count(random: &mut Random) -> usize {
     }
 }
 
-/// A graph whose labels and arrows are thin, even or thick; those beyond the named ones are mostly empty.
+/// Some of n nodes, one at least: often all, all but one, or one alone.
+pub fn in_use(random: &mut Random, n: usize) -> Nodes {
+    let some = random.below(n);
+    let mut nodes = vec![false; n];
+    match random.below(8) {
+        0..=2 => nodes.fill(true),
+        3 => nodes.iter_mut().enumerate().for_each(|(i, used)| *used = i != some),
+        4 => {}
+        _ => fill(random, &mut nodes),
+    }
+    nodes[some] |= !nodes.contains(&true);
+    nodes
+}
+
+/// A graph with these nodes in use: what it has at others is taken from it.
+pub fn with_use(mut graph: Graph, in_use: Nodes) -> Graph {
+    let kept = |label: Nodes| label.iter().zip(&in_use).map(|(member, used)| *member && *used).collect();
+    graph.labels = graph.labels.into_iter().map(kept).collect();
+    let linked = |pairs: Pairs| Pairs::new(graph.n, |i, j| pairs.has(i, j) && in_use[i] && in_use[j]);
+    graph.arrows = graph.arrows.into_iter().map(linked).collect();
+    Graph { in_use, ..graph }
+}
+
+/// A graph with some nodes in use, of labels and arrows as `all_used` makes them.
 pub fn graph(random: &mut Random, names: Names) -> Graph {
+    let graph = all_used(random, names);
+    let used = in_use(random, names.n);
+    with_use(graph, used)
+}
+
+/// A graph whose labels and arrows are thin, even or thick; those beyond the named ones are mostly empty. All nodes are in use.
+pub fn all_used(random: &mut Random, names: Names) -> Graph {
     let mut graph = Graph::blank(names.n);
     let all = random.one_in(8);
     for k in 0..LABELS {
@@ -32,7 +62,8 @@ pub fn graph(random: &mut Random, names: Names) -> Graph {
 
 /// Each label on each node, and all arrows.
 pub fn full(n: usize) -> Graph {
-    Graph { n, labels: vec![vec![true; n]; LABELS], arrows: vec![Pairs::new(n, |_, _| true); ARROWS] }
+    let labels = vec![vec![true; n]; LABELS];
+    Graph { n, in_use: vec![true; n], labels, arrows: vec![Pairs::new(n, |_, _| true); ARROWS] }
 }
 
 /// A word with about one bit in eight, in two, or seven in eight.

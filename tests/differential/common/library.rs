@@ -33,6 +33,7 @@ extern "C" {
     pub fn zamiathen_blank(sheet: *mut u8, sheet_length: usize, n: usize) -> CAnswer;
     pub fn zamiathen_check(sheet: *const u8, sheet_length: usize) -> CAnswer;
     pub fn zamiathen_convert_255(card: *mut u8, card_length: usize) -> CAnswer;
+    pub fn zamiathen_convert_257(card: *mut u8, card_length: usize) -> CAnswer;
     pub fn zamiathen_label_bit(sheet: *const u8, sheet_length: usize, label: u8, node: u8) -> CBit;
     pub fn zamiathen_arrow_bit(sheet: *const u8, sheet_length: usize, arrow: u8, from: u8, to: u8) -> CBit;
     pub fn zamiathen_print_arrow(
@@ -52,6 +53,20 @@ extern "C" {
     pub fn zamiathen_first_rule(text: *const u8, text_length: usize) -> CLength;
     pub fn zamiathen_rule_start(book: *const u8, book_length: usize, n: usize, rule: usize) -> usize;
     pub fn zamiathen_judge(sheet: *const u8, sheet_length: usize, book: *const u8, book_length: usize) -> CJudged;
+    pub fn zamiathen_close(
+        sheet: *mut u8,
+        sheet_length: usize,
+        book: *const u8,
+        book_length: usize,
+        node: usize,
+    ) -> CAnswer;
+    pub fn zamiathen_open(
+        sheet: *mut u8,
+        sheet_length: usize,
+        book: *const u8,
+        book_length: usize,
+        node: usize,
+    ) -> CAnswer;
     pub fn zamiathen_rewrite(book: *const u8, book_length: usize, output: *mut u8, output_length: usize) -> CLength;
     pub fn zamiathen_apply(sheet: *mut u8, sheet_length: usize, edit: *const u8, edit_length: usize) -> CAnswer;
     pub fn zamiathen_carry_back(

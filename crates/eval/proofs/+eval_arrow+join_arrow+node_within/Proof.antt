@@ -5,7 +5,7 @@ use native.Mathlib.Omega.{arith}
 use borrow.Author.Needs.{needs}
 use Rattle.eval.proofs.Places.{starts-inside}
 use Rattle.ends.proofs.Behind.{some-tree, behind-stands}
-use Rattle.eval.proofs.NodeCases.{as-complement, as-and, as-or, as-quantifier, complement-set, and-set, or-set, quantifier-set, quantifier-kind, nothing-asked, is-whole, part-small, all-small, all-true, minus-small}
+use Rattle.eval.proofs.NodeCases.{as-complement, as-and, as-or, as-quantifier, complement-set, and-set, or-set, quantifier-set, quantifier-kind, nothing-asked, is-whole, all-used, part-used, minus-used, among-all}
 use Rattle.eval.proofs.ArrowCases as arrows
 use borrow.Fn.Kinds.{In}
 use borrow.Fn.PlainCycle.{Measures, is, falls, and}
@@ -85,7 +85,7 @@ pub +eval-arrow+join-arrow+node-within-spec : {M : Type 1} → statement M
     (λ c κs. let s = c .before .before .before .before .before .before .before .before .before .before .before .before in let q = arrows.as-two _ _ _ (s .pre .1 .1 .what) (s .pre .1 .1 .stands) (c .before .before .before .before .before .before .if2 .left) (c .before .before .before .before .before .if3 .taken) in let a = c .before .before .before .eval-arrow2 .ensures in let b = a .0 (q .R) (q .parts .first) in (omega (arith, s .pre .0, q .parts .inside, b .ends), (s .pre .1 .0, record { what = q .S; stands = q .parts .second _ (b .ends) }, a .1)))
     (λ c. omega (arith, starts-inside _ _ _ (c .before .before .before .before .before .before .before .before .pre .1 .1 .what) (c .before .before .before .before .before .before .before .before .pre .1 .1 .stands)))
     (λ c κs. let s = c .before .before .before .before .before .before .before .before .before in let q = arrows.as-ending _ _ _ (s .pre .1 .1 .what) (s .pre .1 .1 .stands) (c .before .before .if3 .left) (c .before .if4 .taken) in (omega (arith, s .pre .0, q .parts .inside), (s .pre .1 .0, record { what = q .R; stands = q .parts .first }, s .pre .1 .2)))
-    (λ c κs. let s = c .before .before .before .before .before .before .before .before .before .before .before .before in let q = arrows.as-ending _ _ _ (s .pre .1 .1 .what) (s .pre .1 .1 .stands) (c .before .before .before .before .before .if3 .left) (c .before .before .before .before .if4 .taken) in let a = c .before .before .eval-arrow3 .ensures .0 (q .R) (q .parts .first) in (omega (arith, s .pre .0, q .parts .inside, a .ends), (s .pre .1 .0, all-small (s .pre .1 .0), record { what = q .E; stands = q .parts .second _ (a .ends) })))
+    (λ c κs. let s = c .before .before .before .before .before .before .before .before .before .before .before .before in let q = arrows.as-ending _ _ _ (s .pre .1 .1 .what) (s .pre .1 .1 .stands) (c .before .before .before .before .before .if3 .left) (c .before .before .before .before .if4 .taken) in let a = c .before .before .eval-arrow3 .ensures .0 (q .R) (q .parts .first) in (omega (arith, s .pre .0, q .parts .inside, a .ends), (s .pre .1 .0, all-used (s .pre .1 .0), record { what = q .E; stands = q .parts .second _ (a .ends) })))
     (λ c κs. (c .before .before .before .before .before .before .before .before .before .before .before .before .before .before .pre .1 .0 .few, c .before .before .before .before .eval-arrow3 .ensures .1))
     (λ c κs. let s = c .before .before .before .before .before .before .before .before .before in (s .pre .1 .0, s .pre .1 .1, c .before .if4 .left, s .pre .1 .2))
     (λ c. c .before .before .arrow-kind .ensures .1 ∙ sym (ap length (c .before .before .before .before .before .before .before .before .before .pre .1 .2)))
@@ -123,11 +123,11 @@ pub +eval-arrow+join-arrow+node-within-spec : {M : Type 1} → statement M
     (λ c κs. search needs)
     (λ c. omega (arith, starts-inside _ _ _ (c .before .before .before .before .before .before .before .pre .1 .2 .what) (c .before .before .before .before .before .before .before .pre .1 .2 .stands)))
     (λ c κs. let s = c .before .before .before .before .before .before .before in let q = as-and _ _ _ (s .pre .1 .2 .what) (s .pre .1 .2 .stands) (c .before .if3 .left) (c .if4 .taken) in (omega (arith, s .pre .0, q .parts .inside), (s .pre .1 .0, s .pre .1 .1, record { what = q .E; stands = q .parts .first })))
-    (λ c κs. let s = c .before .before .before .before .before .before .before .before in let q = as-and _ _ _ (s .pre .1 .2 .what) (s .pre .1 .2 .stands) (c .before .before .if3 .left) (c .before .if4 .taken) in let a = c .node-within2 .ensures (q .E) (q .parts .first) in (omega (arith, s .pre .0, q .parts .inside, a .ends), (s .pre .1 .0, part-small a, record { what = q .F; stands = q .parts .second _ (a .ends) })))
+    (λ c κs. let s = c .before .before .before .before .before .before .before .before in let q = as-and _ _ _ (s .pre .1 .2 .what) (s .pre .1 .2 .stands) (c .before .before .if3 .left) (c .before .if4 .taken) in let a = c .node-within2 .ensures (q .E) (q .parts .first) in (omega (arith, s .pre .0, q .parts .inside, a .ends), (s .pre .1 .0, part-used (s .pre .1 .1) a, record { what = q .F; stands = q .parts .second _ (a .ends) })))
     (λ c. omega (arith, starts-inside _ _ _ (c .before .before .before .before .before .before .before .before .pre .1 .2 .what) (c .before .before .before .before .before .before .before .before .pre .1 .2 .stands)))
     (λ c κs. let s = c .before .before .before .before .before .before .before .before in let q = as-or _ _ _ (s .pre .1 .2 .what) (s .pre .1 .2 .stands) (c .before .if4 .left) (c .if5 .taken) in (omega (arith, s .pre .0, q .parts .inside), (s .pre .1 .0, s .pre .1 .1, record { what = q .E; stands = q .parts .first })))
     (λ c κs. search needs)
-    (λ c κs. let s = c .before .before .before .before .before .before .before .before .before .before in let q = as-or _ _ _ (s .pre .1 .2 .what) (s .pre .1 .2 .stands) (c .before .before .before .if4 .left) (c .before .before .if5 .taken) in let a = c .before .node-within4 .ensures (q .E) (q .parts .first) in (omega (arith, s .pre .0, q .parts .inside, a .ends), (s .pre .1 .0, minus-small _ _ _ _ (omega (arith, s .pre .1 .0 .few)) (s .pre .1 .1) (part-small a) (c .minus2 .ensures), record { what = q .F; stands = q .parts .second _ (a .ends) })))
+    (λ c κs. let s = c .before .before .before .before .before .before .before .before .before .before in let q = as-or _ _ _ (s .pre .1 .2 .what) (s .pre .1 .2 .stands) (c .before .before .before .if4 .left) (c .before .before .if5 .taken) in let a = c .before .node-within4 .ensures (q .E) (q .parts .first) in (omega (arith, s .pre .0, q .parts .inside, a .ends), (s .pre .1 .0, minus-used _ _ _ _ (omega (arith, s .pre .1 .0 .few)) (s .pre .1 .1) (part-used (s .pre .1 .1) a) (c .minus2 .ensures), record { what = q .F; stands = q .parts .second _ (a .ends) })))
     (λ c κs. search needs)
     (λ c κs. search needs)
     (λ c. let s = c .before .before .before .before .before .before .before .before .before in let q = as-quantifier _ _ _ (s .pre .1 .2 .what) (s .pre .1 .2 .stands) (c .before .if5 .left) _ (c .ahead .ensures .0) (c .ahead .ensures .1) in omega (arith, q .parts .inside))
@@ -138,15 +138,15 @@ pub +eval-arrow+join-arrow+node-within-spec : {M : Type 1} → statement M
     (λ c. let s = c .before .before .before .before .before .before .before .before .before .before .before .before in let q = as-quantifier _ _ _ (s .pre .1 .2 .what) (s .pre .1 .2 .stands) (c .before .before .before .before .if5 .left) _ (c .before .before .before .ahead .ensures .0) (c .before .before .before .ahead .ensures .1) in let d = c .before .behind-turns .ensures (q .R) (q .parts .first) in starts-inside _ _ _ _ (d .stands))
     (λ c κs. search needs)
     (λ c. let s = c .before .before .before .before .before .before .before .before .before .before .before .before .before .before in let q = as-quantifier _ _ _ (s .pre .1 .2 .what) (s .pre .1 .2 .stands) (c .before .before .before .before .before .before .if5 .left) _ (c .before .before .before .before .before .ahead .ensures .0) (c .before .before .before .before .before .ahead .ensures .1) in let d = c .before .before .before .behind-turns .ensures (q .R) (q .parts .first) in let g = c .before .straight .ensures (c .if6 .taken) in let w = arrows.as-kind _ _ _ (d .R) (d .stands) (g .0) in omega (arith, w .inside))
-    (λ c κs. let s = c .before .before .before .before .before .before .before .before .before .before .before .before .before .before in let q = as-quantifier _ _ _ (s .pre .1 .2 .what) (s .pre .1 .2 .stands) (c .before .before .before .before .before .before .if5 .left) _ (c .before .before .before .before .before .ahead .ensures .0) (c .before .before .before .before .before .ahead .ensures .1) in let d = c .before .before .before .behind-turns .ensures (q .R) (q .parts .first) in let g = c .before .straight .ensures (c .if6 .taken) in let w = arrows.as-kind _ _ _ (d .R) (d .stands) (g .0) in (omega (arith, s .pre .0, q .positive, d .on, w .inside), (s .pre .1 .0, all-small (s .pre .1 .0), record { what = q .E; stands = q .parts .second _ (omega (arith, d .ends, w .size)) })))
+    (λ c κs. let s = c .before .before .before .before .before .before .before .before .before .before .before .before .before .before in let q = as-quantifier _ _ _ (s .pre .1 .2 .what) (s .pre .1 .2 .stands) (c .before .before .before .before .before .before .if5 .left) _ (c .before .before .before .before .before .ahead .ensures .0) (c .before .before .before .before .before .ahead .ensures .1) in let d = c .before .before .before .behind-turns .ensures (q .R) (q .parts .first) in let g = c .before .straight .ensures (c .if6 .taken) in let w = arrows.as-kind _ _ _ (d .R) (d .stands) (g .0) in (omega (arith, s .pre .0, q .positive, d .on, w .inside), (s .pre .1 .0, all-used (s .pre .1 .0), record { what = q .E; stands = q .parts .second _ (omega (arith, d .ends, w .size)) })))
     (λ c. let s = c .before .before .before .before .before .before .before .before .before .before .before .before .before .before .before in let q = as-quantifier _ _ _ (s .pre .1 .2 .what) (s .pre .1 .2 .stands) (c .before .before .before .before .before .before .before .if5 .left) _ (c .before .before .before .before .before .before .ahead .ensures .0) (c .before .before .before .before .before .before .ahead .ensures .1) in let d = c .before .before .before .before .behind-turns .ensures (q .R) (q .parts .first) in let g = c .before .before .straight .ensures (c .before .if6 .taken) in let w = arrows.as-kind _ _ _ (d .R) (d .stands) (g .0) in omega (arith, w .inside))
     (λ c. let s = c .before .before .before .before .before .before .before .before .before .before .before .before .before .before .before .before in let q = as-quantifier _ _ _ (s .pre .1 .2 .what) (s .pre .1 .2 .stands) (c .before .before .before .before .before .before .before .before .if5 .left) _ (c .before .before .before .before .before .before .before .ahead .ensures .0) (c .before .before .before .before .before .before .before .ahead .ensures .1) in let d = c .before .before .before .before .before .behind-turns .ensures (q .R) (q .parts .first) in let g = c .before .before .before .straight .ensures (c .before .before .if6 .taken) in let w = arrows.as-kind _ _ _ (d .R) (d .stands) (g .0) in omega (arith, w .inside))
-    (λ c κs. let s = c .before .before .before .before .before .before .before .before .before .before .before .before .before .before .before .before in let q = as-quantifier _ _ _ (s .pre .1 .2 .what) (s .pre .1 .2 .stands) (c .before .before .before .before .before .before .before .before .if5 .left) _ (c .before .before .before .before .before .before .before .ahead .ensures .0) (c .before .before .before .before .before .before .before .ahead .ensures .1) in let d = c .before .before .before .before .before .behind-turns .ensures (q .R) (q .parts .first) in let g = c .before .before .before .straight .ensures (c .before .before .if6 .taken) in let w = arrows.as-kind _ _ _ (d .R) (d .stands) (g .0) in (record { sound = s .pre .1 .0 .sound; count = s .pre .1 .0 .count; few = s .pre .1 .0 .few; kind = omega (arith, w .range, w .reads) }, s .pre .1 .1, all-true (s .pre .1 .0), part-small (c .before .node-within6 .ensures (q .E) (q .parts .second _ (omega (arith, d .ends, w .size)))), g .1))
+    (λ c κs. let s = c .before .before .before .before .before .before .before .before .before .before .before .before .before .before .before .before in let q = as-quantifier _ _ _ (s .pre .1 .2 .what) (s .pre .1 .2 .stands) (c .before .before .before .before .before .before .before .before .if5 .left) _ (c .before .before .before .before .before .before .before .ahead .ensures .0) (c .before .before .before .before .before .before .before .ahead .ensures .1) in let d = c .before .before .before .before .before .behind-turns .ensures (q .R) (q .parts .first) in let g = c .before .before .before .straight .ensures (c .before .before .if6 .taken) in let w = arrows.as-kind _ _ _ (d .R) (d .stands) (g .0) in (record { sound = s .pre .1 .0 .sound; count = s .pre .1 .0 .count; few = s .pre .1 .0 .few; kind = omega (arith, w .range, w .reads) }, s .pre .1 .1 .small, all-used (s .pre .1 .0) .small, among-all (s .pre .1 .0) (s .pre .1 .0 .within .arrows-in _), part-used (all-used (s .pre .1 .0)) (c .before .node-within6 .ensures (q .E) (q .parts .second _ (omega (arith, d .ends, w .size)))) .small, g .1))
     (λ c. search needs)
     (λ c κs. let s = c .before .before .before .before .before .before .before .before .before .before .before .before .before .before .before in let q = as-quantifier _ _ _ (s .pre .1 .2 .what) (s .pre .1 .2 .stands) (c .before .before .before .before .before .before .before .if5 .left) _ (c .before .before .before .before .before .before .ahead .ensures .0) (c .before .before .before .before .before .before .ahead .ensures .1) in let d = c .before .before .before .before .behind-turns .ensures (q .R) (q .parts .first) in (omega (arith, s .pre .0, q .positive, d .on, starts-inside _ _ _ _ (d .stands)), (s .pre .1 .0, record { what = d .R; stands = d .stands }, refl)))
-    (λ c κs. let s = c .before .before .before .before .before .before .before .before .before .before .before .before .before .before .before .before .before in let q = as-quantifier _ _ _ (s .pre .1 .2 .what) (s .pre .1 .2 .stands) (c .before .before .before .before .before .before .before .before .before .if5 .left) _ (c .before .before .before .before .before .before .before .before .ahead .ensures .0) (c .before .before .before .before .before .before .before .before .ahead .ensures .1) in let d = c .before .before .before .before .before .before .behind-turns .ensures (q .R) (q .parts .first) in let a = c .before .eval-arrow .ensures .0 (d .R) (d .stands) in (omega (arith, s .pre .0, q .positive, d .on, starts-inside _ _ _ _ (d .stands), a .ends), (s .pre .1 .0, all-small (s .pre .1 .0), record { what = q .E; stands = q .parts .second _ (omega (arith, a .ends, d .ends)) })))
+    (λ c κs. let s = c .before .before .before .before .before .before .before .before .before .before .before .before .before .before .before .before .before in let q = as-quantifier _ _ _ (s .pre .1 .2 .what) (s .pre .1 .2 .stands) (c .before .before .before .before .before .before .before .before .before .if5 .left) _ (c .before .before .before .before .before .before .before .before .ahead .ensures .0) (c .before .before .before .before .before .before .before .before .ahead .ensures .1) in let d = c .before .before .before .before .before .before .behind-turns .ensures (q .R) (q .parts .first) in let a = c .before .eval-arrow .ensures .0 (d .R) (d .stands) in (omega (arith, s .pre .0, q .positive, d .on, starts-inside _ _ _ _ (d .stands), a .ends), (s .pre .1 .0, all-used (s .pre .1 .0), record { what = q .E; stands = q .parts .second _ (omega (arith, a .ends, d .ends)) })))
     (λ c. search needs)
-    (λ c κs. let s = c .before .before .before .before .before .before .before .before .before .before .before .before .before .before .before .before .before .before .before in let q = as-quantifier _ _ _ (s .pre .1 .2 .what) (s .pre .1 .2 .stands) (c .before .before .before .before .before .before .before .before .before .before .before .if5 .left) _ (c .before .before .before .before .before .before .before .before .before .before .ahead .ensures .0) (c .before .before .before .before .before .before .before .before .before .before .ahead .ensures .1) in let d = c .before .before .before .before .before .before .before .before .behind-turns .ensures (q .R) (q .parts .first) in let a = c .before .before .before .eval-arrow .ensures in (s .pre .1 .0 .few, a .1, s .pre .1 .1, all-true (s .pre .1 .0), part-small (c .before .node-within7 .ensures (q .E) (q .parts .second _ (omega (arith, a .0 (d .R) (d .stands) .ends, d .ends))))))
+    (λ c κs. let s = c .before .before .before .before .before .before .before .before .before .before .before .before .before .before .before .before .before .before .before in let q = as-quantifier _ _ _ (s .pre .1 .2 .what) (s .pre .1 .2 .stands) (c .before .before .before .before .before .before .before .before .before .before .before .if5 .left) _ (c .before .before .before .before .before .before .before .before .before .before .ahead .ensures .0) (c .before .before .before .before .before .before .before .before .before .before .ahead .ensures .1) in let d = c .before .before .before .before .before .before .before .before .behind-turns .ensures (q .R) (q .parts .first) in let a = c .before .before .before .eval-arrow .ensures in (s .pre .1 .0 .few, a .1, s .pre .1 .1 .small, all-used (s .pre .1 .0) .small, part-used (all-used (s .pre .1 .0)) (c .before .node-within7 .ensures (q .E) (q .parts .second _ (omega (arith, a .0 (d .R) (d .stands) .ends, d .ends)))) .small))
     (λ c. c .leaf-node .ensures)
     (λ c e h. let s = c .before .before .before .before .before .before .before .before in complement-set _ _ _ _ _ (s .pre .1 .0) _ (s .pre .1 .1) e (as-complement _ _ _ e h (c .before .before .before .if2 .left) (c .before .before .if3 .taken)) _ _ _ (c .before .node-within .ensures) (c .minus .ensures))
     (λ c e h. let s = c .before .before .before .before .before .before .before .before .before in and-set _ _ _ _ _ (s .pre .1 .0) _ (s .pre .1 .1) e (as-and _ _ _ e h (c .before .before .before .if3 .left) (c .before .before .if4 .taken)) _ _ _ _ (c .before .node-within2 .ensures) (c .node-within3 .ensures))

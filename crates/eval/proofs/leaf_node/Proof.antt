@@ -29,7 +29,7 @@ returns-3 c e h =
 returns-4 : tie.Need-returns-4
 returns-4 c e h =
     let s = c .before .before .before .before .before .before .before .before in
-    nominal-set _ _ _ _ (s .pre .1) _ _ (s .pre .3) (as-leaf _ _ _ e h (s .pre .5)) (c .before .before .if3 .left) (c .nominal .ensures _ _ (omega (arith, s .pre .2)) (sym (setOf-member-lt _ _ (s .pre .3))))
+    nominal-set _ _ _ _ (s .pre .1) _ _ (s .pre .3) (as-leaf _ _ _ e h (s .pre .5)) (c .before .before .if3 .left) (c .nominal .ensures _ _ (omega (arith, s .pre .2)) (sym (setOf-member-lt _ _ (s .pre .3 .small))))
 
 pub leaf-node-spec : {M : Type 1} → statement M
 leaf-node-spec = tie.close (tie.spec

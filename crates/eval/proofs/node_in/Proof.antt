@@ -1,6 +1,5 @@
 use native.Mathlib.Omega.{arith}
-use borrow.Author.Needs.{needs}
-use Rattle.rows.proofs.Quantifiers.{set-small}
+use Rattle.eval.proofs.NodeCases.{nominal-used}
 use Rattle.eval.proofs.RuleCases.{IsNodeIn, as-node-in, node-in-truth}
 use Rattle.eval.proofs.node_in.Statement.{statement}
 use Rattle.eval.proofs.node_in.Tie as tie
@@ -14,6 +13,6 @@ node-in-spec = tie.close (tie.spec
     (λ c. omega (arith, case (c .before .before .before) .parts .inside))
     (λ c κs. let s = c .before .before .before in omega (arith, s .pre .0 .few, case s .range, case s .reads))
     (λ c. omega (arith, case (c .before .before .before .before) .parts .inside))
-    (λ c κs. let s = c .before .before .before .before in (s .pre .0, set-small _ _ (c .nominal .ensures _ _ (omega (arith, s .pre .0 .few)) (s .pre .0 .nodes)), record { what = case s .E; stands = case s .parts .first }))
+    (λ c κs. let s = c .before .before .before .before in (s .pre .0, nominal-used _ (c .nominal .ensures _ _ (omega (arith, s .pre .0 .few)) (s .pre .0 .nodes)), record { what = case s .E; stands = case s .parts .first }))
     (λ c κs. let s = c .before .before .before .before .before in omega (arith, s .pre .0 .few, case s .range, case s .reads))
     (λ c e h. let s = c .before .before .before .before .before .before in node-in-truth _ _ _ _ _ (s .pre .0) e _ (as-node-in _ _ _ e h (s .pre .2) (s .pre .3)) _ _ _ (c .before .before .nominal .ensures _ _ (omega (arith, s .pre .0 .few)) (s .pre .0 .nodes)) (c .before .node-within .ensures) (c .node-in .ensures)))

@@ -31,7 +31,7 @@ eval-rule-requires c κs =
     let s = c .before .before .before .before .before .before in
     let d = c .before .loop .inv .1 (s .pre .1 .what) (for-count _ _ _ _ _ _ (c .before .before .before .node-count .ensures .0) (s .pre .1 .stand)) in
     let f = first-of _ _ _ _ (d .left) (d .stand) (c .loop-test .taken) in
-    (opened _ _ _ (s .pre .0) (c .before .before .before .node-count .ensures .0) (c .before .before .before .node-count .ensures .2) (c .before .before .all-nodes .ensures), record { what = f .K; stands = f .stands })
+    (opened _ _ _ (λ p. omega (arith, c .before .before .before .before .before .shared-slice-known .given p)) (s .pre .0) (c .before .before .before .node-count .ensures .0) (c .before .before .before .node-count .ensures .2) (c .before .before .all-nodes .ensures), record { what = f .K; stands = f .stands })
 
 sub-t12 : tie.Need-sub-t12 Inv-loop μ-loop
 sub-t12 c =

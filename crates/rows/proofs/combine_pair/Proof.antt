@@ -1,7 +1,6 @@
-use mathlib.Core.Path.{ap, _∙_}
 use native.Mathlib.Omega.{arith}
 use borrow.Author.Needs.{needs}
-use lib.ListN.{length, length-set}
+use lib.ListN.{length-set}
 use Rattle.rows.proofs.Laws.{rows-paired}
 use Rattle.rows.proofs.combine_pair.Statement.{statement}
 use Rattle.rows.proofs.combine_pair.Tie as tie

@@ -1,22 +1,16 @@
-use mathlib.Core.Bool.{true, _&&_}
-use mathlib.Core.Path.{sym, ap, _∙_}
-use Prim.Native.Nat.{ℕ, _≤_}
+use mathlib.Core.Path.{sym, _∙_}
 use native.Mathlib.Omega.{arith}
 use borrow.Author.Needs.{needs}
-use borrow.Author.Tests.{le-leb}
-use lib.Dec.{leb}
-use Rattle.logic.specs.Graph.{countBelow}
-use Rattle.words.specs.Words.{setOf, member}
-use Rattle.words.proofs.SetLaws.{setOf-cong, setOf-member-lt}
-use Rattle.rows.specs.Operations.{enough}
+use Rattle.words.specs.Words.{member}
+use Rattle.words.proofs.SetLaws.{setOf-member-lt}
 use Rattle.rows.proofs.Quantifiers.{none-wanted, wanted-is, any-wanted}
 use Rattle.rows.proofs.ends.Statement.{statement}
 use Rattle.rows.proofs.ends.Tie as tie
 
 pub ends-spec : {M : Type 1} → statement M
 ends-spec = tie.close (tie.spec
-    (λ c κs. search needs) (λ c κs. search needs) (λ c κs. search needs) (λ c κs. search needs) (λ c κs. search needs)
-    (λ c. (λ v a p. a ∙ none-wanted _ _ v (member (c .before .before .args .e)) (c .if1 .taken), search needs))
+    (λ c κs. search needs) (λ c κs. search needs) (λ c κs. search needs) (λ c κs. search needs) (λ c κs. search needs) (λ c κs. search needs)
+    (λ c. let s = c .before .before .before in (λ v a p. none-wanted _ _ _ v (member (s .args .e)) (omega (arith, s .pre .0)) (c .before .if1 .taken) (c .lowest .ensures), search needs))
     (λ c. search needs)
     (λ c. (λ v a p. c .all-ends .ensures v p ∙ any-wanted _ _ (c .before .before .before .before .before .before .args .e) _ v (c .before .before .before .if2 .taken) (c .before .before .if3 .taken) a, search needs))
     (λ c. search needs)

@@ -2,7 +2,7 @@ use mathlib.Core.Path.{_≡_, sym, ap, _∙_}
 use Prim.Native.Nat.{ℕ, _≤_, _-_}
 use native.Mathlib.Omega.{arith}
 use borrow.Author.Needs.{needs}
-use Rattle.logic.specs.Graph.{Pairs, anyBelow}
+use Rattle.logic.specs.Graph.{anyBelow}
 use Rattle.sheet.specs.Sheet.{graphOf}
 use Rattle.words.specs.Words.{setOf}
 use Rattle.rows.proofs.Quantifiers.{any-none, any-more, any-end}

@@ -1,4 +1,3 @@
-use mathlib.Core.Bool.{_&&_}
 use mathlib.Core.Logic.{⊎-elim}
 use mathlib.Core.Path.{_≡_, sym, ap, _∙_}
 use Prim.Native.Nat.{ℕ, _^_, _<_}
@@ -6,7 +5,7 @@ use native.Mathlib.Omega.{arith}
 use borrow.Author.Needs.{needs}
 use Rattle.logic.specs.Graph.{Nodes}
 use Rattle.sheet.specs.Sheet.{graphOf}
-use Rattle.words.specs.Words.{setOf, member}
+use Rattle.words.specs.Words.{setOf}
 use Rattle.words.proofs.MemberLaws.{member-small}
 use Rattle.rows.specs.Operations.{enough}
 use Rattle.rows.proofs.Walks.{Inside, inside-less, Picked, picked-none, picked-yes, picked-no, picked-end}

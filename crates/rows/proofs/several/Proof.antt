@@ -1,5 +1,4 @@
 use mathlib.Core.Path.{refl}
-use borrow.Author.Needs.{needs}
 use native.Mathlib.Omega.{arith}
 use Rattle.words.proofs.MemberLaws.{first-member, member-small}
 use Rattle.rows.proofs.Quantifiers.{several-is, several-none}

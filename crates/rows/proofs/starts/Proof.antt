@@ -1,12 +1,11 @@
-use mathlib.Core.Bool.{_&&_}
 use mathlib.Core.Logic.{⊎-elim}
 use mathlib.Core.Path.{_≡_, sym, _∙_}
-use Prim.Native.Nat.{ℕ, _^_, _<_}
+use Prim.Native.Nat.{_^_, _<_}
 use native.Mathlib.Omega.{arith}
 use borrow.Author.Needs.{needs}
 use Rattle.logic.specs.Graph.{Nodes, Pairs}
 use Rattle.sheet.specs.Sheet.{Rows}
-use Rattle.words.specs.Words.{setOf, member}
+use Rattle.words.specs.Words.{setOf}
 use Rattle.words.proofs.MemberLaws.{member-small}
 use Rattle.rows.specs.Operations.{enough}
 use Rattle.rows.proofs.Walks.{Inside, inside-less, Picked, picked-none, picked-yes, picked-no, picked-end}

@@ -1,18 +1,12 @@
 use mathlib.Core.Path.{ap, _∙_}
 use denote.Ref.{now}
 use Rattle.seal.specs.Seal.{sameBytes}
-use Rattle.pages.specs.Typed.{marks, lineRight}
-use Rattle.pages.proofs.LineLaws.{setLine-word}
 use borrow.Author.Needs.{needs}
 use Rattle.pages.proofs.lines.line_is.Statement.{statement}
 use Rattle.pages.proofs.lines.line_is.Tie as tie
 
 returns : tie.Need-returns
-unfolding lineRight
-returns c =
-    let s = c .before .before .before .before .before .before in
-    let line = now (s .args .line) in
-    c .same .ensures ∙ ap (sameBytes line) (c .before .before .before .put-line .ensures ∙ setLine-word (s .args .n) (s .args .x) (marks line) (s .args .set) (s .pre .1))
+returns c = c .same .ensures ∙ ap (sameBytes (now (c .before .before .before .before .before .before .args .line))) (c .before .before .before .put-line .ensures)
 
 pub line-is-spec : {M : Type 1} → statement M
 line-is-spec =

@@ -4,10 +4,9 @@ use Prim.Native.Nat.{ℕ, _-_, _≤_}
 use native.Mathlib.Omega.{arith}
 use borrow.Author.Needs.{needs}
 use borrow.Rule.Slice.PartMut.{post-is}
-use lib.ListN.{length, take, drop, set, length-append, length-drop, length-set}
+use lib.ListN.{length, take, drop, set, length-drop, length-set}
 use lib.Seq.{length-take-le}
 use Rattle.line.specs.Line.{digits}
-use Rattle.line.proofs.LineLaws.{digits-length}
 use Rattle.pages.proofs.LineLaws.{Blanks, blanks-first, blanks-next, blanks-last}
 use Rattle.pages.proofs.lines.put_head.Statement.{statement}
 use Rattle.pages.proofs.lines.put_head.Tie as tie

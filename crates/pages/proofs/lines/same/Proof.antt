@@ -1,10 +1,9 @@
-use mathlib.Core.Path.{_≡_, refl, sym, ap, _∙_}
-use mathlib.Core.Bool.{_&&_}
-use Prim.Native.Nat.{_+_, _-_, _≤_}
+use mathlib.Core.Path.{_≡_, sym, _∙_}
+use Prim.Native.Nat.{_-_, _≤_}
 use native.Mathlib.Omega.{arith}
 use borrow.Author.Needs.{needs}
 use borrow.Author.Tests.{eq-eqb, ne-eqb}
-use lib.ListN.{getD, drop}
+use lib.ListN.{drop}
 use Rattle.seal.specs.Seal.{sameBytes}
 use Rattle.pages.proofs.LineLaws.{same-step, same-end}
 use Rattle.pages.proofs.lines.same.Statement.{statement}

@@ -28,7 +28,7 @@ returns-2 c =
     let s = c .before .before .before .before .before .before .args in
     let a = c .before .before .before .check in
     let room = length (now (s .out)) in
-    not-written (askPrintLabels (now (s .sheet)) room) (now (s .out)) 33 3136 (short-labels (now (s .sheet)) (a .result) (a .ensures) room (c .before .enum-told .given .1) (c .if1 .taken))
+    not-written (askPrintLabels (now (s .sheet)) room) (now (s .out)) 33 3200 (short-labels (now (s .sheet)) (a .result) (a .ensures) room (c .before .enum-told .given .1) (c .if1 .taken))
 
 node-count-requires : tie.Need-node-count-requires
 node-count-requires c κs =
@@ -42,7 +42,7 @@ put-label-lines-requires c κs =
     let n = c .before .before .before .before .before .node-count in
     let head = c .before .before .before .put-head in
     let whole : length (head .last .0) ≡ 64 = ap length (head .ensures) ∙ length-headLine 0x4C (n .result) in
-    let room : 3136 ≤ length (now (s .out)) = c .before .before .before .before .before .before .if1 .left in (
+    let room : 3200 ≤ length (now (s .out)) = c .before .before .before .before .before .before .if1 .left in (
       done-sound present _ (a .result) (a .ensures) (c .before .before .before .before .before .before .before .enum-told .given .1),
       n .ensures .0,
       n .ensures .2,
@@ -58,8 +58,8 @@ returns-3 c =
     let head = c .before .before .before .before .before .before .put-head in
     let g = graphOf (now (s .sheet)) in
     let whole : length (head .last .0) ≡ 64 = ap length (head .ensures) ∙ length-headLine 0x4C (n .result) in
-    let room : 3136 ≤ length (now (s .out)) = c .before .before .before .before .before .before .before .before .before .if1 .left in
-    let w = is-written (askPrintLabels (now (s .sheet)) (length (now (s .out)))) (now (s .out)) (labelPage g) 3136
+    let room : 3200 ≤ length (now (s .out)) = c .before .before .before .before .before .before .before .before .before .if1 .left in
+    let w = is-written (askPrintLabels (now (s .sheet)) (length (now (s .out)))) (now (s .out)) (labelPage g) 3200
     (enough-labels (now (s .sheet)) (a .result) (a .ensures) _ (c .before .before .before .before .before .before .before .before .before .before .enum-told .given .1) room)
     (omega (arith, length-labelPage g)) in (
       w .0,

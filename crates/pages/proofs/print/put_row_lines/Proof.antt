@@ -1,14 +1,12 @@
-use mathlib.Core.Path.{_≡_, sym, ap, _∙_}
-use Prim.Native.Nat.{_-_, _*_, _+_, _≤_}
+use mathlib.Core.Path.{sym, ap, _∙_}
+use Prim.Native.Nat.{_-_, _≤_}
 use native.Mathlib.Omega.{arith}
 use borrow.Author.Needs.{needs}
 use denote.Ref.{now}
-use lib.ListN.{length}
 use Rattle.answer.specs.Outputs.{writtenAtStart}
-use Rattle.logic.specs.Limits.{labelCount}
 use Rattle.sheet.specs.Sheet.{graphOf, chunks}
 use Rattle.words.specs.Words.{setOf}
-use Rattle.pages.specs.Page.{setLine, rowLines, labelLines}
+use Rattle.pages.specs.Page.{setLine, rowLines}
 use Rattle.pages.proofs.LineLaws.{setLine-word}
 use Rattle.pages.proofs.PageLaws.{Grown, grown-first, grown-length, grown-part, grown-next, grown-last}
 use Rattle.pages.proofs.print.put_row_lines.Statement.{statement}
@@ -31,7 +29,7 @@ loop-again c =
     (search needs, grown-next (s .args .out .now) (s .args .n) (graphOf (now (s .args .sheet)) .joined (s .args .a .0)) (l .i) (l .out) _ (l .inv .1) (omega arith) line)
 
 returns : tie.Need-returns Inv-loop μ-loop
-unfolding rowLines labelLines
+unfolding rowLines
 returns c =
     let s = c .before .before .before .before in
     let l = c .before .loop in

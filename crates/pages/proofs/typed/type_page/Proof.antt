@@ -3,6 +3,7 @@ use native.Mathlib.Omega.{arith}
 use denote.Ref.{now}
 use Rattle.sheet.specs.Sheet.{present}
 use Rattle.sheet.proofs.Bits.{done-sound}
+use Rattle.pages.specs.Page.{labelPageLines}
 use Rattle.pages.specs.Typed.{arrows, labels, headAsked}
 use Rattle.pages.proofs.TypeLaws.{head-length, labels-head, arrows-head, sheet-stops, head-stops, lines-asked}
 use borrow.Author.Needs.{needs}
@@ -39,7 +40,7 @@ type-labels-requires c κs =
     let a = c .before .before .before .before .before .before .before .before .check in
     let n = c .before .before .before .before .node-count in
     let head = labels-head (n .result) (now (s .page)) (sym (c .before .before .before .head-of .ensures) ∙ ap headAsked (c .before .enum-told3 .given .1)) in
-    (done-sound present (now (s .sheet)) (a .result) (a .ensures) (c .before .before .before .before .before .before .enum-told .given .1), n .ensures .0, n .ensures .2, head-length (n .result) (now (s .page)) 0x4C (n .result) 48 head)
+    (done-sound present (now (s .sheet)) (a .result) (a .ensures) (c .before .before .before .before .before .before .enum-told .given .1), head-length (n .result) (now (s .page)) 0x4C (n .result) labelPageLines head)
 
 returns-2 : tie.Need-returns-2
 returns-2 c =

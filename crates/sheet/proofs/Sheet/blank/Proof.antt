@@ -7,7 +7,7 @@ use Rattle.answer.specs.Asked.{Asked, after}
 use Rattle.logic.specs.Limits.{arrowCount}
 use Rattle.seal.specs.Seal.{blockBytes}
 use Rattle.sheet.specs.Sheet.{sheetBytes, store, blank}
-use Rattle.sheet.proofs.Blanks.{Begun, begun-first, begun-more, begun-all, first-length, more-length, few-nodes, many-nodes, no-room, room}
+use Rattle.sheet.proofs.Blanks.{all-used, Begun, begun-first, begun-more, begun-all, first-length, more-length, few-nodes, many-nodes, no-room, room}
 use Rattle.sheet.proofs.Sheet.blank.Statement.{statement}
 use Rattle.sheet.proofs.Sheet.blank.Tie as tie
 
@@ -40,13 +40,14 @@ returns-3 c =
 
 loop-holds : tie.Need-loop-holds Inv-loop μ-loop
 loop-holds c =
-    let st = c .before .before .before .before .before .before .before .before in
+    let st = c .before .before .before .before .before .before .before .before .before in
     let e = c .before .before .blank-block .ensures in
-    (omega arith, first-length (st .args .n) _ (st .args .buf .now) e (c .before .before .before .before .if3 .left), begun-first (st .args .n) _ (drop blockBytes (st .args .buf .now)) e)
+    let u = c .before .before .before .lowest .ensures ∙ all-used (st .args .n) (c .before .before .before .before .before .before .if2 .left) in
+    (omega arith, first-length (st .args .n) _ _ (st .args .buf .now) u e (c .before .before .before .before .before .if3 .left), begun-first (st .args .n) _ _ (drop blockBytes (st .args .buf .now)) u e)
 
 loop-again : tie.Need-loop-again Inv-loop μ-loop
 loop-again c =
-    let st = c .before .before .before .before .before .before .before .before .before .before .before .before .before .before in
+    let st = c .before .before .before .before .before .before .before .before .before .before .before .before .before .before .before in
     let l = c .before .before .before .before .before .loop in
     let e = c .before .before .blank-block2 .ensures in
     let h = c .before .before .before .before .loop-test .taken in
@@ -56,9 +57,9 @@ loop-again c =
 returns-4 : tie.Need-returns-4 Inv-loop μ-loop
 unfolding after
 returns-4 c =
-    let st = c .before .before .before .before .before .before .before .before .before .before in
+    let st = c .before .before .before .before .before .before .before .before .before .before .before in
     let l = c .before .loop in
-    let e = room (st .args .n) (length (st .args .buf .now)) (c .before .before .before .before .before .before .before .before .if1 .left) (c .before .before .before .before .before .before .before .if2 .left) (c .before .before .before .before .before .before .if3 .left) in (
+    let e = room (st .args .n) (length (st .args .buf .now)) (c .before .before .before .before .before .before .before .before .before .if1 .left) (c .before .before .before .before .before .before .before .before .if2 .left) (c .before .before .before .before .before .before .before .if3 .left) in (
       sym e,
       begun-all (st .args .n) (l .a) (l .buf) (omega (arith, l .inv .0, c .loop-test .left)) (l .inv .1) (l .inv .2)
           ∙ sym (ap (λ (q : Asked (Unit {0})). after q (λ (u : Unit {0}). store (blank (st .args .n))) (st .args .buf .now)) e),
@@ -77,6 +78,7 @@ blank-spec =
     (λ c. search needs)
     (λ c. search needs)
     (λ c. search needs)
+    (λ c κs. search needs)
     (λ c κs. search needs)
     loop-holds
     (λ c. search needs)

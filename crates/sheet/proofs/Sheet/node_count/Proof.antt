@@ -1,6 +1,6 @@
 use native.Mathlib.Omega.{arith}
 use borrow.Author.Needs.{needs}
-use Rattle.sheet.specs.Sheet.{present, graphOf}
+use Rattle.sheet.specs.Sheet.{present, graphIn}
 use Rattle.sheet.proofs.Loads.{sound-length, sound-n}
 use Rattle.sheet.proofs.Sheet.node_count.Statement.{statement}
 use Rattle.sheet.proofs.Sheet.node_count.Tie as tie
@@ -9,7 +9,7 @@ shared-slice-read-index : tie.Need-shared-slice-read-index
 shared-slice-read-index c = let st = c .before .before in omega (arith, sound-length present (st .args .sheet .now) (st .pre))
 
 returns : tie.Need-returns
-unfolding graphOf
+unfolding graphIn
 returns c =
     let st = c .before .before .before in
     let n = sound-n present (st .args .sheet .now) (λ p. omega (arith, c .before .before .shared-slice-known .given p)) (st .pre) in

@@ -25,7 +25,7 @@ returns c = λ v q.
     let t = st .args .sheet .now in
     let k = c .before .before .before .index .ensures in
     let o = opening present t (λ p. omega (arith, c .before .before .before .before .before .slice-known .given p)) (st .pre .0) in
-    ap (_++ drop blockBytes t) (c .before .before .put-word .ensures ∙ ap (λ (k : ℕ). reseal present (putWord (take blockBytes t) (16 + 8 * k) (st .args .x))) k)
+    ap (_++ drop blockBytes t) (c .before .before .put-word .ensures ∙ ap (λ (k : ℕ). reseal (present .sums) (putWord (take blockBytes t) (16 + 8 * k) (st .args .x))) k)
     ∙ relabelled present (graphOf t) v (st .args .k .0) (st .args .x) t (st .pre .1) (o .stored) q
 
 pub put-label-spec : {M : Type 1} → statement M

@@ -26,8 +26,8 @@ returns c = λ v inside r.
     let d : from + blockBytes - from ≡ blockBytes = omega arith in
     let o = opening present t (λ p. omega (arith, c .before .before .before .before .before .before .before .slice-known .given p)) (st .pre .0) in
     ap₂ (λ (x : List ℕ) (y : ℕ). take from t ++ (x ++ drop y (drop from t)))
-    (c .before .before .put-words .ensures ∙ ap₂ (λ (m y : ℕ). reseal present (putRows m rows (take y (drop from t)))) (c .before .before .before .before .before .node-count .ensures .0) d) d
-    ∙ ap (λ (a : ℕ). take (blockBytes * a + blockBytes) t ++ (reseal present (putRows (graphOf t .n) rows (take blockBytes (drop (blockBytes * a + blockBytes) t))) ++ drop blockBytes (drop (blockBytes * a + blockBytes) t))) (i .ensures)
+    (c .before .before .put-words .ensures ∙ ap₂ (λ (m y : ℕ). reseal (present .sums) (putRows m rows (take y (drop from t)))) (c .before .before .before .before .before .node-count .ensures .0) d) d
+    ∙ ap (λ (a : ℕ). take (blockBytes * a + blockBytes) t ++ (reseal (present .sums) (putRows (graphOf t .n) rows (take blockBytes (drop (blockBytes * a + blockBytes) t))) ++ drop blockBytes (drop (blockBytes * a + blockBytes) t))) (i .ensures)
     ∙ rejoined present (graphOf t) (o .within) v inside (st .args .a .0) rows r t (st .pre .1) (o .stored)
 
 pub put-rows-spec : {M : Type 1} → statement M

@@ -39,7 +39,7 @@ returns c =
     let st = c .before .before .before .before .before .before .before in
     let l = c .before .before .before .before .before .loop in
     let e : l .i ≡ st .args .n = omega (arith, l .inv .0, c .before .before .before .before .loop-test .left) in
-    c .before .before .seal .ensures ∙ ap (reseal present) (l .inv .2 ∙ ap (λ (x : ℕ). putRows x (st .args .t3) (st .args .block .now)) e)
+    c .before .before .seal .ensures ∙ ap (reseal (present .sums)) (l .inv .2 ∙ ap (λ (x : ℕ). putRows x (st .args .t3) (st .args .block .now)) e)
 
 pub put-words-spec : {M : Type 1} → statement M
 put-words-spec =

@@ -6,7 +6,7 @@ use Rattle.suite.proofs.sheets.zamiathen_convert_255.Tie as tie
 
 returns : tie.Need-returns
 returns c =
-    let e = c .before .before .before .convert-255 .ensures in
+    let e = c .before .before .before .convert .ensures in
     (c .answer-numbers .ensures ∙ ap numbers (e .0), e .1)
 
 pub zamiathen-convert-255-spec : {M : Type 1} → statement M

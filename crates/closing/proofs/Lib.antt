@@ -1,0 +1,4 @@
+pub mod Uses
+pub mod Taken
+pub mod Answers
+pub mod Back

@@ -1,0 +1,1 @@
+// Runs with closings and openings between them: definitions and theorems only.
