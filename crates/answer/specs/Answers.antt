@@ -2,7 +2,7 @@
 -- their own, which hold a bit or a length: their contracts cite `bitAsked` and `carriedAsked`, with the same numbers and places for refusals.
 use Prim.Native.Nat.{ℕ}
 use Rattle.answer.specs.declared.Refusal.{Refusal}
-use Rattle.answer.specs.declared.Refusal.the-variants.{SheetLength, CheckBytes, BlockHead, NotZero, NodeCount, BitRange, BookLength, BookEnds, BookCode, BookLevel, BookNumber, BookRules, EditLength, EditEnds, EditCode, EditLevel, EditNumber, EditExtra, CarriedLength, CarriedLevels, OutputLength, RuleBroken, PageLine, LogSums, LogBlock, NodeTaken}
+use Rattle.answer.specs.declared.Refusal.the-variants.{SheetLength, CheckBytes, BlockHead, NotZero, NodeCount, BitRange, BookLength, BookEnds, BookCode, BookLevel, BookNumber, BookRules, EditLength, EditEnds, EditCode, EditLevel, EditNumber, EditExtra, CarriedLength, CarriedLevels, OutputLength, RuleBroken, PageLine, LogSums, LogBlock, NodeTaken, StoreBytes, PlanName, PlanUnfilled, NodesTotal, LawStep, TextSent, SmallSheets, GameRange}
 use Rattle.answer.specs.declared.Answer.{Answer}
 use Rattle.answer.specs.declared.Answer.the-variants.{Done, Refused}
 use Rattle.answer.specs.Asked.{Asked, passed, refused}
@@ -34,6 +34,14 @@ refusalNumber (PageLine p) = 51
 refusalNumber (LogSums p) = 52
 refusalNumber (LogBlock p) = 53
 refusalNumber (NodeTaken p) = 54
+refusalNumber (StoreBytes p) = 55
+refusalNumber (PlanName p) = 56
+refusalNumber (PlanUnfilled p) = 57
+refusalNumber (NodesTotal p) = 58
+refusalNumber (LawStep p) = 59
+refusalNumber (TextSent p) = 60
+refusalNumber (SmallSheets p) = 61
+refusalNumber (GameRange p) = 62
 
 abbrev pub refusalPlace : Refusal → ℕ
 refusalPlace (SheetLength p) = p
@@ -62,6 +70,14 @@ refusalPlace (PageLine p) = p
 refusalPlace (LogSums p) = p
 refusalPlace (LogBlock p) = p
 refusalPlace (NodeTaken p) = p
+refusalPlace (StoreBytes p) = p
+refusalPlace (PlanName p) = p
+refusalPlace (PlanUnfilled p) = p
+refusalPlace (NodesTotal p) = p
+refusalPlace (LawStep p) = p
+refusalPlace (TextSent p) = p
+refusalPlace (SmallSheets p) = p
+refusalPlace (GameRange p) = p
 
 abbrev pub answerNumber : Answer → ℕ
 answerNumber Done = 0

@@ -52,6 +52,22 @@ pub enum Refusal {
     LogBlock { place: usize },
     // 54: the node to be closed has a label or an arrow or is the only one in use; the place is the node
     NodeTaken { place: usize },
+    // 55: the store's length, its head, a filled sheet or an unfilled place is wrong
+    StoreBytes { place: usize },
+    // 56: a name that is not 1 to 7
+    PlanName { place: usize },
+    // 57: no sheet is kept under the name
+    PlanUnfilled { place: usize },
+    // 58: two sheets with more than 60 nodes together; the place is that total
+    NodesTotal { place: usize },
+    // 59: a step is cut, unknown or does not fit; the place is the step, from 0
+    LawStep { place: usize },
+    // 60: the last text is not the one sent; the place is the first byte that differs, or the shorter length
+    TextSent { place: usize },
+    // 61: n is not 1 to 3, or another label or arrow than 0 is named
+    SmallSheets { place: usize },
+    // 62: a list of edits or the number of moves is out of its range
+    GameRange { place: usize },
 }
 
 pub enum Answer {
@@ -96,6 +112,14 @@ pub fn refusal_number(r: Refusal) -> usize
         Refusal::LogSums { place: _ } => 52,
         Refusal::LogBlock { place: _ } => 53,
         Refusal::NodeTaken { place: _ } => 54,
+        Refusal::StoreBytes { place: _ } => 55,
+        Refusal::PlanName { place: _ } => 56,
+        Refusal::PlanUnfilled { place: _ } => 57,
+        Refusal::NodesTotal { place: _ } => 58,
+        Refusal::LawStep { place: _ } => 59,
+        Refusal::TextSent { place: _ } => 60,
+        Refusal::SmallSheets { place: _ } => 61,
+        Refusal::GameRange { place: _ } => 62,
     }
 }
 
@@ -130,6 +154,14 @@ pub fn refusal_place(r: Refusal) -> usize
         Refusal::LogSums { place } => place,
         Refusal::LogBlock { place } => place,
         Refusal::NodeTaken { place } => place,
+        Refusal::StoreBytes { place } => place,
+        Refusal::PlanName { place } => place,
+        Refusal::PlanUnfilled { place } => place,
+        Refusal::NodesTotal { place } => place,
+        Refusal::LawStep { place } => place,
+        Refusal::TextSent { place } => place,
+        Refusal::SmallSheets { place } => place,
+        Refusal::GameRange { place } => place,
     }
 }
 
