@@ -27,6 +27,7 @@ static char labels[ZAMIATHEN_LABELS][LINE], arrows[ZAMIATHEN_ARROWS][LINE], node
 static size_t node_count;
 static struct text book;
 static uint8_t sheet[ZAMIATHEN_SHEET_BYTES], before[ZAMIATHEN_SHEET_BYTES], scratch[ZAMIATHEN_CARRIED_BYTES];
+static uint8_t store[ZAMIATHEN_STORE_BYTES];
 static int column_changed[ZAMIATHEN_ARROWS][ZAMIATHEN_MAX_NODES];
 
 static FILE *open_file(const char *name) {
@@ -368,6 +369,61 @@ static void show_closing(size_t node, const char *name) {
            memcmp(open, sheet, sizeof sheet) == 0 ? ": the sheet is as it was before the closing, to the byte" : "");
 }
 
+/* Keeps the sheet under a name. */
+static void keep_plan(size_t name) {
+    zamiathen_answer answer = zamiathen_keep(sheet, sizeof sheet, store, sizeof store, name);
+    printf("   zamiathen_keep under name %zu answers %02zu %05zu.\n", name, answer.number, answer.place);
+}
+
+/* Returns to the sheet kept under a name, which should be these bytes. */
+static void return_to(size_t name, const uint8_t *kept) {
+    zamiathen_answer answer =
+        zamiathen_return(sheet, sizeof sheet, store, sizeof store, name, book.bytes, book.length);
+    printf("   zamiathen_return to name %zu answers %02zu %05zu", name, answer.number, answer.place);
+    if (answer.number == ZAMIATHEN_PLAN_UNFILLED)
+        printf(": nothing is kept there");
+    else if (memcmp(kept, sheet, sizeof sheet) == 0)
+        printf(": the sheet kept there, to the byte");
+    printf(".\n");
+}
+
+/* Three variants of a weekend, each entered on the sheet as it is and kept. The best is the one that changes the fewest
+ * bytes of the sheet. */
+static void show_plans(const char *const variants[3]) {
+    static uint8_t kept[3][sizeof sheet];
+    struct text variant;
+    size_t best = 0, fewest = sizeof sheet;
+    zamiathen_answer answer = zamiathen_store_blank(store, sizeof store);
+    printf("   zamiathen_store_blank answers %02zu %05zu: no name is filled.\n", answer.number, answer.place);
+    memcpy(before, sheet, sizeof sheet);
+    keep_plan(1);
+    for (size_t v = 0; v < 3; v++) {
+        size_t changed = 0;
+        load_text(&variant, variants[v]);
+        answer = zamiathen_enter(sheet, sizeof sheet, book.bytes, book.length, variant.bytes, variant.length, scratch,
+                                 sizeof scratch);
+        memcpy(kept[v], sheet, sizeof sheet);
+        for (size_t i = 0; i < sizeof sheet; i++)
+            changed += sheet[i] != before[i];
+        if (changed < fewest) {
+            fewest = changed;
+            best = v;
+        }
+        printf("\n   %s: zamiathen_enter answers %02zu %05zu, %zu bytes of the sheet change.\n", variants[v],
+               answer.number, answer.place, changed);
+        keep_plan(2 + v);
+        return_to(1, before);
+    }
+    printf("\n   The best is %s.\n", variants[best]);
+    return_to(2 + best, kept[best]);
+    answer = zamiathen_drop(store, sizeof store, 1);
+    printf("   zamiathen_drop of name 1 answers %02zu %05zu.\n", answer.number, answer.place);
+    return_to(1, before);
+    store[ZAMIATHEN_STORE_BYTES - 1] ^= 1;
+    answer = zamiathen_keep(sheet, sizeof sheet, store, sizeof store, 1);
+    printf("   With a byte of the store changed zamiathen_keep answers %02zu %05zu.\n", answer.number, answer.place);
+}
+
 int main(int count, char **words) {
     if (count != 2) {
         fprintf(stderr, "usage: demo DIRECTORY\n");
@@ -404,5 +460,8 @@ int main(int count, char **words) {
     show_page(0);
     printf("\n7. A platform closed for good (retire.hex); P6, the last node, is closed already\n\n");
     show_closing(58, "retire.hex");
+    printf("\n8. Three variants of a weekend, and the best of them (move.hex, swap.hex, retire.hex)\n\n");
+    load_sheet("sheet.bin");
+    show_plans((const char *const[3]){"move.hex", "swap.hex", "retire.hex"});
     return 0;
 }

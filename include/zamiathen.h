@@ -1,12 +1,14 @@
 /* Station sheets: make a blank sheet, ask whether a sheet is sound, convert an old card, read a sheet's bits, print its
  * blocks as pages and type pages back, judge a rule book on it, rewrite a stored book, carry a book back through an
- * edit, change the sheet by an edit, with a book or without one, and close and open its nodes.
+ * edit, change the sheet by an edit, with a book or without one, close and open its nodes, and keep sheets in a store and
+ * return to them.
  *
  * Link with libzamiathen.a:  cc program.c $(pkg-config --cflags --libs zamiathen)
  *
  * Buffers. Each buffer is a pointer and its length in bytes. A call reads no byte outside its buffers and writes only
  * where this header says so. The buffers of one call must not overlap where one of them is written: the sheet of
- * zamiathen_blank, zamiathen_type_page, zamiathen_apply, zamiathen_enter, zamiathen_close and zamiathen_open, the card of
+ * zamiathen_blank, zamiathen_type_page, zamiathen_apply, zamiathen_enter, zamiathen_close, zamiathen_open and
+ * zamiathen_return, the store of zamiathen_store_blank, zamiathen_keep and zamiathen_drop, the card of
  * zamiathen_convert_255 and zamiathen_convert_257, the scratch of zamiathen_enter and the output of
  * zamiathen_print_arrow, zamiathen_print_labels, zamiathen_rewrite and zamiathen_carry_back share no byte with any other
  * buffer of the call. A pointer may be NULL only when its length is 0. There is no other demand: any bytes, any length
@@ -33,11 +35,12 @@ extern "C" {
  * added: a card written under another first number may be answered otherwise (one written under 1 is converted by
  * zamiathen_convert_255, one written under 2 or 3 by zamiathen_convert_257). As one number: 1000 * first + second. */
 #define ZAMIATHEN_VERSION_FIRST 4
-#define ZAMIATHEN_VERSION_SECOND 0
+#define ZAMIATHEN_VERSION_SECOND 1
 #define ZAMIATHEN_VERSION (1000 * ZAMIATHEN_VERSION_FIRST + ZAMIATHEN_VERSION_SECOND)
 
 /* Sizes. */
 #define ZAMIATHEN_SHEET_BYTES 8704    /* a sheet has just this length */
+#define ZAMIATHEN_STORE_BYTES 61440   /* a store has just this length */
 #define ZAMIATHEN_TEXT_BYTES 4096     /* the longest book and the longest edit; suffices for a rewritten book */
 #define ZAMIATHEN_CARRIED_BYTES 16384 /* the longest carried book: an output or scratch of this length suffices */
 #define ZAMIATHEN_LINE_BYTES 64       /* a line of a page, its line feed included */
@@ -101,7 +104,12 @@ enum zamiathen_number {
     ZAMIATHEN_LOG_BLOCK = 53, /* its fields are wrong, its number is above 65,534, it is cut short, or the log ends inside an edit */
 
     /* The node to be closed. Asked after the book and the node's range, and before 41. Place: the node. */
-    ZAMIATHEN_NODE_TAKEN = 54 /* it has a label, an arrow from it or an arrow to it, or is the only one in use */
+    ZAMIATHEN_NODE_TAKEN = 54, /* it has a label, an arrow from it or an arrow to it, or is the only one in use */
+
+    /* The store. Asked after the sheet and before the book. Place 0. */
+    ZAMIATHEN_STORE = 55,        /* its length, its head, a sheet that is kept or a place that is unfilled is wrong */
+    ZAMIATHEN_PLAN_NAME = 56,    /* the name is not from 1 to 7 */
+    ZAMIATHEN_PLAN_UNFILLED = 57 /* nothing is kept under the name */
 };
 
 /* The answer: a number of enum zamiathen_number, and its place. */
@@ -254,6 +262,36 @@ zamiathen_answer zamiathen_close(uint8_t *sheet, size_t sheet_length, const uint
  * Writes likewise. Opening a node that was closed gives the sheet from before back, byte for byte. */
 zamiathen_answer zamiathen_open(uint8_t *sheet, size_t sheet_length, const uint8_t *book, size_t book_length,
                                 size_t node);
+
+/*
+ * Plans to come back to
+ *
+ * A store keeps sheets under the names 1 to 7. It is a head block of 512 bytes and seven places of 8,704: byte 0 of the head
+ * is 4, byte 1 has bit v - 1 set when name v is filled, all else is zero, and the check bytes are those of a sheet's block.
+ * A filled place is a sound sheet, an unfilled one is all zero. While only these calls write the store, a return that is
+ * done gives back, byte for byte, the sheet last kept under that name, whatever was entered since. Where a single byte of
+ * a sound store has changed, each call that is lent the store answers 55, once the sheet that it is lent has passed.
+ */
+
+/* Makes the store's buffer a store with no name filled. Its bytes before do not matter. Answers 0, or 55 unless it has
+ * 61,440 bytes. Every answer but done leaves the buffer as it was. */
+zamiathen_answer zamiathen_store_blank(uint8_t *store, size_t store_length);
+
+/* Keeps the sheet under a name; what was kept under it is replaced. Answers 0, 1 to 4, 55 or 56, asked in this order;
+ * no book is judged. Only done changes the store: the place of that name, and the head. */
+zamiathen_answer zamiathen_keep(const uint8_t *sheet, size_t sheet_length, uint8_t *store, size_t store_length,
+                                size_t name);
+
+/* Makes the sheet the one that is kept under a name, if each rule of the book holds on it. Answers 0, 1 to 4 of the sheet
+ * that is lent, 55, 56, 57, 11 to 16 of the book by the kept sheet's n, or 41 of the book on the kept sheet, asked in
+ * this order. Only done changes the sheet; the store is read only. The sheet then keeps the book, so that calls of
+ * zamiathen_enter may follow. */
+zamiathen_answer zamiathen_return(uint8_t *sheet, size_t sheet_length, const uint8_t *store, size_t store_length,
+                                  size_t name, const uint8_t *book, size_t book_length);
+
+/* Drops what is kept under a name: its place is all zero then. Answers 0, 55, 56 or 57, asked in this order. Only done
+ * changes the store. */
+zamiathen_answer zamiathen_drop(uint8_t *store, size_t store_length, size_t name);
 
 #ifdef __cplusplus
 }

@@ -83,19 +83,23 @@ static void left(const char *what, const uint8_t *carried, size_t length) {
 
 static void left_alone(const char *what) { left(what, NULL, 0); }
 
-/* Check bytes of each block: sums modulo 257 over bytes 0 to 507, in two bytes each. */
-static void seal(uint8_t *bytes) {
-    for (size_t block = 0; block < 17; block++, bytes += 512) {
-        unsigned s = 0, t = 0;
-        for (size_t i = 0; i < 508; i++) {
-            s = (s + bytes[i]) % 257;
-            t = (t + s) % 257;
-        }
-        bytes[508] = (uint8_t)(s % 256);
-        bytes[509] = (uint8_t)(s / 256);
-        bytes[510] = (uint8_t)(t % 256);
-        bytes[511] = (uint8_t)(t / 256);
+/* Check bytes of a block: sums modulo 257 over bytes 0 to 507, in two bytes each. */
+static void seal_block(uint8_t *bytes) {
+    unsigned s = 0, t = 0;
+    for (size_t i = 0; i < 508; i++) {
+        s = (s + bytes[i]) % 257;
+        t = (t + s) % 257;
     }
+    bytes[508] = (uint8_t)(s % 256);
+    bytes[509] = (uint8_t)(s / 256);
+    bytes[510] = (uint8_t)(t % 256);
+    bytes[511] = (uint8_t)(t / 256);
+}
+
+/* Those of each block of a sheet. */
+static void seal(uint8_t *bytes) {
+    for (size_t block = 0; block < 17; block++)
+        seal_block(bytes + 512 * block);
 }
 
 /* Check bytes of an old card: sums modulo 255 over bytes 0 to 509, in one byte each. */
@@ -761,6 +765,127 @@ static void taken_nodes(void) {
     }
 }
 
+/* A store, as document 02 has its length and numbers, with a guard on each side; and what it should hold. */
+enum { STORE_BYTES = 61440, STORE_UNSOUND = 55, NO_NAME = 56, UNFILLED = 57 };
+static struct {
+    uint8_t before[GUARD], bytes[STORE_BYTES], after[GUARD];
+} lent_store;
+static uint8_t *const store = lent_store.bytes;
+static uint8_t kept_store[STORE_BYTES];
+static const size_t no_names[] = {0, 8, 9, 256 + 2, SIZE_MAX / 2 + 1, SIZE_MAX};
+
+/* The answer, and every byte of store and sheet. */
+static void stored(const char *what, zamiathen_answer found, size_t number, size_t place) {
+    answered(what, found, number, place);
+    same(what, memcmp(store, kept_store, STORE_BYTES) == 0 && guarded(lent_store.before, lent_store.after));
+    left_alone(what);
+}
+
+static zamiathen_answer keep(size_t name) { return zamiathen_keep(sheet, whole, store, STORE_BYTES, name); }
+
+static zamiathen_answer give_back(size_t name, const uint8_t *book, size_t length) {
+    return zamiathen_return(sheet, whole, store, STORE_BYTES, name, book, length);
+}
+
+static zamiathen_answer drop(size_t name) { return zamiathen_drop(store, STORE_BYTES, name); }
+
+/* A blank store beside T. */
+static void start_store(void) {
+    start();
+    memset(&lent_store, GUARD_BYTE, sizeof lent_store);
+    memset(store, FILL, STORE_BYTES);
+    memcpy(kept_store, store, STORE_BYTES);
+    stored("short store", zamiathen_store_blank(store, STORE_BYTES - 1), STORE_UNSOUND, 0);
+    stored("no store", zamiathen_store_blank(NULL, 0), STORE_UNSOUND, 0);
+    stored("no blank store", drop(1), STORE_UNSOUND, 0);
+    memset(kept_store, 0, STORE_BYTES);
+    kept_store[0] = 4;
+    seal_block(kept_store);
+    stored("blank store", zamiathen_store_blank(store, STORE_BYTES), ZAMIATHEN_DONE, 0);
+}
+
+/* T under name 2. */
+static void fill_second(void) {
+    kept_store[1] = 2;
+    seal_block(kept_store);
+    sheet_t(kept_store + 512 + whole);
+    stored("keep", keep(2), ZAMIATHEN_DONE, 0);
+}
+
+/* T kept, the sheet changed, T given back; kept again, dropped. */
+static void plans(void) {
+    start_store();
+    fill_second();
+    for (size_t i = 0; i < sizeof no_names / sizeof *no_names; i++) {
+        stored("no such name to keep", keep(no_names[i]), NO_NAME, 0);
+        stored("no such name to return", give_back(no_names[i], B, sizeof B), NO_NAME, 0);
+        stored("no such name to drop", drop(no_names[i]), NO_NAME, 0);
+    }
+    for (size_t name = 1; name <= 7; name++)
+        if (name != 2) {
+            stored("unfilled", give_back(name, B, sizeof B), UNFILLED, 0);
+            stored("unfilled", drop(name), UNFILLED, 0);
+        }
+    kept[24] = 0;
+    seal(kept);
+    stored("label 1 taken", zamiathen_apply(sheet, whole, TAKE, sizeof TAKE), ZAMIATHEN_DONE, 0);
+    stored("judged on the kept sheet", give_back(2, BROKEN, sizeof BROKEN), ZAMIATHEN_RULE_BROKEN, 1);
+    for (size_t i = 0; i < sizeof book_faults / sizeof *book_faults; i++) {
+        const struct text *book = text_of(&book_faults[i]);
+        stored("refused book", give_back(2, book->bytes, book->length), book_faults[i].number, book_faults[i].place);
+    }
+    sheet_t(kept);
+    stored("returned", give_back(2, B, sizeof B), ZAMIATHEN_DONE, 0);
+    answered("blank", zamiathen_blank(sheet, whole, 60), ZAMIATHEN_DONE, 0);
+    memcpy(kept, sheet, whole);
+    static const uint8_t node_3[] = {0x23, 0x03, 0x01};
+    stored("read with the kept sheet's n", give_back(2, node_3, sizeof node_3), ZAMIATHEN_BOOK_NUMBER, 1);
+    memcpy(kept_store + 512 + whole, sheet, whole);
+    stored("kept again", keep(2), ZAMIATHEN_DONE, 0);
+    stored("returned with 60 nodes", give_back(2, node_3, sizeof node_3), ZAMIATHEN_DONE, 0);
+    kept_store[1] |= 64;
+    seal_block(kept_store);
+    memcpy(kept_store + STORE_BYTES - whole, sheet, whole);
+    stored("the last name", keep(7), ZAMIATHEN_DONE, 0);
+    kept_store[1] = 64;
+    seal_block(kept_store);
+    memset(kept_store + 512 + whole, 0, whole);
+    stored("drop", drop(2), ZAMIATHEN_DONE, 0);
+    stored("drop again", drop(2), UNFILLED, 0);
+}
+
+/* Each question before the next: a fault of the sheet, of the store in each block, of the name. */
+static void refused_plans(void) {
+    start_store();
+    fill_second();
+    stored("short sheet to keep", zamiathen_keep(sheet, whole - 1, store, STORE_BYTES - 1, 0), ZAMIATHEN_SHEET_LENGTH, 0);
+    stored("short sheet to return", zamiathen_return(sheet, whole - 1, store, STORE_BYTES - 1, 0, B, sizeof B),
+           ZAMIATHEN_SHEET_LENGTH, 0);
+    sheet[16 * 512 + 20] ^= 1;
+    kept[16 * 512 + 20] ^= 1;
+    stored("check bytes before the store", zamiathen_keep(sheet, whole, store, 0, 0), ZAMIATHEN_SHEET_SUMS, 16);
+    stored("check bytes before the name", give_back(0, NULL, 0), ZAMIATHEN_SHEET_SUMS, 16);
+    sheet[16 * 512 + 20] ^= 1;
+    kept[16 * 512 + 20] ^= 1;
+    stored("short store", zamiathen_keep(sheet, whole, store, STORE_BYTES - 1, 0), STORE_UNSOUND, 0);
+    stored("short store", zamiathen_return(sheet, whole, store, STORE_BYTES - 1, 0, END, 1), STORE_UNSOUND, 0);
+    stored("short store", zamiathen_drop(store, STORE_BYTES - 1, 0), STORE_UNSOUND, 0);
+    for (size_t block = 0; block < STORE_BYTES / 512; block++) {
+        const size_t at = 512 * block + 100;
+        store[at] = kept_store[at] = 1;
+        stored("a byte of the store", keep(3), STORE_UNSOUND, 0);
+        stored("a byte of the store", give_back(1, END, 1), STORE_UNSOUND, 0);
+        stored("a byte of the store", drop(0), STORE_UNSOUND, 0);
+        store[at] = kept_store[at] = 0;
+    }
+    for (unsigned mark = 0; mark < 256; mark++) {
+        store[1] = kept_store[1] = (uint8_t)mark;
+        seal_block(store);
+        seal_block(kept_store);
+        stored("marks", drop(1), mark == 2 ? UNFILLED : STORE_UNSOUND, 0);
+    }
+}
+
 int main(void) {
     examples();
     changes();
@@ -781,6 +906,8 @@ int main(void) {
     node_3();
     closing();
     taken_nodes();
+    plans();
+    refused_plans();
     empty_buffers();
     printf("%d passed, %d failed\n", passed, failed);
     return failed != 0;

@@ -12,6 +12,7 @@ pub mod graph;
 pub mod log;
 pub mod meaning;
 pub mod pages;
+pub mod plans;
 pub mod reader;
 pub mod rewrite;
 pub mod sheet;

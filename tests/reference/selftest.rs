@@ -1,5 +1,5 @@
-//! The marked examples of document 01, some of its remarks, check bytes, old cards, pages of its sheet T, rewritten books and
-//! closed nodes, asked of the reference itself.
+//! The marked examples of document 01, some of its remarks, check bytes, old cards, pages of its sheet T, rewritten books,
+//! closed nodes and stores, asked of the reference itself.
 
 use reference::answer::{Answer, DONE};
 use reference::calls::{apply, carry_back, close, enter, judge, open, Judged};
@@ -9,7 +9,7 @@ use reference::pages::{page, type_page, Shown};
 use reference::rewrite::rewrite;
 use reference::sheet::{BLOCK, SUMS_255, SUMS_257};
 use reference::syntax::{Node, Rule};
-use reference::{reader, sheet};
+use reference::{plans, reader, sheet};
 
 /// Bytes from hexadecimal with blanks.
 fn hex(text: &str) -> Vec<u8> {
@@ -381,6 +381,53 @@ fn closing(tally: &mut Tally) {
     tally.same("repaired by opening", open(&mut one, &hex("23 00 01"), 0), DONE);
 }
 
+/// A store in the words of item 7, byte by byte.
+fn stores(tally: &mut Tally) {
+    let refused = |number| Answer { number, place: 0 };
+    let mut store = vec![0xEE; 61_440];
+    let answer = plans::store_blank(&mut store);
+    let blank = store.clone();
+    let first = [&[4, 0][..], &[0; 506]].concat();
+    let head = (&store[..508] == first, &store[508..512], store[512..].iter().all(|byte| *byte == 0));
+    // s is 4; t is 4 for each of 508 bytes, 2,032, which leaves 233.
+    tally.same("blank store", (answer, head), (DONE, (true, &[4, 0, 233, 0][..], true)));
+    tally.same("wrong length", plans::store_blank(&mut store[1..]), refused(55));
+    let (t, u) = (sheet_t(), sheet_u());
+    tally.same("keep", plans::keep(&t, &mut store, 2), DONE);
+    // Name 2 is bit 1: s is 6; t is 2,032 and 2 for each of 507 bytes, 3,046, which leaves 219.
+    tally.same("filled", (&store[..2], &store[508..512]), (&[4, 2][..], &[6, 0, 219, 0][..]));
+    let around = store[512..512 + 8704].iter().chain(&store[512 + 2 * 8704..]).all(|byte| *byte == 0);
+    tally.same("the second place", (store[512 + 8704..512 + 2 * 8704] == t, around), (true, true));
+    tally.same("unfilled", plans::give_back(&mut u.clone(), &store, 1, &[]), refused(57));
+    tally.same("no name", plans::give_back(&mut u.clone(), &store, 0, &[]), refused(56));
+    tally.same("no name", plans::keep(&u, &mut store, 8), refused(56));
+    tally.same("the sheet first", plans::keep(&u[1..], &mut store[1..], 8), refused(1));
+    let mut present = u.clone();
+    tally.same("returned", (plans::give_back(&mut present, &store, 2, &hex(B)), present == t), (DONE, true));
+    // Node 1 is closed on U and in use on T: the kept sheet is judged.
+    let closed = hex("21 01 01 27 23 01 01");
+    let mut present = u.clone();
+    let answer = plans::give_back(&mut present, &store, 2, &closed);
+    tally.same("judged on the kept sheet", (answer, present == u), (Answer { number: 41, place: 1 }, true));
+    let blank_4 = sheet::store(&Graph::blank(4));
+    let answer = plans::give_back(&mut blank_4.clone(), &store, 2, &hex("23 03 01"));
+    tally.same("read with the kept sheet's n", answer, Answer { number: 15, place: 1 });
+    tally.same("keep again", plans::keep(&u, &mut store, 2), DONE);
+    tally.same("replaced", plans::give_back(&mut present, &store, 2, &closed), DONE);
+    tally.same("keep another", plans::keep(&t, &mut store, 7), DONE);
+    let mut worn = store.clone();
+    worn[61_439] ^= 1;
+    tally.same("a filled sheet", plans::drop(&mut worn, 2), refused(55));
+    tally.same("drop", (plans::drop(&mut store, 7), plans::drop(&mut store, 7)), (DONE, refused(57)));
+    tally.same("drop the last", (plans::drop(&mut store, 2), store == blank), (DONE, true));
+    store[30_000] = 1;
+    tally.same("an unfilled place", plans::drop(&mut store, 2), refused(55));
+    let mut bit_7 = blank;
+    bit_7[1] = 128;
+    sheet::seal(&mut bit_7[..BLOCK]);
+    tally.same("bit 7", plans::keep(&t, &mut bit_7, 1), refused(55));
+}
+
 /// None of these may take exponential time.
 fn explosions(tally: &mut Tally) {
     let rule = hex("23 00 03 00");
@@ -411,6 +458,7 @@ fn main() {
     closed_sheets(&mut tally);
     closed_pages(&mut tally);
     closing(&mut tally);
+    stores(&mut tally);
     explosions(&mut tally);
     println!("{} passed, {} failed", tally.passed, tally.failed);
     std::process::exit(i32::from(tally.failed > 0));

@@ -1,2 +1,6 @@
 pub mod Steps
+pub mod Runs
 pub mod History
+pub mod Bytes
+pub mod Back
+pub mod Plans

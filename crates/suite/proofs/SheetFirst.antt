@@ -1,4 +1,4 @@
--- Each call that lends a sheet asks the sheet first (blank is lent none), so what `Noticed` of `sheet` says of every caller holds of it.
+-- Each call that lends a sheet asks the sheet first (blank, a blank store and drop are lent none), so what `Noticed` of `sheet` says of every caller holds of it.
 use mathlib.Core.Path.{_≡_}
 use mathlib.Core.List.{List}
 use Prim.Native.Nat.{ℕ}
@@ -9,6 +9,7 @@ use Rattle.judge.specs.Questions.{askSheetAndBook, askJudge}
 use Rattle.apply.specs.Apply.{askApply}
 use Rattle.demands.specs.Enter.{askBefore41, askEnter, enterAnswer}
 use Rattle.closing.specs.Questions.{askNode, askClose, askOpen}
+use Rattle.plans.specs.Questions.{askKeep, askReturn}
 use Rattle.pages.specs.Print.{askPrintArrow, askPrintLabels}
 use Rattle.pages.specs.Typed.{askType}
 
@@ -50,6 +51,14 @@ close-first book node = record { first = λ sheet q p e. rw e }
 pub open-first : (book : List ℕ) (node : ℕ) → AsksSheetFirst (λ sheet. askOpen sheet book node)
 unfolding askOpen askNode askSheetAndBook _>>_ _>>=_
 open-first book node = record { first = λ sheet q p e. rw e }
+
+pub keep-first : (store : List ℕ) (name : ℕ) → AsksSheetFirst (λ sheet. askKeep sheet store name)
+unfolding askKeep _>>_
+keep-first store name = record { first = λ sheet q p e. rw e }
+
+pub return-first : (store : List ℕ) (name : ℕ) (book : List ℕ) → AsksSheetFirst (λ sheet. askReturn sheet store name book)
+unfolding askReturn _>>_
+return-first store name book = record { first = λ sheet q p e. rw e }
 
 pub enter-first : (book edit : List ℕ) (room : ℕ) → AsksSheetFirst (λ sheet. enterAnswer sheet book edit room)
 unfolding askEnter askBefore41 askSheetAndBook _>>_ _>>=_ outcome

@@ -11,6 +11,7 @@ mod nodes;
 mod paper;
 mod rules;
 mod sheets;
+mod store;
 
 // Number and place of an answer, 0 and 0 for done.
 #[repr(C)]

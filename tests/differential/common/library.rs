@@ -67,6 +67,24 @@ extern "C" {
         book_length: usize,
         node: usize,
     ) -> CAnswer;
+    pub fn zamiathen_store_blank(store: *mut u8, store_length: usize) -> CAnswer;
+    pub fn zamiathen_keep(
+        sheet: *const u8,
+        sheet_length: usize,
+        store: *mut u8,
+        store_length: usize,
+        name: usize,
+    ) -> CAnswer;
+    pub fn zamiathen_return(
+        sheet: *mut u8,
+        sheet_length: usize,
+        store: *const u8,
+        store_length: usize,
+        name: usize,
+        book: *const u8,
+        book_length: usize,
+    ) -> CAnswer;
+    pub fn zamiathen_drop(store: *mut u8, store_length: usize, name: usize) -> CAnswer;
     pub fn zamiathen_rewrite(book: *const u8, book_length: usize, output: *mut u8, output_length: usize) -> CLength;
     pub fn zamiathen_apply(sheet: *mut u8, sheet_length: usize, edit: *const u8, edit_length: usize) -> CAnswer;
     pub fn zamiathen_carry_back(

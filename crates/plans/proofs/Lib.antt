@@ -1,0 +1,9 @@
+pub mod Bytes
+pub mod Heads
+pub mod Asks
+pub mod Places
+pub mod Laws
+pub mod Writes
+pub mod Answers
+pub mod Noticed
+pub mod Small

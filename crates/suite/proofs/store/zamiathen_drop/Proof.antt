@@ -1,0 +1,13 @@
+use borrow.Author.Needs.{needs}
+use mathlib.Core.Path.{ap, _∙_}
+use Rattle.suite.specs.Numbers.{numbers}
+use Rattle.suite.proofs.store.zamiathen_drop.Statement.{statement}
+use Rattle.suite.proofs.store.zamiathen_drop.Tie as tie
+
+returns : tie.Need-returns
+returns c =
+    let e = c .before .before .before .drop-plan .ensures in
+    (c .answer-numbers .ensures ∙ ap numbers (e .0), e .1)
+
+pub zamiathen-drop-spec : {M : Type 1} → statement M
+zamiathen-drop-spec = tie.close (tie.spec (λ c κs. search needs) (λ c κs. search needs) (λ c. search needs) returns)
