@@ -100,6 +100,10 @@ def explained(file, number, place):
         if place >= layout.NODES:
             fault(file, f"a sheet has no node {place}")
         return [f"node {place} cannot be closed: it has a label or an arrow, or is the only one in use"]
+    if number == 58:
+        if not layout.NODES < place <= 2 * layout.NODES:
+            fault(file, f"58 is answered for more than {layout.NODES} nodes and at most {2 * layout.NODES}, not for {place}")
+        return [f"the two sheets have {place} nodes together, and a sheet has {layout.NODES} at most"]
     if number in IN_A_LOG:
         if place > layout.LOG_BLOCKS:
             fault(file, f"no block {place} of a log is read")

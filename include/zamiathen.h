@@ -1,7 +1,7 @@
 /* Station sheets: make a blank sheet, ask whether a sheet is sound, convert an old card, read a sheet's bits, print its
  * blocks as pages and type pages back, judge a rule book on it, rewrite a stored book, carry a book back through an
- * edit, change the sheet by an edit, with a book or without one, close and open its nodes, and keep sheets in a store and
- * return to them.
+ * edit, change the sheet by an edit, with a book or without one, close and open its nodes, keep sheets in a store and
+ * return to them, and join two sheets into one.
  *
  * Link with libzamiathen.a:  cc program.c $(pkg-config --cflags --libs zamiathen)
  *
@@ -9,10 +9,10 @@
  * where this header says so. The buffers of one call must not overlap where one of them is written: the sheet of
  * zamiathen_blank, zamiathen_type_page, zamiathen_apply, zamiathen_enter, zamiathen_close, zamiathen_open and
  * zamiathen_return, the store of zamiathen_store_blank, zamiathen_keep and zamiathen_drop, the card of
- * zamiathen_convert_255 and zamiathen_convert_257, the scratch of zamiathen_enter and the output of
- * zamiathen_print_arrow, zamiathen_print_labels, zamiathen_rewrite and zamiathen_carry_back share no byte with any other
- * buffer of the call. A pointer may be NULL only when its length is 0. There is no other demand: any bytes, any length
- * and any number get an answer.
+ * zamiathen_convert_255 and zamiathen_convert_257, the first sheet of zamiathen_join_sheets, the scratch of
+ * zamiathen_enter and the output of zamiathen_print_arrow, zamiathen_print_labels, zamiathen_rewrite and
+ * zamiathen_carry_back share no byte with any other buffer of the call. A pointer may be NULL only when its length is 0.
+ * There is no other demand: any bytes, any length and any number get an answer.
  *
  * Threads. The library keeps no state, allocates nothing and takes no lock. Calls may run at the same time in any
  * number of threads as long as no buffer that one call writes is read or written by another.
@@ -35,7 +35,7 @@ extern "C" {
  * added: a card written under another first number may be answered otherwise (one written under 1 is converted by
  * zamiathen_convert_255, one written under 2 or 3 by zamiathen_convert_257). As one number: 1000 * first + second. */
 #define ZAMIATHEN_VERSION_FIRST 4
-#define ZAMIATHEN_VERSION_SECOND 1
+#define ZAMIATHEN_VERSION_SECOND 2
 #define ZAMIATHEN_VERSION (1000 * ZAMIATHEN_VERSION_FIRST + ZAMIATHEN_VERSION_SECOND)
 
 /* Sizes. */
@@ -107,9 +107,12 @@ enum zamiathen_number {
     ZAMIATHEN_NODE_TAKEN = 54, /* it has a label, an arrow from it or an arrow to it, or is the only one in use */
 
     /* The store. Asked after the sheet and before the book. Place 0. */
-    ZAMIATHEN_STORE = 55,        /* its length, its head, a sheet that is kept or a place that is unfilled is wrong */
-    ZAMIATHEN_PLAN_NAME = 56,    /* the name is not from 1 to 7 */
-    ZAMIATHEN_PLAN_UNFILLED = 57 /* nothing is kept under the name */
+    ZAMIATHEN_STORE = 55,         /* its length, its head, a sheet that is kept or a place that is unfilled is wrong */
+    ZAMIATHEN_PLAN_NAME = 56,     /* the name is not from 1 to 7 */
+    ZAMIATHEN_PLAN_UNFILLED = 57, /* nothing is kept under the name */
+
+    /* Two sheets to be joined. Asked after both sheets. Place: how many nodes they have together. */
+    ZAMIATHEN_NODES_TOTAL = 58 /* more than 60 */
 };
 
 /* The answer: a number of enum zamiathen_number, and its place. */
@@ -165,6 +168,15 @@ zamiathen_answer zamiathen_convert_255(uint8_t *card, size_t card_length);
 /* The same for a card that was written under version 2 or 3: its sums are those of a sheet, and bytes 400 to 507 of its
  * block 0 are zero. A sound sheet that is lent as such a card is answered 4, place 0, and stays. */
 zamiathen_answer zamiathen_convert_257(uint8_t *card, size_t card_length);
+
+/* Joins two sheets into one, in the first's buffer: the second's nodes follow the first's, node i of the second as node
+ * n + i with the first's n; labels, arrows and nodes in use likewise, and no arrow goes from the one's nodes to the
+ * other's. Answers 0, 1 to 4 of the first sheet, then 1 to 4 of the second, then 58. (Which sheet a 1 to 4 is of,
+ * zamiathen_check tells.) Only done changes the first sheet, its check bytes too; the second is never written. To join a
+ * sheet with itself lend a copy as the second. No book is judged: a rule of 21, 22 and 25 in which 04 and 17 do not appear
+ * holds on the joined sheet exactly when it holds on both; of any other zamiathen_judge is asked. */
+zamiathen_answer zamiathen_join_sheets(uint8_t *first, size_t first_length, const uint8_t *second,
+                                       size_t second_length);
 
 /* Has a node this label? The bit is 1 if so. Answers 0, 1 to 4, or 7 unless the label is below 48 and the node below n.
  * A closed node has none. Writes nothing. Each call asks the whole sheet. */

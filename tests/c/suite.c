@@ -886,6 +886,94 @@ static void refused_plans(void) {
     }
 }
 
+/* A second sheet, with a guard on each side; it is only read. */
+_Static_assert(ZAMIATHEN_NODES_TOTAL == 58, "document 02");
+static struct {
+    uint8_t before[GUARD], bytes[ZAMIATHEN_SHEET_BYTES], after[GUARD];
+} lent_second;
+static uint8_t *const second = lent_second.bytes;
+
+static void joined(const char *what, size_t first_length, size_t second_length, size_t number, size_t place) {
+    static uint8_t before[sizeof lent_second];
+    memcpy(before, &lent_second, sizeof lent_second);
+    answered(what, zamiathen_join_sheets(sheet, first_length, second, second_length), number, place);
+    same(what, memcmp(before, &lent_second, sizeof lent_second) == 0);
+    left_alone(what);
+}
+
+/* T and behind it T, whose nodes are then 3, 4 and 5; T and behind it U, which is T without node 1, a closed one. */
+static void joining(void) {
+    start();
+    memset(&lent_second, GUARD_BYTE, sizeof lent_second);
+    sheet_t(second);
+    kept[2] = 6;
+    kept[400] = 63;
+    kept[16] = 3 | 3 << 3;
+    kept[24] = 4 | 4 << 3;
+    kept[512 + 16 + 8 * 3] = kept[512 + 16 + 8 * 4] = 4 << 3;
+    seal(kept);
+    joined("T and T", whole, whole, ZAMIATHEN_DONE, 0);
+    judged("B on both", zamiathen_judge(sheet, whole, B, sizeof B), (zamiathen_judged){0, 0, 0, 0});
+    start();
+    second[400] = 5;
+    second[16] = 1;
+    second[512 + 24] = 0;
+    seal(second);
+    kept[2] = 6;
+    kept[400] = 7 | 5 << 3;
+    kept[16] = 3 | 1 << 3;
+    kept[24] = 4 | 4 << 3;
+    kept[512 + 16 + 8 * 3] = 4 << 3;
+    seal(kept);
+    joined("T and U", whole, whole, ZAMIATHEN_DONE, 0);
+}
+
+/* The questions of the first, then of the second, then the total. */
+static void refused_joins(void) {
+    start();
+    sheet_t(second);
+    joined("short first, short second", whole - 1, whole - 1, ZAMIATHEN_SHEET_LENGTH, 0);
+    joined("short second", whole, whole - 1, ZAMIATHEN_SHEET_LENGTH, 0);
+    joined("no second", whole, 0, ZAMIATHEN_SHEET_LENGTH, 0);
+    for (size_t block = 0; block < 17; block++) {
+        second[512 * block + 100] ^= 1;
+        joined("check bytes of the second", whole, whole, ZAMIATHEN_SHEET_SUMS, block);
+        sheet[512 * block] ^= 1;
+        kept[512 * block] ^= 1;
+        joined("check bytes of both", whole, whole, ZAMIATHEN_SHEET_SUMS, block);
+        seal(sheet);
+        seal(kept);
+        joined("head of the first", whole, whole, ZAMIATHEN_SHEET_HEAD, block);
+        sheet[512 * block] ^= 1;
+        kept[512 * block] ^= 1;
+        seal(sheet);
+        seal(kept);
+        second[512 * block + 100] ^= 1;
+        second[512 * block + 500] = 1;
+        seal(second);
+        joined("zeros of the second", whole, whole, ZAMIATHEN_SHEET_ZEROS, block);
+        second[512 * block + 500] = 0;
+        seal(second);
+    }
+    for (size_t n = 55; n <= 60; n++) {
+        answered("blank", zamiathen_blank(sheet, whole, n), ZAMIATHEN_DONE, 0);
+        memcpy(kept, sheet, whole);
+        if (n + 3 > 60) {
+            joined("too many nodes", whole, whole, ZAMIATHEN_NODES_TOTAL, n + 3);
+            continue;
+        }
+        kept[2] = (uint8_t)(n + 3);
+        for (size_t i = 0; i < 8; i++) {
+            kept[400 + i] = (uint8_t)((((uint64_t)1 << (n + 3)) - 1) >> (8 * i));
+            kept[16 + i] = (uint8_t)(((uint64_t)3 << n) >> (8 * i));
+            kept[24 + i] = (uint8_t)(((uint64_t)4 << n) >> (8 * i));
+            kept[512 + 16 + 8 * n + i] = kept[512 + 16 + 8 * (n + 1) + i] = kept[24 + i];
+        }
+        seal(kept);
+        joined("up to 60 nodes", whole, whole, ZAMIATHEN_DONE, 0);
+    }
+}
+
 int main(void) {
     examples();
     changes();
@@ -908,6 +996,8 @@ int main(void) {
     taken_nodes();
     plans();
     refused_plans();
+    joining();
+    refused_joins();
     empty_buffers();
     printf("%d passed, %d failed\n", passed, failed);
     return failed != 0;

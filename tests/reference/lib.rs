@@ -9,6 +9,7 @@ pub mod calls;
 pub mod carry;
 pub mod clerk;
 pub mod graph;
+pub mod join;
 pub mod log;
 pub mod meaning;
 pub mod pages;

@@ -1,9 +1,10 @@
 //! The marked examples of document 01, some of its remarks, check bytes, old cards, pages of its sheet T, rewritten books,
-//! closed nodes and stores, asked of the reference itself.
+//! closed nodes, stores and joined sheets, asked of the reference itself.
 
 use reference::answer::{Answer, DONE};
 use reference::calls::{apply, carry_back, close, enter, judge, open, Judged};
 use reference::graph::{Graph, Pairs, MOST_NODES};
+use reference::join::join_sheets;
 use reference::meaning::{holds, nodes};
 use reference::pages::{page, type_page, Shown};
 use reference::rewrite::rewrite;
@@ -428,6 +429,40 @@ fn stores(tally: &mut Tally) {
     tally.same("bit 7", plans::keep(&t, &mut bit_7, 1), refused(55));
 }
 
+/// T and behind it U, whose nodes are then 3, 4 (closed) and 5; and the totals.
+fn two_stations(tally: &mut Tally) {
+    let (t, u) = (sheet_t(), sheet_u());
+    let mut both = t.clone();
+    let answer = join_sheets(&mut both, &u);
+    let graph = sheet::read(&both);
+    tally.same("joined", (answer, sheet::check(&both), graph.n), (DONE, DONE, 6));
+    tally.same("in use", &both[400..402], &[0b101111, 0][..]);
+    tally.same("labels 0 and 1", (both[16], both[24]), (0b001011, 0b100100));
+    let rows: Vec<u8> = (0..6).map(|i| both[512 + 16 + 8 * i]).collect();
+    tally.same("arrow 0", rows, vec![4, 4, 0, 32, 0, 0]);
+    let mut other = u.clone();
+    tally.same("the other way", (join_sheets(&mut other, &t), other[400], other[16]), (DONE, 0b111101, 0b011001));
+    // Each of these holds on both or does not; those of 04, 23, 26 and 27 are outside of what item 8 says.
+    let rules = [(B, 0), ("25 21 03 01 02 21 01 01", 41), ("21 01 07 03 00 03 01", 0), ("26 21 01 01 21 01 02", 0)];
+    for (rule, number) in rules {
+        tally.same(rule, judge(&both, &hex(rule)).answer, Answer { number, place: 0 });
+    }
+    let sixty = |n: usize, m: usize| {
+        let mut first = sheet::store(&Graph::blank(n));
+        let before = first.clone();
+        let answer = join_sheets(&mut first, &sheet::store(&Graph::blank(m)));
+        (answer, first == before, usize::from(first[2]))
+    };
+    tally.same("60 in all", sixty(59, 1), (DONE, false, 60));
+    tally.same("61 in all", sixty(1, 60), (Answer { number: 58, place: 61 }, true, 1));
+    tally.same("120 in all", sixty(60, 60), (Answer { number: 58, place: 120 }, true, 60));
+    tally.same("the first's questions first", join_sheets(&mut t[1..].to_vec(), &[]), Answer { number: 1, place: 0 });
+    let mut damaged = u.clone();
+    damaged[8000] ^= 1;
+    let mut full = sheet::store(&Graph::blank(60));
+    tally.same("then the second's", join_sheets(&mut full, &damaged), Answer { number: 2, place: 15 });
+}
+
 /// None of these may take exponential time.
 fn explosions(tally: &mut Tally) {
     let rule = hex("23 00 03 00");
@@ -459,6 +494,7 @@ fn main() {
     closed_pages(&mut tally);
     closing(&mut tally);
     stores(&mut tally);
+    two_stations(&mut tally);
     explosions(&mut tally);
     println!("{} passed, {} failed", tally.passed, tally.failed);
     std::process::exit(i32::from(tally.failed > 0));

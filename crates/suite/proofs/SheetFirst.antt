@@ -3,13 +3,14 @@ use mathlib.Core.Path.{_≡_}
 use mathlib.Core.List.{List}
 use Prim.Native.Nat.{ℕ}
 use Rattle.answer.specs.Asked.{_>>=_, _>>_, outcome}
-use Rattle.sheet.specs.Questions.{askSheet, askLabelBit, askArrowBit}
+use Rattle.sheet.specs.Questions.{askSheet, Sound, askLabelBit, askArrowBit}
 use Rattle.sheet.specs.Noticed.{AsksSheetFirst}
 use Rattle.judge.specs.Questions.{askSheetAndBook, askJudge}
 use Rattle.apply.specs.Apply.{askApply}
 use Rattle.demands.specs.Enter.{askBefore41, askEnter, enterAnswer}
 use Rattle.closing.specs.Questions.{askNode, askClose, askOpen}
 use Rattle.plans.specs.Questions.{askKeep, askReturn}
+use Rattle.join.specs.Joined.{askJoin}
 use Rattle.pages.specs.Print.{askPrintArrow, askPrintLabels}
 use Rattle.pages.specs.Typed.{askType}
 
@@ -63,3 +64,12 @@ return-first store name book = record { first = λ sheet q p e. rw e }
 pub enter-first : (book edit : List ℕ) (room : ℕ) → AsksSheetFirst (λ sheet. enterAnswer sheet book edit room)
 unfolding askEnter askBefore41 askSheetAndBook _>>_ _>>=_ outcome
 enter-first book edit room = record { first = λ sheet q p e. rw e }
+
+-- The first of two sheets; and the second, where the first is sound.
+pub join-first : (second : List ℕ) → AsksSheetFirst (λ sheet. askJoin sheet second)
+unfolding askJoin _>>_
+join-first second = record { first = λ sheet q p e. rw e }
+
+pub join-second : (first : List ℕ) → Sound first → AsksSheetFirst (λ sheet. askJoin first sheet)
+unfolding askJoin _>>_
+join-second first sound = record { first = λ sheet q p e. rw (sound, e) }

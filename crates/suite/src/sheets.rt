@@ -1,4 +1,4 @@
-// Blank sheets, the questions of a sheet, old cards and bit reads.
+// Blank sheets, the questions of a sheet, old cards, two sheets joined, and bit reads.
 ghost use mathlib.Core.Path.{_≡_};
 ghost use lib.ListN.{length};
 ghost use Rattle.answer.specs.Asked.{after};
@@ -8,6 +8,7 @@ ghost use Rattle.sheet.specs.Questions.{askSheet, askBlank, askLabelBit, askArr
 ghost use Rattle.sheet.specs.Converted.{askConvert, converted};
 ghost use Rattle.sheet.specs.BitReads.{bitAsked};
 ghost use Rattle.words.specs.Words.{digit};
+ghost use Rattle.join.specs.Joined.{askJoin, joinedSheet};
 ghost use Rattle.suite.specs.Numbers.{numbers, bitNumbers};
 use crate::BitNumbers;
 use crate::Numbers;
@@ -47,6 +48,14 @@ pub extern "C" fn zamiathen_convert_257(card: &mut [u8]) -> Numbers
     ensures { λ _. ⌜ now (card .exit) ≡ converted modulo257 (now (card .entry)) ⌝ }
 {
     crate::answer_numbers(Sheet::convert(Modulo::M257, card))
+}
+
+#[no_mangle]
+pub extern "C" fn zamiathen_join_sheets(first: &mut [u8], second: &[u8]) -> Numbers
+    ensures { λ r. ⌜ r ≡ numbers (askJoin (now (first .entry)) (now (second .entry))) ⌝ }
+    ensures { λ _. ⌜ now (first .exit) ≡ joinedSheet (now (first .entry)) (now (second .entry)) ⌝ }
+{
+    crate::answer_numbers(join::join_sheets(first, second))
 }
 
 fn digit(b: bool) -> usize

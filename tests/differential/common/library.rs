@@ -85,6 +85,12 @@ extern "C" {
         book_length: usize,
     ) -> CAnswer;
     pub fn zamiathen_drop(store: *mut u8, store_length: usize, name: usize) -> CAnswer;
+    pub fn zamiathen_join_sheets(
+        first: *mut u8,
+        first_length: usize,
+        second: *const u8,
+        second_length: usize,
+    ) -> CAnswer;
     pub fn zamiathen_rewrite(book: *const u8, book_length: usize, output: *mut u8, output_length: usize) -> CLength;
     pub fn zamiathen_apply(sheet: *mut u8, sheet_length: usize, edit: *const u8, edit_length: usize) -> CAnswer;
     pub fn zamiathen_carry_back(

@@ -1,0 +1,1 @@
+// What is promised of joined sheets, over bytes: definitions and theorems only.
