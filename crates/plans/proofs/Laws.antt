@@ -2,16 +2,13 @@
 use mathlib.Core.Path.{_≡_, refl, sym, ap, ap₂, _∙_, subst, fun-ext}
 use mathlib.Core.Bool.{Bool, true, false, _&&_, cond}
 use mathlib.Core.List.{List}
-use Prim.Native.Nat.{ℕ, _+_, _*_, _≤_, _<_, _^_}
+use Prim.Native.Nat.{ℕ, _+_, _<_}
 use native.Mathlib.Omega.{arith}
 use native.Mathlib.Decide.{decLt}
 use borrow.Author.Tests.{lt-ltb, le-ltb}
-use lib.Dec.{ltb}
-use lib.ListN.{length, getD, take, drop, replicate, length-replicate, getD-replicate, List·getD-eq-default}
+use lib.ListN.{length, getD, take, replicate, length-replicate, getD-replicate, List·getD-eq-default}
 use lib.Seq.{length-take-le, getD-take, ext-getD}
 use Rattle.answer.specs.Asked.{Asked, passed, refused}
-use Rattle.logic.specs.Graph.{Graph}
-use Rattle.logic.specs.Limits.{Within}
 use Rattle.logic.proofs.Below.{all-true}
 use Rattle.words.specs.Words.{setOf, member}
 use Rattle.words.proofs.SetLaws.{setOf-lt, setOf-cong, setOf-member-lt, member-setOf}
@@ -24,7 +21,7 @@ use Rattle.sheet.proofs.ReadBack as sheets-read
 use Rattle.sheet.proofs.Passes as sheets-pass
 use Rattle.sheet.proofs.Opening as sheets-open
 use Rattle.plans.specs.Store.{planCount, storeBytes, Plan, unfilled, filled, Plans, isFilled, PlanWithin, PlansWithin, headBlock, planBytes, storeOf, placeStart, placeIn, filledIn, plansOf}
-use Rattle.plans.specs.Questions.{isPassed, headRight, placeRight, askStore, SoundStore}
+use Rattle.plans.specs.Questions.{isPassed, headRight, placeRight, SoundStore}
 use Rattle.plans.proofs.Bytes.{zeros-each, zeros-all}
 use Rattle.plans.proofs.Heads.{HeadIs, head-told, head-holds, head-is, length-head, head-byte, head-made}
 use Rattle.plans.proofs.Places.{length-place, place-byte, built, length-built, head-built, place-built}

@@ -10,14 +10,14 @@ use lib.ListN.{length, getD, take, drop, set, List·getD-eq-default}
 use lib.Seq.{length-take-le, getD-take, getD-set-same, getD-set-other, take-set-lt, drop-set-add}
 use Rattle.answer.specs.Asked.{passed, refused, _>>_}
 use Rattle.words.specs.Words.{member}
-use Rattle.seal.specs.Seal.{blockBytes, modulo257, sealRight}
+use Rattle.seal.specs.Seal.{blockBytes, modulo257}
 use Rattle.seal.proofs.Noticed.{change-noticed}
 use Rattle.sheet.specs.Sheet.{sheetBytes}
 use Rattle.sheet.specs.Questions.{askSheet, Sound}
 use Rattle.sheet.specs.Masks.{zerosAt}
 use Rattle.sheet.proofs.Noticed as sheets
 use Rattle.plans.specs.Store.{planCount, storeBytes, placeStart, placeIn}
-use Rattle.plans.specs.Questions.{isPassed, headRight, placeRight, askStore, SoundStore, askName, askFilled, askKept, askKeep, askReturn, askDrop}
+use Rattle.plans.specs.Questions.{isPassed, headRight, placeRight, askStore, SoundStore, askName, askFilled, askKeep, askReturn, askDrop}
 use Rattle.plans.proofs.Bytes.{zeros-each, zeros-not}
 use Rattle.plans.proofs.Heads.{head-told}
 use Rattle.plans.proofs.Asks.{store-told, store-head, store-place}

@@ -1,13 +1,13 @@
 -- What the calls write: a name put into the head or taken out, and a place replaced.
-use mathlib.Core.Path.{_≡_, refl, sym, ap, ap₂, _∙_}
+use mathlib.Core.Path.{_≡_, refl, sym, ap, _∙_}
 use mathlib.Core.Bool.{Bool, true, false, _&&_, cond}
 use mathlib.Core.List.{List, _++_}
-use Prim.Native.Nat.{ℕ, _+_, _≤_, _<_}
+use Prim.Native.Nat.{ℕ, _+_, _<_}
 use native.Mathlib.Omega.{arith}
-use borrow.Author.Tests.{eq-eqb, ne-eqb, eqb-true, lt-ltb}
+use borrow.Author.Tests.{eq-eqb, eqb-true, lt-ltb}
 use lib.Dec.{eqb, ltb}
 use lib.ListN.{length, getD, take, drop, replicate, set, length-set, length-replicate, getD-replicate}
-use lib.Seq.{length-take-le, getD-take, getD-drop, ext-getD, take-at, drop-set-lt}
+use lib.Seq.{length-take-le, ext-getD, take-at, drop-set-lt}
 use Rattle.logic.specs.Steps.{update}
 use Rattle.words.specs.Words.{setOf, member, combined}
 use Rattle.words.proofs.SetLaws.{setOf-cong, setOf-wide, setOf-none, member-of, member-setOf, setOf-member-lt}
@@ -19,8 +19,8 @@ use Rattle.plans.specs.Store.{planCount, storeBytes, Plan, unfilled, fil
 use Rattle.plans.specs.Questions.{headRight, SoundStore}
 use Rattle.plans.proofs.Heads.{length-head}
 use Rattle.plans.proofs.Places.{length-place, place-byte, built, replaced, length-replaced, head-replaced, place-replaced, place-other, length-headed, place-headed}
-use Rattle.plans.proofs.Asks.{StoreIs, store-told}
-use Rattle.plans.proofs.Laws.{length-plan, byte-1, opening, length-storeOf, head-storeOf, place-storeOf, filled-storeOf}
+use Rattle.plans.proofs.Asks.{store-told}
+use Rattle.plans.proofs.Laws.{length-plan, byte-1, opening, place-storeOf, filled-storeOf}
 
 -- The names with one put in or taken out, by an operation that puts or takes.
 module _ (names : ℕ) (h : names < 128) (i : ℕ) (l : i < planCount) (used : Bool) (f : Bool → Bool → Bool) (there : (a : Bool) → f a true ≡ used) (elsewhere : (a : Bool) → f a false ≡ a) where

@@ -1,7 +1,7 @@
 // Plans to come back to: a store of a head block and seven sheets, under the names 1 to 7.
 ghost use mathlib.Core.Path.{_≡_};
 ghost use mathlib.Core.Bool.{true};
-ghost use Prim.Native.Nat.{ℕ, _+_, _-_, _*_, _<_, _≤_};
+ghost use Prim.Native.Nat.{_+_, _-_, _*_, _<_, _≤_};
 ghost use lib.ListN.{length, getD, replicate};
 ghost use Rattle.answer.specs.Answers.{asked};
 ghost use Rattle.logic.specs.Steps.{update};
