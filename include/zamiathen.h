@@ -1,7 +1,7 @@
 /* Station sheets: make a blank sheet, ask whether a sheet is sound, convert an old card, read a sheet's bits, print its
- * blocks as pages and type pages back, judge a rule book on it, rewrite a stored book, carry a book back through an
- * edit, change the sheet by an edit, with a book or without one, close and open its nodes, keep sheets in a store and
- * return to them, and join two sheets into one.
+ * blocks as pages and type pages back, judge a rule book on it, rewrite a stored book, join two edits into one, carry a
+ * book back through an edit, change the sheet by an edit, with a book or without one, close and open its nodes, keep
+ * sheets in a store and return to them, and join two sheets into one.
  *
  * Link with libzamiathen.a:  cc program.c $(pkg-config --cflags --libs zamiathen)
  *
@@ -10,9 +10,9 @@
  * zamiathen_blank, zamiathen_type_page, zamiathen_apply, zamiathen_enter, zamiathen_close, zamiathen_open and
  * zamiathen_return, the store of zamiathen_store_blank, zamiathen_keep and zamiathen_drop, the card of
  * zamiathen_convert_255 and zamiathen_convert_257, the first sheet of zamiathen_join_sheets, the scratch of
- * zamiathen_enter and the output of zamiathen_print_arrow, zamiathen_print_labels, zamiathen_rewrite and
- * zamiathen_carry_back share no byte with any other buffer of the call. A pointer may be NULL only when its length is 0.
- * There is no other demand: any bytes, any length and any number get an answer.
+ * zamiathen_enter and the output of zamiathen_print_arrow, zamiathen_print_labels, zamiathen_rewrite,
+ * zamiathen_join_edits and zamiathen_carry_back share no byte with any other buffer of the call. A pointer may be NULL
+ * only when its length is 0. There is no other demand: any bytes, any length and any number get an answer.
  *
  * Threads. The library keeps no state, allocates nothing and takes no lock. Calls may run at the same time in any
  * number of threads as long as no buffer that one call writes is read or written by another.
@@ -35,13 +35,13 @@ extern "C" {
  * added: a card written under another first number may be answered otherwise (one written under 1 is converted by
  * zamiathen_convert_255, one written under 2 or 3 by zamiathen_convert_257). As one number: 1000 * first + second. */
 #define ZAMIATHEN_VERSION_FIRST 4
-#define ZAMIATHEN_VERSION_SECOND 2
+#define ZAMIATHEN_VERSION_SECOND 3
 #define ZAMIATHEN_VERSION (1000 * ZAMIATHEN_VERSION_FIRST + ZAMIATHEN_VERSION_SECOND)
 
 /* Sizes. */
 #define ZAMIATHEN_SHEET_BYTES 8704    /* a sheet has just this length */
 #define ZAMIATHEN_STORE_BYTES 61440   /* a store has just this length */
-#define ZAMIATHEN_TEXT_BYTES 4096     /* the longest book and the longest edit; suffices for a rewritten book */
+#define ZAMIATHEN_TEXT_BYTES 4096     /* the longest book and the longest edit; suffices for a rewritten book, a joined edit */
 #define ZAMIATHEN_CARRIED_BYTES 16384 /* the longest carried book: an output or scratch of this length suffices */
 #define ZAMIATHEN_LINE_BYTES 64       /* a line of a page, its line feed included */
 #define ZAMIATHEN_PAGE_BYTES 3904     /* the longest page, of an arrow kind at 60 nodes; a label page has 3200 */
@@ -240,6 +240,19 @@ zamiathen_length zamiathen_rewrite(const uint8_t *book, size_t book_length, uint
 /*
  * Edits
  */
+
+/* Joins two edits into one that makes the steps of the first and then those of the second: the bytes of p without its
+ * last, which is its end, then those of q. Answers 0 with the length of the joined edit, 21 to 26 of p, then of q, with
+ * node numbers up to 59 in range, then 21, place 0, when the joined edit has more than 4,096 bytes, then 33. (Which of the
+ * edits a refusal means: joined with an edit of the one byte 0x30, each is asked alone.) Done writes the joined edit at
+ * the start of the output and leaves the rest of it; every other answer leaves the output as it was.
+ * The joined edit passes 21 to 26 on a sheet exactly when both edits do, and zamiathen_apply leaves the same sheet with it
+ * as with the two one after the other. zamiathen_carry_back answers and writes the same with it as with p for the book
+ * carried through q, where that has at most 4,096 bytes and 32 levels. Where zamiathen_enter enters p and then q, it
+ * enters the joined edit, if the carried book and the scratch allow; but it may enter the joined edit where it would
+ * refuse p, for only the sheet after the last step is judged. */
+zamiathen_length zamiathen_join_edits(const uint8_t *p, size_t p_length, const uint8_t *q, size_t q_length,
+                                      uint8_t *output, size_t output_length);
 
 /* Carries out an edit without a book: makes its steps on the sheet, one after the other. Answers 0, 1 to 4 or 21 to 26.
  * Only done changes the sheet, its check bytes too. */

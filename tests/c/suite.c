@@ -974,6 +974,78 @@ static void refused_joins(void) {
     }
 }
 
+/* P, Q, and Q where P's end stood. */
+static const char *const chains[][3] = {
+    {"30", "30", "30"},
+    {"31 00 01 30", "30", "31 00 01 30"},
+    {"30", "32 2F 04 3B 30", "32 2F 04 3B 30"},
+    {"31 00 01 30", "33 0F 12 11 00 30", "31 00 01 33 0F 12 11 00 30"},
+    {"35 21 01 01 30 30 30", "31 00 01 30", "35 21 01 01 30 30 31 00 01 30"},
+    {"34 00 17 30 30 35 21 01 01 30 31 00 01 30 30", "35 23 00 03 30 30 30 30", ""},
+    {"34 00 17 30 30 35 21 01 01 30 31 00 01 30 30", "35 23 00 03 2F 30 30 30",
+     "34 00 17 30 30 35 21 01 01 30 31 00 01 30 35 23 00 03 2F 30 30 30"},
+};
+
+static zamiathen_length chain(const struct text *p, const struct text *q, size_t length) {
+    return zamiathen_join_edits(p->bytes, p->length, q->bytes, q->length, scratch, length);
+}
+
+static void joined_edits(void) {
+    static struct text p, q, wanted;
+    for (size_t i = 0; i < sizeof chains / sizeof *chains; i++) {
+        const char *what = chains[i][0];
+        p.length = q.length = wanted.length = 0;
+        put(&p, chains[i][0]);
+        put(&q, chains[i][1]);
+        put(&wanted, chains[i][2]);
+        start();
+        if (wanted.length == 0) {
+            measured(what, chain(&p, &q, room), ZAMIATHEN_EDIT_NUMBER, 4, 0);
+            left_alone(what);
+            continue;
+        }
+        measured(what, chain(&p, &q, wanted.length - 1), ZAMIATHEN_ROOM, wanted.length, 0);
+        left_alone(what);
+        measured(what, chain(&p, &q, wanted.length), ZAMIATHEN_DONE, 0, wanted.length);
+        left(what, wanted.bytes, wanted.length);
+        start();
+        measured(what, chain(&p, &q, room), ZAMIATHEN_DONE, 0, wanted.length);
+        left(what, wanted.bytes, wanted.length);
+    }
+}
+
+/* P's questions, then Q's, then the length of both, then the room. */
+static void refused_chains(void) {
+    static struct text faulty, edit, wanted;
+    start();
+    for (size_t i = 0; i < sizeof edit_faults / sizeof *edit_faults; i++)
+        for (size_t j = 0; j < sizeof edit_faults / sizeof *edit_faults; j++) {
+            faulty = *text_of(&edit_faults[i]);
+            measured("P refused", chain(&faulty, text_of(&edit_faults[j]), 0), edit_faults[i].number,
+                     edit_faults[i].place, 0);
+            edit.length = 0;
+            while (edit.length < ZAMIATHEN_TEXT_BYTES - 1)
+                put(&edit, "31 00 01");
+            put(&edit, "30");
+            measured("Q refused", chain(&edit, text_of(&edit_faults[j]), 0), edit_faults[j].number,
+                     edit_faults[j].place, 0);
+        }
+    faulty.length = 0;
+    put(&faulty, "31 00 01 30");
+    measured("4,099 bytes before the room", chain(&edit, &faulty, 0), ZAMIATHEN_EDIT_LENGTH, 0, 0);
+    measured("4,099 bytes", chain(&faulty, &edit, room), ZAMIATHEN_EDIT_LENGTH, 0, 0);
+    measured("no output", zamiathen_join_edits(END, 1, END, 1, NULL, 0), ZAMIATHEN_ROOM, 1, 0);
+    measured("no P", zamiathen_join_edits(NULL, 0, END, 1, NULL, 0), ZAMIATHEN_EDIT_ENDS, 0, 0);
+    measured("no Q", zamiathen_join_edits(END, 1, NULL, 0, NULL, 0), ZAMIATHEN_EDIT_ENDS, 0, 0);
+    left_alone("refused chains");
+    faulty.length = wanted.length = 0;
+    put(&faulty, "30");
+    for (size_t i = 0; i < edit.length; i++)
+        wanted.bytes[wanted.length++] = edit.bytes[i];
+    measured("4,096 bytes", chain(&edit, &faulty, ZAMIATHEN_TEXT_BYTES), ZAMIATHEN_DONE, 0, ZAMIATHEN_TEXT_BYTES);
+    left("4,096 bytes", wanted.bytes, wanted.length);
+}
+
 int main(void) {
     examples();
     changes();
@@ -998,6 +1070,8 @@ int main(void) {
     refused_plans();
     joining();
     refused_joins();
+    joined_edits();
+    refused_chains();
     empty_buffers();
     printf("%d passed, %d failed\n", passed, failed);
     return failed != 0;

@@ -7,6 +7,7 @@
 pub mod answer;
 pub mod calls;
 pub mod carry;
+pub mod chain;
 pub mod clerk;
 pub mod graph;
 pub mod join;

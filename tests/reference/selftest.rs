@@ -1,8 +1,9 @@
 //! The marked examples of document 01, some of its remarks, check bytes, old cards, pages of its sheet T, rewritten books,
-//! closed nodes, stores and joined sheets, asked of the reference itself.
+//! closed nodes, stores, joined sheets and edits, asked of the reference itself.
 
 use reference::answer::{Answer, DONE};
 use reference::calls::{apply, carry_back, close, enter, judge, open, Judged};
+use reference::chain::join_edits;
 use reference::graph::{Graph, Pairs, MOST_NODES};
 use reference::join::join_sheets;
 use reference::meaning::{holds, nodes};
@@ -463,6 +464,40 @@ fn two_stations(tally: &mut Tally) {
     tally.same("then the second's", join_sheets(&mut full, &damaged), Answer { number: 2, place: 15 });
 }
 
+/// Q where P's end stood, which is not where a branch ends.
+fn chains(tally: &mut Tally) {
+    let examples = [
+        ("30", "30", "30"),
+        ("31 00 01 30", "30", "31 00 01 30"),
+        ("30", "31 00 01 30", "31 00 01 30"),
+        ("31 00 01 30", "32 00 04 3B 30", "31 00 01 32 00 04 3B 30"),
+        ("35 21 01 01 30 30 30", "31 00 01 30", "35 21 01 01 30 30 31 00 01 30"),
+        ("35 21 01 01 31 30 01 30 30 30", "30", ""),
+        (
+            "35 23 00 03 01 31 00 04 02 30 35 21 01 01 30 30 30 30",
+            "33 00 12 11 00 30",
+            "35 23 00 03 01 31 00 04 02 30 35 21 01 01 30 30 30 33 00 12 11 00 30",
+        ),
+    ];
+    for (p, q, wanted) in examples {
+        let mut out = vec![0xEE; 40];
+        let found = join_edits(&hex(p), &hex(q), &mut out);
+        let wanted = hex(wanted);
+        let answer = if wanted.is_empty() { Answer { number: 25, place: 5 } } else { DONE };
+        let rest = out[wanted.len()..].iter().all(|byte| *byte == 0xEE);
+        let found = (found.answer, found.length, out[..wanted.len()].to_vec(), rest);
+        tally.same(p, found, (answer, wanted.len(), wanted, true));
+    }
+    let refused = |number, place| Answer { number, place };
+    let long = [hex("31 00 01").repeat(1365), hex("30")].concat();
+    tally.same("4,096 bytes", join_edits(&long, &hex("30"), &mut [0; 4096]).length, 4096);
+    let one = hex("31 00 01 30");
+    tally.same("4,099 bytes, no room", join_edits(&long, &one, &mut []).answer, refused(21, 0));
+    tally.same("no room", join_edits(&one, &one, &mut [0; 6]).answer, refused(33, 7));
+    tally.same("P first", join_edits(&hex("30 30"), &[], &mut []).answer, refused(26, 1));
+    tally.same("then Q", join_edits(&long, &hex("31 00"), &mut []).answer, refused(22, 2));
+}
+
 /// None of these may take exponential time.
 fn explosions(tally: &mut Tally) {
     let rule = hex("23 00 03 00");
@@ -495,6 +530,7 @@ fn main() {
     closing(&mut tally);
     stores(&mut tally);
     two_stations(&mut tally);
+    chains(&mut tally);
     explosions(&mut tally);
     println!("{} passed, {} failed", tally.passed, tally.failed);
     std::process::exit(i32::from(tally.failed > 0));

@@ -1,4 +1,4 @@
--- What is in range is in any wider range, and a book that passes by ranges passes by any wider ones.
+-- What is in range is in any wider range, and a book or an edit that passes by ranges passes by any wider ones.
 use mathlib.Core.Path.{_≡_}
 use mathlib.Core.Bool.{Bool, true, _&&_}
 use mathlib.Core.List.{List, [], _∷_}
@@ -6,11 +6,11 @@ use Prim.Native.Nat.{ℕ, _≤_}
 use native.Mathlib.Omega.{arith}
 use lib.Dec.{T, leb, leb→le, le→leb, ltb→lt, lt→ltb}
 use Rattle.answer.specs.Asked.{passed}
-use Rattle.logic.specs.Syntax.{Sort, rule, Expr, all, none, label, nominal, complement, and, or, some, every, atLeast, atMost, arrowKind, reversed, union, common, minus, endingIn, pair, subNodes, subArrows, nodeIn, pairIn, both, either, notRule}
-use Rattle.logic.specs.Limits.{maxNodes, Kind, labelNumber, arrowNumber, nodeNumber, leastCount, mostCount, Ranges, ranges, formerRanges, fits, InRange}
+use Rattle.logic.specs.Syntax.{Sort, rule, Expr, all, none, label, nominal, complement, and, or, some, every, atLeast, atMost, arrowKind, reversed, union, common, minus, endingIn, pair, subNodes, subArrows, nodeIn, pairIn, both, either, notRule, Edit, finish, addLabel, takeLabel, addArrow, takeArrow, choose}
+use Rattle.logic.specs.Limits.{maxNodes, Kind, labelNumber, arrowNumber, nodeNumber, leastCount, mostCount, Ranges, ranges, formerRanges, fits, InRange, EditInRange}
 use Rattle.text.specs.Reading.{limitsBy}
-use Rattle.text.specs.Questions.{askBook}
-use Rattle.text.proofs.Books.{EachAllowed, book-is-spelled, spelled-book-passes}
+use Rattle.text.specs.Questions.{askBook, askEdit}
+use Rattle.text.proofs.Books.{EachAllowed, book-is-spelled, spelled-book-passes, edit-is-spelled, spelled-edit-passes}
 
 abbrev pub Wider : Ranges → Ranges → Type 0
 Wider r r′ = (k : Kind) (x : ℕ) → T (fits r k x) → T (fits r′ k x)
@@ -54,6 +54,21 @@ module _ {r r′ : Ranges} (w : Wider r r′) where
       spelled-book-passes (limitsBy r′) t rules
       (record { short = s .short; spells = record { text-is = s .spells .text-is; few = s .spells .few; rules = each-wider rules (s .spells .rules) } })
 
+  edit-in-wider : (Z : Edit) → EditInRange r Z → EditInRange r′ Z
+  unfolding EditInRange
+  edit-in-wider finish h = tt
+  edit-in-wider (addLabel k E Z) h = (w labelNumber k (h .0), in-wider E (h .1), edit-in-wider Z (h .2))
+  edit-in-wider (takeLabel k E Z) h = (w labelNumber k (h .0), in-wider E (h .1), edit-in-wider Z (h .2))
+  edit-in-wider (addArrow a R Z) h = (w arrowNumber a (h .0), in-wider R (h .1), edit-in-wider Z (h .2))
+  edit-in-wider (takeArrow a R Z) h = (w arrowNumber a (h .0), in-wider R (h .1), edit-in-wider Z (h .2))
+  edit-in-wider (choose K P Q Z) h = (in-wider K (h .0), edit-in-wider P (h .1), edit-in-wider Q (h .2), edit-in-wider Z (h .3))
+
+  pub edit-wider : (t : List ℕ) (Z : Edit) → askEdit (limitsBy r) t ≡ passed Z → askEdit (limitsBy r′) t ≡ passed Z
+  edit-wider t Z h =
+      let s = edit-is-spelled (limitsBy r) t Z h in
+      spelled-edit-passes (limitsBy r′) t Z
+      (record { text-is = s .text-is; short = s .short; within = record { numbers-fit = edit-in-wider Z (s .within .numbers-fit); levels-fit = s .within .levels-fit } })
+
 so-both : (a b : Bool) → T a → T b → T (a && b)
 so-both true true h k = tt
 
@@ -76,3 +91,10 @@ module _ (n : ℕ) where
   former-below l nodeNumber x h = lt→ltb x maxNodes (omega (arith, ltb→lt x n h))
   former-below l leastCount x h = h
   former-below l mostCount x h = h
+
+  pub now-below : n ≤ maxNodes → Wider (ranges n) (ranges maxNodes)
+  now-below l labelNumber x h = h
+  now-below l arrowNumber x h = h
+  now-below l nodeNumber x h = lt→ltb x maxNodes (omega (arith, ltb→lt x n h))
+  now-below l leastCount x h = h
+  now-below l mostCount x h = h

@@ -1,12 +1,22 @@
-// Carrying out an edit without a book, carrying a book back through it, and entering it.
+// Joining two edits, carrying out an edit without a book, carrying a book back through it, and entering it.
 ghost use mathlib.Core.Path.{_≡_};
 ghost use lib.ListN.{length};
+ghost use Rattle.answer.specs.Outputs.{writtenLength, writtenOutput};
 ghost use Rattle.apply.specs.Apply.{askApply, appliedSheet};
 ghost use Rattle.carry.specs.Carrying.{carryAnswer, carryOutput};
+ghost use Rattle.chain.specs.Chain.{askJoinEdits};
 ghost use Rattle.demands.specs.Enter.{enterAnswer, enterSheet, enterScratch};
 ghost use Rattle.suite.specs.Numbers.{numbers, lengthNumbers};
 use crate::LengthNumbers;
 use crate::Numbers;
+
+#[no_mangle]
+pub extern "C" fn zamiathen_join_edits(p: &[u8], q: &[u8], output: &mut [u8]) -> LengthNumbers
+    ensures { λ r. ⌜ r ≡ lengthNumbers (writtenLength (askJoinEdits (now (p .entry)) (now (q .entry)) (length (now (output .entry))))) ⌝ }
+    ensures { λ _. ⌜ now (output .exit) ≡ writtenOutput (askJoinEdits (now (p .entry)) (now (q .entry)) (length (now (output .entry)))) (now (output .entry)) ⌝ }
+{
+    crate::written_numbers(chain::join_edits(p, q, output))
+}
 
 #[no_mangle]
 pub extern "C" fn zamiathen_apply(sheet: &mut [u8], edit: &[u8]) -> Numbers

@@ -91,6 +91,14 @@ extern "C" {
         second: *const u8,
         second_length: usize,
     ) -> CAnswer;
+    pub fn zamiathen_join_edits(
+        p: *const u8,
+        p_length: usize,
+        q: *const u8,
+        q_length: usize,
+        output: *mut u8,
+        output_length: usize,
+    ) -> CLength;
     pub fn zamiathen_rewrite(book: *const u8, book_length: usize, output: *mut u8, output_length: usize) -> CLength;
     pub fn zamiathen_apply(sheet: *mut u8, sheet_length: usize, edit: *const u8, edit_length: usize) -> CAnswer;
     pub fn zamiathen_carry_back(

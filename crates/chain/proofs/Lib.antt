@@ -1,0 +1,5 @@
+pub mod Bytes
+pub mod Passes
+pub mod Joining
+pub mod AnyWay
+pub mod Examples

@@ -1,0 +1,115 @@
+-- The joined edit carried out, and P and then Q.
+use mathlib.Core.Path.{_≡_, sym, _∙_, ap, subst}
+use mathlib.Core.Logic.{_↔_}
+use mathlib.Core.List.{List}
+use Prim.Native.Nat.{ℕ, _≤_}
+use Rattle.answer.specs.Asked.{passed, _>>_, after, outcome}
+use Rattle.logic.specs.Syntax.{Edit}
+use Rattle.logic.specs.Graph.{Graph}
+use Rattle.logic.specs.Steps.{run}
+use Rattle.logic.specs.Carry.{followedBy}
+use Rattle.logic.specs.Limits.{maxNodes, Within}
+use Rattle.logic.proofs.Theorem.{run-followedBy}
+use Rattle.logic.proofs.Inside.{run-n}
+use Rattle.sheet.specs.Sheet.{present, store, graphOf}
+use Rattle.sheet.specs.Questions.{askSheet, Sound}
+use Rattle.sheet.proofs.Opening.{opening}
+use Rattle.sheet.proofs.Passes.{stored-passes}
+use Rattle.sheet.proofs.ReadBack.{read-back}
+use Rattle.text.specs.Reading.{textLimits}
+use Rattle.text.specs.Questions.{askEdit}
+use Rattle.apply.specs.Apply.{afterSteps, askApply, appliedSheet}
+use Rattle.demands.specs.Run.{Bytes}
+use Rattle.demands.proofs.Passing.{then-passed, outcome-passed}
+use Rattle.demands.proofs.Runs.{steps-within}
+use Rattle.chain.proofs.Passes.{Joins}
+use Rattle.chained.specs.Chained.{Applies}
+use Rattle.chained.proofs.Reading.{ReadFor, from-both, from-joined}
+
+-- An edit that is carried out: its questions, and what it leaves.
+pub applied-is : (sheet edit : List ℕ) (Z : Edit) → askApply sheet edit ≡ passed Z → appliedSheet sheet edit ≡ afterSteps Z sheet
+unfolding appliedSheet after
+applied-is sheet edit Z e = ap (λ x. after x (λ Y. afterSteps Y sheet) sheet) e
+
+pub applies : (sheet edit : List ℕ) (Z : Edit) → Sound sheet → askEdit (textLimits (graphOf sheet .n)) edit ≡ passed Z → askApply sheet edit ≡ passed Z
+unfolding askApply _>>_
+applies sheet edit Z s e = rw (s, e)
+
+pub applied-read : (sheet edit : List ℕ) (Z : Edit) → askApply sheet edit ≡ passed Z → Sound sheet × (askEdit (textLimits (graphOf sheet .n)) edit ≡ passed Z)
+unfolding askApply
+applied-read sheet edit Z e = let (u, s, f) = then-passed (askSheet sheet) (askEdit (textLimits (graphOf sheet .n)) edit) Z e in (s, f)
+
+-- A sound sheet, and an edit P read for its n: the sheet that P leaves is sound, stores the graph that P's steps leave, and has the same n.
+module _ (sheet : List ℕ) (bytes : Bytes sheet) (sound : Sound sheet) (p : List ℕ) (P : Edit) (p-read : askEdit (textLimits (graphOf sheet .n)) p ≡ passed P) where
+  abbrev pub graphAfter : Graph
+  graphAfter = run P (graphOf sheet)
+
+  pub after-within : Within graphAfter
+  after-within = steps-within (graphOf sheet) p P (opening present sheet bytes sound .within) p-read
+
+  pub after-sound : Sound (afterSteps P sheet)
+  after-sound = stored-passes graphAfter after-within
+
+  pub after-graph : graphOf (afterSteps P sheet) ≡ graphAfter
+  after-graph = read-back graphAfter after-within
+
+  pub after-n : graphOf (afterSteps P sheet) .n ≡ graphOf sheet .n
+  after-n = ap (λ g. g .n) after-graph ∙ run-n P (graphOf sheet)
+
+  -- What Q's steps leave then is what the joined steps leave.
+  pub after-both : (Q : Edit) → afterSteps Q (afterSteps P sheet) ≡ afterSteps (followedBy P Q) sheet
+  after-both Q = ap (λ g. store (run Q g)) after-graph ∙ ap store (sym (run-followedBy P Q (graphOf sheet)))
+
+module _ {p q joined : List ℕ} (j : Joins p q joined) (sheet : List ℕ) (bytes : Bytes sheet) where
+  pub few : Sound sheet → graphOf sheet .n ≤ maxNodes
+  few s = opening present sheet bytes s .within .few-nodes
+
+  -- Both edits read for the sheet's n: each is carried out, and the two leave what the joined steps leave.
+  module _ (s : Sound sheet) (r : ReadFor j (graphOf sheet .n)) where
+    pub first-applies : askApply sheet p ≡ passed (j .P)
+    first-applies = applies sheet p (j .P) s (r .p-read)
+
+    first-leaves : appliedSheet sheet p ≡ afterSteps (j .P) sheet
+    first-leaves = applied-is sheet p (j .P) first-applies
+
+    pub second-applies : askApply (appliedSheet sheet p) q ≡ passed (j .Q)
+    second-applies =
+        ap (λ t. askApply t q) first-leaves
+        ∙ applies (afterSteps (j .P) sheet) q (j .Q) (after-sound sheet bytes s p (j .P) (r .p-read)) (subst (λ n. askEdit (textLimits n) q ≡ passed (j .Q)) (sym (after-n sheet bytes s p (j .P) (r .p-read))) (r .q-read))
+
+    pub two-leave : appliedSheet (appliedSheet sheet p) q ≡ afterSteps (followedBy (j .P) (j .Q)) sheet
+    two-leave =
+        applied-is (appliedSheet sheet p) q (j .Q) second-applies ∙ ap (afterSteps (j .Q)) first-leaves
+        ∙ after-both sheet bytes s p (j .P) (r .p-read) (j .Q)
+
+  -- Where the joined edit is carried out, both are, and it leaves the same sheet;
+  joined-read : (Z : Edit) → askApply sheet joined ≡ passed Z → Sound sheet × ReadFor j (graphOf sheet .n)
+  joined-read Z e = let (s, f) = applied-read sheet joined Z e in (s, from-joined j (graphOf sheet .n) (few s) Z f)
+
+  both-apply : Applies sheet joined → Applies sheet p × Applies (appliedSheet sheet p) q
+  unfolding outcome
+  both-apply h =
+      let (Z, e) = outcome-passed (askApply sheet joined) h in
+      let (s, r) = joined-read Z e in
+      (ap outcome (first-applies s r), ap outcome (second-applies s r))
+
+  pub same-sheet : Applies sheet joined → appliedSheet sheet joined ≡ appliedSheet (appliedSheet sheet p) q
+  same-sheet h =
+      let (Z, e) = outcome-passed (askApply sheet joined) h in
+      let (s, r) = joined-read Z e in
+      applied-is sheet joined _ (applies sheet joined _ s (r .joined-read)) ∙ sym (two-leave s r)
+
+  -- and where both are, it is.
+  joined-applies : Applies sheet p × Applies (appliedSheet sheet p) q → Applies sheet joined
+  unfolding outcome
+  joined-applies h =
+      let (P, e) = outcome-passed (askApply sheet p) (h .0) in
+      let (Q, f) = outcome-passed (askApply (appliedSheet sheet p) q) (h .1) in
+      let (s, p-read) = applied-read sheet p P e in
+      let g : askApply (afterSteps P sheet) q ≡ passed Q = ap (λ t. askApply t q) (sym (applied-is sheet p P e)) ∙ f in
+      let q-read : askEdit (textLimits (graphOf sheet .n)) q ≡ passed Q = subst (λ n. askEdit (textLimits n) q ≡ passed Q) (after-n sheet bytes s p P p-read) (applied-read (afterSteps P sheet) q Q g .1) in
+      let r = from-both j (graphOf sheet .n) (few s) P Q p-read q-read in
+      ap outcome (applies sheet joined _ s (r .joined-read))
+
+  pub applies-when : Applies sheet joined ↔ (Applies sheet p × Applies (appliedSheet sheet p) q)
+  applies-when = (both-apply, joined-applies)
