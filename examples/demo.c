@@ -238,21 +238,17 @@ static void print_breakers_after(const struct text *edit, size_t place) {
         print_breakers(after, book.bytes + start, end - start);
 }
 
-/* What the broken rule asks of the sheet as it is. The carried book stands in the scratch. Where it keeps the limits of a
- * book it can be judged like one; it may pass them, having up to 16,384 bytes and 255 levels. */
-static void print_condition(const struct text *edit) {
-    uint8_t carried[ZAMIATHEN_CARRIED_BYTES];
-    zamiathen_length c =
-        zamiathen_carry_back(book.bytes, book.length, edit->bytes, edit->length, carried, sizeof carried);
-    zamiathen_judged j = zamiathen_judge(sheet, sizeof sheet, scratch, c.length);
+/* What the broken rule asks of the sheet as it is. Carried back, it stands at the start of the scratch. Where it keeps the
+ * limits of a rule, the place where it ends is asked for; it may pass them, having up to 16,384 bytes and 255 levels. */
+static void print_condition(void) {
+    zamiathen_length rule = zamiathen_first_rule(scratch, ZAMIATHEN_TEXT_BYTES);
     printf("      Carried back through the edit it is a condition on the sheet as it is, which does not hold");
-    if (j.number == ZAMIATHEN_RULE_BROKEN) {
+    if (rule.number == ZAMIATHEN_DONE) {
         printf(":\n               ");
-        print_bytes(scratch + j.start, j.length);
+        print_bytes(scratch, rule.length);
         printf("\n");
     } else {
-        printf(".\n      The %zu bytes of carried rules pass the limits of a book: judged as one they are answered %02zu %05zu.\n",
-               c.length, j.number, j.place);
+        printf(".\n      It passes the limits of a rule: read as one it is answered %02zu %05zu.\n", rule.number, rule.place);
     }
 }
 
@@ -282,7 +278,7 @@ static void enter_edit(const struct text *edit) {
         printf("refused. The sheet after it would break\n");
         print_rule(answer.place);
         print_breakers_after(edit, answer.place);
-        print_condition(edit);
+        print_condition();
         if (memcmp(before, sheet, sizeof sheet) == 0)
             printf("   The sheet is as it was, to the byte.\n");
     } else {

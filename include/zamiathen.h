@@ -33,19 +33,20 @@ extern "C" {
 
 /* The version. The first number moves when the form of sheets or an answer of a call changes, the second when a call is
  * added: a card written under another first number may be answered otherwise (one written under 1 is converted by
- * zamiathen_convert_255, one written under 2 or 3 by zamiathen_convert_257). As one number: 1000 * first + second. */
-#define ZAMIATHEN_VERSION_FIRST 4
-#define ZAMIATHEN_VERSION_SECOND 3
+ * zamiathen_convert_255, one written under 2 or 3 by zamiathen_convert_257; one written under 4 has today's form). As one
+ * number: 1000 * first + second. */
+#define ZAMIATHEN_VERSION_FIRST 5
+#define ZAMIATHEN_VERSION_SECOND 0
 #define ZAMIATHEN_VERSION (1000 * ZAMIATHEN_VERSION_FIRST + ZAMIATHEN_VERSION_SECOND)
 
 /* Sizes. */
 #define ZAMIATHEN_SHEET_BYTES 8704    /* a sheet has just this length */
 #define ZAMIATHEN_STORE_BYTES 61440   /* a store has just this length */
 #define ZAMIATHEN_TEXT_BYTES 4096     /* the longest book and the longest edit; suffices for a rewritten book, a joined edit */
-#define ZAMIATHEN_CARRIED_BYTES 16384 /* the longest carried book: an output or scratch of this length suffices */
+#define ZAMIATHEN_CARRIED_BYTES 16384 /* the longest carried book, and the longest single carried rule (zamiathen_enter) */
 #define ZAMIATHEN_LINE_BYTES 64       /* a line of a page, its line feed included */
 #define ZAMIATHEN_PAGE_BYTES 3904     /* the longest page, of an arrow kind at 60 nodes; a label page has 3200 */
-#define ZAMIATHEN_STACK_BYTES 262144  /* measured: 196,528 at 255 levels, the deepest carried rule */
+#define ZAMIATHEN_STACK_BYTES 262144  /* measured: 237,712 at 255 levels, the deepest carried rule */
 #define ZAMIATHEN_THREAD_BYTES 393216 /* a thread's whole stack */
 
 /* Limits. A sheet has n nodes, n from 1 to ZAMIATHEN_MAX_NODES; n is its byte 2. Numbers count from 0. A node below n may
@@ -90,7 +91,8 @@ enum zamiathen_number {
     /* The carried book. */
     ZAMIATHEN_CARRIED_LENGTH = 31, /* it would pass 16,384 bytes; place 0 */
     ZAMIATHEN_CARRIED_LEVELS = 32, /* it would pass 255 levels; place 0 */
-    ZAMIATHEN_ROOM = 33,           /* the scratch or output is too short; place: the length needed */
+    ZAMIATHEN_ROOM = 33,           /* the scratch or output is too short; place: the length needed, of a scratch that of
+                                    * the longest single carried rule */
 
     /* The rules. */
     ZAMIATHEN_RULE_BROKEN = 41, /* place: the first broken rule of the book, from 0 */
@@ -260,14 +262,25 @@ zamiathen_answer zamiathen_apply(uint8_t *sheet, size_t sheet_length, const uint
 
 /* Carries a book back through an edit: the conditions on a sheet before the edit for the book to hold after it.
  * Node numbers up to 59 are in range. Answers 0, 11 to 16, 21 to 26 or 31 to 33. Done writes the carried book at the
- * start of the output and leaves the rest of it; every other answer leaves the output as it was. */
+ * start of the output and leaves the rest of it; every other answer leaves the output as it was. The length that is
+ * answered, or the place of a 33, is that of the whole carried book; zamiathen_enter needs less (below). */
 zamiathen_length zamiathen_carry_back(const uint8_t *book, size_t book_length, const uint8_t *edit,
                                       size_t edit_length, uint8_t *output, size_t output_length);
 
 /* Enters an edit, whole or not at all: done if each rule of the book holds on the sheet that the edit's steps leave.
- * Answers 0, 1 to 4, 11 to 16, 21 to 26, 31 to 33 or 41. Only done changes the sheet, its check bytes too. Done and 41
- * leave the carried book at the start of the scratch and the rest of it as it was; every other answer leaves the whole
- * scratch. */
+ * Answers 0, 1 to 4, 11 to 16, 21 to 26, 31 to 33 or 41. Only done changes the sheet, its check bytes too.
+ *
+ * The rules are carried back and judged one by one, each written at the start of the scratch over the one before, up to
+ * the first that is broken. Done and 41 leave in the scratch what these writings leave: after 41 the broken rule, carried
+ * back, stands at its start, after done the last rule, and behind it what is left of longer rules before it, and then
+ * what the scratch held before the call. Every other answer, and every answer for an empty book, leaves the scratch as it
+ * was.
+ *
+ * 33 is answered, before any rule is judged, when the scratch is shorter than the longest single carried rule of the
+ * book, also where that one stands behind a broken one; its place is that rule's length. ZAMIATHEN_CARRIED_BYTES suffice
+ * for every book and edit, and no fewer do: a book of one rule may be carried to just that length. A caller with a
+ * shorter scratch gets the answers, and the sheet, that it would get with those, wherever it does not get 33. 31 and 32
+ * measure the whole carried book, whatever the scratch. */
 zamiathen_answer zamiathen_enter(uint8_t *sheet, size_t sheet_length, const uint8_t *book, size_t book_length,
                                  const uint8_t *edit, size_t edit_length, uint8_t *scratch, size_t scratch_length);
 

@@ -1,8 +1,9 @@
 //! The calls.
 
-use crate::eval::first_broken;
+use crate::eval::{first_broken, first_broken_singly, longest_rule};
+use crate::fixed::FixedVec;
 use crate::index::{BookIndex, EditIndex};
-use crate::measure::measure;
+use crate::measure::{measure, CARRIED_BYTES};
 use crate::sheet::{ask, blocks, blocks_mut, MOST_NODES};
 use crate::steps::make_steps;
 use crate::write::write;
@@ -64,7 +65,8 @@ fn applied(sheet: &mut [u8], edit: &[u8]) -> Result<(), Answer> {
     Ok(())
 }
 
-/// Enters an edit. Only done changes the sheet; done and 41 leave the carried book at the start of the scratch.
+/// Enters an edit. Only done changes the sheet; done and 41 leave in the scratch what the carried rules leave, each written
+/// at its start over the one before, up to the first broken one. The carried book is written whole elsewhere.
 pub fn enter(sheet: &mut [u8], book: &[u8], edit: &[u8], scratch: &mut [u8]) -> Answer {
     answer(entered(sheet, book, edit, scratch))
 }
@@ -73,8 +75,20 @@ fn entered(sheet: &mut [u8], book: &[u8], edit: &[u8], scratch: &mut [u8]) -> Re
     let sheet = blocks_mut(sheet)?;
     let n = ask(sheet)?;
     let mut index = EditIndex::new();
-    let length = carried(book, edit, n, &mut index, scratch)?;
-    if let Some((rule, _, _)) = first_broken(sheet, &scratch[..length]) {
+    let mut book_index = BookIndex::new();
+    book_index.read::<true>(book, n)?;
+    index.read::<true>(edit, n)?;
+    let length = measure(book, &book_index, &mut index, usize::MAX)?;
+    let mut whole = FixedVec::<u8, { CARRIED_BYTES as usize }>::new();
+    whole.fill(0, length);
+    write(book, &book_index, edit, &mut index, &mut whole);
+    if length > scratch.len() {
+        let longest = longest_rule(&whole);
+        if longest > scratch.len() {
+            return Err(refused(33, longest));
+        }
+    }
+    if let Some(rule) = first_broken_singly(sheet, &whole, scratch) {
         return Err(refused(41, rule));
     }
     make_steps(sheet, edit, &index);

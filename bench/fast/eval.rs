@@ -29,6 +29,36 @@ pub fn first_broken(sheet: &Blocks, text: &[u8]) -> Option<(usize, usize, usize)
     None
 }
 
+/// Judges the rules of a text one by one, each copied to the start of a scratch. The number of the first that doesn't
+/// hold.
+pub fn first_broken_singly(sheet: &Blocks, text: &[u8], scratch: &mut [u8]) -> Option<usize> {
+    let mut reversed = Reversed::new();
+    let mut eval = Eval::new(sheet, text, &mut reversed);
+    let (mut at, mut number) = (0, 0);
+    while at < text.len() {
+        let start = at;
+        let holds = eval.rule(&mut at);
+        let end = if holds { at } else { past(text, start) };
+        scratch[..end - start].copy_from_slice(&text[start..end]);
+        if !holds {
+            return Some(number);
+        }
+        number += 1;
+    }
+    None
+}
+
+/// The length of the longest rule of a text.
+pub fn longest_rule(text: &[u8]) -> usize {
+    let (mut at, mut longest) = (0, 0);
+    while at < text.len() {
+        let end = past(text, at);
+        longest = longest.max(end - at);
+        at = end;
+    }
+    longest
+}
+
 /// In each function `at` is where the term begins, and is left at its end.
 impl<'e> Eval<'e> {
     pub fn new(sheet: &'e Blocks, text: &'e [u8], reversed: &'e mut Reversed) -> Self {

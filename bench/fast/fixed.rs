@@ -23,6 +23,15 @@ impl<T: Copy, const N: usize> FixedVec<T, N> {
         self.entries[self.length].write(entry);
         self.length += 1;
     }
+
+    /// So many entries more, all alike. Panics when there is no room.
+    #[inline(always)]
+    pub fn fill(&mut self, entry: T, count: usize) {
+        for place in &mut self.entries[self.length..self.length + count] {
+            place.write(entry);
+        }
+        self.length += count;
+    }
 }
 
 impl<T: Copy, const N: usize> Deref for FixedVec<T, N> {

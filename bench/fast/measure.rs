@@ -9,7 +9,7 @@ use crate::index::{BookIndex, EditIndex, Step, NO_STEP};
 use crate::reader::{Occurrence, NAMES};
 use crate::{refused, Answer};
 
-const CARRIED_BYTES: u32 = 16384;
+pub const CARRIED_BYTES: u32 = 16384;
 const CARRIED_LEVELS: u32 = 255;
 const CUT: u32 = CARRIED_BYTES + 1;
 

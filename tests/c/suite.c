@@ -349,7 +349,7 @@ static void rules(void) {
     judged("second rule broken", zamiathen_judge(sheet, whole, BROKEN, sizeof BROKEN),
            (zamiathen_judged){ZAMIATHEN_RULE_BROKEN, 1, 3, 4});
     answered("second rule broken", enter(whole, BROKEN, sizeof BROKEN, END, 1), ZAMIATHEN_RULE_BROKEN, 1);
-    left("second rule broken", BROKEN, sizeof BROKEN);
+    left("second rule broken", BROKEN + 3, 4);
 }
 
 /* Each call that is lent a sheet of this length. */
@@ -1046,6 +1046,41 @@ static void refused_chains(void) {
     left("4,096 bytes", wanted.bytes, wanted.length);
 }
 
+/* Rules are judged one by one, each written at the scratch's start over the one before, up to the first broken one: two
+ * that hold, of 11 and 5 bytes, one that doesn't, of 3, and a longer one behind it. TAKE changes none of them. */
+static const uint8_t ONE_BY_ONE[] = {0x21, 0x03, 0x00, 0x07, 0x03, 0x00, 0x07, 0x03, 0x00, 0x04, 0x01,
+                                     0x22, 0x11, 0x00, 0x11, 0x00, 0x21, 0x01, 0x02, 0x21, 0x01, 0x07,
+                                     0x01, 0x07, 0x01, 0x07, 0x01, 0x07, 0x01, 0x07, 0x01, 0x01};
+enum { FIRST_TWO = 16, FIRST_THREE = 19, FIRST = 11, LAST = sizeof ONE_BY_ONE - FIRST_THREE };
+
+static zamiathen_answer enter_with(const uint8_t *book, size_t length, size_t scratch_length) {
+    return zamiathen_enter(sheet, whole, book, length, TAKE, sizeof TAKE, scratch, scratch_length);
+}
+
+static void one_by_one(void) {
+    static uint8_t writings[FIRST];
+    start();
+    answered("longest behind the broken one", enter_with(ONE_BY_ONE, sizeof ONE_BY_ONE, LAST - 1), ZAMIATHEN_ROOM, LAST);
+    answered("no scratch", enter_with(ONE_BY_ONE, FIRST_TWO, 0), ZAMIATHEN_ROOM, FIRST);
+    answered("one byte short", enter_with(ONE_BY_ONE, FIRST_THREE, FIRST - 1), ZAMIATHEN_ROOM, FIRST);
+    left_alone("short scratches");
+    memcpy(writings, ONE_BY_ONE, FIRST);
+    memcpy(writings, ONE_BY_ONE + FIRST, FIRST_TWO - FIRST);
+    memcpy(writings, ONE_BY_ONE + FIRST_TWO, FIRST_THREE - FIRST_TWO);
+    answered("the third is broken", enter_with(ONE_BY_ONE, FIRST_THREE, FIRST), ZAMIATHEN_RULE_BROKEN, 2);
+    left("the third is broken", writings, FIRST);
+    start();
+    answered("the fourth is not written", enter_with(ONE_BY_ONE, sizeof ONE_BY_ONE, room), ZAMIATHEN_RULE_BROKEN, 2);
+    left("the fourth is not written", writings, FIRST);
+    start();
+    memcpy(writings, ONE_BY_ONE, FIRST);
+    memcpy(writings, ONE_BY_ONE + FIRST, FIRST_TWO - FIRST);
+    kept[24] = 0;
+    seal(kept);
+    answered("two that hold", enter_with(ONE_BY_ONE, FIRST_TWO, FIRST), ZAMIATHEN_DONE, 0);
+    left("two that hold", writings, FIRST);
+}
+
 int main(void) {
     examples();
     changes();
@@ -1072,6 +1107,7 @@ int main(void) {
     refused_joins();
     joined_edits();
     refused_chains();
+    one_by_one();
     empty_buffers();
     printf("%d passed, %d failed\n", passed, failed);
     return failed != 0;

@@ -7,9 +7,9 @@ use common::terms::{self, Names};
 use common::{carried, damage, graphs, limits, texts};
 use reference::answer::DONE;
 use reference::calls;
-use reference::carry::CARRIED_BYTES;
+use reference::carry::{carry, CARRIED_BYTES};
 use reference::clerk::Clerk;
-use reference::graph::Graph;
+use reference::graph::{Graph, Pairs};
 use reference::meaning::{first_broken, holds};
 use reference::syntax::{Coded, Node, Rule};
 use reference::{reader, sheet};
@@ -88,14 +88,24 @@ fn apply(tally: &mut Tally, bytes: &[u8], edit: &[u8]) {
     tally.compare("apply", &found, &wanted, &[("sheet", bytes), ("edit", edit)]);
 }
 
-/// A scratch with room to spare, of the length needed, one byte short, or of another length.
-fn scratch(random: &mut Random, needed: usize) -> Vec<u8> {
-    let length = match random.below(12) {
-        0 => needed,
-        1 => needed.saturating_sub(1),
-        2 => needed + 1,
-        3 => random.below(needed + 2),
-        _ => needed + random.below(200),
+/// The length of the longest carried rule of a book, which is all that enter needs; 0 when there is none.
+fn longest(book: &[u8], edit: &[u8]) -> usize {
+    let (Ok(rules), Ok(steps)) = (reader::book(book, 60), reader::edit(edit, 60)) else { return 0 };
+    carry(rules.iter().map(|placed| &placed.rule), &steps).map_or(0, |carried| carried.longest())
+}
+
+/// A scratch with room to spare, of the length needed, one byte short, of the whole carried book, or of another length.
+fn scratch(random: &mut Random, needed: usize, whole: usize) -> Vec<u8> {
+    let length = match random.below(16) {
+        0..=1 => needed,
+        2..=3 => needed.saturating_sub(1),
+        4 => needed + 1,
+        5 => random.below(needed + 2),
+        6 => 0,
+        7 => whole,
+        8 => whole.saturating_sub(1),
+        9 => random.below(whole + 2),
+        _ => whole + random.below(200),
     };
     random.bytes(length)
 }
@@ -174,8 +184,8 @@ const OUTPUT: [u8; CARRIED_BYTES] = [0xEE; CARRIED_BYTES];
 
 /// Carry back with room to spare, enter with the scratch that is given back, and apply.
 fn all_three(tally: &mut Tally, random: &mut Random, bytes: &[u8], book: &[u8], edit: &[u8]) -> Vec<u8> {
-    let needed = carry_back(tally, book, edit, &OUTPUT);
-    let scratch = scratch(random, needed);
+    let whole = carry_back(tally, book, edit, &OUTPUT);
+    let scratch = scratch(random, longest(book, edit), whole);
     Call { sheet: bytes, book, edit, scratch: &scratch }.compare(tally);
     apply(tally, bytes, edit);
     scratch
@@ -233,19 +243,16 @@ fn run(tally: &mut Tally, random: &mut Random, opening: &Opening, book: &[u8], m
     let mut bytes = sheet::store(&opening.graph);
     for _ in 0..10 {
         let edit = some_edit(random, opening.names);
-        let before = match random.below(6) {
-            0 => {
-                let length = random.below(300);
-                random.bytes(length)
-            }
-            _ => random.bytes(1500),
+        let length = match random.below(6) {
+            0 => random.below(60),
+            1 => random.below(300),
+            _ => 1000,
         };
+        let before = random.bytes(length);
         let found = Call { sheet: &bytes, book, edit: &edit, scratch: &before }.library();
         let called = clerk.call(&edit, before.len());
         let mut scratch = before.clone();
-        if let Some(carried) = &called.carried {
-            scratch[..carried.text.len()].copy_from_slice(&carried.text);
-        }
+        called.write(&mut scratch);
         let after = if called.answer == DONE { sheet::store(&clerk.graph) } else { bytes.clone() };
         let lent = vec![Lent::of(&after), Lent::of(book), Lent::of(&edit), Lent::of(&scratch)];
         let wanted = Outcome::of_answer(called.answer, lent);
@@ -261,15 +268,89 @@ fn carried_limits(tally: &mut Tally) {
     let names = Names { n: 60, labels: 2, arrows: 2 };
     let bytes = sheet::store(&graphs::graph(&mut random, names));
     for (book, edit) in carried::all() {
-        for length in [0, 100, CARRIED_BYTES - 1, CARRIED_BYTES, CARRIED_BYTES + 1] {
+        let rule = longest(&book, &edit);
+        for length in [0, rule.saturating_sub(1), rule, CARRIED_BYTES] {
             let scratch = random.bytes(length);
-            carry_back(tally, &book, &edit, &scratch);
             Call { sheet: &bytes, book: &book, edit: &edit, scratch: &scratch }.compare(tally);
         }
         let needed = carry_back(tally, &book, &edit, &OUTPUT);
-        for length in [needed.saturating_sub(1), needed, needed + 1] {
+        for length in [0, needed.saturating_sub(1), needed, needed + 1, CARRIED_BYTES - 1] {
             carry_back(tally, &book, &edit, &random.bytes(length));
         }
+    }
+}
+
+/// Sheet T of document 01.
+fn sheet_t() -> Vec<u8> {
+    let mut graph = Graph::blank(3);
+    graph.labels[0] = vec![true, true, false];
+    graph.labels[1] = vec![false, false, true];
+    graph.arrows[0] = Pairs::new(3, |i, j| i < 2 && j == 2);
+    sheet::store(&graph)
+}
+
+/// Seven rules as they are carried, with what stands for label 0 in each; the first four hold on every sheet, the others on none.
+fn carried_rules(label: &[u8]) -> [Vec<u8>; 7] {
+    [
+        [&[0x21], label, &[0x01]].concat(),
+        [&[0x21], label, &[0x07], label, label].concat(),
+        vec![0x22, 0x11, 0x00, 0x11, 0x00],
+        [vec![0x21, 0x02], limits::wide_node(100)].concat(),
+        vec![0x21, 0x01, 0x02],
+        [&[0x27, 0x21], label, &[0x01]].concat(),
+        [vec![0x27, 0x21, 0x02], limits::wide_node(60)].concat(),
+    ]
+}
+
+/// Every book of up to three of them, through three edits: answer, sheet and scratch known without the reference.
+fn rule_by_rule(tally: &mut Tally) {
+    let edits: [(&[u8], &[u8], u8); 3] = [
+        (&[0x30], &[0x03, 0x00], 3),
+        (&[0x31, 0x00, 0x04, 0x02, 0x30], &[0x07, 0x03, 0x00, 0x04, 0x02], 7),
+        (&[0x32, 0x00, 0x04, 0x01, 0x30], &[0x06, 0x03, 0x00, 0x05, 0x04, 0x01], 1),
+    ];
+    let mut books = vec![vec![]];
+    for length in 1..=3 {
+        let longer: Vec<Vec<usize>> = books
+            .iter()
+            .filter(|book: &&Vec<usize>| book.len() == length - 1)
+            .flat_map(|book| (0..7).map(|rule| [&book[..], &[rule]].concat()))
+            .collect();
+        books.extend(longer);
+    }
+    for (edit, label, label_0) in edits {
+        let (rules, carried) = (carried_rules(&[0x03, 0x00]), carried_rules(label));
+        for book in &books {
+            one_by_one(tally, edit, label_0, book, &rules, &carried);
+        }
+    }
+}
+
+fn one_by_one(tally: &mut Tally, edit: &[u8], label_0: u8, which: &[usize], rules: &[Vec<u8>], carried: &[Vec<u8>]) {
+    let t = sheet_t();
+    let book: Vec<u8> = which.iter().flat_map(|rule| rules[*rule].clone()).collect();
+    let lengths: Vec<usize> = which.iter().map(|rule| carried[*rule].len()).collect();
+    let (longest, whole) = (lengths.iter().max().copied().unwrap_or(0), lengths.iter().sum::<usize>());
+    let broken = which.iter().position(|rule| *rule >= 4);
+    for room in [0, longest.saturating_sub(1), longest, longest + 1, whole.saturating_sub(1), whole, whole + 9] {
+        let call = Call { sheet: &t, book: &book, edit, scratch: &vec![0x5A; room] };
+        let (mut after, mut scratch) = (t.clone(), call.scratch.to_vec());
+        let numbers = match broken {
+            _ if room < longest => [33, longest],
+            Some(place) => [41, place],
+            None => [0, 0],
+        };
+        if numbers[0] != 33 {
+            for rule in &which[..broken.map_or(which.len(), |place| place + 1)] {
+                scratch[..carried[*rule].len()].copy_from_slice(&carried[*rule]);
+            }
+        }
+        if numbers[0] == 0 {
+            after[16] = label_0;
+            sheet::seal(&mut after[..512]);
+        }
+        let lent = vec![Lent::of(&after), Lent::of(&book), Lent::of(edit), Lent::of(&scratch)];
+        tally.compare("rule by rule", &call.library(), &Outcome::new(&numbers, lent), &call.inputs());
     }
 }
 
@@ -296,7 +377,16 @@ const MOVE_BACK: &[u8] = include_bytes!("../../examples/station/move_back.bin");
 const CROWD: &[u8] = include_bytes!("../../examples/station/crowd.bin");
 const CARRIED: &[u8] = include_bytes!("../../examples/station/carried.bin");
 
-/// An enter on the station against what is kept with it: the answer, the sheet and, where kept, the carried book.
+/// What is left of a scratch when each rule of a carried book is written at its start, over the one before.
+fn overwritten(scratch: &[u8], text: &[u8]) -> Vec<u8> {
+    let mut left = scratch.to_vec();
+    for ends in reader::rule_starts(text, 60).windows(2) {
+        left[..ends[1] - ends[0]].copy_from_slice(&text[ends[0]..ends[1]]);
+    }
+    left
+}
+
+/// An enter on the station against what is kept with it: the answer, the sheet and, where kept, the rules of the carried book.
 fn kept(tally: &mut Tally, call: &Call, answer: [usize; 2], after: &[u8], carried: Option<&[u8]>) {
     let mut found = call.library();
     let scratch = found.buffers.pop();
@@ -304,7 +394,8 @@ fn kept(tally: &mut Tally, call: &Call, answer: [usize; 2], after: &[u8], carrie
     let mut wanted = Outcome::new(&answer, vec![Lent::of(after)]);
     if let Some(text) = carried {
         found.buffers.extend(scratch);
-        wanted.buffers.push(Lent::of(&[text, &call.scratch[text.len()..]].concat()).all());
+        assert!(reader::rule_starts(text, 60).last() == Some(&text.len()), "rules can be told apart");
+        wanted.buffers.push(Lent::of(&overwritten(call.scratch, text)).all());
     }
     tally.compare("enter on the station", &found, &wanted, &call.inputs());
 }
@@ -325,10 +416,12 @@ fn station(tally: &mut Tally) {
 fn main() {
     let mut tally = Tally::new();
     station(&mut tally);
+    rule_by_rule(&mut tally);
     carried_limits(&mut tally);
     limit_texts(&mut tally);
-    single_calls(&mut tally, 11_500);
-    runs(&mut tally, 20_000);
+    single_calls(&mut tally, 3_500);
+    runs(&mut tally, 6_000);
+    tally.all_reached("rule by rule", &[0, 33, 41]);
     tally.both_frequent("enter", 0, 41);
     tally.both_frequent("enter in a run", 0, 41);
     tally.finish(&[0, 1, 2, 3, 4, 11, 12, 13, 14, 15, 16, 21, 22, 23, 24, 25, 26, 31, 32, 33, 41]);

@@ -91,9 +91,7 @@ pub fn enter(bytes: &mut [u8], book: &[u8], edit: &[u8], scratch: &mut [u8]) -> 
         Err(refusal) => return refusal,
     };
     let called = clerk.call(edit, scratch.len());
-    if let Some(carried) = called.carried {
-        scratch[..carried.text.len()].copy_from_slice(&carried.text);
-    }
+    called.write(scratch);
     if called.answer == DONE {
         bytes.copy_from_slice(&sheet::store(&clerk.graph));
     }

@@ -16,6 +16,13 @@ pub struct Carried {
     pub text: Vec<u8>,
 }
 
+impl Carried {
+    /// The length of the longest single rule; an empty book needs nothing.
+    pub fn longest(&self) -> usize {
+        self.rules.iter().map(|rule| rule.code().len()).max().unwrap_or(0)
+    }
+}
+
 /// A rule on its way back, with the length of its text.
 #[derive(Clone)]
 struct Way {

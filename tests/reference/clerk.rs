@@ -6,6 +6,7 @@ use crate::graph::Graph;
 use crate::meaning::first_broken;
 use crate::reader::{self, Placed};
 use crate::steps::carried_out;
+use crate::syntax::Coded;
 
 /// He holds one graph, and the book.
 pub struct Clerk {
@@ -13,10 +14,23 @@ pub struct Clerk {
     book: Vec<Placed>,
 }
 
-/// His answer to one call, and the carried book that done and 41 leave in the scratch.
+/// His answer to one call, and the carried book that done and 41 have.
 pub struct Called {
     pub answer: Answer,
     pub carried: Option<Carried>,
+}
+
+impl Called {
+    /// Document 02, item 10: after done or 41 each carried rule has been written at the start of the scratch over the one before,
+    /// up to the first broken rule.
+    pub fn write(&self, scratch: &mut [u8]) {
+        let Some(carried) = &self.carried else { return };
+        let judged = if self.answer == DONE { carried.rules.len() } else { self.answer.place + 1 };
+        for rule in &carried.rules[..judged] {
+            let code = rule.code();
+            scratch[..code.len()].copy_from_slice(&code);
+        }
+    }
 }
 
 impl Clerk {
@@ -31,12 +45,13 @@ impl Clerk {
         }
     }
 
-    /// 21 to 26, then 31 to 33: the graph after the steps, and the carried book.
+    /// 21 to 26, then 31 and 32 of the whole book, then 33 of its longest rule: the graph after the steps, and the carried book.
     fn ask(&self, edit: &[u8], scratch: usize) -> Asked<(Graph, Carried)> {
         let steps = reader::edit(edit, self.graph.n)?;
         let carried = carry(self.book.iter().map(|placed| &placed.rule), &steps)?;
-        if scratch < carried.text.len() {
-            return refuse(33, carried.text.len());
+        let needed = carried.longest();
+        if scratch < needed {
+            return refuse(33, needed);
         }
         Ok((carried_out(&self.graph, &steps), carried))
     }

@@ -498,6 +498,32 @@ fn chains(tally: &mut Tally) {
     tally.same("then Q", join_edits(&long, &hex("31 00"), &mut []).answer, refused(22, 2));
 }
 
+/// Rules judged one by one, each written over the one before: on T, through an edit that takes label 0 from node 1.
+fn rule_by_rule(tally: &mut Tally) {
+    let (t, edit) = (sheet_t(), hex("32 00 04 01 30"));
+    // Carried they have 13, 5 and 8 bytes; the third is broken.
+    let book = hex("21 03 00 03 00 22 11 00 11 00 23 01 03 00");
+    let (first, second) = (hex("21 06 03 00 05 04 01 06 03 00 05 04 01"), hex("22 11 00 11 00"));
+    let third = hex("23 01 06 03 00 05 04 01");
+    let mut entered = |what: &str, book: &[u8], room: usize, answer: Answer, written: Vec<u8>| {
+        let (mut after, mut scratch) = (t.clone(), vec![0xEE; room]);
+        let found = enter(&mut after, book, &edit, &mut scratch);
+        let mut wanted = written;
+        wanted.resize(room, 0xEE);
+        tally.same(what, (found, after == t, scratch), (answer, answer != DONE, wanted));
+    };
+    let broken = [&third[..], &first[8..]].concat();
+    entered("the third is broken", &book, 20, Answer { number: 41, place: 2 }, broken.clone());
+    entered("just enough", &book, 13, Answer { number: 41, place: 2 }, broken);
+    entered("one less", &book, 12, Answer { number: 33, place: 13 }, vec![]);
+    entered("two rules", &book[..10], 13, DONE, [&second[..], &first[5..]].concat());
+    entered("no rule", &[], 0, DONE, vec![]);
+    // The longest rule stands behind the broken one, and is measured, not written.
+    let behind = [&book[10..], &book[..10]].concat();
+    entered("broken before the longest", &behind, 13, Answer { number: 41, place: 0 }, third);
+    entered("measured before", &behind, 12, Answer { number: 33, place: 13 }, vec![]);
+}
+
 /// None of these may take exponential time.
 fn explosions(tally: &mut Tally) {
     let rule = hex("23 00 03 00");
@@ -531,6 +557,7 @@ fn main() {
     stores(&mut tally);
     two_stations(&mut tally);
     chains(&mut tally);
+    rule_by_rule(&mut tally);
     explosions(&mut tally);
     println!("{} passed, {} failed", tally.passed, tally.failed);
     std::process::exit(i32::from(tally.failed > 0));

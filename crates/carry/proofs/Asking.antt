@@ -45,28 +45,28 @@ module _ (carried : List (Expr rule)) (out : List ℕ) where
     output-is = w ∙ sym (ap (λ (q : Asked (Unit {0})). after q (λ u. writtenAtStart (bookCode carried) out) out) e);
   }
 
--- the questions of a length, a number of levels and a room
-sized : (len levels room : ℕ) → Asked (Unit {0})
-sized len levels room = is (leb len longestCarried) 31 0 >> (is (leb levels deepestCarried) 32 0 >> is (leb len room) 33 len)
+-- the questions of a length, a number of levels, the length needed and a room
+unfoldable pub sized : (len levels needed room : ℕ) → Asked (Unit {0})
+sized len levels needed room = is (leb len longestCarried) 31 0 >> (is (leb levels deepestCarried) 32 0 >> is (leb needed room) 33 needed)
 
-module _ (len levels room : ℕ) where
-  no-31 : longestCarried < len → sized len levels room ≡ refused 31 0
+module _ (len levels needed room : ℕ) where
+  pub no-31 : longestCarried < len → sized len levels needed room ≡ refused 31 0
   unfolding sized is _>>_
   no-31 h = rw (lt-leb len longestCarried h)
 
   module _ (h : len ≤ longestCarried) where
-    no-32 : deepestCarried < levels → sized len levels room ≡ refused 32 0
+    pub no-32 : deepestCarried < levels → sized len levels needed room ≡ refused 32 0
     unfolding sized is _>>_
     no-32 k = rw (le-leb len longestCarried h, lt-leb levels deepestCarried k)
 
     module _ (k : levels ≤ deepestCarried) where
-      no-33 : room < len → sized len levels room ≡ refused 33 len
+      pub no-33 : room < needed → sized len levels needed room ≡ refused 33 needed
       unfolding sized is _>>_
-      no-33 i = rw (le-leb len longestCarried h, le-leb levels deepestCarried k, lt-leb len room i)
+      no-33 i = rw (le-leb len longestCarried h, le-leb levels deepestCarried k, lt-leb needed room i)
 
-      all-so : len ≤ room → sized len levels room ≡ passed tt
+      pub all-so : needed ≤ room → sized len levels needed room ≡ passed tt
       unfolding sized is _>>_
-      all-so i = rw (le-leb len longestCarried h, le-leb levels deepestCarried k, le-leb len room i)
+      all-so i = rw (le-leb len longestCarried h, le-leb levels deepestCarried k, le-leb needed room i)
 
 module _ {Z : Edit} {rules : List (Expr rule)} {len tall : ℕ} (s : BookSized Z rules len tall) (out : List ℕ) where
   abbrev len-of : ℕ
@@ -75,13 +75,13 @@ module _ {Z : Edit} {rules : List (Expr rule)} {len tall : ℕ} (s : BookSized Z
   abbrev levels-of : ℕ
   levels-of = bookLevels (carriedBook Z rules)
 
-  asks : askSize (carriedBook Z rules) (length out) ≡ sized len-of levels-of (length out)
+  asks : askSize (carriedBook Z rules) (length out) ≡ sized len-of levels-of len-of (length out)
   unfolding askSize sized _>>_
   asks = refl
 
   -- 31
   pub too-long : longestCarried < len → Into (carriedBook Z rules) (Refused (CarriedLength 0)) out out
-  too-long h = into-refused (carriedBook Z rules) out (CarriedLength 0) (asks ∙ no-31 len-of levels-of (length out) (omega (arith, s .len-is)))
+  too-long h = into-refused (carriedBook Z rules) out (CarriedLength 0) (asks ∙ no-31 len-of levels-of len-of (length out) (omega (arith, s .len-is)))
 
   module _ (h : len ≤ longestCarried) where
     len-exact : len ≡ len-of
@@ -92,7 +92,7 @@ module _ {Z : Edit} {rules : List (Expr rule)} {len tall : ℕ} (s : BookSized Z
 
     -- 32
     pub too-deep : deepestCarried < tall → Into (carriedBook Z rules) (Refused (CarriedLevels 0)) out out
-    too-deep k = into-refused (carriedBook Z rules) out (CarriedLevels 0) (asks ∙ no-32 len-of levels-of (length out) short (omega (arith, s .tall-is)))
+    too-deep k = into-refused (carriedBook Z rules) out (CarriedLevels 0) (asks ∙ no-32 len-of levels-of len-of (length out) short (omega (arith, s .tall-is)))
 
     module _ (k : tall ≤ deepestCarried) where
       shallow : levels-of ≤ deepestCarried
@@ -100,14 +100,14 @@ module _ {Z : Edit} {rules : List (Expr rule)} {len tall : ℕ} (s : BookSized Z
 
       -- 33, with the length needed
       pub no-room : length out < len → Into (carriedBook Z rules) (Refused (OutputLength len)) out out
-      no-room i = into-refused (carriedBook Z rules) out (OutputLength len) (asks ∙ no-33 len-of levels-of (length out) short shallow (omega (arith, len-exact)) ∙ ap (refused 33) (sym len-exact))
+      no-room i = into-refused (carriedBook Z rules) out (OutputLength len) (asks ∙ no-33 len-of levels-of len-of (length out) short shallow (omega (arith, len-exact)) ∙ ap (refused 33) (sym len-exact))
 
       module _ (i : len ≤ length out) where
         pub fits-out : len-of ≤ length out
         fits-out = omega (arith, len-exact)
 
         pub into-written : (n : ℕ) (out′ : List ℕ) → n ≡ len-of → out′ ≡ writtenAtStart (bookCode (carriedBook Z rules)) out → Into (carriedBook Z rules) (Length n) out out′
-        into-written n out′ l w = into-passed (carriedBook Z rules) out n out′ (asks ∙ all-so len-of levels-of (length out) short shallow fits-out) l w
+        into-written n out′ l w = into-passed (carriedBook Z rules) out n out′ (asks ∙ all-so len-of levels-of len-of (length out) short shallow fits-out) l w
 
 -- the empty book
 pub empty-into : (book : List ℕ) → length book ≡ 0 → (rules : List (Expr rule)) (Z : Edit) → BookIs book rules → (out : List ℕ) → Into (carriedBook Z rules) (Length 0) out out

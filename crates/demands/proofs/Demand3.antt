@@ -19,7 +19,7 @@ use Rattle.sheet.proofs.Opening.{Opened, opening}
 use Rattle.text.specs.Reading.{textLimits}
 use Rattle.text.specs.Questions.{askBook}
 use Rattle.judge.specs.Questions.{askSheetAndBook}
-use Rattle.carry.specs.Carrying.{askSize}
+use Rattle.single.specs.Scratch.{askScratch}
 use Rattle.apply.specs.Apply.{afterSteps}
 use Rattle.demands.specs.Enter.{askEnter, enterAnswer, enterSheet}
 use Rattle.demands.specs.Clerk.{Fed, rulesOf, clerkLog, clerk}
@@ -71,7 +71,7 @@ module _ {book edit sheet : List ℕ} (i : Given book edit sheet) where
       let same : Z ≡ i .steps = cc in
       subst (Entered (i .rules) (graphOf sheet) (call room)) same w
 
-  entered-iff : (room : ℕ) → askSize (carriedBook (i .steps) (i .rules)) room ≡ passed tt → (enterAnswer sheet book edit room ≡ passed tt) ↔ Hold (graphOf sheet) (carriedBook (i .steps) (i .rules))
+  entered-iff : (room : ℕ) → askScratch (carriedBook (i .steps) (i .rules)) room ≡ passed tt → (enterAnswer sheet book edit room ≡ passed tt) ↔ Hold (graphOf sheet) (carriedBook (i .steps) (i .rules))
   unfolding outcome
   entered-iff room fits = (
     λ e. hold-carried (i .steps) (i .rules) (graphOf sheet) (done-with room e .hold),

@@ -22,12 +22,11 @@ use Rattle.text.specs.Code.{code, levels, bookCode, bookLevels}
 use Rattle.text.specs.Reading.{textLimits, codes, choice, follow}
 use Rattle.text.specs.Reading as reading
 use Rattle.text.specs.Questions.{whole, readRules, askBook, askEdit}
-use Rattle.text.specs.Marked.{sheetT, B}
+use Rattle.text.specs.Marked.{sheetT}
 use Rattle.judge.specs.Questions.{askRules}
-use Rattle.answer.specs.Outputs.{writtenAtStart}
-use Rattle.carry.specs.Carrying.{askSize}
+use Rattle.single.specs.Scratch.{longest, askScratch, upToBroken, overwritten, writings}
 use Rattle.demands.specs.Enter.{StepsAndCarried, askBefore41, askEnter, enterSheet, enterScratch}
-use Rattle.demands.specs.Examples.{Result, scratchOf, enteredOnT, calls, results}
+use Rattle.demands.specs.Examples.{Result, scratchOf, two, enteredOnT, calls, results}
 use Rattle.demands.proofs.OneCall.{asked-of-stored}
 
 not-node : (i : ℕ) → isNode sheetT i ≡ false → 3 ≤ i
@@ -55,7 +54,7 @@ askOf : Graph → List ℕ → List ℕ → ℕ → Asked StepsAndCarried
 askOf g book edit room = do
   rules ← askBook (textLimits (g .n)) book
   Z ← askEdit (textLimits (g .n)) edit
-  askSize (carriedBook Z rules) room
+  askScratch (carriedBook Z rules) room
   passed (record { steps = Z; carried = carriedBook Z rules })
 
 carried-of : (g : Graph) (book edit : List ℕ) (room : ℕ) → Within g → askBefore41 (store g) book edit room ≡ askOf g book edit room
@@ -63,7 +62,7 @@ unfolding askBefore41 askOf
 carried-of g book edit room w = ap (_>>= size (graphOf (store g))) (asked-of-stored g book w) ∙ ap (λ h. askBook (textLimits (g .n)) book >>= size h) (read-back g w)
   where
     size : Graph → List (Expr rule) → Asked StepsAndCarried
-    size h rules = askEdit (textLimits (h .n)) edit >>= (λ Z. askSize (carriedBook Z rules) room >> passed (record { steps = Z; carried = carriedBook Z rules }))
+    size h rules = askEdit (textLimits (h .n)) edit >>= (λ Z. askScratch (carriedBook Z rules) room >> passed (record { steps = Z; carried = carriedBook Z rules }))
 
 -- What is shown, from what is asked of T.
 resultOf : Graph → Asked StepsAndCarried → Asked StepsAndCarried → ℕ → Result
@@ -72,13 +71,13 @@ resultOf g a b room =
     record {
       answer = outcome q;
       sheet = after q (λ Z. store (run Z g)) (store sheetT);
-      scratch = after b (λ c. writtenAtStart (bookCode (c .carried)) (scratchOf room)) (scratchOf room);
+      scratch = after b (λ c. writings g (c .carried) (scratchOf room)) (scratchOf room);
     }
 
-on-graph : (edit : List ℕ) (room : ℕ) → enteredOnT edit room ≡ resultOf sheetT (askOf sheetT B edit room) (askOf sheetT B edit (length (scratchOf room))) room
+on-graph : (book edit : List ℕ) (room : ℕ) → enteredOnT book edit room ≡ resultOf sheetT (askOf sheetT book edit room) (askOf sheetT book edit (length (scratchOf room))) room
 unfolding enteredOnT enterSheet enterScratch askEnter resultOf
-on-graph edit room = λ t. resultOf (read-back sheetT T-within t) (carried-of sheetT B edit room T-within t) (carried-of sheetT B edit (length (scratchOf room)) T-within t) room
+on-graph book edit room = λ t. resultOf (read-back sheetT T-within t) (carried-of sheetT book edit room T-within t) (carried-of sheetT book edit (length (scratchOf room)) T-within t) room
 
 pub examples : calls enteredOnT ≡ results
-unfolding calls results resultOf askOf sheetT storeIn block labelBlock arrowBlock chunks setOf bytes sealed stored sumsFrom value isNode anyBelow allBelow countBelow update run replace putLabel putArrow carry code bookCode levels bookLevels askSize whole readRules askBook askEdit askRules after outcome _>>=_ _>>_ is codes choice follow reading._>>=_
-examples = (λ t. calls (λ edit room. on-graph edit room t)) ∙ refl
+unfolding calls results two resultOf askOf sheetT storeIn block labelBlock arrowBlock chunks setOf bytes sealed stored sumsFrom value isNode anyBelow allBelow countBelow update run replace putLabel putArrow carry code bookCode levels bookLevels longest askScratch upToBroken overwritten whole readRules askBook askEdit askRules after outcome _>>=_ _>>_ is codes choice follow reading._>>=_
+examples = (λ t. calls (λ book edit room. on-graph book edit room t)) ∙ refl

@@ -11,15 +11,14 @@ use Rattle.logic.specs.Syntax.{Expr, rule, Edit}
 use Rattle.logic.specs.Graph.{Graph}
 use Rattle.logic.specs.Meaning.{value}
 use Rattle.sheet.specs.Sheet.{graphOf}
-use Rattle.text.specs.Code.{bookCode}
 use Rattle.judge.specs.Questions.{askSheetAndBook, askRules}
-use Rattle.answer.specs.Outputs.{writtenAtStart}
+use Rattle.single.specs.Scratch.{writings}
 use Rattle.apply.specs.Apply.{afterSteps}
 use Rattle.demands.specs.Enter.{StepsAndCarried, askBefore41, askEnter, enterAnswer, enterSheet, enterScratch}
 use Rattle.demands.specs.Run.{Call, log}
 use Rattle.demands.specs.Demand3.{Each}
 use Rattle.demands.specs.Leaves.{ScratchWritten, Leaves}
-use Rattle.demands.proofs.Numbers.{Below41, before-41-below}
+use Rattle.demands.proofs.Numbers.{Below, before-41-below}
 
 stays : (sheet book edit : List ℕ) (room q p : ℕ) → enterAnswer sheet book edit room ≡ refused q p → enterSheet sheet book edit room ≡ sheet
 unfolding enterSheet after outcome
@@ -30,11 +29,11 @@ stays sheet book edit room q p e = go (askEnter sheet book edit room) e
     go (refused n m) e = refl
 
 -- Rules are refused with 41 alone.
-abbrev Only41 : Asked (Unit {0}) → Type 0
+abbrev pub Only41 : Asked (Unit {0}) → Type 0
 Only41 (passed u) = Unit {0}
 Only41 (refused q p) = q ≡ 41
 
-rules-41 : (g : Graph) (rules : List (Expr rule)) (i : ℕ) → Only41 (askRules g rules i)
+pub rules-41 : (g : Graph) (rules : List (Expr rule)) (i : ℕ) → Only41 (askRules g rules i)
 unfolding askRules
 rules-41 g [] i = tt
 rules-41 g (K ∷ rules) i = go (value g K) (rules-41 g rules (suc i))
@@ -59,7 +58,7 @@ module _ (sheet book edit scratch : List ℕ) where
       by-rules c (passed u) h e = let z : _≡_ {A = ℕ} 0 1 = cc in absurd (omega arith)
       by-rules c (refused n m) h e = cc
 
-      go : (a : Asked StepsAndCarried) → judged a ≡ refused q p → after a (λ c. writtenAtStart (bookCode (c .carried)) scratch) scratch ≡ scratch
+      go : (a : Asked StepsAndCarried) → judged a ≡ refused q p → after a (λ c. writings (graphOf sheet) (c .carried) scratch) scratch ≡ scratch
       go (passed c) e = absurd (other (by-rules c (askRules (graphOf sheet) (c .carried) 0) (rules-41 (graphOf sheet) (c .carried) 0) e))
       go (refused n m) e = refl
 
@@ -67,8 +66,8 @@ module _ (sheet book edit scratch : List ℕ) where
   unfolding askEnter enterScratch after outcome _>>=_ _>>_
   done-or-41 p e = go askedHere refl (before-41-below sheet book edit (length scratch)) e
     where
-      go : (a : Asked StepsAndCarried) → askedHere ≡ a → Below41 a → (judged a ≡ passed tt) ⊎ (judged a ≡ refused 41 p) → ScratchWritten sheet book edit scratch
-      go (passed c) f b e = record { what = c; passes = f; written = ap (λ a. after a (λ c. writtenAtStart (bookCode (c .carried)) scratch) scratch) f }
+      go : (a : Asked StepsAndCarried) → askedHere ≡ a → Below 41 a → (judged a ≡ passed tt) ⊎ (judged a ≡ refused 41 p) → ScratchWritten sheet book edit scratch
+      go (passed c) f b e = record { what = c; passes = f; written = ap (λ a. after a (λ c. writings (graphOf sheet) (c .carried) scratch) scratch) f }
       go (refused n m) f b (inl e) = let z : _≡_ {A = ℕ} 0 1 = cc in absurd (omega arith)
       go (refused n m) f b (inr e) = let z : n ≡ 41 = cc in absurd (omega arith)
 

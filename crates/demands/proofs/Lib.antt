@@ -6,3 +6,4 @@ pub mod Judged
 pub mod Numbers
 pub mod Leaves
 pub mod Examples
+pub mod Unmoved

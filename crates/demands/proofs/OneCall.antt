@@ -14,7 +14,7 @@ use Rattle.sheet.proofs.ReadBack.{read-back}
 use Rattle.text.specs.Reading.{textLimits}
 use Rattle.text.specs.Questions.{askBook, askEdit}
 use Rattle.judge.specs.Questions.{askSheetAndBook, askRules}
-use Rattle.carry.specs.Carrying.{askSize}
+use Rattle.single.specs.Scratch.{askScratch}
 use Rattle.demands.specs.Enter.{StepsAndCarried, askBefore41, askEnter, enterSheet}
 use Rattle.demands.specs.Clerk.{Fed, Line, clerkCopy, clerkAsks, clerkGraph, clerkLine}
 use Rattle.demands.specs.Run.{Hold, Call, fed, enterLine}
@@ -24,7 +24,7 @@ use Rattle.demands.proofs.Passing.{bind-passed, then-passed, hold-asked
 unfoldable pub askSteps : List (Expr rule) → Graph → Fed → Asked Edit
 askSteps rules g c = do
   Z ← askEdit (textLimits (g .n)) (c .edit)
-  askSize (carriedBook Z rules) (c .room)
+  askScratch (carriedBook Z rules) (c .room)
   askRules (run Z g) rules 0
   passed Z
 
@@ -33,7 +33,7 @@ unfolding askEnter askBefore41 askSteps _>>=_ _>>_
 enter-asks sheet book rules c e = ap (λ q. (q >>= size) >>= judged) e ∙ go (askEdit (textLimits (graphOf sheet .n)) (c .edit))
   where
     size : List (Expr rule) → Asked StepsAndCarried
-    size rules = askEdit (textLimits (graphOf sheet .n)) (c .edit) >>= (λ Z. askSize (carriedBook Z rules) (c .room) >> passed (record { steps = Z; carried = carriedBook Z rules }))
+    size rules = askEdit (textLimits (graphOf sheet .n)) (c .edit) >>= (λ Z. askScratch (carriedBook Z rules) (c .room) >> passed (record { steps = Z; carried = carriedBook Z rules }))
 
     judged : StepsAndCarried → Asked Edit
     judged k = askRules (graphOf sheet) (k .carried) 0 >> passed (k .steps)
@@ -42,8 +42,8 @@ enter-asks sheet book rules c e = ap (λ q. (q >>= size) >>= judged) e ∙ go (a
     sized Z (passed u) = ap (_>> passed Z) (ask-carried Z rules (graphOf sheet) 0)
     sized Z (refused n p) = refl
 
-    go : (q : Asked Edit) → ((q >>= (λ Z. askSize (carriedBook Z rules) (c .room) >> passed (record { steps = Z; carried = carriedBook Z rules }))) >>= judged) ≡ (q >>= (λ Z. askSize (carriedBook Z rules) (c .room) >> (askRules (run Z (graphOf sheet)) rules 0 >> passed Z)))
-    go (passed Z) = sized Z (askSize (carriedBook Z rules) (c .room))
+    go : (q : Asked Edit) → ((q >>= (λ Z. askScratch (carriedBook Z rules) (c .room) >> passed (record { steps = Z; carried = carriedBook Z rules }))) >>= judged) ≡ (q >>= (λ Z. askScratch (carriedBook Z rules) (c .room) >> (askRules (run Z (graphOf sheet)) rules 0 >> passed Z)))
+    go (passed Z) = sized Z (askScratch (carriedBook Z rules) (c .room))
     go (refused n p) = refl
 
 pub clerk-asks : (rules : List (Expr rule)) (g : Graph) (c : Fed) → clerkAsks rules g c ≡ (askSteps rules g c >>= (λ Z. passed (run Z g)))
@@ -58,21 +58,21 @@ clerk-asks rules g c = go (askEdit (textLimits (g .n)) (c .edit))
     sized Z (passed u) = judged Z (askRules (run Z g) rules 0)
     sized Z (refused n p) = refl
 
-    go : (q : Asked Edit) → ((q >>= (λ Z. askSize (carriedBook Z rules) (c .room) >> passed (run Z g))) >>= (λ copy. askRules copy rules 0 >> passed copy)) ≡ ((q >>= (λ Z. askSize (carriedBook Z rules) (c .room) >> (askRules (run Z g) rules 0 >> passed Z))) >>= (λ Z. passed (run Z g)))
-    go (passed Z) = sized Z (askSize (carriedBook Z rules) (c .room))
+    go : (q : Asked Edit) → ((q >>= (λ Z. askScratch (carriedBook Z rules) (c .room) >> passed (run Z g))) >>= (λ copy. askRules copy rules 0 >> passed copy)) ≡ ((q >>= (λ Z. askScratch (carriedBook Z rules) (c .room) >> (askRules (run Z g) rules 0 >> passed Z))) >>= (λ Z. passed (run Z g)))
+    go (passed Z) = sized Z (askScratch (carriedBook Z rules) (c .room))
     go (refused n p) = refl
 
 -- What is known of an edit that has passed them all.
 pub record Entered (rules : List (Expr rule)) (g : Graph) (c : Fed) (Z : Edit) : Type 0 where
   pub edit-read : askEdit (textLimits (g .n)) (c .edit) ≡ passed Z
-  pub fits : askSize (carriedBook Z rules) (c .room) ≡ passed tt
+  pub fits : askScratch (carriedBook Z rules) (c .room) ≡ passed tt
   pub hold : Hold (run Z g) rules
 
 pub when-passed : (rules : List (Expr rule)) (g : Graph) (c : Fed) (Z : Edit) → askSteps rules g c ≡ passed Z → Entered rules g c Z
 unfolding askSteps
 when-passed rules g c Z e =
     let (Y, read, e₁) = bind-passed (askEdit (textLimits (g .n)) (c .edit)) _ Z e in
-    let (u, fits, e₂) = then-passed (askSize (carriedBook Y rules) (c .room)) _ Z e₁ in
+    let (u, fits, e₂) = then-passed (askScratch (carriedBook Y rules) (c .room)) _ Z e₁ in
     let (v, hold, e₃) = then-passed (askRules (run Y g) rules 0) (passed Y) Z e₂ in
     let same : Y ≡ Z = cc in
     subst (Entered rules g c) same (record { edit-read = read; fits = fits; hold = asked-hold (run Y g) rules 0 hold })

@@ -11,7 +11,7 @@ use Rattle.sheet.specs.Sheet.{store, graphOf}
 use Rattle.text.specs.Reading.{textLimits}
 use Rattle.text.specs.Questions.{askBook, askEdit}
 use Rattle.judge.specs.Questions.{askRules}
-use Rattle.carry.specs.Carrying.{askSize}
+use Rattle.single.specs.Scratch.{askScratch}
 
 -- What he is fed for a call.
 pub record Fed : Type 0 where
@@ -28,11 +28,12 @@ pub record Line : Type 0 where
 unfoldable pub rulesOf : ℕ → List ℕ → List (Expr rule)
 rulesOf n book = after (askBook (textLimits n) book) (λ rules. rules) []
 
--- He asks 21 to 26 of the edit, then 31 to 33 of the book carried back through it; then he makes the edit's steps on a copy.
+-- He asks 21 to 26 of the edit, then 31 and 32 of the book carried back through it and 33 of its longest single rule; then he makes the edit's steps on a
+-- copy.
 unfoldable pub clerkCopy : List (Expr rule) → Graph → Fed → Asked Graph
 clerkCopy rules g c = do
   Z ← askEdit (textLimits (g .n)) (c .edit)
-  askSize (carriedBook Z rules) (c .room)
+  askScratch (carriedBook Z rules) (c .room)
   passed (run Z g)
 
 -- If a rule of the book doesn't hold on the copy, he answers 41 with the first such rule; else done.

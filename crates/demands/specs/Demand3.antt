@@ -9,7 +9,7 @@ use Rattle.logic.specs.Syntax.{Expr, rule}
 use Rattle.logic.specs.Meaning.{value}
 use Rattle.logic.specs.Carry.{carry, carriedBook}
 use Rattle.sheet.specs.Sheet.{graphOf}
-use Rattle.carry.specs.Carrying.{askSize}
+use Rattle.single.specs.Scratch.{askScratch}
 use Rattle.apply.specs.Apply.{afterSteps}
 use Rattle.demands.specs.Enter.{enterAnswer, enterSheet}
 use Rattle.demands.specs.Clerk.{Line, clerk}
@@ -40,9 +40,10 @@ pub record Demand3 : Type 1 where
   -- They are such a condition themselves: where they all hold, the steps leave a sheet that keeps the book.
   pub carried-ensure : {book edit sheet : List ℕ} (i : Given book edit sheet)
       → Hold (graphOf sheet) (carriedBook (i .steps) (i .rules)) → Keeps book (afterSteps (i .steps) sheet)
-  -- The edit is entered exactly when all of them hold; the sheet is then the one that its steps leave.
+  -- Where the carried book is within its limits and the scratch is long enough, the edit is entered exactly when all of them hold; the sheet is then
+  -- the one that its steps leave. Long enough is: not shorter than the longest single carried rule (item 10 of document 02).
   pub entered-when : {book edit sheet : List ℕ} (i : Given book edit sheet) (room : ℕ)
-      → askSize (carriedBook (i .steps) (i .rules)) room ≡ passed tt
+      → askScratch (carriedBook (i .steps) (i .rules)) room ≡ passed tt
       → (enterAnswer sheet book edit room ≡ passed tt) ↔ Hold (graphOf sheet) (carriedBook (i .steps) (i .rules))
   pub entered-leaves : {book edit sheet : List ℕ} (i : Given book edit sheet) (room : ℕ)
       → enterAnswer sheet book edit room ≡ passed tt → enterSheet sheet book edit room ≡ afterSteps (i .steps) sheet

@@ -4,3 +4,5 @@ pub mod Run
 pub mod Demand3
 pub mod Leaves
 pub mod Examples
+pub mod Former
+pub mod Unmoved

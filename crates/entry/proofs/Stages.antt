@@ -1,9 +1,8 @@
 -- Where entering stops, and what sheet and scratch then hold.
 use mathlib.Core.Path.{_≡_, refl, sym, _∙_, ap, subst}
-use mathlib.Core.List.{List, [], _∷_, append-nil}
-use Prim.Native.Nat.{ℕ, _+_}
-use native.Mathlib.Omega.{arith}
-use lib.ListN.{length, drop}
+use mathlib.Core.List.{List, [], append-nil}
+use Prim.Native.Nat.{ℕ}
+use lib.ListN.{length}
 use Rattle.answer.specs.Asked.{Asked, passed, refused, _>>=_, _>>_, after, outcome}
 use Rattle.answer.specs.Answers.{asked, refusalNumber, refusalPlace}
 use Rattle.answer.specs.declared.Refusal.{Refusal}
@@ -14,49 +13,16 @@ use Rattle.logic.specs.Carry.{carriedBook}
 use Rattle.logic.specs.Limits.{ranges, EditInRange}
 use Rattle.sheet.specs.Sheet.{graphOf}
 use Rattle.sheet.specs.Questions.{askSheet, Sound}
-use Rattle.text.specs.Code.{bookCode}
 use Rattle.text.specs.Reading.{textLimits}
 use Rattle.text.specs.Questions.{askBook, askEdit}
-use Rattle.text.specs.Stands.{EditStands, RulesInRange}
-use Rattle.text.proofs.Books.{EachAllowed, book-is-spelled, edit-is-spelled}
-use Rattle.text.proofs.Carried.{carry-in}
+use Rattle.text.specs.Stands.{RulesInRange}
+use Rattle.text.proofs.Books.{rules-in-range, book-is-spelled, edit-is-spelled}
 use Rattle.judge.specs.Questions.{askRules, askSheetAndBook}
-use Rattle.judge.specs.Judging.{RulesStand}
-use Rattle.carry.specs.Carrying.{askSize}
-use Rattle.carry.specs.Into.{Into}
-use Rattle.answer.specs.declared.Written as into
-use Rattle.answer.specs.declared.Written.the-variants as into-case
-use Rattle.answer.specs.Outputs.{writtenAsked, writtenAtStart}
+use Rattle.single.specs.Scratch.{askScratch, writings}
+use Rattle.single.specs.Singly.{BothRead, Singly}
 use Rattle.answer.proofs.AnswerLaws.{not-learned}
 use Rattle.apply.specs.Apply.{afterSteps}
 use Rattle.demands.specs.Enter.{StepsAndCarried, askBefore41, askEnter, enterAnswer, enterSheet, enterScratch}
-use Rattle.entry.specs.Settled.{Settled}
-
-module _ {rules : List (Expr rule)} (Z : Edit) {sheet : List ℕ} (a : Answer) (e : asked a ≡ askRules (graphOf sheet) rules 0) where
-  pub settled-broken : {r : Refusal} → a ≡ Refused r → Settled rules Z a sheet sheet
-  unfolding after
-  settled-broken p = record { answer-is = e; sheet-is = sym (ap (λ q. after q (λ u. afterSteps Z sheet) sheet) (sym e ∙ ap asked p)) }
-
-  pub settled-done : {sheet′ : List ℕ} → a ≡ Done → sheet′ ≡ afterSteps Z sheet → Settled rules Z Done sheet sheet′
-  unfolding after
-  settled-done p m = record { answer-is = sym (ap asked p) ∙ e; sheet-is = m ∙ sym (ap (λ q. after q (λ u. afterSteps Z sheet) sheet) (sym e ∙ ap asked p)) }
-
--- The size's question by what carry answers.
-size-refused : (q : Asked (Unit {0})) (l n p : ℕ) → refused n p ≡ (q >> passed l) → q ≡ refused n p
-unfolding _>>_
-size-refused (passed u) l n p e = let z : _≡_ {A = ℕ} 0 1 = cc in absurd (omega arith)
-size-refused (refused m o) l n p e = cc
-
-size-passed : (q : Asked (Unit {0})) (l n : ℕ) → passed n ≡ (q >> passed l) → (q ≡ passed tt) × (n ≡ l)
-unfolding _>>_
-size-passed (passed u) l n e = (refl, cc)
-size-passed (refused m o) l n e = let z : _≡_ {A = ℕ} 0 1 = cc in absurd (omega arith)
-
--- The carried rules are in range.
-each-carried : (n : ℕ) (Z : Edit) → EditInRange (ranges n) Z → (rules : List (Expr rule)) → EachAllowed (textLimits n) rules → RulesInRange (ranges n) (carriedBook Z rules)
-unfolding RulesInRange
-each-carried n Z z [] h = tt
-each-carried n Z z (K ∷ Ks) h = (carry-in (ranges n) Z K z (h .0 .numbers-fit), each-carried n Z z Ks (h .1))
 
 module _ (s b e scratch : List ℕ) where
   -- What enter answers and leaves, as its contract says.
@@ -65,7 +31,7 @@ module _ (s b e scratch : List ℕ) where
 
   -- the questions after the book, and after the edit
   abbrev then-size : List (Expr rule) → Edit → Asked StepsAndCarried
-  then-size rules Z = askSize (carriedBook Z rules) (length scratch) >> passed (record { steps = Z; carried = carriedBook Z rules })
+  then-size rules Z = askScratch (carriedBook Z rules) (length scratch) >> passed (record { steps = Z; carried = carriedBook Z rules })
 
   abbrev then-edit : List (Expr rule) → Asked StepsAndCarried
   then-edit rules = askEdit (textLimits (graphOf s .n)) e >>= then-size rules
@@ -78,7 +44,7 @@ module _ (s b e scratch : List ℕ) where
   unfolding enterSheet enterScratch askEnter after outcome _>>=_
   stops a r p q = (
     ap asked p ∙ sym (ap (λ x. outcome (x >>= then-rules)) q),
-    (sym (ap (λ x. after (x >>= then-rules) (λ Z. afterSteps Z s) s) q), sym (ap (λ x. after x (λ c. writtenAtStart (bookCode (c .carried)) scratch) scratch) q)),
+    (sym (ap (λ x. after (x >>= then-rules) (λ Z. afterSteps Z s) s) q), sym (ap (λ x. after x (λ c. writings (graphOf s) (c .carried) scratch) scratch) q)),
   )
 
   pub sheet-stops : (a : Answer) (r : Refusal) → asked a ≡ askSheet s → a ≡ Refused r → Left a s scratch
@@ -108,54 +74,63 @@ module _ (s b e scratch : List ℕ) where
         unfolding _>>=_
         from-size = from-edit ∙ ap (_>>= then-size rules) steps
 
-        pub size-stops : (c : into.Written) (r : Refusal) (scratch′ : List ℕ) → Into (carriedBook Z rules) c scratch scratch′ → c ≡ into-case.Refused r → Left (Refused r) s scratch′
-        unfolding _>>_ after
-        size-stops c r scratch′ i p =
-            let q : askSize (carriedBook Z rules) (length scratch) ≡ refused (refusalNumber r) (refusalPlace r) = size-refused _ _ _ _ (sym (ap writtenAsked p) ∙ i .answer-is) in
-            let l = stops (Refused r) r refl (from-size ∙ ap (_>> passed (record { steps = Z; carried = carriedBook Z rules })) q) in
-            let same : scratch′ ≡ scratch = i .output-is ∙ ap (λ x. after x (λ u. writtenAtStart (bookCode (carriedBook Z rules)) scratch) scratch) q in
-            (l .0, (l .1 .0, same ∙ l .1 .1))
+        pub both-read : BothRead (ranges (graphOf s .n)) b e rules Z
+        both-read =
+            let h = book-is-spelled (textLimits n) b rules book in
+            let z = edit-is-spelled (textLimits n) e Z steps in
+            record {
+              is = h .spells .text-is;
+              range = subst (λ m. RulesInRange (ranges m) rules) n-is (rules-in-range (textLimits n) rules (h .spells .rules));
+              few = h .spells .few;
+              stands = record { rest = []; here = z .text-is ∙ sym (append-nil _); range = subst (λ m. EditInRange (ranges m) Z) n-is (z .within .numbers-fit) };
+            }
 
-        module _ (c : into.Written) (size : ℕ) (scratch′ : List ℕ) (i : Into (carriedBook Z rules) c scratch scratch′) (p : c ≡ into-case.Length size) where
-          fits : (askSize (carriedBook Z rules) (length scratch) ≡ passed tt) × (size ≡ length (bookCode (carriedBook Z rules)))
-          fits = size-passed _ _ _ (sym (ap writtenAsked p) ∙ i .answer-is)
+        module _ (a : Answer) (scratch′ : List ℕ) (j : Singly (graphOf s) (carriedBook Z rules) a scratch scratch′) where
+          -- 31 to 33, and 41
+          abbrev size : Asked (Unit {0})
+          size = askScratch (carriedBook Z rules) (length scratch)
 
-          written : scratch′ ≡ writtenAtStart (bookCode (carriedBook Z rules)) scratch
-          unfolding after
-          written = i .output-is ∙ ap (λ x. after x (λ u. writtenAtStart (bookCode (carriedBook Z rules)) scratch) scratch) (fits .0)
+          abbrev hold : Asked (Unit {0})
+          hold = askRules (graphOf s) (carriedBook Z rules) 0
 
-          pub rules-stand : RulesStand (ranges (graphOf s .n)) scratch′ 0 size (carriedBook Z rules)
-          rules-stand =
-              let h = book-is-spelled (textLimits n) b rules book in
-              let z = edit-is-spelled (textLimits n) e Z steps in
-              record {
-                rest = drop (length (bookCode (carriedBook Z rules))) scratch;
-                here = written;
-                ends = fits .1 ∙ (let o : length (bookCode (carriedBook Z rules)) ≡ 0 + length (bookCode (carriedBook Z rules)) = omega arith in o);
-                range = subst (λ m. RulesInRange (ranges m) (carriedBook Z rules)) n-is (each-carried n Z (z .within .numbers-fit) rules (h .spells .rules));
-              }
-
-          pub edit-stands : EditStands (ranges (graphOf s .n)) e 0 Z
-          edit-stands =
-              let z = edit-is-spelled (textLimits n) e Z steps in
-              record { rest = []; here = z .text-is ∙ sym (append-nil _); range = subst (λ m. EditInRange (ranges m) Z) n-is (z .within .numbers-fit) }
-
-          -- 41, or done: the carried book is in the scratch.
-          pub settles : (a : Answer) (s′ : List ℕ) → Settled (carriedBook Z rules) Z a s s′ → Left a s′ scratch′
+          -- All has been asked: the sheet is as the answer says.
+          ends : (s′ : List ℕ) → s′ ≡ after (asked a) (λ u. afterSteps Z s) s → Left a s′ scratch′
           unfolding enterSheet enterScratch askEnter after outcome _>>=_ _>>_
-          settles a s′ t =
-              let q : askBefore41 s b e (length scratch) ≡ passed (record { steps = Z; carried = carriedBook Z rules }) = from-size ∙ ap (_>> passed (record { steps = Z; carried = carriedBook Z rules })) (fits .0) in (
-                t .answer-is ∙ answer-same (askRules (graphOf s) (carriedBook Z rules) 0) ∙ sym (ap (λ x. outcome (x >>= then-rules)) q),
-                (
-                  t .sheet-is ∙ sheet-same (askRules (graphOf s) (carriedBook Z rules) 0) ∙ sym (ap (λ x. after (x >>= then-rules) (λ Y. afterSteps Y s) s) q),
-                  written ∙ sym (ap (λ x. after x (λ y. writtenAtStart (bookCode (y .carried)) scratch) scratch) q),
-                ),
-              )
+          ends s′ m = (
+            j .answer-is ∙ answer-same size ∙ sym (ap (λ x. outcome (x >>= then-rules)) from-size),
+            (
+              m ∙ ap (λ x. after x (λ u. afterSteps Z s) s) (j .answer-is) ∙ sheet-same size ∙ sym (ap (λ x. after (x >>= then-rules) (λ Y. afterSteps Y s) s) from-size),
+              j .scratch-is ∙ scratch-same size ∙ sym (ap (λ x. after x (λ c. writings (graphOf s) (c .carried) scratch) scratch) from-size),
+            ),
+          )
             where
-              answer-same : (x : Asked (Unit {0})) → x ≡ outcome (x >> passed Z)
-              answer-same (passed u) = refl
-              answer-same (refused m o) = refl
+              learned : StepsAndCarried
+              learned = record { steps = Z; carried = carriedBook Z rules }
 
-              sheet-same : (x : Asked (Unit {0})) → after x (λ u. afterSteps Z s) s ≡ after (x >> passed Z) (λ Y. afterSteps Y s) s
-              sheet-same (passed u) = refl
-              sheet-same (refused m o) = refl
+              held-answer : (x : Asked (Unit {0})) → x ≡ outcome (x >> passed Z)
+              held-answer (passed u) = refl
+              held-answer (refused k o) = refl
+
+              answer-same : (x : Asked (Unit {0})) → (x >> hold) ≡ outcome ((x >> passed learned) >>= then-rules)
+              answer-same (passed u) = held-answer hold
+              answer-same (refused k o) = refl
+
+              held-sheet : (x : Asked (Unit {0})) → after x (λ u. afterSteps Z s) s ≡ after (x >> passed Z) (λ Y. afterSteps Y s) s
+              held-sheet (passed u) = refl
+              held-sheet (refused k o) = refl
+
+              sheet-same : (x : Asked (Unit {0})) → after (x >> hold) (λ u. afterSteps Z s) s ≡ after ((x >> passed learned) >>= then-rules) (λ Y. afterSteps Y s) s
+              sheet-same (passed u) = held-sheet hold
+              sheet-same (refused k o) = refl
+
+              scratch-same : (x : Asked (Unit {0})) → after x (λ u. writings (graphOf s) (carriedBook Z rules) scratch) scratch ≡ after (x >> passed learned) (λ c. writings (graphOf s) (c .carried) scratch) scratch
+              scratch-same (passed u) = refl
+              scratch-same (refused k o) = refl
+
+          pub carried-stops : (r : Refusal) → a ≡ Refused r → Left a s scratch′
+          unfolding after
+          carried-stops r p = ends s (sym (ap (λ x. after (asked x) (λ u. afterSteps Z s) s) p))
+
+          pub settles : a ≡ Done → (s′ : List ℕ) → s′ ≡ afterSteps Z s → Left Done s′ scratch′
+          unfolding after
+          settles p s′ m = subst (λ x. Left x s′ scratch′) p (ends s′ (m ∙ sym (ap (λ x. after (asked x) (λ u. afterSteps Z s) s) p)))

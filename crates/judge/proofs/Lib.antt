@@ -1,3 +1,3 @@
 mod Parts
-mod Rules
+pub mod Rules
 mod Deciding

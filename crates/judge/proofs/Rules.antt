@@ -61,7 +61,7 @@ first-of n text at end (K ∷ others) s h =
       some = filled K;
     }
 
-none-left : (n : ℕ) (text : List ℕ) (at end : ℕ) (rules : List (Expr rule)) → RulesStand (ranges n) text at end rules → end ≤ at → rules ≡ []
+pub none-left : (n : ℕ) (text : List ℕ) (at end : ℕ) (rules : List (Expr rule)) → RulesStand (ranges n) text at end rules → end ≤ at → rules ≡ []
 unfolding bookCode
 none-left n text at end [] s h = refl
 none-left n text at end (K ∷ others) s h = absurd (omega (arith, s .ends, length-append (code K) (bookCode others), filled K))

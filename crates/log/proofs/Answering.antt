@@ -7,7 +7,7 @@ use Rattle.logic.specs.Syntax.{Edit}
 use Rattle.logic.specs.Carry.{carriedBook}
 use Rattle.sheet.specs.Sheet.{graphOf}
 use Rattle.judge.specs.Questions.{askSheetAndBook, askRules}
-use Rattle.carry.specs.Carrying.{askSize}
+use Rattle.single.specs.Scratch.{askScratch}
 use Rattle.apply.specs.Apply.{afterSteps}
 use Rattle.demands.specs.Enter.{StepsAndCarried, askBefore41, askEnter, enterSheet}
 use Rattle.line.specs.Line.{askedLine}
@@ -20,7 +20,7 @@ before-41 : (sheet book : List ℕ) (room : ℕ) → Asked Edit → Asked StepsA
 before-41 sheet book room q = do
   rules ← askSheetAndBook sheet book
   Z ← q
-  askSize (carriedBook Z rules) room
+  askScratch (carriedBook Z rules) room
   passed (record { steps = Z; carried = carriedBook Z rules })
 
 module _ (sheet book edit : List ℕ) (room : ℕ) where

@@ -1,7 +1,7 @@
 -- Without its idle steps an edit carries each rule of the book to the same text, and stays in range.
 use mathlib.Core.Path.{_≡_, refl, sym, ap, ap₂, _∙_}
 use mathlib.Core.Bool.{Bool, true, false, cond}
-use mathlib.Core.List.{List, [], _∷_, _++_, append-nil}
+use mathlib.Core.List.{List, [], _∷_, _++_, append-nil, map}
 use Prim.Native.Nat.{ℕ, _+_, max}
 use native.Mathlib.Omega.{arith}
 use borrow.Author.Tests.{eqb-true}
@@ -10,7 +10,7 @@ use lib.ListN.{length}
 use Rattle.logic.specs.Syntax.{rule, Expr, label, complement, and, or, arrowKind, union, minus, Edit, finish, addLabel, takeLabel, addArrow, takeArrow, choose}
 use Rattle.logic.specs.Carry.{carry, carriedBook}
 use Rattle.logic.specs.Limits.{Ranges, EditInRange}
-use Rattle.text.specs.Code.{editCode, bookCode, bookLevels}
+use Rattle.text.specs.Code.{code, editCode, bookCode, bookLevels}
 use Rattle.text.specs.Stands.{EditStands}
 use Rattle.tree.specs.Tree.{Tree, name, leaf, one, two, treeCode, height, graft, only, same, count, tree}
 use Rattle.tree.specs.Sizes.{Measure, measure, back, join, nothing, measures}
@@ -104,6 +104,10 @@ same-rules A f g gc r s Z (K ∷ Ks) M N e p =
 pub pruned-code : (Z : Edit) (rules : List (Expr rule)) → bookCode (carriedBook (pruned (length rules) Z (measures rules)) rules) ≡ bookCode (carriedBook Z rules)
 unfolding bookCode
 pruned-code Z rules = same-rules (List ℕ) (λ t l. treeCode t ++ l) bookCode (λ K Ks. ap (λ (l : List ℕ). l ++ bookCode Ks) (sym (code-tree K))) (length rules) 0 Z rules (measures rules) nothing (omega arith) (sym (join-nothing (measures rules)))
+
+-- .. rule by rule
+pub pruned-codes : (Z : Edit) (rules : List (Expr rule)) → map code (carriedBook (pruned (length rules) Z (measures rules)) rules) ≡ map code (carriedBook Z rules)
+pruned-codes Z rules = same-rules (List (List ℕ)) (λ t l. treeCode t ∷ l) (map code) (λ K Ks. ap (λ (x : List ℕ). x ∷ map code Ks) (sym (code-tree K))) (length rules) 0 Z rules (measures rules) nothing (omega arith) (sym (join-nothing (measures rules)))
 
 pub pruned-levels : (Z : Edit) (rules : List (Expr rule)) → bookLevels (carriedBook (pruned (length rules) Z (measures rules)) rules) ≡ bookLevels (carriedBook Z rules)
 unfolding bookLevels

@@ -1,0 +1,3 @@
+pub mod Longest
+mod Each
+pub mod Asking
