@@ -2,12 +2,13 @@
 use mathlib.Core.Path.{_≡_, refl, sym, ap, ap₂, _∙_}
 use mathlib.Core.Bool.{Bool, true, false, _&&_, and-true, and-eq-true-iff}
 use mathlib.Core.List.{List, [], _∷_, _++_, append-nil}
-use Prim.Native.Nat.{ℕ, _+_, _-_, _*_, _/_, _%_, _<_}
+use Prim.Native.Nat.{ℕ, suc, _+_, _-_, _*_, _/_, _%_, _≤_, _<_}
 use native.Mathlib.Omega.{arith}
+use native.Mathlib.Decide.{decLt}
 use borrow.Author.Tests.{eqb-true, eqb-false, eq-eqb, ne-eqb}
 use lib.Dec.{eqb}
-use lib.ListN.{length, getD, take, drop, drop-of-length-le, set}
-use lib.Seq.{drop-cons, sets-eq}
+use lib.ListN.{length, getD, take, drop, drop-of-length-le, set, List·getD-eq-default}
+use lib.Seq.{drop-cons, sets-eq, getD-take, length-take-le}
 use Rattle.words.specs.Words.{bytes}
 use Rattle.seal.specs.Seal.{blockBytes, modulo255, modulo257, sums, stored, sameBytes, sealRight}
 use Rattle.seal.specs.Lanes.{total, weighed}
@@ -73,3 +74,37 @@ module _ (k : List ℕ) (h : length k ≡ blockBytes) where
         let t : ℕ = sums modulo257 (take 508 k) .t in
         let both = and-eq-true-iff _ _ .0 (sym (right-257 small s t (s-low modulo257 (take 508 k)) (t-low modulo257 (take 508 k)) refl refl) ∙ right) in
         (eqb-true _ _ (both .0), eqb-true _ _ (both .1))
+
+-- the totals of a body with zeros behind its first three bytes
+total-zeros : (l : List ℕ) → ((j : ℕ) → getD l j 0 ≡ 0) → (total l ≡ 0) × (weighed l ≡ 0)
+unfolding total weighed
+total-zeros [] z = (refl, refl)
+total-zeros (b ∷ l) z = let t = total-zeros l (λ j. z (suc j)) in (omega (arith, z 0, t .0), ap (λ x. suc (length l) * x + weighed l) (z 0) ∙ omega (arith, t .1))
+
+pub three-totals : (l : List ℕ) → length l ≡ 508 → ((p : ℕ) → 3 ≤ p → getD l p 0 ≡ 0) → (total l ≡ getD l 0 0 + getD l 1 0 + getD l 2 0) × (weighed l ≡ 508 * getD l 0 0 + 507 * getD l 1 0 + 506 * getD l 2 0)
+unfolding total weighed
+three-totals [] e z = absurd (omega (arith, e))
+three-totals (a ∷ []) e z = absurd (omega (arith, e))
+three-totals (a ∷ b ∷ []) e z = absurd (omega (arith, e))
+three-totals (a ∷ b ∷ c ∷ l) e z =
+    let t = total-zeros l (λ j. z (suc (suc (suc j))) (omega arith)) in
+    let n : length l ≡ 505 = omega (arith, e) in
+    (omega (arith, t .0), rw n (omega (arith, t .1)))
+
+-- and of a block's body
+module _ (k : List ℕ) (h : length k ≡ blockBytes) (z : (p : ℕ) → 3 ≤ p → p < 508 → getD k p 0 ≡ 0) where
+  body-zero : (p : ℕ) → 3 ≤ p → getD (take 508 k) p 0 ≡ 0
+  body-zero p l = go (decLt p 508)
+    where
+      go : Dec (p < 508) → getD (take 508 k) p 0 ≡ 0
+      go (yes u) = getD-take 508 k p 0 u ∙ z p l u
+      go (no u) = List·getD-eq-default (take 508 k) 0 {n = p} (omega (arith, length-take-le 508 k (omega arith)))
+
+  pub bare-sums : ((getD k 0 0 + getD k 1 0 + getD k 2 0) % 257 ≡ sums modulo257 (take 508 k) .s) × ((508 * getD k 0 0 + 507 * getD k 1 0 + 506 * getD k 2 0) % 257 ≡ sums modulo257 (take 508 k) .t)
+  bare-sums =
+      let t = three-totals (take 508 k) (length-take-le 508 k (omega arith)) body-zero in
+      let at : (p : ℕ) → p < 508 → getD (take 508 k) p 0 ≡ getD k p 0 = λ p u. getD-take 508 k p 0 u in
+      let a = at 0 (omega arith) in
+      let b = at 1 (omega arith) in
+      let c = at 2 (omega arith) in
+      (ap (_% 257) (omega (arith, t .0, a, b, c)) ∙ sym (sums-total modulo257 (take 508 k)), ap (_% 257) (omega (arith, t .1, a, b, c)) ∙ sym (sums-weighed modulo257 (take 508 k)))

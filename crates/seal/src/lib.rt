@@ -1,7 +1,7 @@
 // The check bytes of a block, in two forms: item 2's, and document 01's for old cards. Both are taken by words of 8 bytes.
 ghost use mathlib.Core.Path.{_≡_};
 ghost use mathlib.Core.Bool.{true};
-ghost use Prim.Native.Nat.{_<_, _≤_, _+_, _*_, _%_};
+ghost use Prim.Native.Nat.{ℕ, _<_, _≤_, _+_, _*_, _%_};
 ghost use mathlib.Core.List.{_++_};
 ghost use lib.ListN.{length, getD, take};
 ghost use Rattle.words.specs.Words.{putWord};
@@ -190,6 +190,21 @@ pub fn seal_right(form: Modulo, block: &[u8]) -> bool
         Modulo::M257 => right_257(block),
         Modulo::M255 => right_255(block),
     }
+}
+
+// The same of a block that has zeros behind its first three bytes: nothing else is read. Inner: it is a block.
+pub fn right_if_bare(block: &[u8]) -> bool
+    requires { ⌜ length (now block) ≡ blockBytes ⌝ }
+    ensures { λ r. ⌜ (((p : ℕ) → 3 ≤ p → p < modulo257 .bodyBytes → getD (now (block .entry)) p 0 ≡ 0) → r ≡ sealRight modulo257 (now (block .entry))) ⌝ }
+{
+    let x = wide(block[0]);
+    let y = wide(block[1]);
+    let z = wide(block[2]);
+    if pair(block, S) == (x + y + z) % MODULUS {
+        let w = BODY as u64;
+        return pair(block, T) == (w * x + (w - 1) * y + (w - 2) * z) % MODULUS;
+    }
+    false
 }
 
 // Puts sums behind a block's body. Inner: it is a block, and they are sums.

@@ -49,10 +49,12 @@ module _ (k : List ℕ) (bytes : (p : ℕ) → getD k p 0 < 256) (node : Nodes) 
   bits-within : ((r : ℕ) → r < 64 → implies (member (getD k (16 + 8 * j + r / 8) 0) (r % 8)) (node r) ≡ true) → within k (setOf 64 node) j ≡ true
   bits-within e = within-is ∙ all-true 64 (λ r. implies (word r) (mask r)) (λ r l. bit-is r l ∙ e r l)
 
--- a word without members is within every mask
+-- a word without members has no bits, and is within every mask
+pub word-clear : (k : List ℕ) → ((p : ℕ) → getD k p 0 < 256) → (j : ℕ) → j < wordCount → within k 0 j ≡ true → (r : ℕ) → r < 64 → member (getD k (16 + 8 * j + r / 8) 0) (r % 8) ≡ false
+word-clear k bytes j h e r l = clear (member (getD k (16 + 8 * j + r / 8) 0) (r % 8)) false refl (within-bits k bytes (λ i. false) j h (ap (λ (m : ℕ). within k m j) (setOf-none 64) ∙ e) r l)
+
 pub within-none : (k : List ℕ) → ((p : ℕ) → getD k p 0 < 256) → (node : Nodes) (j : ℕ) → j < wordCount → within k 0 j ≡ true → within k (setOf 64 node) j ≡ true
-within-none k bytes node j h e =
-    bits-within k bytes node j h (λ r l. if-clear (member (getD k (16 + 8 * j + r / 8) 0) (r % 8)) (node r) (clear (member (getD k (16 + 8 * j + r / 8) 0) (r % 8)) false refl (within-bits k bytes (λ i. false) j h (ap (λ (m : ℕ). within k m j) (setOf-none 64) ∙ e) r l)))
+within-none k bytes node j h e = bits-within k bytes node j h (λ r l. if-clear (member (getD k (16 + 8 * j + r / 8) 0) (r % 8)) (node r) (word-clear k bytes j h e r l))
 
 module _ (φ : SheetForm) where
   -- the words lie in the body

@@ -8,7 +8,9 @@ use lib.ListN.{getD}
 use Rattle.logic.specs.Graph.{Nodes, allBelow}
 use Rattle.logic.specs.Limits.{labelCount, maxNodes}
 use Rattle.words.specs.Words.{setOf, member, combined, wordAt}
-use Rattle.seal.specs.Seal.{Form}
+use Rattle.seal.specs.Seal.{Form, modulo257, sealRight}
+use Rattle.seal.specs.declared.Modulo.{Modulo}
+use Rattle.seal.specs.declared.Modulo.the-variants.{M257, M255}
 use Rattle.sheet.specs.Sheet.{padding, SheetForm, lineCount, usedIn}
 
 -- The code asks all words that fill a body, the first 61 behind byte 16; what is left of the body is less than a word.
@@ -26,6 +28,11 @@ within k mask j = eqb (combined (λ a b. a && not b) (wordAt k (16 + 8 * j)) mas
 -- Bytes 3 to 15 are zero, word j has only members of mask j, and the bytes behind the words are zero.
 unfoldable pub zeroBut : Form → (ℕ → ℕ) → List ℕ → Bool
 zeroBut φ mask k = zerosAt k 3 13 && (allBelow wordCount (λ j. within k (mask j) j) && zerosAt k (16 + 8 * wordCount) (padding φ wordCount))
+
+-- Whether a block of today's sums has nothing behind its first three bytes, with the check bytes that go with it; a card's is not asked.
+unfoldable pub bareIn : Modulo → List ℕ → Bool
+bareIn M257 k = sealRight modulo257 k && zeroBut modulo257 (λ j. 0) k
+bareIn M255 k = false
 
 -- In block 0, labels have nodes in use only; the nodes in use, where it holds them, are below n.
 abbrev pub lineMask : SheetForm → (n all : ℕ) → ℕ → ℕ
