@@ -1,7 +1,7 @@
 /* Station sheets: make a blank sheet, ask whether a sheet is sound, convert an old card, read a sheet's bits, print its
  * blocks as pages and type pages back, judge a rule book on it, rewrite a stored book, join two edits into one, carry a
- * book back through an edit, change the sheet by an edit, with a book or without one, close and open its nodes, keep
- * sheets in a store and return to them, and join two sheets into one.
+ * book back through an edit, check a carried rule that another tool has shortened, change the sheet by an edit, with a
+ * book or without one, close and open its nodes, keep sheets in a store and return to them, and join two sheets into one.
  *
  * Link with libzamiathen.a:  cc program.c $(pkg-config --cflags --libs zamiathen)
  *
@@ -36,7 +36,7 @@ extern "C" {
  * zamiathen_convert_255, one written under 2 or 3 by zamiathen_convert_257; one written under 4 has today's form). As one
  * number: 1000 * first + second. */
 #define ZAMIATHEN_VERSION_FIRST 5
-#define ZAMIATHEN_VERSION_SECOND 0
+#define ZAMIATHEN_VERSION_SECOND 1
 #define ZAMIATHEN_VERSION (1000 * ZAMIATHEN_VERSION_FIRST + ZAMIATHEN_VERSION_SECOND)
 
 /* Sizes. */
@@ -114,7 +114,11 @@ enum zamiathen_number {
     ZAMIATHEN_PLAN_UNFILLED = 57, /* nothing is kept under the name */
 
     /* Two sheets to be joined. Asked after both sheets. Place: how many nodes they have together. */
-    ZAMIATHEN_NODES_TOTAL = 58 /* more than 60 */
+    ZAMIATHEN_NODES_TOTAL = 58, /* more than 60 */
+
+    /* A shortened rule. */
+    ZAMIATHEN_STEP = 59, /* a step is cut, its law unknown, or it does not fit; place: the step, from 0 */
+    ZAMIATHEN_SENT = 60  /* the text that the steps make is not the one sent; place: the first differing byte, or the shorter length */
 };
 
 /* The answer: a number of enum zamiathen_number, and its place. */
@@ -238,6 +242,16 @@ zamiathen_judged zamiathen_judge(const uint8_t *sheet, size_t sheet_length, cons
  * left as it is. Node numbers up to 59 are in range. Answers 0 with the length, 11 to 16 or 33. Done writes the rewritten
  * book at the start of the output and leaves the rest of it; every other answer leaves the output as it was. */
 zamiathen_length zamiathen_rewrite(const uint8_t *book, size_t book_length, uint8_t *output, size_t output_length);
+
+/* Is a text sent by a tool that shortens carried rules what its steps make of the carried rule? A step is three bytes:
+ * an offset into the rule's text as it then is, low byte first, and a law: 1 05 05 E to E; 2 06 E E to E; 3 07 E E to E;
+ * 4 06 E 05 E to 02; 5 07 01 E to 01; 6 06 01 E to E; 7 27 27 K to K; 8 26 K K to K. The offset is that of the code
+ * where the left side begins, and E E means the same bytes twice. Done means that both texts have the same truth on
+ * every sheet whose node numbers fit, and every chain of fitting steps that ends in the text sent is done. Answers 0, 11
+ * to 16 for the carried rule, one rule of at most 16,384 bytes and 255 levels with node numbers up to 59 (16 for a byte
+ * behind it, 12 for an empty text), then 59 for the first step that does not fit, then 60. Writes nothing. */
+zamiathen_answer zamiathen_check_steps(const uint8_t *rule, size_t rule_length, const uint8_t *steps,
+                                       size_t steps_length, const uint8_t *sent, size_t sent_length);
 
 /*
  * Edits

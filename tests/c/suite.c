@@ -1081,6 +1081,72 @@ static void one_by_one(void) {
     left("two that hold", writings, FIRST);
 }
 
+/* A carried rule, steps, and the text sent, with the answer: each law, and each question before the next. */
+enum { STEP_UNFIT = 59, OTHER_TEXT = 60 };
+static const struct {
+    const char *rule, *steps, *sent;
+    size_t number, place;
+} checked_steps[] = {
+    {"23 00 01", "", "23 00 01", ZAMIATHEN_DONE, 0},
+    {"23 00 05 05 03 01", "02 00 01", "23 00 03 01", ZAMIATHEN_DONE, 0},
+    {"23 00 06 03 01 03 01", "02 00 02", "23 00 03 01", ZAMIATHEN_DONE, 0},
+    {"23 00 07 04 3B 04 3B", "02 00 03", "23 00 04 3B", ZAMIATHEN_DONE, 0},
+    {"23 00 06 03 01 05 03 01", "02 00 04", "23 00 02", ZAMIATHEN_DONE, 0},
+    {"23 00 07 01 08 11 00 01", "02 00 05", "23 00 01", ZAMIATHEN_DONE, 0},
+    {"23 00 06 01 08 11 00 01", "02 00 06", "23 00 08 11 00 01", ZAMIATHEN_DONE, 0},
+    {"25 27 27 23 00 01 21 01 01", "01 00 07", "25 23 00 01 21 01 01", ZAMIATHEN_DONE, 0},
+    {"26 23 00 01 23 00 01", "00 00 08", "23 00 01", ZAMIATHEN_DONE, 0},
+    {"21 02 06 05 05 03 01 03 01", "03 00 01 02 00 02", "21 02 03 01", ZAMIATHEN_DONE, 0},
+    {"", "FF", "FF", ZAMIATHEN_BOOK_ENDS, 0},
+    {"23 00 05", "FF", "FF", ZAMIATHEN_BOOK_ENDS, 3},
+    {"30", "FF", "FF", ZAMIATHEN_BOOK_CODE, 0},
+    {"23 3C 01", "FF", "FF", ZAMIATHEN_BOOK_NUMBER, 1},
+    {"23 00 0A 00 11 00 01", "FF", "FF", ZAMIATHEN_BOOK_NUMBER, 3},
+    {"23 00 01 23 00 01", "FF", "FF", ZAMIATHEN_BOOK_RULES, 3},
+    {"23 00 05 05 03 01", "02", "FF", STEP_UNFIT, 0},
+    {"23 00 05 05 03 01", "02 00 01 02 00", "23 00 03 01", STEP_UNFIT, 1},
+    {"23 00 05 05 03 01", "02 00 00", "FF", STEP_UNFIT, 0},
+    {"23 00 05 05 03 01", "02 00 09", "FF", STEP_UNFIT, 0},
+    {"23 00 05 05 03 01", "03 00 01", "FF", STEP_UNFIT, 0},
+    {"23 00 05 05 03 01", "02 01 01", "FF", STEP_UNFIT, 0},
+    {"23 00 06 03 01 03 02", "02 00 02", "FF", STEP_UNFIT, 0},
+    {"23 00 06 03 01 05 03 02", "02 00 04", "FF", STEP_UNFIT, 0},
+    {"23 05 0B 05 11 05 05 03 01", "05 00 01", "FF", STEP_UNFIT, 0},
+    {"23 00 05 05 03 01", "02 00 01", "", OTHER_TEXT, 0},
+    {"23 00 05 05 03 01", "02 00 01", "23 00 03", OTHER_TEXT, 3},
+    {"23 00 05 05 03 01", "02 00 01", "23 00 03 01 01", OTHER_TEXT, 4},
+    {"23 00 05 05 03 01", "02 00 01", "23 00 04 01", OTHER_TEXT, 2},
+};
+
+static void steps_of_a_tool(void) {
+    static struct text rule, steps, sent, before[3];
+    static uint8_t deep[ZAMIATHEN_CARRIED_BYTES + 1];
+    for (size_t i = 0; i < sizeof checked_steps / sizeof *checked_steps; i++) {
+        rule.length = steps.length = sent.length = 0;
+        put(&rule, checked_steps[i].rule);
+        put(&steps, checked_steps[i].steps);
+        put(&sent, checked_steps[i].sent);
+        before[0] = rule;
+        before[1] = steps;
+        before[2] = sent;
+        answered(checked_steps[i].rule,
+                 zamiathen_check_steps(rule.bytes, rule.length, steps.bytes, steps.length, sent.bytes, sent.length),
+                 checked_steps[i].number, checked_steps[i].place);
+        same(checked_steps[i].rule, memcmp(&before[0], &rule, sizeof rule) == 0 &&
+                                        memcmp(&before[1], &steps, sizeof steps) == 0 &&
+                                        memcmp(&before[2], &sent, sizeof sent) == 0);
+    }
+    answered("nothing", zamiathen_check_steps(NULL, 0, NULL, 0, NULL, 0), ZAMIATHEN_BOOK_ENDS, 0);
+    memset(deep, 0x05, sizeof deep);
+    deep[0] = 0x23;
+    deep[1] = 0x00;
+    deep[255] = 0x01;
+    answered("255 levels", zamiathen_check_steps(deep, 256, NULL, 0, deep, 256), ZAMIATHEN_DONE, 0);
+    deep[255] = 0x05;
+    answered("256 levels", zamiathen_check_steps(deep, 257, NULL, 0, deep, 257), ZAMIATHEN_BOOK_LEVEL, 256);
+    answered("16,385 bytes", zamiathen_check_steps(deep, sizeof deep, NULL, 0, NULL, 0), ZAMIATHEN_BOOK_LENGTH, 0);
+}
+
 int main(void) {
     examples();
     changes();
@@ -1108,6 +1174,7 @@ int main(void) {
     joined_edits();
     refused_chains();
     one_by_one();
+    steps_of_a_tool();
     empty_buffers();
     printf("%d passed, %d failed\n", passed, failed);
     return failed != 0;

@@ -11,6 +11,7 @@ pub mod chain;
 pub mod clerk;
 pub mod graph;
 pub mod join;
+pub mod laws;
 pub mod log;
 pub mod meaning;
 pub mod pages;

@@ -9,6 +9,10 @@ pub const LONGEST: usize = 4096;
 const LAST_LEVEL: usize = 32;
 const MOST_RULES: usize = 32;
 
+/// Those of a carried rule (item 11 of document 02).
+const LONGEST_CARRIED: usize = 16384;
+const LAST_LEVEL_CARRIED: usize = 255;
+
 /// The counts that an 0A and an 0B may have (item 3 of document 02).
 const COUNTS: [Range<usize>; 2] = [1..61, 0..60];
 /// Those of document 01.
@@ -19,6 +23,7 @@ struct Reader<'t> {
     text: &'t [u8],
     at: usize,
     n: usize,
+    last_level: usize,
     counts: [Range<usize>; 2],
     /// 10 for a book and for rule end, 20 for an edit: added to the last digit of the number.
     tens: usize,
@@ -56,9 +61,23 @@ pub fn first_rule(text: &[u8]) -> Asked<usize> {
     Ok(reader.placed_rule()?.part.len())
 }
 
+/// A carried rule: 11 to 16 for one rule, with 16,384 bytes, 255 levels and n as 60.
+pub fn carried_rule(text: &[u8]) -> Asked<Rule> {
+    if text.len() > LONGEST_CARRIED {
+        return refuse(11, 0);
+    }
+    let (n, last_level) = (MOST_NODES, LAST_LEVEL_CARRIED);
+    let mut reader = Reader { text, at: 0, n, last_level, counts: COUNTS, tens: 10 };
+    let placed = reader.placed_rule()?;
+    if placed.part.end < text.len() {
+        return refuse(16, placed.part.end);
+    }
+    Ok(placed.rule)
+}
+
 /// Where each rule of a text of any length starts, as far as rules can be read, and then where the last of them ends.
 pub fn rule_starts(text: &[u8], n: usize) -> Vec<usize> {
-    let mut reader = Reader { text, at: 0, n, counts: COUNTS, tens: 10 };
+    let mut reader = Reader { text, at: 0, n, last_level: LAST_LEVEL, counts: COUNTS, tens: 10 };
     let mut starts = vec![0];
     while let Ok(placed) = reader.placed_rule() {
         starts.push(placed.part.end);
@@ -71,7 +90,7 @@ impl<'t> Reader<'t> {
         if text.len() > LONGEST {
             return refuse(tens + 1, 0);
         }
-        Ok(Reader { text, at: 0, n, counts: COUNTS, tens })
+        Ok(Reader { text, at: 0, n, last_level: LAST_LEVEL, counts: COUNTS, tens })
     }
 
     /// The byte that is wanted now, not yet passed.
@@ -88,7 +107,7 @@ impl<'t> Reader<'t> {
         if code < first || code > last {
             return refuse(self.tens + 3, self.at);
         }
-        if level > LAST_LEVEL {
+        if level > self.last_level {
             return refuse(self.tens + 4, self.at);
         }
         self.at += 1;

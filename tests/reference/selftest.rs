@@ -1,11 +1,12 @@
 //! The marked examples of document 01, some of its remarks, check bytes, old cards, pages of its sheet T, rewritten books,
-//! closed nodes, stores, joined sheets and edits, asked of the reference itself.
+//! closed nodes, stores, joined sheets and edits, and laws, asked of the reference itself.
 
 use reference::answer::{Answer, DONE};
 use reference::calls::{apply, carry_back, close, enter, judge, open, Judged};
 use reference::chain::join_edits;
 use reference::graph::{Graph, Pairs, MOST_NODES};
 use reference::join::join_sheets;
+use reference::laws::check_steps;
 use reference::meaning::{holds, nodes};
 use reference::pages::{page, type_page, Shown};
 use reference::rewrite::rewrite;
@@ -524,6 +525,54 @@ fn rule_by_rule(tally: &mut Tally) {
     entered("measured before", &behind, 12, Answer { number: 33, place: 13 }, vec![]);
 }
 
+/// Each law by itself, and steps that do not fit.
+fn laws(tally: &mut Tally) {
+    let done = [
+        ("23 00 05 05 03 01", "02 00 01", "23 00 03 01"),
+        ("23 00 06 03 01 03 01", "02 00 02", "23 00 03 01"),
+        ("23 00 07 04 02 04 02", "02 00 03", "23 00 04 02"),
+        ("23 00 06 03 01 05 03 01", "02 00 04", "23 00 02"),
+        ("23 00 07 01 03 01", "02 00 05", "23 00 01"),
+        ("23 00 06 01 03 01", "02 00 06", "23 00 03 01"),
+        ("27 27 23 00 01", "00 00 07", "23 00 01"),
+        ("26 23 00 01 23 00 01", "00 00 08", "23 00 01"),
+        ("23 00 01", "", "23 00 01"),
+        // Inside out: 06 E E where E is 05 05 03 01, and once more where it stood.
+        ("21 02 06 05 05 03 01 03 01", "03 00 01 02 00 02", "21 02 03 01"),
+    ];
+    for (rule, steps, sent) in done {
+        tally.same(rule, check_steps(&hex(rule), &hex(steps), &hex(sent)), DONE);
+    }
+    let refused = [
+        ("23 00 05 05 03 01", "01 00 01", "", 59, 0),
+        ("23 00 05 05 03 01", "03 00 01", "", 59, 0),
+        ("23 00 05 05 03 01", "06 00 01", "", 59, 0),
+        ("23 00 05 05 03 01", "02 00 00", "", 59, 0),
+        ("23 00 05 05 03 01", "02 00 09", "", 59, 0),
+        ("23 00 05 05 03 01", "02 00 01 02 00", "23 00 03 01", 59, 1),
+        // The first 05 here is an arrow number.
+        ("23 05 0B 05 11 05 05 03 01", "05 00 01", "", 59, 0),
+        ("23 00 06 03 01 03 02", "02 00 02", "", 59, 0),
+        ("23 00 06 03 01 05 03 02", "02 00 04", "", 59, 0),
+        ("23 00 07 03 01 01", "02 00 05", "", 59, 0),
+        ("23 00 05 05 03 01", "", "23 00 05 03 01", 60, 3),
+        ("23 00 05 05 03 01", "02 00 01", "23 00 03 01 00", 60, 4),
+        ("23 00 05 05 03 01", "02 00 01", "23 00", 60, 2),
+        ("23 00 05 05 03 01 23", "02", "", 16, 6),
+        ("", "02", "", 12, 0),
+        ("23 3C 01", "02", "", 15, 1),
+        ("23 00 0A 00 11 00 01", "02", "", 15, 3),
+        ("11 00", "02", "", 13, 0),
+    ];
+    for (rule, steps, sent, number, place) in refused {
+        tally.same(rule, check_steps(&hex(rule), &hex(steps), &hex(sent)), Answer { number, place });
+    }
+    let deep = |levels: usize| [hex("23 00"), vec![0x05; levels - 2], hex("01")].concat();
+    tally.same("255 levels", check_steps(&deep(255), &[], &deep(255)), DONE);
+    tally.same("256 levels", check_steps(&deep(256), &[], &deep(256)), Answer { number: 14, place: 256 });
+    tally.same("16,385 bytes", check_steps(&[0; 16385], &[], &[]), Answer { number: 11, place: 0 });
+}
+
 /// None of these may take exponential time.
 fn explosions(tally: &mut Tally) {
     let rule = hex("23 00 03 00");
@@ -558,6 +607,7 @@ fn main() {
     two_stations(&mut tally);
     chains(&mut tally);
     rule_by_rule(&mut tally);
+    laws(&mut tally);
     explosions(&mut tally);
     println!("{} passed, {} failed", tally.passed, tally.failed);
     std::process::exit(i32::from(tally.failed > 0));

@@ -1,4 +1,4 @@
-// Where the rules of a text stand, judging them, and rewriting a stored book.
+// Where the rules of a text stand, judging them, rewriting a stored book, and checking a shortened rule.
 ghost use mathlib.Core.Path.{_≡_};
 ghost use lib.ListN.{length};
 ghost use Rattle.answer.specs.Outputs.{writtenLength, writtenOutput};
@@ -7,8 +7,10 @@ ghost use Rattle.text.specs.Questions.{ruleStart};
 ghost use Rattle.judge.specs.Judging.{judgedPart};
 ghost use Rattle.judge.specs.Questions.{askJudge};
 ghost use Rattle.rewrite.specs.Rewritten.{askRewrite};
-ghost use Rattle.suite.specs.Numbers.{lengthNumbers, partNumbers, ruleEnd};
+ghost use Rattle.laws.specs.Asking.{askCheck};
+ghost use Rattle.suite.specs.Numbers.{numbers, lengthNumbers, partNumbers, ruleEnd};
 use crate::LengthNumbers;
+use crate::Numbers;
 use crate::PartNumbers;
 use text::Text;
 
@@ -52,4 +54,11 @@ pub extern "C" fn zamiathen_rewrite(book: &[u8], output: &mut [u8]) -> LengthNum
     ensures { λ _. ⌜ now (output .exit) ≡ writtenOutput (askRewrite (now (book .entry)) (length (now (output .entry)))) (now (output .entry)) ⌝ }
 {
     crate::written_numbers(rewrite::rewrite(book, output))
+}
+
+#[no_mangle]
+pub extern "C" fn zamiathen_check_steps(rule: &[u8], steps: &[u8], sent: &[u8]) -> Numbers
+    ensures { λ r. ⌜ r ≡ numbers (askCheck (now (rule .entry)) (now (steps .entry)) (now (sent .entry))) ⌝ }
+{
+    crate::answer_numbers(shorter::check_steps(rule, steps, sent))
 }

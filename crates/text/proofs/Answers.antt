@@ -9,12 +9,12 @@ use lib.Seq.{drop-cons, take-at}
 use borrow.Author.Tests.{le-leb, lt-leb}
 use Rattle.answer.specs.Asked.{Asked, passed, refused, _>>=_, _>>_, is, after, outcome}
 use Rattle.logic.specs.Syntax.{rule, Expr, Edit}
-use Rattle.logic.specs.Limits.{maxNodes, Ranges, ranges}
+use Rattle.logic.specs.Limits.{maxNodes}
 use Rattle.text.specs.declared.Stop.{Stop}
 use Rattle.text.specs.declared.Step.the-variants.{Next, Stopped}
 use Rattle.text.specs.Code.{code}
-use Rattle.text.specs.Reading.{longestText, mostRules, limitsBy, Want, Thing, expr, edit, operand, done, Fault, missing, wrongSort, tooDeep, outOfRange, Read, got, fault, follow, readAs}
-use Rattle.text.specs.Questions.{faultNumber, first, whole, readRules, rulesEnd, askBook, askFirst, askEdit, askRuleEnd, firstRule}
+use Rattle.text.specs.Reading.{mostRules, Limits, textLimits, Want, Thing, expr, edit, operand, done, Fault, missing, wrongSort, tooDeep, outOfRange, Read, got, fault, follow, readAs}
+use Rattle.text.specs.Questions.{faultNumber, first, whole, alone, readRules, rulesEnd, askBook, askFirst, askRule, askEdit, askRuleEnd, firstRule}
 use Rattle.text.specs.Rows.{rowPlan, stopOf, stepOf, stepAt, stepAnswer}
 use Rattle.text.proofs.Converse.{read-is-written}
 use Rattle.text.proofs.Books.{rules-step, rules-fault}
@@ -36,39 +36,39 @@ outcome-bind (passed a) f = refl
 outcome-bind (refused q p) f = refl
 
 -- What the code has read at a place: a thing that ends at p; or a fault.
-pub record WasRead (t : List ℕ) (ρ : Ranges) (w : Want) (at p : ℕ) : Type 0 where
+pub record WasRead (t : List ℕ) (ρ : Limits) (w : Want) (at p : ℕ) : Type 0 where
   pub thing : Thing w
-  pub reading : readAs (limitsBy ρ) w (drop at t) at ≡ got thing (drop p t) p
+  pub reading : readAs ρ w (drop at t) at ≡ got thing (drop p t) p
   pub inside : at ≤ length t → p ≤ length t
 
-record WasFault (t : List ℕ) (ρ : Ranges) (w : Want) (at : ℕ) : Type 0 where
+record WasFault (t : List ℕ) (ρ : Limits) (w : Want) (at : ℕ) : Type 0 where
   why : Fault
   place : ℕ
-  reading : readAs (limitsBy ρ) w (drop at t) at ≡ fault why place
+  reading : readAs ρ w (drop at t) at ≡ fault why place
 
 less-one : (k : ℕ) → suc k - 1 ≡ k
 less-one k = omega arith
 
-module _ (t : List ℕ) (ρ : Ranges) where
+module _ (t : List ℕ) (ρ : Limits) where
   -- a row of one thing reads that thing
-  one-thing : (w : Want) (at : ℕ) → stepAt t ρ (rowPlan (digit w) 1) at ≡ stepOf (readAs (limitsBy ρ) w (drop at t) at)
+  one-thing : (w : Want) (at : ℕ) → stepAt t ρ (rowPlan (digit w) 1) at ≡ stepOf (readAs ρ w (drop at t) at)
   unfolding stepAt
-  one-thing w at = ap (λ z. stepOf (follow (limitsBy ρ) (drop at t) z at)) (here-row (digit w) 1 w (here-digit w)) ∙ alike-steps (limitsBy ρ) (same-operand (λ e. same-end)) (drop at t) at
+  one-thing w at = ap (λ z. stepOf (follow ρ (drop at t) z at)) (here-row (digit w) 1 w (here-digit w)) ∙ alike-steps ρ (same-operand (λ e. same-end)) (drop at t) at
 
   module _ (w : Want) (at : ℕ) where
     pub was-read : {p : ℕ} → stepAt t ρ (rowPlan (digit w) 1) at ≡ Next p → WasRead t ρ w at p
     unfolding stepOf
-    was-read {p} e = go (readAs (limitsBy ρ) w (drop at t) at) refl (reached (limitsBy ρ) t (operand w 1 done) at) (sym (one-thing w at) ∙ e)
+    was-read {p} e = go (readAs ρ w (drop at t) at) refl (reached ρ t (operand w 1 done) at) (sym (one-thing w at) ∙ e)
       where
-        go : (x : Read (Thing w)) → readAs (limitsBy ρ) w (drop at t) at ≡ x → ReachedBy t at x → stepOf x ≡ Next p → WasRead t ρ w at p
+        go : (x : Read (Thing w)) → readAs ρ w (drop at t) at ≡ x → ReachedBy t at x → stepOf x ≡ Next p → WasRead t ρ w at p
         go (got a rest q) i r e = let z : q ≡ p = cc in record { thing = a; reading = i ∙ ap₂ (got a) (r .rest-is ∙ ap (λ k. drop k t) z) z; inside = λ j. omega (arith, r .inside j) }
         go (fault why q) i r e = let z : _≡_ {A = ℕ} 0 1 = cc in absurd (omega arith)
 
     was-fault : {s : Stop} → stepAt t ρ (rowPlan (digit w) 1) at ≡ Stopped s → WasFault t ρ w at
     unfolding stepOf
-    was-fault {s} e = go (readAs (limitsBy ρ) w (drop at t) at) refl (sym (one-thing w at) ∙ e)
+    was-fault {s} e = go (readAs ρ w (drop at t) at) refl (sym (one-thing w at) ∙ e)
       where
-        go : (x : Read (Thing w)) → readAs (limitsBy ρ) w (drop at t) at ≡ x → stepOf x ≡ Stopped s → WasFault t ρ w at
+        go : (x : Read (Thing w)) → readAs ρ w (drop at t) at ≡ x → stepOf x ≡ Stopped s → WasFault t ρ w at
         go (got a rest q) i e = let z : _≡_ {A = ℕ} 0 1 = cc in absurd (omega arith)
         go (fault why q) i e = record { why = why; place = q; reading = i }
 
@@ -77,55 +77,55 @@ module _ (t : List ℕ) (ρ : Ranges) where
     fault-answer base f = ap (stepAnswer base) (one-thing w at ∙ ap stepOf (f .reading)) ∙ stop-answer base (f .why) (f .place)
 
   -- BOOK
-  pub book-same : {q : Ranges} → ρ ≡ q → outcome (askBook (limitsBy ρ) t) ≡ outcome (askBook (limitsBy q) t)
-  book-same e = ap (λ r. outcome (askBook (limitsBy r) t)) e
+  pub book-same : {q : Limits} → ρ ≡ q → outcome (askBook ρ t) ≡ outcome (askBook q t)
+  book-same e = ap (λ r. outcome (askBook r t)) e
 
-  pub book-long : longestText < length t → refused 11 0 ≡ outcome (askBook (limitsBy ρ) t)
+  pub book-long : ρ .longest < length t → refused 11 0 ≡ outcome (askBook ρ t)
   unfolding askBook outcome is _>>_
-  book-long h = rw (lt-leb (length t) longestText h) refl
+  book-long h = rw (lt-leb (length t) (ρ .longest) h) refl
 
-  pub book-short : length t ≤ longestText → outcome (readRules (limitsBy ρ) mostRules t 0) ≡ outcome (askBook (limitsBy ρ) t)
+  pub book-short : length t ≤ ρ .longest → outcome (readRules ρ mostRules t 0) ≡ outcome (askBook ρ t)
   unfolding askBook is _>>_
-  book-short h = rw (le-leb (length t) longestText h) refl
+  book-short h = rw (le-leb (length t) (ρ .longest) h) refl
 
   module _ (m at : ℕ) where
-    pub rules-end : length t ≤ at → passed tt ≡ outcome (readRules (limitsBy ρ) m (drop at t) at)
+    pub rules-end : length t ≤ at → passed tt ≡ outcome (readRules ρ m (drop at t) at)
     unfolding readRules outcome
     rules-end h = rw (drop-of-length-le t h) (go m)
       where
-        go : (k : ℕ) → passed tt ≡ outcome (readRules (limitsBy ρ) k [] at)
+        go : (k : ℕ) → passed tt ≡ outcome (readRules ρ k [] at)
         go zero = refl
         go (suc k) = refl
 
     module _ (more : at < length t) where
-      pub rules-full : m ≡ 0 → refused 16 at ≡ outcome (readRules (limitsBy ρ) m (drop at t) at)
+      pub rules-full : m ≡ 0 → refused 16 at ≡ outcome (readRules ρ m (drop at t) at)
       unfolding readRules outcome
       rules-full h = rw (h, drop-cons t at 0 more) refl
 
       module _ (some : m ≡ 0 → ⊥) where
-        pub rules-next : {p : ℕ} → stepAt t ρ (rowPlan 14 1) at ≡ Next p → outcome (readRules (limitsBy ρ) (m - 1) (drop p t) p) ≡ outcome (readRules (limitsBy ρ) m (drop at t) at)
+        pub rules-next : {p : ℕ} → stepAt t ρ (rowPlan 14 1) at ≡ Next p → outcome (readRules ρ (m - 1) (drop p t) p) ≡ outcome (readRules ρ m (drop at t) at)
         rules-next {p} e = go m some (was-read (expr rule) at e)
           where
-            go : (k : ℕ) → (k ≡ 0 → ⊥) → WasRead t ρ (expr rule) at p → outcome (readRules (limitsBy ρ) (k - 1) (drop p t) p) ≡ outcome (readRules (limitsBy ρ) k (drop at t) at)
+            go : (k : ℕ) → (k ≡ 0 → ⊥) → WasRead t ρ (expr rule) at p → outcome (readRules ρ (k - 1) (drop p t) p) ≡ outcome (readRules ρ k (drop at t) at)
             go zero s r = absurd (s refl)
             go (suc k) s r =
-                ap (λ j. outcome (readRules (limitsBy ρ) j (drop p t) p)) (less-one k)
-                ∙ sym (ap outcome (rules-step (limitsBy ρ) k (drop at t) at (r .thing) (drop p t) p (r .reading)) ∙ outcome-bind (readRules (limitsBy ρ) k (drop p t) p) (λ book. r .thing ∷ book))
+                ap (λ j. outcome (readRules ρ j (drop p t) p)) (less-one k)
+                ∙ sym (ap outcome (rules-step ρ k (drop at t) at (r .thing) (drop p t) p (r .reading)) ∙ outcome-bind (readRules ρ k (drop p t) p) (λ book. r .thing ∷ book))
 
-        pub rules-stopped : {s : Stop} → stepAt t ρ (rowPlan 14 1) at ≡ Stopped s → stepAnswer 10 (stepAt t ρ (rowPlan 14 1) at) ≡ outcome (readRules (limitsBy ρ) m (drop at t) at)
+        pub rules-stopped : {s : Stop} → stepAt t ρ (rowPlan 14 1) at ≡ Stopped s → stepAnswer 10 (stepAt t ρ (rowPlan 14 1) at) ≡ outcome (readRules ρ m (drop at t) at)
         unfolding outcome
         rules-stopped e = go m some (was-fault (expr rule) at e)
           where
             left : drop at t ≡ [] → ⊥
             left z = omega (arith, sym (length-drop at t) ∙ ap length z)
 
-            go : (k : ℕ) → (k ≡ 0 → ⊥) → WasFault t ρ (expr rule) at → stepAnswer 10 (stepAt t ρ (rowPlan 14 1) at) ≡ outcome (readRules (limitsBy ρ) k (drop at t) at)
+            go : (k : ℕ) → (k ≡ 0 → ⊥) → WasFault t ρ (expr rule) at → stepAnswer 10 (stepAt t ρ (rowPlan 14 1) at) ≡ outcome (readRules ρ k (drop at t) at)
             go zero h f = absurd (h refl)
-            go (suc k) h f = fault-answer (expr rule) at 10 f ∙ sym (ap outcome (rules-fault (limitsBy ρ) k (drop at t) at (f .why) (f .place) left (f .reading)))
+            go (suc k) h f = fault-answer (expr rule) at 10 f ∙ sym (ap outcome (rules-fault ρ k (drop at t) at (f .why) (f .place) left (f .reading)))
 
   -- RULE START
   module _ (left at : ℕ) where
-    pub start-here : left ≤ 0 → at ≡ rulesEnd (limitsBy ρ) left (drop at t) at
+    pub start-here : left ≤ 0 → at ≡ rulesEnd ρ left (drop at t) at
     unfolding rulesEnd
     start-here h = let e : left ≡ 0 = omega arith in rw e refl
 
@@ -133,25 +133,25 @@ module _ (t : List ℕ) (ρ : Ranges) where
       one-more : left ≡ suc (left - 1)
       one-more = omega arith
 
-      pub start-next : {p : ℕ} → stepAt t ρ (rowPlan 14 1) at ≡ Next p → rulesEnd (limitsBy ρ) (left - 1) (drop p t) p ≡ rulesEnd (limitsBy ρ) left (drop at t) at
-      start-next e = sym (ap (λ k. rulesEnd (limitsBy ρ) k (drop at t) at) one-more ∙ end-step (limitsBy ρ) (left - 1) (drop at t) at (was-read (expr rule) at e .reading))
+      pub start-next : {p : ℕ} → stepAt t ρ (rowPlan 14 1) at ≡ Next p → rulesEnd ρ (left - 1) (drop p t) p ≡ rulesEnd ρ left (drop at t) at
+      start-next e = sym (ap (λ k. rulesEnd ρ k (drop at t) at) one-more ∙ end-step ρ (left - 1) (drop at t) at (was-read (expr rule) at e .reading))
 
-      pub start-stopped : {s : Stop} → at ≤ length t → stepAt t ρ (rowPlan 14 1) at ≡ Stopped s → length t ≡ rulesEnd (limitsBy ρ) left (drop at t) at
+      pub start-stopped : {s : Stop} → at ≤ length t → stepAt t ρ (rowPlan 14 1) at ≡ Stopped s → length t ≡ rulesEnd ρ left (drop at t) at
       start-stopped h e =
           omega (arith, length-drop at t)
-          ∙ sym (ap (λ k. rulesEnd (limitsBy ρ) k (drop at t) at) one-more ∙ end-fault (limitsBy ρ) (left - 1) (drop at t) at (was-fault (expr rule) at e .reading))
+          ∙ sym (ap (λ k. rulesEnd ρ k (drop at t) at) one-more ∙ end-fault ρ (left - 1) (drop at t) at (was-fault (expr rule) at e .reading))
 
   -- EDIT
-  pub edit-same : {q : Ranges} → ρ ≡ q → outcome (askEdit (limitsBy ρ) t) ≡ outcome (askEdit (limitsBy q) t)
-  edit-same e = ap (λ r. outcome (askEdit (limitsBy r) t)) e
+  pub edit-same : {q : Limits} → ρ ≡ q → outcome (askEdit ρ t) ≡ outcome (askEdit q t)
+  edit-same e = ap (λ r. outcome (askEdit r t)) e
 
-  pub edit-long : longestText < length t → refused 21 0 ≡ outcome (askEdit (limitsBy ρ) t)
+  pub edit-long : ρ .longest < length t → refused 21 0 ≡ outcome (askEdit ρ t)
   unfolding askEdit outcome is _>>_
-  edit-long h = rw (lt-leb (length t) longestText h) refl
+  edit-long h = rw (lt-leb (length t) (ρ .longest) h) refl
 
-  edit-short : length t ≤ longestText → outcome (whole (readAs (limitsBy ρ) edit t 0)) ≡ outcome (askEdit (limitsBy ρ) t)
+  edit-short : length t ≤ ρ .longest → outcome (whole (readAs ρ edit t 0)) ≡ outcome (askEdit ρ t)
   unfolding askEdit is _>>_
-  edit-short h = rw (le-leb (length t) longestText h) refl
+  edit-short h = rw (le-leb (length t) (ρ .longest) h) refl
 
   whole-end : (Z : Edit) (rest : List ℕ) (p : ℕ) → rest ≡ [] → passed tt ≡ outcome (whole (got Z rest p))
   unfolding whole outcome
@@ -161,42 +161,84 @@ module _ (t : List ℕ) (ρ : Ranges) where
   unfolding whole outcome
   whole-more Z rest p c r e = rw e refl
 
-  module _ (short : length t ≤ longestText) where
-    pub edit-stopped : {s : Stop} → stepAt t ρ (rowPlan 15 1) 0 ≡ Stopped s → stepAnswer 20 (stepAt t ρ (rowPlan 15 1) 0) ≡ outcome (askEdit (limitsBy ρ) t)
+  module _ (short : length t ≤ ρ .longest) where
+    pub edit-stopped : {s : Stop} → stepAt t ρ (rowPlan 15 1) 0 ≡ Stopped s → stepAnswer 20 (stepAt t ρ (rowPlan 15 1) 0) ≡ outcome (askEdit ρ t)
     unfolding outcome whole
     edit-stopped e = let f = was-fault edit 0 e in fault-answer edit 0 20 f ∙ ap (λ x. outcome (whole x)) (sym (f .reading)) ∙ edit-short short
 
-    pub edit-done : {p : ℕ} → stepAt t ρ (rowPlan 15 1) 0 ≡ Next p → p ≡ length t → passed tt ≡ outcome (askEdit (limitsBy ρ) t)
+    pub edit-done : {p : ℕ} → stepAt t ρ (rowPlan 15 1) 0 ≡ Next p → p ≡ length t → passed tt ≡ outcome (askEdit ρ t)
     edit-done {p} e h =
         let r = was-read edit 0 e in
         let k : length t ≤ p = omega arith in
         whole-end (r .thing) (drop p t) p (drop-of-length-le t k) ∙ ap (λ x. outcome (whole x)) (sym (r .reading)) ∙ edit-short short
 
-    pub edit-extra : {p : ℕ} → stepAt t ρ (rowPlan 15 1) 0 ≡ Next p → (p ≡ length t → ⊥) → refused 26 p ≡ outcome (askEdit (limitsBy ρ) t)
+    pub edit-extra : {p : ℕ} → stepAt t ρ (rowPlan 15 1) 0 ≡ Next p → (p ≡ length t → ⊥) → refused 26 p ≡ outcome (askEdit ρ t)
     edit-extra {p} e h =
         let r = was-read edit 0 e in
         let i : p ≤ length t = r .inside (omega arith) in
         let k : p < length t = omega arith in
         whole-more (r .thing) (drop p t) p _ _ (drop-cons t p 0 k) ∙ ap (λ x. outcome (whole x)) (sym (r .reading)) ∙ edit-short short
 
+-- ONE RULE
+module _ (t : List ℕ) (ρ : Limits) where
+  pub rule-same : {q : Limits} → ρ ≡ q → outcome (askRule ρ t) ≡ outcome (askRule q t)
+  rule-same e = ap (λ r. outcome (askRule r t)) e
+
+  pub rule-long : ρ .longest < length t → refused 11 0 ≡ outcome (askRule ρ t)
+  unfolding askRule outcome is _>>_
+  rule-long h = rw (lt-leb (length t) (ρ .longest) h) refl
+
+  rule-short : length t ≤ ρ .longest → outcome (alone (readAs ρ (expr rule) t 0)) ≡ outcome (askRule ρ t)
+  unfolding askRule is _>>_
+  rule-short h = rw (le-leb (length t) (ρ .longest) h) refl
+
+  alone-end : (K : Expr rule) (rest : List ℕ) (p : ℕ) → rest ≡ [] → passed tt ≡ outcome (alone (got K rest p))
+  unfolding alone outcome
+  alone-end K rest p e = rw e refl
+
+  alone-more : (K : Expr rule) (rest : List ℕ) (p c : ℕ) (r : List ℕ) → rest ≡ c ∷ r → refused 16 p ≡ outcome (alone (got K rest p))
+  unfolding alone outcome
+  alone-more K rest p c r e = rw e refl
+
+  module _ (short : length t ≤ ρ .longest) where
+    pub rule-stopped : {s : Stop} → stepAt t ρ (rowPlan 14 1) 0 ≡ Stopped s → stepAnswer 10 (stepAt t ρ (rowPlan 14 1) 0) ≡ outcome (askRule ρ t)
+    unfolding outcome alone
+    rule-stopped e = let f = was-fault t ρ (expr rule) 0 e in fault-answer t ρ (expr rule) 0 10 f ∙ ap (λ x. outcome (alone x)) (sym (f .reading)) ∙ rule-short short
+
+    pub rule-done : {p : ℕ} → stepAt t ρ (rowPlan 14 1) 0 ≡ Next p → p ≡ length t → passed tt ≡ outcome (askRule ρ t)
+    rule-done {p} e h =
+        let r = was-read t ρ (expr rule) 0 e in
+        let k : length t ≤ p = omega arith in
+        alone-end (r .thing) (drop p t) p (drop-of-length-le t k) ∙ ap (λ x. outcome (alone x)) (sym (r .reading)) ∙ rule-short short
+
+    pub rule-extra : {p : ℕ} → stepAt t ρ (rowPlan 14 1) 0 ≡ Next p → (p ≡ length t → ⊥) → refused 16 p ≡ outcome (askRule ρ t)
+    rule-extra {p} e h =
+        let r = was-read t ρ (expr rule) 0 e in
+        let i : p ≤ length t = r .inside (omega arith) in
+        let k : p < length t = omega arith in
+        alone-more (r .thing) (drop p t) p _ _ (drop-cons t p 0 k) ∙ ap (λ x. outcome (alone x)) (sym (r .reading)) ∙ rule-short short
+
 -- RULE END
-module _ (t : List ℕ) where
-  pub first-long : longestText < length t → refused 11 0 ≡ outcome (askRuleEnd t)
+module _ (t : List ℕ) (ρ : Limits) (all-nodes : ρ ≡ textLimits maxNodes) where
+  first-same : outcome (askFirst ρ t) ≡ outcome (askRuleEnd t)
+  first-same = ap (λ q. outcome (askFirst q t)) all-nodes
+
+  pub first-long : ρ .longest < length t → refused 11 0 ≡ outcome (askRuleEnd t)
   unfolding askFirst outcome is _>>_
-  first-long h = rw (lt-leb (length t) longestText h) refl
+  first-long h = ap (λ b. outcome (is b 11 0 >> first (readAs ρ (expr rule) t 0))) (sym (lt-leb (length t) (ρ .longest) h)) ∙ first-same
 
-  pub no-rule-long : longestText < length t → [] ≡ firstRule t
+  pub no-rule-long : ρ .longest < length t → [] ≡ firstRule t
   unfolding firstRule askFirst is _>>_ after
-  no-rule-long h = rw (lt-leb (length t) longestText h) refl
+  no-rule-long h = ap (λ b. after (is b 11 0 >> first (readAs ρ (expr rule) t 0)) code []) (sym (lt-leb (length t) (ρ .longest) h)) ∙ ap (λ q. after (askFirst q t) code []) all-nodes
 
-  module _ (ρ : Ranges) (all-nodes : ρ ≡ ranges maxNodes) (short : length t ≤ longestText) where
-    asked-first : first (readAs (limitsBy ρ) (expr rule) t 0) ≡ askRuleEnd t
+  module _ (short : length t ≤ ρ .longest) where
+    asked-first : first (readAs ρ (expr rule) t 0) ≡ askRuleEnd t
     unfolding askFirst is _>>_
-    asked-first = ap (λ q. first (readAs (limitsBy q) (expr rule) t 0)) all-nodes ∙ rw (le-leb (length t) longestText short) refl
+    asked-first = ap (λ b. is b 11 0 >> first (readAs ρ (expr rule) t 0)) (sym (le-leb (length t) (ρ .longest) short)) ∙ ap (λ q. askFirst q t) all-nodes
 
     pub first-answer : stepAnswer 10 (stepAt t ρ (rowPlan 14 1) 0) ≡ outcome (askRuleEnd t)
     unfolding first outcome stepOf
-    first-answer = ap (stepAnswer 10) (one-thing t ρ (expr rule) 0) ∙ go (readAs (limitsBy ρ) (expr rule) t 0) ∙ ap outcome asked-first
+    first-answer = ap (stepAnswer 10) (one-thing t ρ (expr rule) 0) ∙ go (readAs ρ (expr rule) t 0) ∙ ap outcome asked-first
       where
         go : (x : Read (Expr rule)) → stepAnswer 10 (stepOf x) ≡ outcome (first x)
         go (got K rest q) = refl
@@ -210,7 +252,7 @@ module _ (t : List ℕ) where
     unfolding firstRule first after
     the-rule {p} e =
         let r = was-read t ρ (expr rule) 0 e in
-        let w = read-is-written (limitsBy ρ) (expr rule) 1 t 0 (r .reading) in
+        let w = read-is-written ρ (expr rule) 1 t 0 (r .reading) in
         ap (λ k. take k t) (sub-zero p)
         ∙ ap (take p) (w .text-is)
         ∙ take-at (code (r .thing)) (drop p t) p (omega (arith, w .place-is))

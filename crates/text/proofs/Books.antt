@@ -11,7 +11,7 @@ use Rattle.logic.specs.Syntax.{Expr, rule, Edit}
 use Rattle.text.specs.Code.{code, editCode, bookCode}
 use Rattle.text.specs.Reading.{mostRules, Limits, expr, edit, Fault, Read, got, fault, follow, readAs}
 use Rattle.text.specs.Stands.{RulesInRange}
-use Rattle.text.specs.Questions.{faultNumber, first, whole, readRules, askBook, askFirst, askEdit}
+use Rattle.text.specs.Questions.{faultNumber, first, whole, alone, readRules, askBook, askFirst, askRule, askEdit}
 use Rattle.text.proofs.Converse.{Allowed, Written, Wrote, wrote}
 use Rattle.text.proofs.ReadBack.{reads}
 
@@ -44,7 +44,7 @@ pub record SpellsRules (l : Limits) (m : ℕ) (t : List ℕ) (book : List (Expr 
   pub few : length book ≤ m
   pub rules : EachAllowed l book
 
--- A text that spells a book within the limits; an edit; and a text that begins with a rule.
+-- A text that spells a book within the limits; an edit; one rule; and a text that begins with a rule.
 pub record SpellsBook (l : Limits) (t : List ℕ) (book : List (Expr rule)) : Type 0 where
   pub short : length t ≤ l .longest
   pub spells : SpellsRules l mostRules t book
@@ -53,6 +53,11 @@ pub record SpellsEdit (l : Limits) (t : List ℕ) (Z : Edit) : Type 0 where
   pub text-is : t ≡ editCode Z
   pub short : length t ≤ l .longest
   pub within : Allowed l edit 1 Z
+
+pub record SpellsRule (l : Limits) (t : List ℕ) (K : Expr rule) : Type 0 where
+  pub text-is : t ≡ code K
+  pub short : length t ≤ l .longest
+  pub within : Allowed l (expr rule) 1 K
 
 pub record BeginsWith (l : Limits) (t : List ℕ) (K : Expr rule) : Type 0 where
   pub rest : List ℕ
@@ -141,6 +146,31 @@ module _ (l : Limits) where
       is-passed (leb (length t) (l .longest)) 21 0 (whole (readAs l edit t 0)) (le→leb (length t) (l .longest) (s .short))
       ∙ ap (λ x. whole (readAs l edit x 0)) (s .text-is ∙ sym (append-nil (editCode Z)))
       ∙ ap whole (reads l edit 1 Z (s .within) [] 0)
+
+  -- A text of one rule.
+  abbrev Alone : List ℕ → Asked (Expr rule) → Type 0
+  Alone t (passed K) = (t ≡ code K) × Allowed l (expr rule) 1 K
+  Alone t (refused q p) = Unit {0}
+
+  alone-is : (t : List ℕ) (x : Read (Expr rule)) → Wrote l (expr rule) 1 t 0 x → Alone t (alone x)
+  unfolding alone
+  alone-is t (got K [] p) w = (w .text-is ∙ append-nil (code K), w .within)
+  alone-is t (got K (c ∷ r) p) w = tt
+  alone-is t (fault why p) w = tt
+
+  pub rule-is-spelled : (t : List ℕ) (K : Expr rule) → askRule l t ≡ passed K → SpellsRule l t K
+  unfolding askRule
+  rule-is-spelled t K h =
+      let q = is-then (leb (length t) (l .longest)) 11 0 (alone (readAs l (expr rule) t 0)) K h in
+      let s = subst (Alone t) (q .then) (alone-is t (readAs l (expr rule) t 0) (wrote l (expr rule) 1 t 0)) in
+      record { text-is = s .0; short = leb→le (length t) (l .longest) (q .so); within = s .1 }
+
+  pub spelled-rule-passes : (t : List ℕ) (K : Expr rule) → SpellsRule l t K → askRule l t ≡ passed K
+  unfolding askRule alone
+  spelled-rule-passes t K s =
+      is-passed (leb (length t) (l .longest)) 11 0 (alone (readAs l (expr rule) t 0)) (le→leb (length t) (l .longest) (s .short))
+      ∙ ap (λ x. alone (readAs l (expr rule) x 0)) (s .text-is ∙ sym (append-nil (code K)))
+      ∙ ap alone (reads l (expr rule) 1 K (s .within) [] 0)
 
   -- And the first rule of a text.
   abbrev First : List ℕ → Asked (Expr rule) → Type 0

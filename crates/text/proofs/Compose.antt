@@ -6,10 +6,10 @@ use Prim.Native.Nat.{ℕ, suc, _+_, _≤_}
 use native.Mathlib.Omega.{arith}
 use lib.Dec.{leb, eqb}
 use lib.ListN.{length, drop, length-drop, length-append}
-use Rattle.logic.specs.Limits.{Kind, Ranges, fits}
+use Rattle.logic.specs.Limits.{Kind, fits}
 use Rattle.text.specs.declared.Step.{Step}
 use Rattle.text.specs.declared.Step.the-variants.{Next, Stopped}
-use Rattle.text.specs.Reading.{Limits, limitsBy, Want, Thing, Plan, done, number, operand, _>>=_, Entry, Read, got, fault, Fault, tooDeep, wrongSort, outOfRange, codes, choice, follow}
+use Rattle.text.specs.Reading.{Limits, Want, Thing, Plan, done, number, operand, _>>=_, Entry, Read, got, fault, Fault, tooDeep, wrongSort, outOfRange, codes, choice, follow}
 use Rattle.text.specs.Rows.{stepOf, stepAt}
 use Rattle.text.proofs.Places.{placeBehind-is}
 use Rattle.text.proofs.Standing.{behind}
@@ -117,18 +117,18 @@ abbrev pub andThen : Step → (ℕ → Step) → Step
 andThen (Next p) k = k p
 andThen (Stopped s) k = Stopped s
 
-module _ (text : List ℕ) (ρ : Ranges) where
+module _ (text : List ℕ) (ρ : Limits) where
   pub step-then : {A B : Type 0} (p : Plan A) (q : Plan B) (at : ℕ) → stepAt text ρ (p >>= (λ a. q)) at ≡ andThen (stepAt text ρ p at) (λ m. stepAt text ρ q m)
   unfolding stepAt stepOf continue
-  step-then {A} p q at = ap stepOf (follow-bind (limitsBy ρ) (drop at text) p (λ a. q) at) ∙ go (follow (limitsBy ρ) (drop at text) p at) (reached (limitsBy ρ) text p at)
+  step-then {A} p q at = ap stepOf (follow-bind ρ (drop at text) p (λ a. q) at) ∙ go (follow ρ (drop at text) p at) (reached ρ text p at)
     where
-      go : (r : Read A) → ReachedBy text at r → stepOf (continue (limitsBy ρ) r (λ a. q)) ≡ andThen (stepOf r) (λ m. stepOf (follow (limitsBy ρ) (drop m text) q m))
-      go (got a rest m) h = ap (λ z. stepOf (follow (limitsBy ρ) z q m)) (h .rest-is)
+      go : (r : Read A) → ReachedBy text at r → stepOf (continue ρ r (λ a. q)) ≡ andThen (stepOf r) (λ m. stepOf (follow ρ (drop m text) q m))
+      go (got a rest m) h = ap (λ z. stepOf (follow ρ z q m)) (h .rest-is)
       go (fault why m) h = refl
 
   pub step-on : {A : Type 0} (p : Plan A) (at m : ℕ) → stepAt text ρ p at ≡ Next m → at ≤ m
   unfolding stepAt stepOf
-  step-on {A} p at m h = go (follow (limitsBy ρ) (drop at text) p at) (reached (limitsBy ρ) text p at) h
+  step-on {A} p at m h = go (follow ρ (drop at text) p at) (reached ρ text p at) h
     where
       go : (r : Read A) → ReachedBy text at r → stepOf r ≡ Next m → at ≤ m
       go (got a rest q) k e = let z : q ≡ m = cc in omega (arith, k .on)

@@ -12,26 +12,26 @@ use borrow.Author.Tests.{le-leb, lt-leb}
 use Rattle.logic.specs.Limits.{Kind, labelCount, arrowCount, Ranges, fits}
 use Rattle.text.specs.declared.Stop.the-variants.{Missing, OutOfRange}
 use Rattle.text.specs.declared.Step.the-variants.{Next, Stopped}
-use Rattle.text.specs.Reading.{limitsBy, number, Read, fault, outOfRange, follow}
+use Rattle.text.specs.Reading.{Limits, number, Read, fault, outOfRange, follow}
 use Rattle.text.specs.Rows.{nothing, takes, items, itemOf, itemPlan, finished, rowPlan, numberFits, stopOf, stepOf, stepAt}
 use Rattle.text.proofs.Items.{nothing-at, is-number, level-free}
 use Rattle.text.proofs.Turns.{at-end}
 
-module _ (text : List ℕ) (ρ : Ranges) where
+module _ (text : List ℕ) (ρ : Limits) where
   -- A number of a kind.
   pub number-missing : (k : Kind) (d at : ℕ) → length text ≤ at → stepAt text ρ (itemPlan (takes k) d finished) at ≡ Stopped (Missing at)
   unfolding itemPlan stepAt stepOf stopOf follow
   number-missing k d at h = rw (drop-of-length-le text h) refl
 
-  pub number-there : (k : Kind) (d at : ℕ) → at < length text → stepAt text ρ (itemPlan (takes k) d finished) at ≡ cond (fits ρ k (getD text at 0)) (Next (at + 1)) (Stopped (OutOfRange at))
+  pub number-there : (k : Kind) (d at : ℕ) → at < length text → stepAt text ρ (itemPlan (takes k) d finished) at ≡ cond (fits (ρ .numbers) k (getD text at 0)) (Next (at + 1)) (Stopped (OutOfRange at))
   unfolding itemPlan stepAt stepOf stopOf follow
-  number-there k d at h = ap (λ z. stepOf (follow (limitsBy ρ) z (number k (λ x. finished)) at)) (drop-cons text at 0 h) ∙ go (fits ρ k (getD text at 0)) (drop (suc at) text)
+  number-there k d at h = ap (λ z. stepOf (follow ρ z (number k (λ x. finished)) at)) (drop-cons text at 0 h) ∙ go (fits (ρ .numbers) k (getD text at 0)) (drop (suc at) text)
     where
-      next : (t : List ℕ) → stepOf (follow (limitsBy ρ) t finished (suc at)) ≡ Next (at + 1)
+      next : (t : List ℕ) → stepOf (follow ρ t finished (suc at)) ≡ Next (at + 1)
       next [] = ap Next (sym (add-one at))
       next (x ∷ t) = ap Next (sym (add-one at))
 
-      go : (b : Bool) (t : List ℕ) → stepOf {A = Unit {0}} (elim b as (λ z. Read (Unit {0})) [ true ↦ follow (limitsBy ρ) t finished (suc at) | false ↦ fault outOfRange at ]) ≡ cond b (Next (at + 1)) (Stopped (OutOfRange at))
+      go : (b : Bool) (t : List ℕ) → stepOf {A = Unit {0}} (elim b as (λ z. Read (Unit {0})) [ true ↦ follow ρ t finished (suc at) | false ↦ fault outOfRange at ]) ≡ cond b (Next (at + 1)) (Stopped (OutOfRange at))
       go true t = next t
       go false t = refl
 
@@ -40,7 +40,7 @@ module _ (text : List ℕ) (ρ : Ranges) where
   nothing-there d at = at-end text ρ d at
 
 -- The four cases of a number.
-module _ (text : List ℕ) (ρ : Ranges) (x at : ℕ) where
+module _ (text : List ℕ) (ρ : Limits) (x at : ℕ) where
   pub number-nothing : x < 3 → Next at ≡ stepAt text ρ (itemPlan (itemOf x) 0 finished) at
   number-nothing h = sym (ap (λ i. stepAt text ρ (itemPlan i 0 finished) at) (nothing-at x h) ∙ nothing-there text ρ 0 at)
 
@@ -48,14 +48,14 @@ module _ (text : List ℕ) (ρ : Ranges) (x at : ℕ) where
     pub number-ends : length text ≤ at → Stopped (Missing at) ≡ stepAt text ρ (itemPlan (itemOf x) 0 finished) at
     number-ends h = let q = is-number x low high in sym (ap (λ i. stepAt text ρ (itemPlan i 0 finished) at) (q .item-is) ∙ number-missing text ρ (q .kind) 0 at h)
 
-    pub number-is : (b : Bool) → at < length text → numberFits ρ (itemOf x) (getD text at 0) ≡ b → cond b (Next (at + 1)) (Stopped (OutOfRange at)) ≡ stepAt text ρ (itemPlan (itemOf x) 0 finished) at
+    pub number-is : (b : Bool) → at < length text → numberFits (ρ .numbers) (itemOf x) (getD text at 0) ≡ b → cond b (Next (at + 1)) (Stopped (OutOfRange at)) ≡ stepAt text ρ (itemPlan (itemOf x) 0 finished) at
     unfolding numberFits
     number-is b h e =
         let q = is-number x low high in
         sym
         (ap (λ i. stepAt text ρ (itemPlan i 0 finished) at) (q .item-is)
         ∙ number-there text ρ (q .kind) 0 at h
-        ∙ ap (λ c. cond c (Next (at + 1)) (Stopped (OutOfRange at))) (sym (ap (λ i. numberFits ρ i (getD text at 0)) (q .item-is)) ∙ e))
+        ∙ ap (λ c. cond c (Next (at + 1)) (Stopped (OutOfRange at))) (sym (ap (λ i. numberFits (ρ .numbers) i (getD text at 0)) (q .item-is)) ∙ e))
 
 -- The kinds by their digits.
 module _ (ρ : Ranges) (x y : ℕ) where
@@ -86,5 +86,5 @@ module _ (ρ : Ranges) (x y : ℕ) where
   most-fits low high a b c d = let e : x ≡ 7 = omega arith in sym (ap (λ k. numberFits ρ (itemOf k) y) e)
 
 -- below 8 an item is on no level
-pub any-level : (text : List ℕ) (ρ : Ranges) (x d at : ℕ) → x < 8 → stepAt text ρ (itemPlan (itemOf x) 0 finished) at ≡ stepAt text ρ (itemPlan (itemOf x) d finished) at
+pub any-level : (text : List ℕ) (ρ : Limits) (x d at : ℕ) → x < 8 → stepAt text ρ (itemPlan (itemOf x) 0 finished) at ≡ stepAt text ρ (itemPlan (itemOf x) d finished) at
 any-level text ρ x d at h = ap (λ z. stepAt text ρ z at) (level-free d x h)

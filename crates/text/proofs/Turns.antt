@@ -10,12 +10,11 @@ use lib.Dec.{leb, eqb}
 use lib.ListN.{length, getD, drop, drop-of-length-le}
 use lib.Seq.{drop-cons}
 use borrow.Author.Tests.{lt-ltb, le-ltb, eqb-true, eqb-false}
-use Rattle.logic.specs.Limits.{Ranges}
 use Rattle.text.specs.declared.Stop.{Stop}
 use Rattle.text.specs.declared.Stop.the-variants.{Missing, WrongSort, TooDeep}
 use Rattle.text.specs.declared.Step.{Step}
 use Rattle.text.specs.declared.Step.the-variants.{Next, Stopped}
-use Rattle.text.specs.Reading.{deepestText, limitsBy, Want, Thing, Plan, operand, _>>=_, Read, fault, tooDeep, codes, follow}
+use Rattle.text.specs.Reading.{Limits, Want, Thing, Plan, operand, _>>=_, Read, fault, tooDeep, codes, follow}
 use Rattle.text.specs.Rows.{items, itemOf, rowOf, itemPlan, finished, rowPlan, sortOf, stopOf, stepOf, stepAt, headAt}
 use Rattle.text.proofs.Compose.{Alike, alike-bind, alike-steps, andThen, step-then}
 use Rattle.text.proofs.Items.{is-deeper, is-here, digit, here-row, row-opens, not-here, item-then}
@@ -30,37 +29,37 @@ headed-then true true at k = refl
 headed-then true false at k = refl
 headed-then false e at k = refl
 
-module _ (text : List ℕ) (ρ : Ranges) where
+module _ (text : List ℕ) (ρ : Limits) where
   -- a thing wanted at a place with a byte c and others behind it
-  at-byte : (w : Want) (d at c : ℕ) (t : List ℕ) → stepOf (follow (limitsBy ρ) (c ∷ t) (operand w d (λ e. finished)) at)
-      ≡ headed (eqb (sortOf c) (digit w)) (leb d deepestText) at (stepOf (follow (limitsBy ρ) t (rowPlan (rowOf c) d) (suc at)))
+  at-byte : (w : Want) (d at c : ℕ) (t : List ℕ) → stepOf (follow ρ (c ∷ t) (operand w d (λ e. finished)) at)
+      ≡ headed (eqb (sortOf c) (digit w)) (leb d (ρ .deepest)) at (stepOf (follow ρ t (rowPlan (rowOf c) d) (suc at)))
   unfolding follow stepOf stopOf
   at-byte w d at c t = go (eqb (sortOf c) (digit w)) (eqb-true (sortOf c) (digit w)) (eqb-false (sortOf c) (digit w))
     where
       opened : (b : Bool) (p : Plan (Thing w)) → Alike p (rowPlan (rowOf c) d)
-          → stepOf {A = Unit {0}} (elim b as (λ z. Read (Unit {0})) [ true ↦ follow (limitsBy ρ) t (p >>= (λ e. finished)) (suc at) | false ↦ fault tooDeep at ])
-          ≡ cond b (stepOf (follow (limitsBy ρ) t (rowPlan (rowOf c) d) (suc at))) (Stopped (TooDeep at))
-      opened true p a = alike-steps (limitsBy ρ) (alike-bind tt a) t (suc at)
+          → stepOf {A = Unit {0}} (elim b as (λ z. Read (Unit {0})) [ true ↦ follow ρ t (p >>= (λ e. finished)) (suc at) | false ↦ fault tooDeep at ])
+          ≡ cond b (stepOf (follow ρ t (rowPlan (rowOf c) d) (suc at))) (Stopped (TooDeep at))
+      opened true p a = alike-steps ρ (alike-bind tt a) t (suc at)
       opened false p a = refl
 
-      go : (b : Bool) → (b ≡ true → sortOf c ≡ digit w) → (b ≡ false → sortOf c ≡ digit w → ⊥) → stepOf (follow (limitsBy ρ) (c ∷ t) (operand w d (λ e. finished)) at)
-          ≡ headed b (leb d deepestText) at (stepOf (follow (limitsBy ρ) t (rowPlan (rowOf c) d) (suc at)))
-      go true f g = an-entry w d c _ _ _ (opened (leb d deepestText)) (codes d w) (codes-rows w d) (has-entry w d c (f refl))
+      go : (b : Bool) → (b ≡ true → sortOf c ≡ digit w) → (b ≡ false → sortOf c ≡ digit w → ⊥) → stepOf (follow ρ (c ∷ t) (operand w d (λ e. finished)) at)
+          ≡ headed b (leb d (ρ .deepest)) at (stepOf (follow ρ t (rowPlan (rowOf c) d) (suc at)))
+      go true f g = an-entry w d c _ _ _ (opened (leb d (ρ .deepest))) (codes d w) (codes-rows w d) (has-entry w d c (f refl))
       go false f g = ap stepOf (no-entry w d c _ _ (codes d w) (codes-rows w d) (g refl))
 
   -- A code at a place: its questions, and then its row from the next byte on.
-  pub at-code : (w : Want) (d at : ℕ) → stepAt text ρ (operand w d (λ e. finished)) at ≡ andThen (headAt text (digit w) d at) (λ p. stepAt text ρ (rowPlan (rowOf (getD text at 0)) d) p)
+  pub at-code : (w : Want) (d at : ℕ) → stepAt text ρ (operand w d (λ e. finished)) at ≡ andThen (headAt text (ρ .deepest) (digit w) d at) (λ p. stepAt text ρ (rowPlan (rowOf (getD text at 0)) d) p)
   unfolding stepAt headAt stepOf stopOf follow
   at-code w d at = elim (decLt at (length text)) [ yes h ↦ there h | no h ↦ ends (omega arith) ]
     where
-      ends : length text ≤ at → stepAt text ρ (operand w d (λ e. finished)) at ≡ andThen (headAt text (digit w) d at) (λ p. stepAt text ρ (rowPlan (rowOf (getD text at 0)) d) p)
+      ends : length text ≤ at → stepAt text ρ (operand w d (λ e. finished)) at ≡ andThen (headAt text (ρ .deepest) (digit w) d at) (λ p. stepAt text ρ (rowPlan (rowOf (getD text at 0)) d) p)
       ends h = rw (drop-of-length-le text h, le-ltb at (length text) h) refl
 
-      there : at < length text → stepAt text ρ (operand w d (λ e. finished)) at ≡ andThen (headAt text (digit w) d at) (λ p. stepAt text ρ (rowPlan (rowOf (getD text at 0)) d) p)
+      there : at < length text → stepAt text ρ (operand w d (λ e. finished)) at ≡ andThen (headAt text (ρ .deepest) (digit w) d at) (λ p. stepAt text ρ (rowPlan (rowOf (getD text at 0)) d) p)
       there h =
           let sort : Bool = eqb (sortOf (getD text at 0)) (digit w) in
-          let level : Bool = leb d deepestText in
-          ap (λ z. stepOf (follow (limitsBy ρ) z (operand w d (λ e. finished)) at)) (drop-cons text at 0 h)
+          let level : Bool = leb d (ρ .deepest) in
+          ap (λ z. stepOf (follow ρ z (operand w d (λ e. finished)) at)) (drop-cons text at 0 h)
           ∙ at-byte w d at (getD text at 0) (drop (suc at) text)
           ∙ ap (λ m. headed sort level at (stepAt text ρ (rowPlan (rowOf (getD text at 0)) d) m)) (sym (add-one at))
           ∙ headed-then sort level at (λ p. stepAt text ρ (rowPlan (rowOf (getD text at 0)) d) p)
@@ -73,19 +72,19 @@ module _ (text : List ℕ) (ρ : Ranges) where
       ∙ step-then text ρ (itemPlan (itemOf (row % 16)) d finished) (rowPlan (row / 16) d) at
 
   -- A row whose first item stands there: a code, and then its row.
-  pub at-here : (row d at : ℕ) → 12 ≤ row % 16 → stepAt text ρ (rowPlan row d) at ≡ andThen (headAt text (row % 16) d at) (λ p. stepAt text ρ (rowPlan (rowOf (getD text at 0)) d) p)
+  pub at-here : (row d at : ℕ) → 12 ≤ row % 16 → stepAt text ρ (rowPlan row d) at ≡ andThen (headAt text (ρ .deepest) (row % 16) d at) (λ p. stepAt text ρ (rowPlan (rowOf (getD text at 0)) d) p)
   at-here row d at h =
       let q = is-here (row % 16) h (omega arith) in
       ap (λ z. stepAt text ρ z at) (here-row row d (q .want) (q .item-is))
       ∙ at-code (q .want) d at
-      ∙ ap (λ x. andThen (headAt text x d at) (λ p. stepAt text ρ (rowPlan (rowOf (getD text at 0)) d) p)) (sym (q .digit-is))
+      ∙ ap (λ x. andThen (headAt text (ρ .deepest) x d at) (λ p. stepAt text ρ (rowPlan (rowOf (getD text at 0)) d) p)) (sym (q .digit-is))
 
   -- An empty row is read.
   pub at-end : (d at : ℕ) → stepAt text ρ (rowPlan 0 d) at ≡ Next at
   unfolding rowPlan itemPlan itemOf items stepAt stepOf follow
   at-end d at = go (drop at text)
     where
-      go : (t : List ℕ) → stepOf (follow (limitsBy ρ) t finished at) ≡ Next at
+      go : (t : List ℕ) → stepOf (follow ρ t finished at) ≡ Next at
       go [] = refl
       go (x ∷ t) = refl
 
@@ -101,15 +100,15 @@ module _ (text : List ℕ) (ρ : Ranges) where
       ∙ sym (here-row (x + 4) (d + 1) (q .want) (sym (ap itemOf e) ∙ q .then-here)))
 
 -- A turn along a row: at a code of its own level, and at any other item; stopped, or on.
-module _ (text : List ℕ) (ρ : Ranges) (row d at : ℕ) where
+module _ (text : List ℕ) (ρ : Limits) (row d at : ℕ) where
   pub row-done : row ≡ 0 → Next at ≡ stepAt text ρ (rowPlan row d) at
   row-done e = sym (at-end text ρ d at) ∙ ap (λ r. stepAt text ρ (rowPlan r d) at) (sym e)
 
   module _ (own : 12 ≤ row % 16) where
-    pub here-stopped : {s : Stop} → headAt text (row % 16) d at ≡ Stopped s → headAt text (row % 16) d at ≡ stepAt text ρ (rowPlan row d) at
+    pub here-stopped : {s : Stop} → headAt text (ρ .deepest) (row % 16) d at ≡ Stopped s → headAt text (ρ .deepest) (row % 16) d at ≡ stepAt text ρ (rowPlan row d) at
     here-stopped e = e ∙ sym (at-here text ρ row d at own ∙ ap (λ z. andThen z (λ p. stepAt text ρ (rowPlan (rowOf (getD text at 0)) d) p)) e)
 
-    pub here-next : {p : ℕ} (next : ℕ) → next ≡ rowOf (getD text at 0) → headAt text (row % 16) d at ≡ Next p → stepAt text ρ (rowPlan next d) p ≡ stepAt text ρ (rowPlan row d) at
+    pub here-next : {p : ℕ} (next : ℕ) → next ≡ rowOf (getD text at 0) → headAt text (ρ .deepest) (row % 16) d at ≡ Next p → stepAt text ρ (rowPlan next d) p ≡ stepAt text ρ (rowPlan row d) at
     here-next {p} next r e = ap (λ z. stepAt text ρ (rowPlan z d) p) r ∙ sym (at-here text ρ row d at own ∙ ap (λ z. andThen z (λ p. stepAt text ρ (rowPlan (rowOf (getD text at 0)) d) p)) e)
 
   module _ (small : row < 65536) (other : row % 16 < 12) where

@@ -28,6 +28,12 @@ whole (got a [] p) = passed a
 whole (got a (x ∷ t) p) = refused 26 p
 whole (fault why p) = refused (faultNumber 20 why) p
 
+-- what is read, if the bytes have then ended: 16
+unfoldable pub alone : {A : Type 0} → Read A → Asked A
+alone (got a [] p) = passed a
+alone (got a (x ∷ t) p) = refused 16 p
+alone (fault why p) = refused (faultNumber 10 why) p
+
 module _ (l : Limits) where
   -- The rules of a text, at most m of them: 12 to 15 of each, and 16 before one too many.
   unfoldable pub readRules : (m : ℕ) → List ℕ → ℕ → Asked (List (Expr rule))
@@ -60,6 +66,12 @@ module _ (l : Limits) where
   askFirst t = do
     is (leb (length t) (l .longest)) 11 0
     first (readAs l (expr rule) t 0)
+
+  -- One rule: 11 to 15, and 16 when bytes follow it, place the first of them. An empty text is 12.
+  unfoldable pub askRule : List ℕ → Asked (Expr rule)
+  askRule t = do
+    is (leb (length t) (l .longest)) 11 0
+    alone (readAs l (expr rule) t 0)
 
   -- An edit: 21 to 26.
   unfoldable pub askEdit : List ℕ → Asked Edit

@@ -7,13 +7,13 @@ use lib.ListN.{length, getD, drop}
 use Rattle.answer.specs.Asked.{Asked, passed, refused}
 use Rattle.logic.specs.Syntax.{node, arrow, rule}
 use Rattle.logic.specs.Limits.{Kind, labelNumber, arrowNumber, nodeNumber, leastCount, mostCount, Ranges, fits}
-use Rattle.text.specs.declared.Ranges as declared
+use Rattle.text.specs.declared.Limits as declared
 use Rattle.text.specs.declared.Stop.{Stop}
 use Rattle.text.specs.declared.Stop.the-variants.{Missing, WrongSort, TooDeep, OutOfRange}
 use Rattle.text.specs.declared.Step.{Step}
 use Rattle.text.specs.declared.Step.the-variants.{Next, Stopped}
 use Rattle.text.specs.Questions.{faultNumber}
-use Rattle.text.specs.Reading.{deepestText, limitsBy, Want, expr, edit, Plan, done, number, operand, Fault, missing, wrongSort, tooDeep, outOfRange, Read, got, fault, follow}
+use Rattle.text.specs.Reading.{Limits, Want, expr, edit, Plan, done, number, operand, Fault, missing, wrongSort, tooDeep, outOfRange, Read, got, fault, follow}
 
 -- What can follow a code: nothing; a number of a kind; a thing one level deeper; a thing on the code's own level, with which its row ends.
 pub data Item : Type 0 where
@@ -128,9 +128,9 @@ itemPlan (here w) d rest = operand w d (λ e. finished)
 unfoldable pub rowPlan : (row d : ℕ) → Plan (Unit {0})
 rowPlan row d = itemPlan (itemOf (row % 16)) d (itemPlan (itemOf (row / 16 % 16)) d (itemPlan (itemOf (row / 256 % 16)) d (itemPlan (itemOf (row / 4096 % 16)) d finished)))
 
--- The ranges that the code is given.
-abbrev pub rangesOf : declared.Ranges → Ranges
-rangesOf x = record { nodes = x .nodes; leastFrom = x .from; leastTo = x .to; mostTo = x .most }
+-- The limits that the code is given.
+abbrev pub limitsOf : declared.Limits → Limits
+limitsOf x = record { longest = x .longest; deepest = x .deepest; numbers = record { nodes = x .nodes; leastFrom = x .from; leastTo = x .to; mostTo = x .most } }
 
 -- Whether a number is in the range that an item gives it.
 unfoldable pub numberFits : Ranges → Item → ℕ → Bool
@@ -159,12 +159,12 @@ stepAnswer base (Stopped (TooDeep p)) = refused (faultNumber base tooDeep) p
 stepAnswer base (Stopped (OutOfRange p)) = refused (faultNumber base outOfRange) p
 
 -- A plan followed from a place of a text.
-unfoldable pub stepAt : {A : Type 0} → List ℕ → Ranges → Plan A → ℕ → Step
-stepAt text r plan at = stepOf (follow (limitsBy r) (drop at text) plan at)
+unfoldable pub stepAt : {A : Type 0} → List ℕ → Limits → Plan A → ℕ → Step
+stepAt text l plan at = stepOf (follow l (drop at text) plan at)
 
 -- The questions at a code byte: is it there, is it of the sort, is its level within the limit.
-unfoldable pub headAt : List ℕ → (sort d at : ℕ) → Step
-headAt text sort d at =
+unfoldable pub headAt : List ℕ → (deepest sort d at : ℕ) → Step
+headAt text deepest sort d at =
     cond (ltb at (length text))
-    (cond (eqb (sortOf (getD text at 0)) sort) (cond (leb d deepestText) (Next (at + 1)) (Stopped (TooDeep at))) (Stopped (WrongSort at)))
+    (cond (eqb (sortOf (getD text at 0)) sort) (cond (leb d deepest) (Next (at + 1)) (Stopped (TooDeep at))) (Stopped (WrongSort at)))
     (Stopped (Missing at))

@@ -6,12 +6,12 @@ use logic::Label;
 use logic::Node;
 ghost use mathlib.Core.Path.{_≡_};
 ghost use Prim.Native.Nat.{_<_, _≤_};
-ghost use Rattle.logic.specs.Limits.{maxNodes, ranges, formerRanges};
-ghost use Rattle.text.specs.Rows.{itemOf, rowOf, itemPlan, finished, rowPlan, sortOf, rangesOf, numberFits, stepAt, headAt, stepAnswer};
+ghost use Rattle.logic.specs.Limits.{maxNodes};
+ghost use Rattle.text.specs.Rows.{itemOf, rowOf, itemPlan, finished, rowPlan, sortOf, limitsOf, numberFits, stepAt, headAt, stepAnswer};
 ghost use Rattle.answer.specs.Answers.{asked};
 ghost use Rattle.answer.specs.Asked.{outcome};
-ghost use Rattle.text.specs.Reading.{deepestText, limitsBy, textLimits, formerLimits};
-ghost use Rattle.text.specs.Questions.{askBook, askEdit, askRuleEnd, firstRule, ruleStart};
+ghost use Rattle.text.specs.Reading.{textLimits, formerLimits, carriedLimits};
+ghost use Rattle.text.specs.Questions.{askBook, askRule, askEdit, askRuleEnd, firstRule, ruleStart};
 
 // What is wrong with the bytes, and where: 12 to 15 of a book, 22 to 25 of an edit.
 pub enum Stop {
@@ -105,32 +105,35 @@ fn sort_of(code: u8) -> u32
     }
 }
 
-// The ranges of numbers: nodes are below `nodes`; the count of an 0A is from `from` to `to`, that of an 0B up to `most`.
-struct Ranges {
+// The limits of a reading: the longest text, the last level, and the ranges of numbers: nodes are below `nodes`; the count of an 0A is from
+// `from` to `to`, that of an 0B up to `most`. Two words, so that a call hands them on in registers.
+struct Limits {
     nodes: usize,
+    longest: u32,
+    deepest: u8,
     from: u8,
     to: u8,
     most: u8,
 }
 
 // Is a number byte of a kind in its range? Inner: the item is a number.
-fn in_range(ranges: Ranges, kind: u32, x: u8) -> bool
+fn in_range(limits: Limits, kind: u32, x: u8) -> bool
     requires { ⌜ (3 ≤ kind) × (kind < 8) ⌝ }
-    ensures { λ r. ⌜ r ≡ numberFits (rangesOf ranges) (itemOf kind) x ⌝ }
+    ensures { λ r. ⌜ r ≡ numberFits (limitsOf limits .numbers) (itemOf kind) x ⌝ }
 {
     match kind {
         3 => x < Text::LABELS,
         4 => x < Text::ARROWS,
-        5 => (x as usize) < ranges.nodes,
-        6 => ranges.from <= x && x <= ranges.to,
-        _ => x <= ranges.most,
+        5 => (x as usize) < limits.nodes,
+        6 => limits.from <= x && x <= limits.to,
+        _ => x <= limits.most,
     }
 }
 
 // Reads a number byte of a kind. Inner: other items are read by `part`.
-fn number(text: &[u8], ranges: Ranges, kind: u32, at: usize) -> Step
+fn number(text: &[u8], limits: Limits, kind: u32, at: usize) -> Step
     requires { ⌜ kind < 8 ⌝ }
-    ensures { λ r. ⌜ r ≡ stepAt (now (text .entry)) (rangesOf ranges) (itemPlan (itemOf kind) 0 finished) at ⌝ }
+    ensures { λ r. ⌜ r ≡ stepAt (now (text .entry)) (limitsOf limits) (itemPlan (itemOf kind) 0 finished) at ⌝ }
 {
     if kind < 3 {
         return Step::Next(at);
@@ -138,7 +141,7 @@ fn number(text: &[u8], ranges: Ranges, kind: u32, at: usize) -> Step
     if text.len() <= at {
         return Step::Stopped(Stop::Missing { place: at });
     }
-    if in_range(ranges, kind, text[at]) {
+    if in_range(limits, kind, text[at]) {
         Step::Next(at + 1)
     } else {
         Step::Stopped(Stop::OutOfRange { place: at })
@@ -146,8 +149,8 @@ fn number(text: &[u8], ranges: Ranges, kind: u32, at: usize) -> Step
 }
 
 // The questions at a code byte: is it there, is it of the sort, is its level within the limit?
-fn head(text: &[u8], sort: u32, at: usize, level: usize) -> Step
-    ensures { λ r. ⌜ r ≡ headAt (now (text .entry)) sort level at ⌝ }
+fn head(text: &[u8], deepest: u8, sort: u32, at: usize, level: usize) -> Step
+    ensures { λ r. ⌜ r ≡ headAt (now (text .entry)) deepest sort level at ⌝ }
 {
     if text.len() <= at {
         return Step::Stopped(Stop::Missing { place: at });
@@ -155,7 +158,7 @@ fn head(text: &[u8], sort: u32, at: usize, level: usize) -> Step
     if sort_of(text[at]) != sort {
         return Step::Stopped(Stop::WrongSort { place: at });
     }
-    if level > Text::DEEPEST {
+    if level > deepest as usize {
         return Step::Stopped(Stop::TooDeep { place: at });
     }
     Step::Next(at + 1)
@@ -163,37 +166,37 @@ fn head(text: &[u8], sort: u32, at: usize, level: usize) -> Step
 
 // Reads an item that stands not on the code's own level: a number, or a thing one level deeper.
 // Inner: `read` has seen that the level is within the limit, which bounds the depth of the calls.
-fn part(text: &[u8], ranges: Ranges, item: u32, at: usize, level: usize) -> Step
-    requires { ⌜ (item < 12) × (level ≤ deepestText) ⌝ }
-    ensures { λ r. ⌜ r ≡ stepAt (now (text .entry)) (rangesOf ranges) (itemPlan (itemOf item) level finished) at ⌝ }
+fn part(text: &[u8], limits: Limits, item: u32, at: usize, level: usize) -> Step
+    requires { ⌜ (item < 12) × (level ≤ limits .deepest) ⌝ }
+    ensures { λ r. ⌜ r ≡ stepAt (now (text .entry)) (limitsOf limits) (itemPlan (itemOf item) level finished) at ⌝ }
 {
     if item < 8 {
-        return number(text, ranges, item, at);
+        return number(text, limits, item, at);
     }
-    read(text, ranges, item + 4, at, level + 1)
+    read(text, limits, item + 4, at, level + 1)
 }
 
 // Reads a thing whose first code is on a level, and the steps that follow one another there, along the rows of their codes.
-// It calls itself, through `part`, one level deeper each time and no more than `Text::DEEPEST` deep, whatever the text: 160 bytes of stack a level,
-// 5 kB in all. Steps that follow one another take no more stack.
+// It calls itself, through `part`, one level deeper each time and no more than `limits.deepest` deep, whatever the text: 160 bytes of stack a level,
+// 5 kB for a book or an edit. Steps that follow one another take no more stack.
 // Inner: the sort wanted is a digit from C to F.
-fn read(text: &[u8], ranges: Ranges, wanted: u32, at: usize, level: usize) -> Step
+fn read(text: &[u8], limits: Limits, wanted: u32, at: usize, level: usize) -> Step
     requires { ⌜ (12 ≤ wanted) × (wanted < 16) ⌝ }
-    ensures { λ r. ⌜ r ≡ stepAt (now (text .entry)) (rangesOf ranges) (rowPlan wanted level) at ⌝ }
+    ensures { λ r. ⌜ r ≡ stepAt (now (text .entry)) (limitsOf limits) (rowPlan wanted level) at ⌝ }
 {
     let mut row = wanted;
     let mut p = at;
     while row != 0 {
         let item = row % 16;
         if item >= 12 {
-            let step = head(text, item, p, level);
+            let step = head(text, limits.deepest, item, p, level);
             let Step::Next(q) = step else {
                 return step;
             };
             row = row_of(text[p]);
             p = q;
         } else {
-            let step = part(text, ranges, item, p, level);
+            let step = part(text, limits, item, p, level);
             let Step::Next(q) = step else {
                 return step;
             };
@@ -233,34 +236,51 @@ fn edit_answer(step: Step) -> Answer
     }
 }
 
-// The ranges for n nodes; and those of stored books, where a count may be any byte.
-fn ranges_for(n: usize) -> Ranges
-    ensures { λ r. ⌜ rangesOf r ≡ ranges n ⌝ }
+// The limits of a book or an edit for n nodes; those of stored books, where a count may be any byte; and those of a carried rule.
+fn limits_for(n: usize) -> Limits
+    ensures { λ r. ⌜ limitsOf r ≡ textLimits n ⌝ }
 {
-    Ranges {
+    Limits {
         nodes: n,
+        longest: Text::LONGEST as u32,
+        deepest: Text::DEEPEST,
         from: Text::LEAST_FROM,
         to: Text::LEAST_TO,
         most: Text::MOST_TO,
     }
 }
 
-fn former_ranges(n: usize) -> Ranges
-    ensures { λ r. ⌜ rangesOf r ≡ formerRanges n ⌝ }
+fn former_limits(n: usize) -> Limits
+    ensures { λ r. ⌜ limitsOf r ≡ formerLimits n ⌝ }
 {
-    Ranges {
+    Limits {
         nodes: n,
+        longest: Text::LONGEST as u32,
+        deepest: Text::DEEPEST,
         from: 0,
         to: 255,
         most: 255,
     }
 }
 
-// Is a book within the limits that go with the ranges? 11 to 16.
-fn book_within(book: &[u8], ranges: Ranges) -> Answer
-    ensures { λ r. ⌜ asked r ≡ outcome (askBook (limitsBy (rangesOf ranges)) (now (book .entry))) ⌝ }
+fn carried_limits(n: usize) -> Limits
+    ensures { λ r. ⌜ limitsOf r ≡ carriedLimits n ⌝ }
 {
-    if book.len() > Text::LONGEST {
+    Limits {
+        nodes: n,
+        longest: Text::LONGEST_CARRIED as u32,
+        deepest: Text::DEEPEST_CARRIED,
+        from: Text::LEAST_FROM,
+        to: Text::LEAST_TO,
+        most: Text::MOST_TO,
+    }
+}
+
+// Is a book within the limits? 11 to 16.
+fn book_within(book: &[u8], limits: Limits) -> Answer
+    ensures { λ r. ⌜ asked r ≡ outcome (askBook (limitsOf limits) (now (book .entry))) ⌝ }
+{
+    if book.len() > limits.longest as usize {
         return Answer::Refused(Refusal::BookLength { place: 0 });
     }
     let mut p = 0;
@@ -269,12 +289,29 @@ fn book_within(book: &[u8], ranges: Ranges) -> Answer
         if left == 0 {
             return Answer::Refused(Refusal::BookRules { place: p });
         }
-        let step = read(book, ranges, RULE, p, 1);
+        let step = read(book, limits, RULE, p, 1);
         let Step::Next(q) = step else {
             return book_answer(step);
         };
         p = q;
         left -= 1;
+    }
+    Answer::Done
+}
+
+// Is a text one rule within the limits, and no more? 11 to 16.
+fn rule_within(text: &[u8], limits: Limits) -> Answer
+    ensures { λ r. ⌜ asked r ≡ outcome (askRule (limitsOf limits) (now (text .entry))) ⌝ }
+{
+    if text.len() > limits.longest as usize {
+        return Answer::Refused(Refusal::BookLength { place: 0 });
+    }
+    let step = read(text, limits, RULE, 0, 1);
+    let Step::Next(p) = step else {
+        return book_answer(step);
+    };
+    if p != text.len() {
+        return Answer::Refused(Refusal::BookRules { place: p });
     }
     Answer::Done
 }
@@ -286,7 +323,11 @@ impl Text {
     // bytes of a book or an edit
     pub const LONGEST: usize = 4096;
     // the last level
-    pub const DEEPEST: usize = 32;
+    pub const DEEPEST: u8 = 32;
+    // bytes and the last level of a carried book or rule
+    pub const LONGEST_CARRIED: usize = 16384;
+
+    pub const DEEPEST_CARRIED: u8 = 255;
     // rules of a book
     pub const RULES: usize = 32;
     // label numbers, arrow numbers and, where there is no sheet, node numbers are below these
@@ -306,27 +347,35 @@ impl Text {
     pub fn check_book(book: &[u8], n: usize) -> Answer
         ensures { λ r. ⌜ asked r ≡ outcome (askBook (textLimits n) (now (book .entry))) ⌝ }
     {
-        let ranges = ranges_for(n);
-        book_within(book, ranges)
+        let limits = limits_for(n);
+        book_within(book, limits)
     }
 
     // Is a stored book, which may have any count? 11 to 16 by the former ranges, n as 60. For the rewriter of stored books.
     pub fn check_former_book(book: &[u8]) -> Answer
         ensures { λ r. ⌜ asked r ≡ outcome (askBook (formerLimits maxNodes) (now (book .entry))) ⌝ }
     {
-        let ranges = former_ranges(Text::NODES);
-        book_within(book, ranges)
+        let limits = former_limits(Text::NODES);
+        book_within(book, limits)
+    }
+
+    // Is a text one carried rule? 11 to 16 by the limits of a carried book, n as 60.
+    pub fn check_carried_rule(text: &[u8]) -> Answer
+        ensures { λ r. ⌜ asked r ≡ outcome (askRule (carriedLimits maxNodes) (now (text .entry))) ⌝ }
+    {
+        let limits = carried_limits(Text::NODES);
+        rule_within(text, limits)
     }
 
     // Is an edit? 21 to 26.
     pub fn check_edit(edit: &[u8], n: usize) -> Answer
         ensures { λ r. ⌜ asked r ≡ outcome (askEdit (textLimits n) (now (edit .entry))) ⌝ }
     {
-        if edit.len() > Text::LONGEST {
+        let limits = limits_for(n);
+        if edit.len() > limits.longest as usize {
             return Answer::Refused(Refusal::EditLength { place: 0 });
         }
-        let ranges = ranges_for(n);
-        let step = read(edit, ranges, EDIT, 0, 1);
+        let step = read(edit, limits, EDIT, 0, 1);
         let Step::Next(p) = step else {
             return edit_answer(step);
         };
@@ -340,11 +389,11 @@ impl Text {
     pub fn first_rule(text: &[u8]) -> &[u8]
         ensures { λ r. ⌜ now r ≡ firstRule (now (text .entry)) ⌝ }
     {
-        if text.len() > Text::LONGEST {
+        let limits = limits_for(Text::NODES);
+        if text.len() > limits.longest as usize {
             return &text[0..0];
         }
-        let ranges = ranges_for(Text::NODES);
-        let step = read(text, ranges, RULE, 0, 1);
+        let step = read(text, limits, RULE, 0, 1);
         let Step::Next(p) = step else {
             return &text[0..0];
         };
@@ -355,11 +404,11 @@ impl Text {
     pub fn first_rule_answer(text: &[u8]) -> Answer
         ensures { λ r. ⌜ asked r ≡ outcome (askRuleEnd (now (text .entry))) ⌝ }
     {
-        if text.len() > Text::LONGEST {
+        let limits = limits_for(Text::NODES);
+        if text.len() > limits.longest as usize {
             return Answer::Refused(Refusal::BookLength { place: 0 });
         }
-        let ranges = ranges_for(Text::NODES);
-        book_answer(read(text, ranges, RULE, 0, 1))
+        book_answer(read(text, limits, RULE, 0, 1))
     }
 
     // Where rule i of a book stands, from 0: behind i rules; the book's length where there are not so many, or where they can't be read.
@@ -367,11 +416,11 @@ impl Text {
     pub fn rule_start(book: &[u8], n: usize, i: usize) -> usize
         ensures { λ r. ⌜ r ≡ ruleStart (textLimits n) i (now (book .entry)) ⌝ }
     {
-        let ranges = ranges_for(n);
+        let limits = limits_for(n);
         let mut p = 0;
         let mut left = i;
         while 0 < left {
-            let step = read(book, ranges, RULE, p, 1);
+            let step = read(book, limits, RULE, p, 1);
             let Step::Next(q) = step else {
                 return book.len();
             };

@@ -99,6 +99,14 @@ extern "C" {
         output: *mut u8,
         output_length: usize,
     ) -> CLength;
+    pub fn zamiathen_check_steps(
+        rule: *const u8,
+        rule_length: usize,
+        steps: *const u8,
+        steps_length: usize,
+        sent: *const u8,
+        sent_length: usize,
+    ) -> CAnswer;
     pub fn zamiathen_rewrite(book: *const u8, book_length: usize, output: *mut u8, output_length: usize) -> CLength;
     pub fn zamiathen_apply(sheet: *mut u8, sheet_length: usize, edit: *const u8, edit_length: usize) -> CAnswer;
     pub fn zamiathen_carry_back(

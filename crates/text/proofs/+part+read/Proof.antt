@@ -8,8 +8,7 @@ use lib.ListN.{length, getD}
 use borrow.Fn.Kinds.{In}
 use borrow.Fn.PlainCycle.{Measures, is, falls, and}
 use denote.Ref.{now}
-use Rattle.text.specs.Reading.{deepestText}
-use Rattle.text.specs.Rows.{rowPlan, rangesOf, stepAt}
+use Rattle.text.specs.Rows.{rowPlan, limitsOf, stepAt}
 use Rattle.text.proofs.Compose.{step-on}
 use Rattle.text.proofs.Entries.{row-small}
 use Rattle.text.proofs.Heads.{Headed, head-passed}
@@ -28,10 +27,10 @@ use Rattle.text.proofs.+part+read.{statement}
 use Rattle.text.proofs.+part+read.Tie.{close}
 
 abbrev μ-part : Measures 1 part-kinds.ps ℕ
-μ-part κs a = 2 * (deepestText + 1 - a .1 .1 .1 .1 .0)
+μ-part κs a = 2 * (a .1 .0 .deepest + 1 - a .1 .1 .1 .1 .0)
 
 abbrev μ-read : Measures 1 read-kinds.ps ℕ
-μ-read κs a = 2 * (deepestText + 1 - a .1 .1 .1 .1 .0) + 1
+μ-read κs a = 2 * (a .1 .0 .deepest + 1 - a .1 .1 .1 .1 .0) + 1
 
 abbrev part-at : ℕ → In 1 part-kinds.ps
 part-at t = and 1 part-kinds.ps (is 1 part-kinds.ps μ-part t) part.Pre
@@ -71,10 +70,10 @@ part-returns-2 : (t : ℕ) → part-lts.Need-returns-2 (Rp t) (part-at t) part.P
 part-returns-2 t c = c .read .ensures ∙ sym (at-deeper _ _ _ _ _ (omega arith) (omega arith))
 
 abbrev read-Inv-loop : read-lts.InvT-loop
-read-Inv-loop text ranges wanted at level row₀ p₀ row p = (stepAt text (rangesOf ranges) (rowPlan row level) p ≡ stepAt text (rangesOf ranges) (rowPlan wanted level) at) × (row < 65536) × (row % 16 < 12 → level ≤ deepestText)
+read-Inv-loop text limits wanted at level row₀ p₀ row p = (stepAt text (limitsOf limits) (rowPlan row level) p ≡ stepAt text (limitsOf limits) (rowPlan wanted level) at) × (row < 65536) × (row % 16 < 12 → level ≤ limits .deepest)
 
 abbrev read-μ-loop : read-lts.MeasureT-loop
-read-μ-loop text ranges wanted at level row₀ p₀ row p = (length text - p) * 65536 + row
+read-μ-loop text limits wanted at level row₀ p₀ row p = (length text - p) * 65536 + row
 
 read-loop-holds : (t : ℕ) → read-lts.Need-loop-holds (Rr t) (read-at t) read.Post read-Inv-loop read-μ-loop
 read-loop-holds t c = (refl, omega arith, λ h. omega arith)
@@ -96,8 +95,8 @@ read-returns t c =
 
 -- past a passed head
 module _ (t : ℕ) (c : read-lts.After-step (Rr t) (read-at t) read.Post read-Inv-loop read-μ-loop) where
-  headed : Headed (now (c .before .before .before .before .before .before .before .args .text)) (c .before .before .before .before .before .before .before .args .level) (c .before .before .before .before .before .loop .p) (c .step .given .0 .0)
-  headed = head-passed _ _ _ _ _ (sym (c .before .before .head .ensures) ∙ c .step .given .1)
+  headed : Headed (now (c .before .before .before .before .before .before .before .args .text)) (c .before .before .before .before .before .before .before .args .limits .deepest) (c .before .before .before .before .before .before .before .args .level) (c .before .before .before .before .before .loop .p) (c .step .given .0 .0)
+  headed = head-passed _ _ _ _ _ _ (sym (c .before .before .head .ensures) ∙ c .step .given .1)
 
 read-shared-slice-read-row-of : (t : ℕ) → read-lts.Need-shared-slice-read-row-of (Rr t) (read-at t) read.Post read-Inv-loop read-μ-loop
 read-shared-slice-read-row-of t c = headed t (c .before .before) .inside

@@ -4,18 +4,17 @@ use native.Mathlib.Omega.{arith}
 use mathlib.Core.Path.{_≡_, sym, ap, _∙_}
 use lib.ListN.{drop}
 use Rattle.answer.specs.Asked.{outcome}
-use Rattle.text.specs.Reading.{limitsBy}
 use Rattle.text.specs.Questions.{readRules, askBook}
-use Rattle.text.specs.Rows.{rangesOf, stepAnswer}
+use Rattle.text.specs.Rows.{limitsOf, stepAnswer}
 use Rattle.text.proofs.Answers.{book-long, book-short, rules-end, rules-full, rules-next, rules-stopped}
 use Rattle.text.proofs.book_within.Statement.{statement}
 use Rattle.text.proofs.book_within.Tie as tie
 
 abbrev Inv-loop : tie.InvT-loop
-Inv-loop book ranges p₀ left₀ p left = outcome (readRules (limitsBy (rangesOf ranges)) left (drop p book) p) ≡ outcome (askBook (limitsBy (rangesOf ranges)) book)
+Inv-loop book limits p₀ left₀ p left = outcome (readRules (limitsOf limits) left (drop p book) p) ≡ outcome (askBook (limitsOf limits) book)
 
 abbrev μ-loop : tie.MeasureT-loop
-μ-loop book ranges p₀ left₀ p left = left
+μ-loop book limits p₀ left₀ p left = left
 
 returns : tie.Need-returns Inv-loop μ-loop
 returns c = book-long _ _ (c .if1 .taken)
@@ -61,4 +60,4 @@ returns-4 c = rules-end _ _ _ _ (c .loop-test .left) ∙ c .before .loop .inv
 
 pub book-within-spec : {M : Type 1} → statement M
 book-within-spec =
-    tie.close (tie.spec Inv-loop μ-loop returns loop-holds returns-2 read-requires enum-known-step enum-told book-answer-requires returns-3 sub-left loop-less loop-again returns-4)
+    tie.close (tie.spec Inv-loop μ-loop (λ c. search needs) returns loop-holds returns-2 read-requires enum-known-step enum-told book-answer-requires returns-3 sub-left loop-less loop-again returns-4)

@@ -6,10 +6,10 @@ use Rattle.text.proofs.Text.check_edit.Statement.{statement}
 use Rattle.text.proofs.Text.check_edit.Tie as tie
 
 returns : tie.Need-returns
-returns c = edit-long _ _ (c .if1 .taken)
+returns c = edit-long _ _ (c .if1 .taken) ∙ edit-same _ _ (c .before .before .limits-for .ensures)
 
-ranges-for-requires : tie.Need-ranges-for-requires
-ranges-for-requires c κs = search needs
+limits-for-requires : tie.Need-limits-for-requires
+limits-for-requires c κs = search needs
 
 read-requires : tie.Need-read-requires
 read-requires c κs = search needs
@@ -27,14 +27,14 @@ returns-2 : tie.Need-returns-2
 returns-2 c =
     c .edit-answer .ensures
     ∙ ap (stepAnswer 20) (c .before .before .before .read .ensures)
-    ∙ edit-stopped _ _ (c .before .before .before .before .before .if1 .left) (sym (c .before .before .before .read .ensures) ∙ c .before .enum-told .given .1)
-    ∙ edit-same _ _ (c .before .before .before .before .ranges-for .ensures)
+    ∙ edit-stopped _ _ (c .before .before .before .before .if1 .left) (sym (c .before .before .before .read .ensures) ∙ c .before .enum-told .given .1)
+    ∙ edit-same _ _ (c .before .before .before .before .before .before .limits-for .ensures)
 
 returns-3 : tie.Need-returns-3
-returns-3 c = edit-extra _ _ (c .before .before .before .before .before .before .if1 .left) (sym (c .before .before .before .before .read .ensures) ∙ c .before .before .step .given .1) (c .if2 .taken) ∙ edit-same _ _ (c .before .before .before .before .before .ranges-for .ensures)
+returns-3 c = edit-extra _ _ (c .before .before .before .before .before .if1 .left) (sym (c .before .before .before .before .read .ensures) ∙ c .before .before .step .given .1) (c .if2 .taken) ∙ edit-same _ _ (c .before .before .before .before .before .before .before .limits-for .ensures)
 
 returns-4 : tie.Need-returns-4
-returns-4 c = edit-done _ _ (c .before .before .before .before .before .before .if1 .left) (sym (c .before .before .before .before .read .ensures) ∙ c .before .before .step .given .1) (c .if2 .left) ∙ edit-same _ _ (c .before .before .before .before .before .ranges-for .ensures)
+returns-4 c = edit-done _ _ (c .before .before .before .before .before .if1 .left) (sym (c .before .before .before .before .read .ensures) ∙ c .before .before .step .given .1) (c .if2 .left) ∙ edit-same _ _ (c .before .before .before .before .before .before .before .limits-for .ensures)
 
 pub check-edit-spec : {M : Type 1} → statement M
-check-edit-spec = tie.close (tie.spec returns ranges-for-requires read-requires enum-known-step enum-told edit-answer-requires returns-2 returns-3 returns-4)
+check-edit-spec = tie.close (tie.spec limits-for-requires (λ c. search needs) returns read-requires enum-known-step enum-told edit-answer-requires returns-2 returns-3 returns-4)

@@ -14,10 +14,10 @@ part-result-end : tie.Need-part-result-end
 part-result-end c = search needs
 
 returns : tie.Need-returns
-returns c = no-rule-long _ (c .before .if1 .taken)
+returns c = no-rule-long _ _ (c .before .before .before .limits-for .ensures) (c .before .if1 .taken)
 
-ranges-for-requires : tie.Need-ranges-for-requires
-ranges-for-requires c κs = search needs
+limits-for-requires : tie.Need-limits-for-requires
+limits-for-requires c κs = search needs
 
 read-requires : tie.Need-read-requires
 read-requires c κs = search needs
@@ -38,7 +38,7 @@ part-result-end-2 : tie.Need-part-result-end-2
 part-result-end-2 c = search needs
 
 returns-2 : tie.Need-returns-2
-returns-2 c = no-rule _ _ (c .before .before .before .before .ranges-for .ensures) (c .before .before .before .before .before .if1 .left) (sym (c .before .before .before .read .ensures) ∙ c .before .enum-told .given .1)
+returns-2 c = no-rule _ _ (c .before .before .before .before .before .before .limits-for .ensures) (c .before .before .before .before .if1 .left) (sym (c .before .before .before .read .ensures) ∙ c .before .enum-told .given .1)
 
 sub-result-3 : tie.Need-sub-result-3
 sub-result-3 c = search needs
@@ -47,20 +47,21 @@ part-result-start-3 : tie.Need-part-result-start-3
 part-result-start-3 c = search needs
 
 part-result-end-3 : tie.Need-part-result-end-3
-part-result-end-3 c = rule-inside _ _ (c .before .before .before .before .ranges-for .ensures) (c .before .before .before .before .before .if1 .left) (sym (c .before .before .before .read .ensures) ∙ c .before .step .given .1)
+part-result-end-3 c = rule-inside _ _ (c .before .before .before .before .before .before .limits-for .ensures) (c .before .before .before .before .if1 .left) (sym (c .before .before .before .read .ensures) ∙ c .before .step .given .1)
 
 returns-3 : tie.Need-returns-3
-returns-3 c = the-rule _ _ (c .before .before .before .before .before .ranges-for .ensures) (c .before .before .before .before .before .before .if1 .left) (sym (c .before .before .before .before .read .ensures) ∙ c .before .before .step .given .1)
+returns-3 c = the-rule _ _ (c .before .before .before .before .before .before .before .limits-for .ensures) (c .before .before .before .before .before .if1 .left) (sym (c .before .before .before .before .read .ensures) ∙ c .before .before .step .given .1)
 
 pub first-rule-spec : {M : Type 1} → statement M
 first-rule-spec =
     tie.close
     (tie.spec
+    limits-for-requires
+    (λ c. search needs)
     sub-result
     part-result-start
     part-result-end
     returns
-    ranges-for-requires
     read-requires
     enum-known-step
     enum-told

@@ -6,10 +6,10 @@ use Rattle.text.proofs.Text.first_rule_answer.Statement.{statement}
 use Rattle.text.proofs.Text.first_rule_answer.Tie as tie
 
 returns : tie.Need-returns
-returns c = first-long _ (c .if1 .taken)
+returns c = first-long _ _ (c .before .before .limits-for .ensures) (c .if1 .taken)
 
-ranges-for-requires : tie.Need-ranges-for-requires
-ranges-for-requires c κs = search needs
+limits-for-requires : tie.Need-limits-for-requires
+limits-for-requires c κs = search needs
 
 read-requires : tie.Need-read-requires
 read-requires c κs = search needs
@@ -18,7 +18,7 @@ book-answer-requires : tie.Need-book-answer-requires
 book-answer-requires c κs = search needs
 
 returns-2 : tie.Need-returns-2
-returns-2 c = c .book-answer .ensures ∙ ap (stepAnswer 10) (c .before .read .ensures) ∙ first-answer _ _ (c .before .before .ranges-for .ensures) (c .before .before .before .if1 .left)
+returns-2 c = c .book-answer .ensures ∙ ap (stepAnswer 10) (c .before .read .ensures) ∙ first-answer _ _ (c .before .before .before .before .limits-for .ensures) (c .before .before .if1 .left)
 
 pub first-rule-answer-spec : {M : Type 1} → statement M
-first-rule-answer-spec = tie.close (tie.spec returns ranges-for-requires read-requires book-answer-requires returns-2)
+first-rule-answer-spec = tie.close (tie.spec limits-for-requires (λ c. search needs) returns read-requires book-answer-requires returns-2)

@@ -5,25 +5,25 @@ use Prim.Native.Nat.{_≤_}
 use lib.ListN.{length, drop}
 use denote.Ref.{now}
 use Rattle.logic.specs.Syntax.{rule}
-use Rattle.text.specs.Reading.{limitsBy, textLimits, expr}
+use Rattle.text.specs.Reading.{textLimits, expr}
 use Rattle.text.specs.Questions.{rulesEnd, ruleStart}
-use Rattle.text.specs.Rows.{rangesOf}
+use Rattle.text.specs.Rows.{limitsOf}
 use Rattle.text.proofs.Answers.{was-read, start-here, start-next, start-stopped}
 use Rattle.text.proofs.Text.rule_start.Statement.{statement}
 use Rattle.text.proofs.Text.rule_start.Tie as tie
 
 abbrev Inv-loop : tie.InvT-loop
-Inv-loop book n i ranges p₀ left₀ p left = (p ≤ length book) × (rulesEnd (limitsBy (rangesOf ranges)) left (drop p book) p ≡ ruleStart (textLimits n) i book)
+Inv-loop book n i limits p₀ left₀ p left = (p ≤ length book) × (rulesEnd (limitsOf limits) left (drop p book) p ≡ ruleStart (textLimits n) i book)
 
 abbrev μ-loop : tie.MeasureT-loop
-μ-loop book n i ranges p₀ left₀ p left = left
+μ-loop book n i limits p₀ left₀ p left = left
 
-ranges-for-requires : tie.Need-ranges-for-requires Inv-loop μ-loop
-ranges-for-requires c κs = search needs
+limits-for-requires : tie.Need-limits-for-requires Inv-loop μ-loop
+limits-for-requires c κs = search needs
 
 loop-holds : tie.Need-loop-holds Inv-loop μ-loop
 unfolding ruleStart
-loop-holds c = (search needs, ap (λ r. rulesEnd (limitsBy r) (c .before .before .args .i) (now (c .before .before .args .book)) 0) (c .ranges-for .ensures))
+loop-holds c = (search needs, ap (λ r. rulesEnd r (c .before .before .args .i) (now (c .before .before .args .book)) 0) (c .limits-for .ensures))
 
 read-requires : tie.Need-read-requires Inv-loop μ-loop
 read-requires c κs = search needs
@@ -56,4 +56,4 @@ returns-2 : tie.Need-returns-2 Inv-loop μ-loop
 returns-2 c = start-here _ _ _ _ (c .loop-test .left) ∙ c .before .loop .inv .1
 
 pub rule-start-spec : {M : Type 1} → statement M
-rule-start-spec = tie.close (tie.spec Inv-loop μ-loop ranges-for-requires loop-holds read-requires enum-known-step enum-told returns sub-left loop-less loop-again returns-2)
+rule-start-spec = tie.close (tie.spec Inv-loop μ-loop limits-for-requires loop-holds read-requires enum-known-step enum-told returns sub-left loop-less loop-again returns-2)

@@ -1,0 +1,50 @@
+-- The code of a term with x at a place: what stands before, the code of x, what stands behind. So the offset of the place is that of x's code.
+use mathlib.Core.Path.{_≡_, refl, sym, _∙_, ap, ap₂}
+use mathlib.Core.List.{List, [], _∷_, _++_, append-assoc, append-nil}
+use Prim.Native.Nat.{ℕ, suc, _+_, _≤_, _<_}
+use native.Mathlib.Omega.{arith}
+use lib.ListN.{length, drop, length-append}
+use lib.Seq.{drop-append-seam}
+use Rattle.logic.specs.Syntax.{Sort, node, arrow, rule, Expr, all, none, label, nominal, complement, and, or, some, every, atLeast, atMost, arrowKind, reversed, union, common, minus, endingIn, pair, subNodes, subArrows, nodeIn, pairIn, both, either, notRule}
+use Rattle.text.specs.Code.{code}
+use Rattle.laws.specs.Place.{Unary, complement·, reversed·, nodeIn·, pairIn·, notRule·, Binary, and·, or·, some·, every·, atLeast·, atMost·, union·, common·, minus·, endingIn·, subNodes·, subArrows·, both·, either·, build1, build2, head1, head2, Context, here, only, first, second, put, before, behind}
+
+pub code-build1 : {u t : Sort} (b : Unary u t) (x : Expr u) → code (build1 b x) ≡ head1 b ++ code x
+unfolding code build1 head1
+code-build1 complement· x = refl
+code-build1 reversed· x = refl
+code-build1 (nodeIn· m) x = refl
+code-build1 (pairIn· i j) x = refl
+code-build1 notRule· x = refl
+
+pub code-build2 : {u v t : Sort} (b : Binary u v t) (x : Expr u) (y : Expr v) → code (build2 b x y) ≡ head2 b ++ (code x ++ code y)
+unfolding code build2 head2
+code-build2 and· x y = refl
+code-build2 or· x y = refl
+code-build2 some· x y = refl
+code-build2 every· x y = refl
+code-build2 (atLeast· m) x y = refl
+code-build2 (atMost· m) x y = refl
+code-build2 union· x y = refl
+code-build2 common· x y = refl
+code-build2 minus· x y = refl
+code-build2 endingIn· x y = refl
+code-build2 subNodes· x y = refl
+code-build2 subArrows· x y = refl
+code-build2 both· x y = refl
+code-build2 either· x y = refl
+
+pub code-put : {s t : Sort} (c : Context s t) (x : Expr s) → code (put c x) ≡ before c ++ (code x ++ behind c)
+unfolding put before behind
+code-put here x = sym (append-nil (code x))
+code-put (only u c) x = code-build1 u (put c x) ∙ ap (head1 u ++_) (code-put c x) ∙ sym (append-assoc (head1 u) (before c) (code x ++ behind c))
+code-put (first b c y) x =
+    code-build2 b (put c x) y
+    ∙ ap (λ z. head2 b ++ (z ++ code y)) (code-put c x)
+    ∙ ap (head2 b ++_) (append-assoc (before c) (code x ++ behind c) (code y) ∙ ap (before c ++_) (append-assoc (code x) (behind c) (code y)))
+    ∙ sym (append-assoc (head2 b) (before c) (code x ++ (behind c ++ code y)))
+code-put (second b y c) x =
+    code-build2 b y (put c x)
+    ∙ ap (λ z. head2 b ++ (code y ++ z)) (code-put c x)
+    ∙ ap (head2 b ++_) (sym (append-assoc (code y) (before c) (code x ++ behind c)))
+    ∙ sym (append-assoc (head2 b) (code y ++ before c) (code x ++ behind c))

@@ -1,0 +1,171 @@
+-- After a fitting step the text is again one rule within the limits: shorter, no deeper, its numbers in range.
+-- And what the step does to the bytes.
+use mathlib.Core.Path.{_≡_, refl, sym, _∙_, ap, ap₂, subst}
+use mathlib.Core.List.{List, [], _∷_, _++_, append-assoc}
+use Prim.Native.Nat.{ℕ, suc, _+_, max, _≤_, _<_}
+use native.Mathlib.Omega.{arith}
+use lib.ListN.{length, length-append}
+use Rattle.logic.specs.Syntax.{Sort, node, arrow, rule, Expr, all, none, label, nominal, complement, and, or, some, every, atLeast, atMost, arrowKind, reversed, union, common, minus, endingIn, pair, subNodes, subArrows, nodeIn, pairIn, both, either, notRule}
+use Rattle.logic.specs.Limits.{Ranges, InRange}
+use Rattle.text.specs.Code.{code, levels}
+use Rattle.laws.specs.Place.{Unary, complement·, reversed·, nodeIn·, pairIn·, notRule·, Binary, and·, or·, some·, every·, atLeast·, atMost·, union·, common·, minus·, endingIn·, subNodes·, subArrows·, both·, either·, build1, build2, Context, here, only, first, second, put, before, behind}
+use Rattle.laws.specs.Laws.{Law, laws, operand1, operand2, made, numbered, Step, Fits}
+use Rattle.laws.proofs.Codes.{code-put}
+use Rattle.laws.proofs.Sound.{_&_, Each, OfMade, of-numbered}
+
+-- The bytes: what stands before and behind stays.
+pub bytes-before : (x : Step) {t : Sort} (e e′ : Expr t) (f : Fits x e e′) → code e ≡ before (f .place) ++ (code (f .law .left (f .variable)) ++ behind (f .place))
+bytes-before x e e′ f = ap code (f .from) ∙ code-put (f .place) (f .law .left (f .variable))
+
+pub bytes-after : (x : Step) {t : Sort} (e e′ : Expr t) (f : Fits x e e′) → code e′ ≡ before (f .place) ++ (code (f .law .right (f .variable)) ++ behind (f .place))
+bytes-after x e e′ f = ap code (f .to) ∙ code-put (f .place) (f .law .right (f .variable))
+
+-- Each law's right side is shorter.
+abbrev Shorter : {s : Sort} → Law s → Type 0
+Shorter {s} l = (x : Expr s) → length (code (l .right x)) < length (code (l .left x))
+
+laws-shorter : (s : Sort) → Each Shorter (laws s)
+unfolding Each laws code
+laws-shorter node = (λ x. omega arith) & (λ x. omega (arith, length-append (code x) (code x))) & (λ x. omega (arith, length-append (code x) (code x))) & (λ x. omega (arith, length-append (code x) (code (complement x)))) & (λ x. omega arith) & (λ x. omega arith) & tt
+laws-shorter arrow = tt
+laws-shorter rule = (λ x. omega arith) & (λ x. omega (arith, length-append (code x) (code x))) & tt
+
+pub step-shorter : (x : Step) {t : Sort} (e e′ : Expr t) → Fits x e e′ → length (code e′) < length (code e)
+step-shorter x e e′ f =
+    omega (
+      arith,
+      ap length (bytes-before x e e′ f),
+      ap length (bytes-after x e e′ f),
+      length-append (before (f .place)) (code (f .law .left (f .variable)) ++ behind (f .place)),
+      length-append (before (f .place)) (code (f .law .right (f .variable)) ++ behind (f .place)),
+      length-append (code (f .law .left (f .variable))) (behind (f .place)),
+      length-append (code (f .law .right (f .variable))) (behind (f .place)),
+      subst (OfMade Shorter) (f .number-right) (of-numbered Shorter (x .law) (laws (f .sort)) (laws-shorter (f .sort))) (f .variable),
+    )
+
+-- And no deeper.
+levels-build1 : {u t : Sort} (b : Unary u t) (x : Expr u) → levels (build1 b x) ≡ suc (levels x)
+unfolding levels build1
+levels-build1 complement· x = refl
+levels-build1 reversed· x = refl
+levels-build1 (nodeIn· m) x = refl
+levels-build1 (pairIn· i j) x = refl
+levels-build1 notRule· x = refl
+
+levels-build2 : {u v t : Sort} (b : Binary u v t) (x : Expr u) (y : Expr v) → levels (build2 b x y) ≡ suc (max (levels x) (levels y))
+unfolding levels build2
+levels-build2 and· x y = refl
+levels-build2 or· x y = refl
+levels-build2 some· x y = refl
+levels-build2 every· x y = refl
+levels-build2 (atLeast· m) x y = refl
+levels-build2 (atMost· m) x y = refl
+levels-build2 union· x y = refl
+levels-build2 common· x y = refl
+levels-build2 minus· x y = refl
+levels-build2 endingIn· x y = refl
+levels-build2 subNodes· x y = refl
+levels-build2 subArrows· x y = refl
+levels-build2 both· x y = refl
+levels-build2 either· x y = refl
+
+levels-put : {s t : Sort} (c : Context s t) (x y : Expr s) → levels x ≤ levels y → levels (put c x) ≤ levels (put c y)
+unfolding put
+levels-put here x y h = h
+levels-put (only u c) x y h = omega (arith, levels-build1 u (put c x), levels-build1 u (put c y), levels-put c x y h)
+levels-put (first b c z) x y h = omega (arith, levels-build2 b (put c x) z, levels-build2 b (put c y) z, levels-put c x y h)
+levels-put (second b z c) x y h = omega (arith, levels-build2 b z (put c x), levels-build2 b z (put c y), levels-put c x y h)
+
+abbrev NoDeeper : {s : Sort} → Law s → Type 0
+NoDeeper {s} l = (x : Expr s) → levels (l .right x) ≤ levels (l .left x)
+
+laws-no-deeper : (s : Sort) → Each NoDeeper (laws s)
+unfolding Each laws levels
+laws-no-deeper node = (λ x. omega arith) & (λ x. omega arith) & (λ x. omega arith) & (λ x. omega arith) & (λ x. omega arith) & (λ x. omega arith) & tt
+laws-no-deeper arrow = tt
+laws-no-deeper rule = (λ x. omega arith) & (λ x. omega arith) & tt
+
+pub step-no-deeper : (x : Step) {t : Sort} (e e′ : Expr t) → Fits x e e′ → levels e′ ≤ levels e
+step-no-deeper x e e′ f =
+    let h : levels (put (f .place) (f .law .right (f .variable))) ≤ levels (put (f .place) (f .law .left (f .variable))) = levels-put (f .place) (f .law .right (f .variable)) (f .law .left (f .variable)) (subst (OfMade NoDeeper) (f .number-right) (of-numbered NoDeeper (x .law) (laws (f .sort)) (laws-no-deeper (f .sort))) (f .variable)) in
+    rw (f .from, f .to) h
+
+-- And its numbers are in range.
+module _ (r : Ranges) where
+  pub range-one : {u t : Sort} (b : Unary u t) (x : Expr u) → InRange r (build1 b x) → InRange r x
+  unfolding InRange build1
+  range-one complement· x q = q
+  range-one reversed· x q = q
+  range-one (nodeIn· m) x q = q .1
+  range-one (pairIn· i j) x q = q .2
+  range-one notRule· x q = q
+
+  range-one-put : {u t : Sort} (b : Unary u t) (x y : Expr u) → InRange r (build1 b x) → InRange r y → InRange r (build1 b y)
+  unfolding InRange build1
+  range-one-put complement· x y q p = p
+  range-one-put reversed· x y q p = p
+  range-one-put (nodeIn· m) x y q p = (q .0, p)
+  range-one-put (pairIn· i j) x y q p = (q .0, q .1, p)
+  range-one-put notRule· x y q p = p
+
+  pub range-two : {u v t : Sort} (b : Binary u v t) (x : Expr u) (y : Expr v) → InRange r (build2 b x y) → InRange r x × InRange r y
+  unfolding InRange build2
+  range-two and· x y q = (q .0, q .1)
+  range-two or· x y q = (q .0, q .1)
+  range-two some· x y q = (q .0, q .1)
+  range-two every· x y q = (q .0, q .1)
+  range-two (atLeast· m) x y q = (q .1, q .2)
+  range-two (atMost· m) x y q = (q .1, q .2)
+  range-two union· x y q = (q .0, q .1)
+  range-two common· x y q = (q .0, q .1)
+  range-two minus· x y q = (q .0, q .1)
+  range-two endingIn· x y q = (q .0, q .1)
+  range-two subNodes· x y q = (q .0, q .1)
+  range-two subArrows· x y q = (q .0, q .1)
+  range-two both· x y q = (q .0, q .1)
+  range-two either· x y q = (q .0, q .1)
+
+  range-two-put : {u v t : Sort} (b : Binary u v t) (x x′ : Expr u) (y y′ : Expr v) → InRange r (build2 b x y) → InRange r x′ → InRange r y′ → InRange r (build2 b x′ y′)
+  unfolding InRange build2
+  range-two-put and· x x′ y y′ q p s = (p, s)
+  range-two-put or· x x′ y y′ q p s = (p, s)
+  range-two-put some· x x′ y y′ q p s = (p, s)
+  range-two-put every· x x′ y y′ q p s = (p, s)
+  range-two-put (atLeast· m) x x′ y y′ q p s = (q .0, p, s)
+  range-two-put (atMost· m) x x′ y y′ q p s = (q .0, p, s)
+  range-two-put union· x x′ y y′ q p s = (p, s)
+  range-two-put common· x x′ y y′ q p s = (p, s)
+  range-two-put minus· x x′ y y′ q p s = (p, s)
+  range-two-put endingIn· x x′ y y′ q p s = (p, s)
+  range-two-put subNodes· x x′ y y′ q p s = (p, s)
+  range-two-put subArrows· x x′ y y′ q p s = (p, s)
+  range-two-put both· x x′ y y′ q p s = (p, s)
+  range-two-put either· x x′ y y′ q p s = (p, s)
+
+  pub range-at : {s t : Sort} (c : Context s t) (x : Expr s) → InRange r (put c x) → InRange r x
+  unfolding put
+  range-at here x q = q
+  range-at (only u c) x q = range-at c x (range-one u (put c x) q)
+  range-at (first b c z) x q = range-at c x (range-two b (put c x) z q .0)
+  range-at (second b z c) x q = range-at c x (range-two b z (put c x) q .1)
+
+  range-put : {s t : Sort} (c : Context s t) (x y : Expr s) → InRange r (put c x) → InRange r y → InRange r (put c y)
+  unfolding put
+  range-put here x y q p = p
+  range-put (only u c) x y q p = range-one-put u (put c x) (put c y) q (range-put c x y (range-one u (put c x) q) p)
+  range-put (first b c z) x y q p = range-two-put b (put c x) (put c y) z z q (range-put c x y (range-two b (put c x) z q .0) p) (range-two b (put c x) z q .1)
+  range-put (second b z c) x y q p = range-two-put b z z (put c x) (put c y) q (range-two b z (put c x) q .0) (range-put c x y (range-two b z (put c x) q .1) p)
+
+  abbrev InRangeToo : {s : Sort} → Law s → Type 0
+  InRangeToo {s} l = (x : Expr s) → InRange r (l .left x) → InRange r (l .right x)
+
+  laws-in-range : (s : Sort) → Each InRangeToo (laws s)
+  unfolding Each laws InRange
+  laws-in-range node = (λ x q. q) & (λ x q. q .0) & (λ x q. q .0) & (λ x q. tt) & (λ x q. tt) & (λ x q. q .1) & tt
+  laws-in-range arrow = tt
+  laws-in-range rule = (λ x q. q) & (λ x q. q .0) & tt
+
+  pub step-in-range : (x : Step) {t : Sort} (e e′ : Expr t) → Fits x e e′ → InRange r e → InRange r e′
+  step-in-range x e e′ f q =
+      let p : InRange r (put (f .place) (f .law .left (f .variable))) = subst (InRange r) (f .from) q in
+      subst (InRange r) (sym (f .to)) (range-put (f .place) (f .law .left (f .variable)) (f .law .right (f .variable)) p (subst (OfMade InRangeToo) (f .number-right) (of-numbered InRangeToo (x .law) (laws (f .sort)) (laws-in-range (f .sort))) (f .variable) (range-at (f .place) (f .law .left (f .variable)) p)))

@@ -1,0 +1,10 @@
+pub mod Spans
+pub mod Sides
+pub mod Terms
+pub mod Texts
+pub mod Lefts
+pub mod Fitting
+pub mod Leaving
+pub mod Comparing
+pub mod Leading
+pub mod Checking
