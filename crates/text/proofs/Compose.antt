@@ -117,6 +117,18 @@ abbrev pub andThen : Step → (ℕ → Step) → Step
 andThen (Next p) k = k p
 andThen (Stopped s) k = Stopped s
 
+pub then-next : (s : Step) (k : ℕ → Step) → ((p : ℕ) → k p ≡ Next p) → andThen s k ≡ s
+then-next (Next p) k h = h p
+then-next (Stopped s) k h = refl
+
+pub then-then : (s : Step) (k h : ℕ → Step) → andThen (andThen s k) h ≡ andThen s (λ p. andThen (k p) h)
+then-then (Next p) k h = refl
+then-then (Stopped s) k h = refl
+
+pub then-same : (s : Step) (k h : ℕ → Step) → ((p : ℕ) → k p ≡ h p) → andThen s k ≡ andThen s h
+then-same (Next p) k h e = e p
+then-same (Stopped s) k h e = refl
+
 module _ (text : List ℕ) (ρ : Limits) where
   pub step-then : {A B : Type 0} (p : Plan A) (q : Plan B) (at : ℕ) → stepAt text ρ (p >>= (λ a. q)) at ≡ andThen (stepAt text ρ p at) (λ m. stepAt text ρ q m)
   unfolding stepAt stepOf continue
@@ -125,11 +137,3 @@ module _ (text : List ℕ) (ρ : Limits) where
       go : (r : Read A) → ReachedBy text at r → stepOf (continue ρ r (λ a. q)) ≡ andThen (stepOf r) (λ m. stepOf (follow ρ (drop m text) q m))
       go (got a rest m) h = ap (λ z. stepOf (follow ρ z q m)) (h .rest-is)
       go (fault why m) h = refl
-
-  pub step-on : {A : Type 0} (p : Plan A) (at m : ℕ) → stepAt text ρ p at ≡ Next m → at ≤ m
-  unfolding stepAt stepOf
-  step-on {A} p at m h = go (follow ρ (drop at text) p at) (reached ρ text p at) h
-    where
-      go : (r : Read A) → ReachedBy text at r → stepOf r ≡ Next m → at ≤ m
-      go (got a rest q) k e = let z : q ≡ m = cc in omega (arith, k .on)
-      go (fault why q) k e = let z : _≡_ {A = ℕ} 0 1 = cc in absurd (omega arith)

@@ -142,6 +142,18 @@ has-entry edit d c h n =
     below : (c : ℕ) → c ≤ 0x35 → c < 0x36
     below c k = omega arith
 
+-- A byte that is none of the codes.
+pub no-code : (c : ℕ) → ((w : Want) → Differ c (codes 0 w)) → 0 ≡ rowOf c
+unfolding sortDigit rowIn
+no-code c n = go (codeSort c) refl
+  where
+    go : (s : CodeSort) → codeSort c ≡ s → 0 ≡ rowIn (codeSort c) c
+    go nodes e = absurd (has-entry (expr node) 0 c (ap sortDigit e) (n (expr node)))
+    go arrows e = absurd (has-entry (expr arrow) 0 c (ap sortDigit e) (n (expr arrow)))
+    go rules e = absurd (has-entry (expr rule) 0 c (ap sortDigit e) (n (expr rule)))
+    go edits e = absurd (has-entry edit 0 c (ap sortDigit e) (n edit))
+    go noCode e = sym (ap (λ s. rowIn s c) e)
+
 -- Rows have four digits at most.
 unfoldable small : List ℕ → Bool
 small [] = true

@@ -18,7 +18,7 @@ each-below P zero h x l = absurd (omega arith)
 each-below P (suc m) h x l = elim (decLt x m) [ yes k ↦ each-below P m (h .0) x k | no k ↦ (let e : m ≡ x = omega arith in subst P e (h .1)) ]
 
 -- The items by their digits: below 3 nothing, then numbers to 7, things one level deeper to B, things on the code's own level to F.
-pub nothing-at : (x : ℕ) → x < 3 → itemOf x ≡ nothing
+nothing-at : (x : ℕ) → x < 3 → itemOf x ≡ nothing
 unfolding itemOf items
 nothing-at = each-below (λ x. itemOf x ≡ nothing) 3 (((tt, refl), refl), refl)
 
@@ -80,6 +80,15 @@ pub here-row : (row d : ℕ) (w : Want) → itemOf (row % 16) ≡ here w → row
 unfolding rowPlan
 here-row row d w e = here-item (itemOf (row % 16)) d w _ e
 
+-- a row that begins with nothing ends there
+end-item : (i : Item) (d : ℕ) (rest : Plan (Unit {0})) → i ≡ nothing → itemPlan i d rest ≡ finished
+unfolding itemPlan
+end-item i d rest e = ap (λ j. itemPlan j d rest) e
+
+pub end-row : (row d : ℕ) → row % 16 < 3 → rowPlan row d ≡ finished
+unfolding rowPlan
+end-row row d h = end-item (itemOf (row % 16)) d _ (nothing-at (row % 16) h)
+
 -- a row opened at its first item
 tail : (d b b′ c c′ z : ℕ) → b ≡ b′ → c ≡ c′ → z ≡ 0 → itemPlan (itemOf b) d (itemPlan (itemOf c) d finished) ≡ itemPlan (itemOf b′) d (itemPlan (itemOf c′) d (itemPlan (itemOf z) d finished))
 unfolding itemPlan itemOf items
@@ -89,24 +98,23 @@ pub row-opens : (row d : ℕ) → row < 65536 → rowPlan row d ≡ itemPlan (it
 unfolding rowPlan
 row-opens row d h = ap (λ r. itemPlan (itemOf (row % 16)) d (itemPlan (itemOf (row / 16 % 16)) d r)) (tail d (row / 256 % 16) (row / 16 / 16 % 16) (row / 4096 % 16) (row / 16 / 256 % 16) (row / 16 / 4096 % 16) (omega arith) (omega arith) (omega arith))
 
-abbrev pub NotHere : Item → Type 0
-NotHere nothing = Unit {0}
-NotHere (takes k) = Unit {0}
-NotHere (deeper w) = Unit {0}
-NotHere (here w) = ⊥
+-- an item after which the row goes on
+abbrev pub GoesOn : Item → Type 0
+GoesOn nothing = ⊥
+GoesOn (takes k) = Unit {0}
+GoesOn (deeper w) = Unit {0}
+GoesOn (here w) = ⊥
 
-pub not-here : (x : ℕ) → x < 12 → NotHere (itemOf x)
+goes-on-at : (x : ℕ) → x < 9 → GoesOn (itemOf (3 + x))
 unfolding itemOf items
-not-here = each-below (λ x. NotHere (itemOf x)) 12 ((((((((((((tt, tt), tt), tt), tt), tt), tt), tt), tt), tt), tt), tt), tt)
+goes-on-at = each-below (λ x. GoesOn (itemOf (3 + x))) 9 (((((((((tt, tt), tt), tt), tt), tt), tt), tt), tt), tt)
 
-pub item-then : (i : Item) (d : ℕ) (rest : Plan (Unit {0})) → NotHere i → itemPlan i d rest ≡ itemPlan i d finished >>= (λ u. rest)
+pub goes-on : (x : ℕ) → 3 ≤ x → x < 12 → GoesOn (itemOf x)
+goes-on x h k = let e : 3 + (x - 3) ≡ x = omega arith in subst (λ y. GoesOn (itemOf y)) e (goes-on-at (x - 3) (omega arith))
+
+pub item-then : (i : Item) (d : ℕ) (rest : Plan (Unit {0})) → GoesOn i → itemPlan i d rest ≡ itemPlan i d finished >>= (λ u. rest)
 unfolding itemPlan _>>=_
-item-then nothing d rest h = refl
+item-then nothing d rest h = absurd h
 item-then (takes k) d rest h = refl
 item-then (deeper w) d rest h = refl
 item-then (here w) d rest h = absurd h
-
--- Below 8 an item is on no level.
-pub level-free : (d x : ℕ) → x < 8 → itemPlan (itemOf x) 0 finished ≡ itemPlan (itemOf x) d finished
-unfolding itemPlan itemOf items
-level-free d = each-below (λ x. itemPlan (itemOf x) 0 finished ≡ itemPlan (itemOf x) d finished) 8 ((((((((tt, refl), refl), refl), refl), refl), refl), refl), refl)

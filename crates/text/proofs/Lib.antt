@@ -14,4 +14,5 @@ pub mod Entries
 pub mod Turns
 pub mod Heads
 pub mod Numbers
+pub mod Remaining
 pub mod Answers

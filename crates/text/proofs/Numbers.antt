@@ -13,9 +13,8 @@ use Rattle.logic.specs.Limits.{Kind, labelCount, arrowCount, Ranges, fits}
 use Rattle.text.specs.declared.Stop.the-variants.{Missing, OutOfRange}
 use Rattle.text.specs.declared.Step.the-variants.{Next, Stopped}
 use Rattle.text.specs.Reading.{Limits, number, Read, fault, outOfRange, follow}
-use Rattle.text.specs.Rows.{nothing, takes, items, itemOf, itemPlan, finished, rowPlan, numberFits, stopOf, stepOf, stepAt}
-use Rattle.text.proofs.Items.{nothing-at, is-number, level-free}
-use Rattle.text.proofs.Turns.{at-end}
+use Rattle.text.specs.Rows.{takes, items, itemOf, itemPlan, finished, numberFits, stopOf, stepOf, stepAt}
+use Rattle.text.proofs.Items.{is-number}
 
 module _ (text : List ℕ) (ρ : Limits) where
   -- A number of a kind.
@@ -35,27 +34,18 @@ module _ (text : List ℕ) (ρ : Limits) where
       go true t = next t
       go false t = refl
 
-  pub nothing-there : (d at : ℕ) → stepAt text ρ (itemPlan nothing d finished) at ≡ Next at
-  unfolding itemPlan rowPlan itemOf items
-  nothing-there d at = at-end text ρ d at
+-- An item that is a number, by its digit: it is missing, or in its range or not.
+module _ (text : List ℕ) (ρ : Limits) (x d at : ℕ) (low : 3 ≤ x) (high : x < 8) where
+  pub number-ends : length text ≤ at → stepAt text ρ (itemPlan (itemOf x) d finished) at ≡ Stopped (Missing at)
+  number-ends h = let q = is-number x low high in ap (λ i. stepAt text ρ (itemPlan i d finished) at) (q .item-is) ∙ number-missing text ρ (q .kind) d at h
 
--- The four cases of a number.
-module _ (text : List ℕ) (ρ : Limits) (x at : ℕ) where
-  pub number-nothing : x < 3 → Next at ≡ stepAt text ρ (itemPlan (itemOf x) 0 finished) at
-  number-nothing h = sym (ap (λ i. stepAt text ρ (itemPlan i 0 finished) at) (nothing-at x h) ∙ nothing-there text ρ 0 at)
-
-  module _ (low : 3 ≤ x) (high : x < 8) where
-    pub number-ends : length text ≤ at → Stopped (Missing at) ≡ stepAt text ρ (itemPlan (itemOf x) 0 finished) at
-    number-ends h = let q = is-number x low high in sym (ap (λ i. stepAt text ρ (itemPlan i 0 finished) at) (q .item-is) ∙ number-missing text ρ (q .kind) 0 at h)
-
-    pub number-is : (b : Bool) → at < length text → numberFits (ρ .numbers) (itemOf x) (getD text at 0) ≡ b → cond b (Next (at + 1)) (Stopped (OutOfRange at)) ≡ stepAt text ρ (itemPlan (itemOf x) 0 finished) at
-    unfolding numberFits
-    number-is b h e =
-        let q = is-number x low high in
-        sym
-        (ap (λ i. stepAt text ρ (itemPlan i 0 finished) at) (q .item-is)
-        ∙ number-there text ρ (q .kind) 0 at h
-        ∙ ap (λ c. cond c (Next (at + 1)) (Stopped (OutOfRange at))) (sym (ap (λ i. numberFits (ρ .numbers) i (getD text at 0)) (q .item-is)) ∙ e))
+  pub number-is : (b : Bool) → at < length text → numberFits (ρ .numbers) (itemOf x) (getD text at 0) ≡ b → stepAt text ρ (itemPlan (itemOf x) d finished) at ≡ cond b (Next (at + 1)) (Stopped (OutOfRange at))
+  unfolding numberFits
+  number-is b h e =
+      let q = is-number x low high in
+      ap (λ i. stepAt text ρ (itemPlan i d finished) at) (q .item-is)
+      ∙ number-there text ρ (q .kind) d at h
+      ∙ ap (λ c. cond c (Next (at + 1)) (Stopped (OutOfRange at))) (sym (ap (λ i. numberFits (ρ .numbers) i (getD text at 0)) (q .item-is)) ∙ e)
 
 -- The kinds by their digits.
 module _ (ρ : Ranges) (x y : ℕ) where
@@ -84,7 +74,3 @@ module _ (ρ : Ranges) (x y : ℕ) where
   pub most-fits : 3 ≤ x → x < 8 → (x ≡ 3 → ⊥) → (x ≡ 4 → ⊥) → (x ≡ 5 → ⊥) → (x ≡ 6 → ⊥) → leb y (ρ .mostTo) ≡ numberFits ρ (itemOf x) y
   unfolding numberFits itemOf items
   most-fits low high a b c d = let e : x ≡ 7 = omega arith in sym (ap (λ k. numberFits ρ (itemOf k) y) e)
-
--- below 8 an item is on no level
-pub any-level : (text : List ℕ) (ρ : Limits) (x d at : ℕ) → x < 8 → stepAt text ρ (itemPlan (itemOf x) 0 finished) at ≡ stepAt text ρ (itemPlan (itemOf x) d finished) at
-any-level text ρ x d at h = ap (λ z. stepAt text ρ z at) (level-free d x h)

@@ -10,14 +10,13 @@ use lib.Dec.{leb, eqb}
 use lib.ListN.{length, getD, drop, drop-of-length-le}
 use lib.Seq.{drop-cons}
 use borrow.Author.Tests.{lt-ltb, le-ltb, eqb-true, eqb-false}
-use Rattle.text.specs.declared.Stop.{Stop}
 use Rattle.text.specs.declared.Stop.the-variants.{Missing, WrongSort, TooDeep}
 use Rattle.text.specs.declared.Step.{Step}
 use Rattle.text.specs.declared.Step.the-variants.{Next, Stopped}
 use Rattle.text.specs.Reading.{Limits, Want, Thing, Plan, operand, _>>=_, Read, fault, tooDeep, codes, follow}
-use Rattle.text.specs.Rows.{items, itemOf, rowOf, itemPlan, finished, rowPlan, sortOf, stopOf, stepOf, stepAt, headAt}
+use Rattle.text.specs.Rows.{itemOf, rowOf, itemPlan, finished, rowPlan, sortOf, stopOf, stepOf, stepAt, headAt}
 use Rattle.text.proofs.Compose.{Alike, alike-bind, alike-steps, andThen, step-then}
-use Rattle.text.proofs.Items.{is-deeper, is-here, digit, here-row, row-opens, not-here, item-then}
+use Rattle.text.proofs.Items.{is-deeper, is-here, digit, here-row, end-row, row-opens, goes-on, item-then}
 use Rattle.text.proofs.Entries.{codes-rows, no-entry, an-entry, has-entry}
 
 -- what the questions at a code byte answer: it is of the sort, its level is within the limit
@@ -66,9 +65,9 @@ module _ (text : List ℕ) (ρ : Limits) where
           ∙ ap (λ b. andThen (cond b (headed sort level at (Next (at + 1))) (Stopped (Missing at))) (λ p. stepAt text ρ (rowPlan (rowOf (getD text at 0)) d) p)) (sym (lt-ltb at (length text) h))
 
   -- A row at its first item, where that stands not on the code's own level: the item, and then the others.
-  pub at-item : (row d at : ℕ) → row < 65536 → row % 16 < 12 → stepAt text ρ (rowPlan row d) at ≡ andThen (stepAt text ρ (itemPlan (itemOf (row % 16)) d finished) at) (λ p. stepAt text ρ (rowPlan (row / 16) d) p)
-  at-item row d at h k =
-      ap (λ z. stepAt text ρ z at) (row-opens row d h ∙ item-then (itemOf (row % 16)) d (rowPlan (row / 16) d) (not-here (row % 16) k))
+  pub at-item : (row d at : ℕ) → row < 65536 → 3 ≤ row % 16 → row % 16 < 12 → stepAt text ρ (rowPlan row d) at ≡ andThen (stepAt text ρ (itemPlan (itemOf (row % 16)) d finished) at) (λ p. stepAt text ρ (rowPlan (row / 16) d) p)
+  at-item row d at h l k =
+      ap (λ z. stepAt text ρ z at) (row-opens row d h ∙ item-then (itemOf (row % 16)) d (rowPlan (row / 16) d) (goes-on (row % 16) l k))
       ∙ step-then text ρ (itemPlan (itemOf (row % 16)) d finished) (rowPlan (row / 16) d) at
 
   -- A row whose first item stands there: a code, and then its row.
@@ -79,10 +78,10 @@ module _ (text : List ℕ) (ρ : Limits) where
       ∙ at-code (q .want) d at
       ∙ ap (λ x. andThen (headAt text (ρ .deepest) x d at) (λ p. stepAt text ρ (rowPlan (rowOf (getD text at 0)) d) p)) (sym (q .digit-is))
 
-  -- An empty row is read.
-  pub at-end : (d at : ℕ) → stepAt text ρ (rowPlan 0 d) at ≡ Next at
-  unfolding rowPlan itemPlan itemOf items stepAt stepOf follow
-  at-end d at = go (drop at text)
+  -- A row that has ended is read.
+  pub at-end : (row d at : ℕ) → row % 16 < 3 → stepAt text ρ (rowPlan row d) at ≡ Next at
+  unfolding stepAt stepOf follow
+  at-end row d at h = ap (λ z. stepAt text ρ z at) (end-row row d h) ∙ go (drop at text)
     where
       go : (t : List ℕ) → stepOf (follow ρ t finished at) ≡ Next at
       go [] = refl
@@ -98,22 +97,3 @@ module _ (text : List ℕ) (ρ : Limits) where
       (ap (λ j. itemPlan j d finished) (q .item-is)
       ∙ ap (λ m. operand (q .want) m (λ e. finished)) (sym (add-one d))
       ∙ sym (here-row (x + 4) (d + 1) (q .want) (sym (ap itemOf e) ∙ q .then-here)))
-
--- A turn along a row: at a code of its own level, and at any other item; stopped, or on.
-module _ (text : List ℕ) (ρ : Limits) (row d at : ℕ) where
-  pub row-done : row ≡ 0 → Next at ≡ stepAt text ρ (rowPlan row d) at
-  row-done e = sym (at-end text ρ d at) ∙ ap (λ r. stepAt text ρ (rowPlan r d) at) (sym e)
-
-  module _ (own : 12 ≤ row % 16) where
-    pub here-stopped : {s : Stop} → headAt text (ρ .deepest) (row % 16) d at ≡ Stopped s → headAt text (ρ .deepest) (row % 16) d at ≡ stepAt text ρ (rowPlan row d) at
-    here-stopped e = e ∙ sym (at-here text ρ row d at own ∙ ap (λ z. andThen z (λ p. stepAt text ρ (rowPlan (rowOf (getD text at 0)) d) p)) e)
-
-    pub here-next : {p : ℕ} (next : ℕ) → next ≡ rowOf (getD text at 0) → headAt text (ρ .deepest) (row % 16) d at ≡ Next p → stepAt text ρ (rowPlan next d) p ≡ stepAt text ρ (rowPlan row d) at
-    here-next {p} next r e = ap (λ z. stepAt text ρ (rowPlan z d) p) r ∙ sym (at-here text ρ row d at own ∙ ap (λ z. andThen z (λ p. stepAt text ρ (rowPlan (rowOf (getD text at 0)) d) p)) e)
-
-  module _ (small : row < 65536) (other : row % 16 < 12) where
-    pub item-stopped : {s : Stop} → stepAt text ρ (itemPlan (itemOf (row % 16)) d finished) at ≡ Stopped s → stepAt text ρ (itemPlan (itemOf (row % 16)) d finished) at ≡ stepAt text ρ (rowPlan row d) at
-    item-stopped e = e ∙ sym (at-item text ρ row d at small other ∙ ap (λ z. andThen z (λ p. stepAt text ρ (rowPlan (row / 16) d) p)) e)
-
-    pub item-next : {p : ℕ} → stepAt text ρ (itemPlan (itemOf (row % 16)) d finished) at ≡ Next p → stepAt text ρ (rowPlan (row / 16) d) p ≡ stepAt text ρ (rowPlan row d) at
-    item-next e = sym (at-item text ρ row d at small other ∙ ap (λ z. andThen z (λ p. stepAt text ρ (rowPlan (row / 16) d) p)) e)

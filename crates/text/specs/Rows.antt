@@ -15,7 +15,8 @@ use Rattle.text.specs.declared.Step.the-variants.{Next, Stopped}
 use Rattle.text.specs.Questions.{faultNumber}
 use Rattle.text.specs.Reading.{Limits, Want, expr, edit, Plan, done, number, operand, Fault, missing, wrongSort, tooDeep, outOfRange, Read, got, fault, follow}
 
--- What can follow a code: nothing; a number of a kind; a thing one level deeper; a thing on the code's own level, with which its row ends.
+-- What can follow a code: nothing, with which its row ends; a number of a kind; a thing one level deeper; a thing on the code's own level,
+-- with which its row ends too.
 pub data Item : Type 0 where
   nothing : Item
   takes : Kind → Item
@@ -120,7 +121,7 @@ finished = done tt
 
 -- What an item, and a row of at most four items, want of the bytes to come, for a code at level d.
 unfoldable pub itemPlan : Item → ℕ → Plan (Unit {0}) → Plan (Unit {0})
-itemPlan nothing d rest = rest
+itemPlan nothing d rest = finished
 itemPlan (takes k) d rest = number k (λ x. rest)
 itemPlan (deeper w) d rest = operand w (suc d) (λ e. rest)
 itemPlan (here w) d rest = operand w d (λ e. finished)

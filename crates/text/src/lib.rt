@@ -7,7 +7,7 @@ use logic::Node;
 ghost use mathlib.Core.Path.{_≡_};
 ghost use Prim.Native.Nat.{_<_, _≤_};
 ghost use Rattle.logic.specs.Limits.{maxNodes};
-ghost use Rattle.text.specs.Rows.{itemOf, rowOf, itemPlan, finished, rowPlan, sortOf, limitsOf, numberFits, stepAt, headAt, stepAnswer};
+ghost use Rattle.text.specs.Rows.{itemOf, rowOf, sortOf, rowPlan, limitsOf, numberFits, stepAt, stepAnswer};
 ghost use Rattle.answer.specs.Answers.{asked};
 ghost use Rattle.answer.specs.Asked.{outcome};
 ghost use Rattle.text.specs.Reading.{textLimits, formerLimits, carriedLimits};
@@ -29,68 +29,50 @@ pub enum Step {
 
 // What follows each code, a hexadecimal digit for each item, the first item last. 3 label, 4 arrow, 5 node number; 6, 7 the counts of 0A
 // and 0B; 8 nodes, 9 arrows, A rule, B edit, one level deeper; C nodes, D arrows, E rule, F edit, on the code's own level.
-// A table is stored anew at each use, so each sort has its own short one.
-const NODE_ROWS: [u32; 11] = [
-    0x0000, // 01 all
-    0x0000, // 02 none
-    0x0003, // 03 k
-    0x0005, // 04 i
-    0x0008, // 05 E
-    0x0088, // 06 E F
-    0x0088, // 07 E F
-    0x0089, // 08 R E
-    0x0089, // 09 R E
-    0x0896, // 0A m R E
-    0x0897, // 0B m R E
-];
-
-const ARROW_ROWS: [u32; 7] = [
-    0x0004, // 11 a
-    0x0009, // 12 R
-    0x0099, // 13 R S
-    0x0099, // 14 R S
-    0x0099, // 15 R S
-    0x0089, // 16 R E
-    0x0055, // 17 i j
-];
-
-const RULE_ROWS: [u32; 7] = [
-    0x0088, // 21 E F
-    0x0099, // 22 R S
-    0x0085, // 23 i E
-    0x0955, // 24 i j R
-    0x00AA, // 25 K L
-    0x00AA, // 26 K L
-    0x000A, // 27 K
-];
-
-const EDIT_ROWS: [u32; 6] = [
-    0x0000, // 30 end
-    0x0F83, // 31 k E Z
-    0x0F83, // 32 k E Z
-    0x0F94, // 33 a R Z
-    0x0F94, // 34 a R Z
-    0xFBBA, // 35 K P Q Z
-];
+// 0 where the byte is no code. One `match` with constants: the compiler makes it a table in read-only memory.
+fn row_of(code: u8) -> u32
+    ensures { λ r. ⌜ r ≡ rowOf code ⌝ }
+{
+    match code {
+        0x01 => 0x0000, // all
+        0x02 => 0x0000, // none
+        0x03 => 0x0003, // k
+        0x04 => 0x0005, // i
+        0x05 => 0x0008, // E
+        0x06 => 0x0088, // E F
+        0x07 => 0x0088, // E F
+        0x08 => 0x0089, // R E
+        0x09 => 0x0089, // R E
+        0x0A => 0x0896, // m R E
+        0x0B => 0x0897, // m R E
+        0x11 => 0x0004, // a
+        0x12 => 0x0009, // R
+        0x13 => 0x0099, // R S
+        0x14 => 0x0099, // R S
+        0x15 => 0x0099, // R S
+        0x16 => 0x0089, // R E
+        0x17 => 0x0055, // i j
+        0x21 => 0x0088, // E F
+        0x22 => 0x0099, // R S
+        0x23 => 0x0085, // i E
+        0x24 => 0x0955, // i j R
+        0x25 => 0x00AA, // K L
+        0x26 => 0x00AA, // K L
+        0x27 => 0x000A, // K
+        0x30 => 0x0000, // end
+        0x31 => 0x0F83, // k E Z
+        0x32 => 0x0F83, // k E Z
+        0x33 => 0x0F94, // a R Z
+        0x34 => 0x0F94, // a R Z
+        0x35 => 0xFBBA, // K P Q Z
+        _ => 0,
+    }
+}
 
 // The digits of a rule and an edit on their own level.
 const RULE: u32 = 0xE;
 
 const EDIT: u32 = 0xF;
-
-// The row of a code, 0 where the byte is no code.
-fn row_of(code: u8) -> u32
-    ensures { λ r. ⌜ r ≡ rowOf code ⌝ }
-{
-    let at = code as usize;
-    match code {
-        0x01..=0x0B => NODE_ROWS[at - 0x01],
-        0x11..=0x17 => ARROW_ROWS[at - 0x11],
-        0x21..=0x27 => RULE_ROWS[at - 0x21],
-        0x30..=0x35 => EDIT_ROWS[at - 0x30],
-        _ => 0,
-    }
-}
 
 // The sort of a code, as the digit of an item on its level.
 fn sort_of(code: u8) -> u32
@@ -130,81 +112,53 @@ fn in_range(limits: Limits, kind: u32, x: u8) -> bool
     }
 }
 
-// Reads a number byte of a kind. Inner: other items are read by `part`.
-fn number(text: &[u8], limits: Limits, kind: u32, at: usize) -> Step
-    requires { ⌜ kind < 8 ⌝ }
-    ensures { λ r. ⌜ r ≡ stepAt (now (text .entry)) (limitsOf limits) (itemPlan (itemOf kind) 0 finished) at ⌝ }
-{
-    if kind < 3 {
-        return Step::Next(at);
-    }
-    if text.len() <= at {
-        return Step::Stopped(Stop::Missing { place: at });
-    }
-    if in_range(limits, kind, text[at]) {
-        Step::Next(at + 1)
-    } else {
-        Step::Stopped(Stop::OutOfRange { place: at })
-    }
-}
-
-// The questions at a code byte: is it there, is it of the sort, is its level within the limit?
-fn head(text: &[u8], deepest: u8, sort: u32, at: usize, level: usize) -> Step
-    ensures { λ r. ⌜ r ≡ headAt (now (text .entry)) deepest sort level at ⌝ }
-{
-    if text.len() <= at {
-        return Step::Stopped(Stop::Missing { place: at });
-    }
-    if sort_of(text[at]) != sort {
-        return Step::Stopped(Stop::WrongSort { place: at });
-    }
-    if level > deepest as usize {
-        return Step::Stopped(Stop::TooDeep { place: at });
-    }
-    Step::Next(at + 1)
-}
-
-// Reads an item that stands not on the code's own level: a number, or a thing one level deeper.
-// Inner: `read` has seen that the level is within the limit, which bounds the depth of the calls.
-fn part(text: &[u8], limits: Limits, item: u32, at: usize, level: usize) -> Step
-    requires { ⌜ (item < 12) × (level ≤ limits .deepest) ⌝ }
-    ensures { λ r. ⌜ r ≡ stepAt (now (text .entry)) (limitsOf limits) (itemPlan (itemOf item) level finished) at ⌝ }
-{
-    if item < 8 {
-        return number(text, limits, item, at);
-    }
-    read(text, limits, item + 4, at, level + 1)
-}
-
-// Reads a thing whose first code is on a level, and the steps that follow one another there, along the rows of their codes.
-// It calls itself, through `part`, one level deeper each time and no more than `limits.deepest` deep, whatever the text: 160 bytes of stack a level,
-// 5 kB for a book or an edit. Steps that follow one another take no more stack.
+// Reads a thing whose first code is on level 1, byte by byte along the rows of its codes: `row` is what is left of the code at `level`,
+// `rows` what is left of those above it. 512 bytes of stack, however deep the text.
 // Inner: the sort wanted is a digit from C to F.
-fn read(text: &[u8], limits: Limits, wanted: u32, at: usize, level: usize) -> Step
+fn read(text: &[u8], limits: Limits, wanted: u32, at: usize) -> Step
     requires { ⌜ (12 ≤ wanted) × (wanted < 16) ⌝ }
-    ensures { λ r. ⌜ r ≡ stepAt (now (text .entry)) (limitsOf limits) (rowPlan wanted level) at ⌝ }
+    ensures { λ r. ⌜ r ≡ stepAt (now (text .entry)) (limitsOf limits) (rowPlan wanted 1) at ⌝ }
 {
-    let mut row = wanted;
+    let mut rows = [0u16; 256];
+    let mut level: usize = 0;
+    let mut row = wanted - 4;
     let mut p = at;
-    while row != 0 {
+    loop {
         let item = row % 16;
-        if item >= 12 {
-            let step = head(text, limits.deepest, item, p, level);
-            let Step::Next(q) = step else {
-                return step;
-            };
-            row = row_of(text[p]);
-            p = q;
+        if item < 3 {
+            if level == 0 {
+                return Step::Next(p);
+            }
+            level -= 1;
+            row = rows[level] as u32;
+        } else if text.len() <= p {
+            return Step::Stopped(Stop::Missing { place: p });
+        } else if item < 8 {
+            if in_range(limits, item, text[p]) {
+                row = row / 16;
+                p += 1;
+            } else {
+                return Step::Stopped(Stop::OutOfRange { place: p });
+            }
         } else {
-            let step = part(text, limits, item, p, level);
-            let Step::Next(q) = step else {
-                return step;
-            };
-            row = row / 16;
-            p = q;
+            let code = text[p];
+            if sort_of(code) != 12 + item % 4 {
+                return Step::Stopped(Stop::WrongSort { place: p });
+            }
+            let next = row_of(code);
+            if item >= 12 {
+                row = next;
+                p += 1;
+            } else if level >= limits.deepest as usize {
+                return Step::Stopped(Stop::TooDeep { place: p });
+            } else {
+                rows[level] = (row / 16) as u16;
+                level += 1;
+                row = next;
+                p += 1;
+            }
         }
     }
-    Step::Next(p)
 }
 
 // The answer to a book, and to an edit, of which this was the last step.
@@ -289,7 +243,7 @@ fn book_within(book: &[u8], limits: Limits) -> Answer
         if left == 0 {
             return Answer::Refused(Refusal::BookRules { place: p });
         }
-        let step = read(book, limits, RULE, p, 1);
+        let step = read(book, limits, RULE, p);
         let Step::Next(q) = step else {
             return book_answer(step);
         };
@@ -306,7 +260,7 @@ fn rule_within(text: &[u8], limits: Limits) -> Answer
     if text.len() > limits.longest as usize {
         return Answer::Refused(Refusal::BookLength { place: 0 });
     }
-    let step = read(text, limits, RULE, 0, 1);
+    let step = read(text, limits, RULE, 0);
     let Step::Next(p) = step else {
         return book_answer(step);
     };
@@ -375,7 +329,7 @@ impl Text {
         if edit.len() > limits.longest as usize {
             return Answer::Refused(Refusal::EditLength { place: 0 });
         }
-        let step = read(edit, limits, EDIT, 0, 1);
+        let step = read(edit, limits, EDIT, 0);
         let Step::Next(p) = step else {
             return edit_answer(step);
         };
@@ -393,7 +347,7 @@ impl Text {
         if text.len() > limits.longest as usize {
             return &text[0..0];
         }
-        let step = read(text, limits, RULE, 0, 1);
+        let step = read(text, limits, RULE, 0);
         let Step::Next(p) = step else {
             return &text[0..0];
         };
@@ -408,7 +362,7 @@ impl Text {
         if text.len() > limits.longest as usize {
             return Answer::Refused(Refusal::BookLength { place: 0 });
         }
-        book_answer(read(text, limits, RULE, 0, 1))
+        book_answer(read(text, limits, RULE, 0))
     }
 
     // Where rule i of a book stands, from 0: behind i rules; the book's length where there are not so many, or where they can't be read.
@@ -420,7 +374,7 @@ impl Text {
         let mut p = 0;
         let mut left = i;
         while 0 < left {
-            let step = read(book, limits, RULE, p, 1);
+            let step = read(book, limits, RULE, p);
             let Step::Next(q) = step else {
                 return book.len();
             };

@@ -1,47 +1,56 @@
--- Each way through the tests says where the code lies.
+-- Each code by itself, and a byte that is none of them.
 use mathlib.Core.Path.{sym, ap}
-use native.Mathlib.Omega.{arith}
-use borrow.Author.Needs.{needs}
-use Rattle.text.specs.Rows.{rowIn, nodeRows, arrowRows, ruleRows, editRows}
-use Rattle.text.proofs.CodeSorts.{of-nodes, of-arrows, of-rules, of-edits, before-nodes, before-arrows, before-rules, before-edits, behind-edits}
+use Rattle.logic.specs.Syntax.{node, arrow, rule}
+use Rattle.text.specs.Reading.{Want, expr, edit, codes}
+use Rattle.text.specs.Rows.{nodeRows, arrowRows, ruleRows, editRows, codeSort, rowIn, rowOf}
+use Rattle.text.proofs.Converse.{_&_}
+use Rattle.text.proofs.Entries.{Differ, no-code}
 use Rattle.text.proofs.row_of.Statement.{statement}
 use Rattle.text.proofs.row_of.Tie as tie
 
-returns : tie.Need-returns
-unfolding rowIn nodeRows arrowRows ruleRows editRows
-returns c = sym (ap (λ s. rowIn s (c .before .before .args .code)) (of-nodes (c .before .before .args .code) (omega arith) (omega arith)))
-
-returns-2 : tie.Need-returns-2
-unfolding rowIn nodeRows arrowRows ruleRows editRows
-returns-2 c = sym (ap (λ s. rowIn s (c .before .before .before .before .args .code)) (of-arrows (c .before .before .before .before .args .code) (omega arith) (omega arith)))
-
-returns-3 : tie.Need-returns-3
-unfolding rowIn nodeRows arrowRows ruleRows editRows
-returns-3 c = sym (ap (λ s. rowIn s (c .before .before .before .before .before .before .args .code)) (of-rules (c .before .before .before .before .before .before .args .code) (omega arith) (omega arith)))
-
-returns-4 : tie.Need-returns-4
-unfolding rowIn nodeRows arrowRows ruleRows editRows
-returns-4 c = sym (ap (λ s. rowIn s (c .before .before .before .before .before .before .before .before .args .code)) (of-edits (c .before .before .before .before .before .before .before .before .args .code) (omega arith) (omega arith)))
-
-returns-5 : tie.Need-returns-5
-unfolding rowIn nodeRows arrowRows ruleRows editRows
-returns-5 c = sym (ap (λ s. rowIn s (c .before .args .code)) (before-nodes (c .before .args .code) (omega arith)))
-
-returns-6 : tie.Need-returns-6
-unfolding rowIn nodeRows arrowRows ruleRows editRows
-returns-6 c = sym (ap (λ s. rowIn s (c .before .before .before .args .code)) (before-arrows (c .before .before .before .args .code) (omega arith) (omega arith)))
-
-returns-7 : tie.Need-returns-7
-unfolding rowIn nodeRows arrowRows ruleRows editRows
-returns-7 c = sym (ap (λ s. rowIn s (c .before .before .before .before .before .args .code)) (before-rules (c .before .before .before .before .before .args .code) (omega arith) (omega arith)))
-
-returns-8 : tie.Need-returns-8
-unfolding rowIn nodeRows arrowRows ruleRows editRows
-returns-8 c = sym (ap (λ s. rowIn s (c .before .before .before .before .before .before .before .args .code)) (before-edits (c .before .before .before .before .before .before .before .args .code) (omega arith) (omega arith)))
-
-returns-9 : tie.Need-returns-9
-unfolding rowIn nodeRows arrowRows ruleRows editRows
-returns-9 c = sym (ap (λ s. rowIn s (c .before .before .before .before .before .before .before .before .args .code)) (behind-edits (c .before .before .before .before .before .before .before .before .args .code) (omega arith)))
+none : tie.Need-returns-32
+unfolding codes
+none c = no-code _ differ
+  where
+    differ : (w : Want) → Differ (c .before .args .code) (codes 0 w)
+    differ (expr node) = let n = c .match .rest .0 .0 .0 .0 .0 .0 .0 .0 .0 .0 .0 .0 .0 .0 .0 .0 .0 .0 .0 .0 in n .0 .0 .0 .0 .0 .0 .0 .0 .0 .0 .1 & n .0 .0 .0 .0 .0 .0 .0 .0 .0 .1 & n .0 .0 .0 .0 .0 .0 .0 .0 .1 & n .0 .0 .0 .0 .0 .0 .0 .1 & n .0 .0 .0 .0 .0 .0 .1 & n .0 .0 .0 .0 .0 .1 & n .0 .0 .0 .0 .1 & n .0 .0 .0 .1 & n .0 .0 .1 & n .0 .1 & n .1 & tt
+    differ (expr arrow) = let n = c .match .rest .0 .0 .0 .0 .0 .0 .0 .0 .0 .0 .0 .0 .0 in n .0 .0 .0 .0 .0 .0 .1 & n .0 .0 .0 .0 .0 .1 & n .0 .0 .0 .0 .1 & n .0 .0 .0 .1 & n .0 .0 .1 & n .0 .1 & n .1 & tt
+    differ (expr rule) = let n = c .match .rest .0 .0 .0 .0 .0 .0 in n .0 .0 .0 .0 .0 .0 .1 & n .0 .0 .0 .0 .0 .1 & n .0 .0 .0 .0 .1 & n .0 .0 .0 .1 & n .0 .0 .1 & n .0 .1 & n .1 & tt
+    differ edit = let n = c .match .rest in n .0 .0 .0 .0 .0 .1 & n .0 .0 .0 .0 .1 & n .0 .0 .0 .1 & n .0 .0 .1 & n .0 .1 & n .1 & tt
 
 pub row-of-spec : {M : Type 1} → statement M
-row-of-spec = tie.close (tie.spec (λ c. search needs) (λ c. search needs) (λ c. search needs) (λ c. search needs) (λ c. search needs) (λ c. search needs) (λ c. search needs) (λ c. search needs) (λ c. search needs) (λ c. search needs) (λ c. search needs) (λ c. search needs) returns returns-2 returns-3 returns-4 returns-5 returns-6 returns-7 returns-8 returns-9)
+unfolding nodeRows arrowRows ruleRows editRows codeSort rowIn
+row-of-spec =
+    tie.close (tie.spec
+    (λ c. sym (ap rowOf (c .match .keys1)))
+    (λ c. sym (ap rowOf (c .match .keys2)))
+    (λ c. sym (ap rowOf (c .match .keys3)))
+    (λ c. sym (ap rowOf (c .match .keys4)))
+    (λ c. sym (ap rowOf (c .match .keys5)))
+    (λ c. sym (ap rowOf (c .match .keys6)))
+    (λ c. sym (ap rowOf (c .match .keys7)))
+    (λ c. sym (ap rowOf (c .match .keys8)))
+    (λ c. sym (ap rowOf (c .match .keys9)))
+    (λ c. sym (ap rowOf (c .match .keys10)))
+    (λ c. sym (ap rowOf (c .match .keys11)))
+    (λ c. sym (ap rowOf (c .match .keys12)))
+    (λ c. sym (ap rowOf (c .match .keys13)))
+    (λ c. sym (ap rowOf (c .match .keys14)))
+    (λ c. sym (ap rowOf (c .match .keys15)))
+    (λ c. sym (ap rowOf (c .match .keys16)))
+    (λ c. sym (ap rowOf (c .match .keys17)))
+    (λ c. sym (ap rowOf (c .match .keys18)))
+    (λ c. sym (ap rowOf (c .match .keys19)))
+    (λ c. sym (ap rowOf (c .match .keys20)))
+    (λ c. sym (ap rowOf (c .match .keys21)))
+    (λ c. sym (ap rowOf (c .match .keys22)))
+    (λ c. sym (ap rowOf (c .match .keys23)))
+    (λ c. sym (ap rowOf (c .match .keys24)))
+    (λ c. sym (ap rowOf (c .match .keys25)))
+    (λ c. sym (ap rowOf (c .match .keys26)))
+    (λ c. sym (ap rowOf (c .match .keys27)))
+    (λ c. sym (ap rowOf (c .match .keys28)))
+    (λ c. sym (ap rowOf (c .match .keys29)))
+    (λ c. sym (ap rowOf (c .match .keys30)))
+    (λ c. sym (ap rowOf (c .match .keys31)))
+    none)
