@@ -11,12 +11,13 @@ installed := $(DESTDIR)$(PREFIX)/lib/libzamiathen.a $(DESTDIR)$(PREFIX)/include/
 # the header alone says the version
 version := $(shell sed -n 's/^\#define ZAMIATHEN_VERSION_FIRST \([0-9]*\)$$/\1/p' $(header)).$(shell sed -n 's/^\#define ZAMIATHEN_VERSION_SECOND \([0-9]*\)$$/\1/p' $(header))
 
-.PHONY: all help demo replay test bench install uninstall clean
+.PHONY: all help demo counts replay test bench install uninstall clean
 all: $(archive)
 
 help:
 	@echo "make             proves and builds the archive with the C functions, $(archive)"
 	@echo "make demo        the same, and runs the example station through them"
+	@echo "make counts      the same, and prints what an edit does to every small sheet (examples/small)"
 	@echo "make replay      proves and builds the program replay, and runs the example station's week of edits again through it"
 	@echo "make test        the gate: proves every crate from nothing, tries the must-fail edits, runs all tests"
 	@echo "make bench       times and instructions of each call, and of a region of sheets, beside plain Rust on the same inputs (needs valgrind)"
@@ -44,6 +45,12 @@ target/demo: examples/demo.c $(header) $(archive)
 
 demo: target/demo
 	@target/demo examples/station
+
+target/counts: examples/counts.c $(header) $(archive)
+	@$(CC) $(CFLAGS) -Iinclude examples/counts.c $(archive) -o $@
+
+counts: target/counts
+	@target/counts examples/small/book.bin examples/small/edit.bin
 
 # the lines, without the sheet that follows them
 replay: target/bin/replay

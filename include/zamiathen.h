@@ -1,7 +1,8 @@
 /* Station sheets: make a blank sheet, ask whether a sheet is sound, convert an old card, read a sheet's bits, print its
  * blocks as pages and type pages back, judge a rule book on it, rewrite a stored book, join two edits into one, carry a
  * book back through an edit, check a carried rule that another tool has shortened, change the sheet by an edit, with a
- * book or without one, close and open its nodes, keep sheets in a store and return to them, and join two sheets into one.
+ * book or without one, close and open its nodes, keep sheets in a store and return to them, join two sheets into one, and
+ * count the small sheets that survive an edit.
  *
  * Link with libzamiathen.a:  cc program.c $(pkg-config --cflags --libs zamiathen)
  *
@@ -36,7 +37,7 @@ extern "C" {
  * zamiathen_convert_255, one written under 2 or 3 by zamiathen_convert_257; one written under 4 has today's form). As one
  * number: 1000 * first + second. */
 #define ZAMIATHEN_VERSION_FIRST 5
-#define ZAMIATHEN_VERSION_SECOND 1
+#define ZAMIATHEN_VERSION_SECOND 2
 #define ZAMIATHEN_VERSION (1000 * ZAMIATHEN_VERSION_FIRST + ZAMIATHEN_VERSION_SECOND)
 
 /* Sizes. */
@@ -56,6 +57,7 @@ extern "C" {
 #define ZAMIATHEN_LABELS 48    /* labels of every sheet */
 #define ZAMIATHEN_ARROWS 16    /* kinds of arrows of every sheet */
 #define ZAMIATHEN_MAX_RULES 32 /* of a book */
+#define ZAMIATHEN_MAX_SMALL 3  /* nodes of the small sheets that zamiathen_count counts */
 
 /* Answer numbers. A call answers the number of the first question, in this order, whose answer is no; but 5 is asked
  * before 1. */
@@ -118,7 +120,10 @@ enum zamiathen_number {
 
     /* A shortened rule. */
     ZAMIATHEN_STEP = 59, /* a step is cut, its law unknown, or it does not fit; place: the step, from 0 */
-    ZAMIATHEN_SENT = 60  /* the text that the steps make is not the one sent; place: the first differing byte, or the shorter length */
+    ZAMIATHEN_SENT = 60, /* the text that the steps make is not the one sent; place: the first differing byte, or the shorter length */
+
+    /* The small sheets to be counted. Place 0. n is asked before the book, names after the edit. */
+    ZAMIATHEN_SMALL_SHEETS = 61 /* n is not from 1 to 3, or another label or arrow than 0 is named */
 };
 
 /* The answer: a number of enum zamiathen_number, and its place. */
@@ -140,6 +145,15 @@ typedef struct {
 typedef struct {
     size_t number, place, start, length;
 } zamiathen_judged;
+
+/* An answer with four counts of small sheets: 0 each after every number but done. */
+typedef struct {
+    size_t number, place;
+    size_t kept_kept;     /* the book is kept before the edit and after it */
+    size_t kept_broken;   /* kept before, broken after */
+    size_t broken_kept;   /* broken before, kept after */
+    size_t broken_broken; /* broken before and after */
+} zamiathen_counts;
 
 /*
  * Sheets
@@ -344,6 +358,20 @@ zamiathen_answer zamiathen_return(uint8_t *sheet, size_t sheet_length, const uin
 /* Drops what is kept under a name: its place is all zero then. Answers 0, 55, 56 or 57, asked in this order. Only done
  * changes the store. */
 zamiathen_answer zamiathen_drop(uint8_t *store, size_t store_length, size_t name);
+
+/*
+ * Counting
+ */
+
+/* What an edit does to every small sheet: of all sheets of n nodes, n from 1 to 3, all in use, with no label but 0 and no
+ * arrow but 0, how many keep the book before the edit and after it, only before, only after, or neither. The four total
+ * 4, 64 or 4,096; the two that are kept after the edit are the sheets on which each rule of the book carried back holds
+ * before it. Book and edit may name label 0 and arrow 0 only, in steps that are made and in those that are not, and nodes
+ * below n. Answers 0 with the counts, 61 unless n is from 1 to 3, 11 to 16, 21 to 26, or 61 for the names, asked in this
+ * order; 31 and 32 are not asked. Needs no sheet and writes nothing. At n = 3 a book and an edit of a few lines take a
+ * millisecond or two, the longest up to a second. */
+zamiathen_counts zamiathen_count(size_t n, const uint8_t *book, size_t book_length, const uint8_t *edit,
+                                 size_t edit_length);
 
 #ifdef __cplusplus
 }

@@ -1147,6 +1147,48 @@ static void steps_of_a_tool(void) {
     answered("16,385 bytes", zamiathen_check_steps(deep, sizeof deep, NULL, 0, NULL, 0), ZAMIATHEN_BOOK_LENGTH, 0);
 }
 
+/* n, book and edit, with the answer: number, place, kept before and after, kept then broken, broken then kept, broken
+ * twice. */
+_Static_assert(ZAMIATHEN_SMALL_SHEETS == 61, "document 02");
+static const struct {
+    size_t n;
+    const char *book, *edit;
+    size_t numbers[6];
+} counted[] = {
+    {1, "21 01 03 00", "30", {0, 0, 2, 0, 0, 2}},
+    {1, "", "30", {0, 0, 4, 0, 0, 0}},
+    {2, "21 01 03 00", "30", {0, 0, 16, 0, 0, 48}},
+    {2, "21 01 03 00", "31 00 01 30", {0, 0, 16, 0, 48, 0}},
+    {2, "21 01 03 00", "32 00 04 01 30", {0, 0, 0, 16, 0, 48}},
+    {3, "24 00 02 11 00", "34 00 17 00 02 30", {0, 0, 0, 2048, 0, 2048}},
+    {3, "23 00 03 00", "35 23 00 03 00 32 00 01 30 31 00 01 30 30", {0, 0, 0, 2048, 2048, 0}},
+    {0, "FF", "FF", {ZAMIATHEN_SMALL_SHEETS}},
+    {4, "FF", "FF", {ZAMIATHEN_SMALL_SHEETS}},
+    {256 + 1, "", "30", {ZAMIATHEN_SMALL_SHEETS}},
+    {SIZE_MAX, "", "30", {ZAMIATHEN_SMALL_SHEETS}},
+    {1, "21 03 01 01 21", "FF", {ZAMIATHEN_BOOK_ENDS, 5}},
+    {1, "23 01 03 01", "FF", {ZAMIATHEN_BOOK_NUMBER, 1}},
+    {2, "21 03 01 01", "FF", {ZAMIATHEN_EDIT_CODE, 0}},
+    {2, "21 03 01 01", "30 30", {ZAMIATHEN_EDIT_MORE, 1}},
+    {2, "21 03 01 01", "30", {ZAMIATHEN_SMALL_SHEETS}},
+    {3, "22 11 01 11 00", "30", {ZAMIATHEN_SMALL_SHEETS}},
+    {3, "", "35 21 01 01 30 32 2F 01 30 30", {ZAMIATHEN_SMALL_SHEETS}},
+};
+
+static void counts(void) {
+    static struct text book, edit;
+    size_t numbers[6];
+    for (size_t i = 0; i < sizeof counted / sizeof *counted; i++) {
+        book.length = edit.length = 0;
+        put(&book, counted[i].book);
+        put(&edit, counted[i].edit);
+        zamiathen_counts found = zamiathen_count(counted[i].n, book.bytes, book.length, edit.bytes, edit.length);
+        _Static_assert(sizeof found == sizeof numbers, "six numbers");
+        memcpy(numbers, &found, sizeof numbers);
+        same(counted[i].book, memcmp(numbers, counted[i].numbers, sizeof numbers) == 0);
+    }
+}
+
 int main(void) {
     examples();
     changes();
@@ -1175,6 +1217,7 @@ int main(void) {
     refused_chains();
     one_by_one();
     steps_of_a_tool();
+    counts();
     empty_buffers();
     printf("%d passed, %d failed\n", passed, failed);
     return failed != 0;

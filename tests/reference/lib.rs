@@ -9,6 +9,7 @@ pub mod calls;
 pub mod carry;
 pub mod chain;
 pub mod clerk;
+pub mod counts;
 pub mod graph;
 pub mod join;
 pub mod laws;

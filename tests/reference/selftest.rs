@@ -1,9 +1,10 @@
 //! The marked examples of document 01, some of its remarks, check bytes, old cards, pages of its sheet T, rewritten books,
-//! closed nodes, stores, joined sheets and edits, and laws, asked of the reference itself.
+//! closed nodes, stores, joined sheets and edits, laws and counts, asked of the reference itself.
 
 use reference::answer::{Answer, DONE};
 use reference::calls::{apply, carry_back, close, enter, judge, open, Judged};
 use reference::chain::join_edits;
+use reference::counts::count;
 use reference::graph::{Graph, Pairs, MOST_NODES};
 use reference::join::join_sheets;
 use reference::laws::check_steps;
@@ -573,6 +574,41 @@ fn laws(tally: &mut Tally) {
     tally.same("16,385 bytes", check_steps(&[0; 16385], &[], &[]), Answer { number: 11, place: 0 });
 }
 
+/// The marked case of item 12, and some whose numbers are easily told.
+fn counts(tally: &mut Tally) {
+    let done = [
+        (1, "21 01 03 00", "30", [2, 0, 0, 2]),
+        (1, "", "30", [4, 0, 0, 0]),
+        (1, "21 01 02", "30", [0, 0, 0, 4]),
+        // All nodes have the label: 1 set of 2, 4, 8; 2, 16, 512 sets of arrows.
+        (2, "21 01 03 00", "30", [16, 0, 0, 48]),
+        (3, "21 01 03 00", "30", [512, 0, 0, 3584]),
+        // Given to all, taken from all.
+        (2, "21 01 03 00", "31 00 01 30", [16, 0, 48, 0]),
+        (2, "21 01 03 00", "32 00 01 30", [0, 16, 0, 48]),
+        // Node 0 has an arrow to itself, 32 of 64; then to none.
+        (2, "24 00 00 11 00", "34 00 11 00 30", [0, 32, 0, 32]),
+        // Taken from node 0 if it has it, else given.
+        (1, "23 00 03 00", "35 23 00 03 00 32 00 01 30 31 00 01 30 30", [0, 2, 2, 0]),
+    ];
+    for (n, book, edit, wanted) in done {
+        tally.same(book, count(n, &hex(book), &hex(edit)), Ok(wanted));
+    }
+    let refused = [
+        (0, "FF", "FF", 61, 0),
+        (4, "", "30", 61, 0),
+        (usize::MAX, "", "30", 61, 0),
+        (1, "23 01 01", "FF", 15, 1),
+        (1, "21 03 01 01", "FF", 23, 0),
+        (1, "21 03 01 01", "30", 61, 0),
+        (2, "", "33 01 11 00 30", 61, 0),
+        (2, "", "35 21 01 01 30 31 00 08 11 0F 01 30 30", 61, 0),
+    ];
+    for (n, book, edit, number, place) in refused {
+        tally.same(book, count(n, &hex(book), &hex(edit)), Err(Answer { number, place }));
+    }
+}
+
 /// None of these may take exponential time.
 fn explosions(tally: &mut Tally) {
     let rule = hex("23 00 03 00");
@@ -608,6 +644,7 @@ fn main() {
     chains(&mut tally);
     rule_by_rule(&mut tally);
     laws(&mut tally);
+    counts(&mut tally);
     explosions(&mut tally);
     println!("{} passed, {} failed", tally.passed, tally.failed);
     std::process::exit(i32::from(tally.failed > 0));

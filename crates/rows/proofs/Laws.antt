@@ -1,23 +1,22 @@
 -- The operations on words and on rows of words are those on the sets and relations that they stand for.
 use mathlib.Core.Path.{_≡_, refl, sym, ap, ap₂, _∙_}
 use mathlib.Core.Bool.{Bool, true, false, not, _&&_, _||_, cond, and-true, and-false, or-false, Bool·not-not}
-use mathlib.Core.List.{List}
+use mathlib.Core.List.{List, [], _∷_}
 use mathlib.Core.Logic.{⊎-elim}
-use Prim.Native.Nat.{ℕ, zero, suc, _+_, _<_, _≤_}
+use Prim.Native.Nat.{ℕ, zero, suc, _+_, _/_, _%_, _^_, _<_, _≤_}
 use native.Mathlib.Nat.{eq-or-lt-of-le, le-of-suc-le-suc}
 use native.Mathlib.Numerals.{add-one}
 use native.Mathlib.Omega.{arith}
 use lib.Dec.{eqb, ltb}
-use lib.ListN.{length, getD, set, replicate}
+use lib.ListN.{length, getD, set, replicate, length-set}
 use lib.Seq.{getD-set-same, getD-set-other}
-use borrow.Author.Tests.{ne-eqb, eqb-true, eqb-false}
+use borrow.Author.Tests.{ne-eqb, eqb-true, eqb-false, lt-ltb, ltb-true}
 use Rattle.logic.specs.Graph.{Nodes, Pairs, anyBelow, allBelow, countBelow, implies}
 use Rattle.logic.proofs.Below.{none-outside}
-use Rattle.words.specs.Words.{setOf, member, combined}
+use Rattle.words.specs.Words.{digit, setOf, member, combined}
 use Rattle.words.proofs.SetLaws.{setOf-cong, setOf-empty, setOf-none, setOf-wide, member-of, member-setOf, combined-sets, common-sets}
 use Rattle.sheet.specs.Sheet.{Rows}
-use Rattle.words.specs.Transpose.{Transposed}
-use Rattle.rows.specs.Operations.{arrowOperation, Masked}
+use Rattle.rows.specs.Operations.{arrowOperation, Masked, Columns}
 
 -- What a loop that changes the rows a in place has done up to row i: below i they are f, from i on still those of a.
 pub record Changed (i : ℕ) (a l : List ℕ) (f : ℕ → ℕ) : Type 0 where
@@ -89,23 +88,43 @@ module _ {n : ℕ} {v : Pairs} {a r : List ℕ} where
   pub rows-ending : (w : Nodes) (e : ℕ) → n ≤ 64 → Rows n v a → e ≡ setOf n w → Masked n a e r → Rows n (λ i j. v i j && w j) r
   rows-ending w e h p q f = record { row = λ i l. f .row i l ∙ ap₂ (combined _&&_) (p .row i l) q ∙ combined-sets _&&_ refl n (v i) w h }
 
-  pub rows-reversed : (t : List ℕ) (e : ℕ) → n ≤ 64 → Rows n v a → Transposed a t → e ≡ setOf 64 (λ j. ltb j n) → Masked n t e r → Rows n (λ i j. v j i) r
-  rows-reversed t e h p q s f =
+  -- t has m columns of a as rows
+  pub rows-reversed : (m : ℕ) (t : List ℕ) (e : ℕ) → n ≤ m → m ≤ 64 → Rows n v a → ((i : ℕ) → i < n → getD t i 0 ≡ setOf m (λ j. member (getD a j 0) i)) → e ≡ setOf 64 (λ j. ltb j n) → Masked n t e r → Rows n (λ i j. v j i) r
+  rows-reversed m t e h u p q s f =
       record {
         row = λ i l.
             f .row i l
-            ∙ ap₂ (combined _&&_) (q .rows i (omega arith)) s
-            ∙ combined-sets _&&_ refl 64 (λ j. member (getD a j 0) i) (λ j. ltb j n) (omega arith)
-            ∙ setOf-cong 64 _ (λ j. ltb j n && member (getD a j 0) i) (λ j k. swap (member (getD a j 0) i) (ltb j n))
-            ∙ setOf-wide n 64 (λ j. member (getD a j 0) i) h
+            ∙ ap₂ (combined _&&_) (q i l) s
+            ∙ setOf-cong 64 _ (λ j. ltb j n && member (getD a j 0) i)
+            (λ j k. ap₂ _&&_ (member-of m (λ x. member (getD a x 0) i) j) (member-setOf 64 (λ x. ltb x n) j k) ∙ below (ltb j m) (member (getD a j 0) i) (ltb j n) (λ (b : ltb j n ≡ true). lt-ltb j m (omega (arith, ltb-true j n b))))
+            ∙ setOf-wide n 64 (λ j. member (getD a j 0) i) (omega arith)
             ∙ setOf-cong n _ _ (λ j k. ap (λ (x : ℕ). member x i) (p .row j k) ∙ member-setOf n (v j) i l);
       }
     where
-      swap : (x y : Bool) → (x && y) ≡ (y && x)
-      swap true true = refl
-      swap true false = refl
-      swap false true = refl
-      swap false false = refl
+      below : (x y z : Bool) → (z ≡ true → x ≡ true) → ((x && y) && z) ≡ (z && y)
+      below x y true b = and-true (x && y) ∙ ap (_&& y) (b refl)
+      below x y false b = and-false (x && y)
+
+-- a bit as a digit
+pub bit-digit : (x j : ℕ) → x / 2 ^ j % 2 ≡ digit (member x j)
+unfolding member
+bit-digit x j = go (x / 2 ^ j % 2) (omega arith)
+  where
+    go : (z : ℕ) → z < 2 → z ≡ digit (eqb z 1)
+    go zero l = refl
+    go (suc zero) l = refl
+    go (suc (suc z)) l = absurd (omega arith)
+
+-- three columns in place of three rows
+pub columns-of-three : (l : List ℕ) (x y z : ℕ) → length l ≡ 64 → x ≡ setOf 3 (λ i. member (getD (getD l 0 0 ∷ getD l 1 0 ∷ getD l 2 0 ∷ []) i 0) 0) → y ≡ setOf 3 (λ i. member (getD (getD l 0 0 ∷ getD l 1 0 ∷ getD l 2 0 ∷ []) i 0) 1)
+    → z ≡ setOf 3 (λ i. member (getD (getD l 0 0 ∷ getD l 1 0 ∷ getD l 2 0 ∷ []) i 0) 2) → Columns 3 l (set (set (set l 0 x) 1 y) 2 z)
+unfolding setOf
+columns-of-three l x y z s ex ey ez =
+    let f : ℕ → ℕ = λ i. setOf 3 (λ j. member (getD l j 0) i) in
+    let one : Changed 1 l (set l 0 x) f = changed-more {f = f} (omega arith) changed-none ex in
+    let two : Changed 2 l (set (set l 0 x) 1 y) f = changed-more {f = f} (omega (arith, length-set l 0 x)) one ey in
+    let three : Changed 3 l (set (set (set l 0 x) 1 y) 2 z) f = changed-more {f = f} (omega (arith, length-set l 0 x, length-set (set l 0 x) 1 y)) two ez in
+    record { row = three .row }
 
 -- 11
 pub rows-of-arrow : {n m i : ℕ} {v : Pairs} {a r : List ℕ} → n ≡ m → n ≤ i → Changed i a r (λ k. setOf m (v k)) → Rows n v r

@@ -7,7 +7,7 @@ use lib.Dec.{eqb, leb}
 use lib.ListN.{getD}
 use Rattle.logic.specs.Graph.{Nodes, Pairs, anyBelow, allBelow, countBelow, implies}
 use Rattle.logic.specs.Limits.{maxNodes, arrowCount}
-use Rattle.words.specs.Words.{member, combined}
+use Rattle.words.specs.Words.{setOf, member, combined}
 use Rattle.sheet.specs.Sheet.{graphOf}
 use Rattle.sheet.specs.Questions.{Sound}
 
@@ -30,6 +30,10 @@ quantifiedNodes c m n nodes v w i = cond (eqb c 0x08) (quantified c m n (v i) w)
 -- Of an inner function: the first n rows of r are those of rows with the mask e.
 pub record Masked (n : ℕ) (rows : List ℕ) (e : ℕ) (r : List ℕ) : Type 0 where
   pub row : (i : ℕ) → i < n → getD r i 0 ≡ combined _&&_ (getD rows i 0) e
+
+-- Of an inner function: the first m rows of r are the first m columns of a.
+pub record Columns (m : ℕ) (a r : List ℕ) : Type 0 where
+  pub row : (i : ℕ) → i < m → getD r i 0 ≡ setOf m (λ j. member (getD a j 0) i)
 
 -- All four say whether a start node has so many ends or more: k of its ends v, among n, in w.
 abbrev pub enough : (k n : ℕ) → Nodes → Nodes → Bool

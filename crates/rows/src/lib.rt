@@ -4,13 +4,14 @@ ghost use mathlib.Core.Path.{_≡_};
 ghost use mathlib.Core.Bool.{true, _&&_};
 ghost use Prim.Native.Nat.{ℕ, _^_, _<_, _≤_};
 ghost use lib.Dec.{eqb, leb};
-ghost use lib.ListN.{length, replicate};
+ghost use mathlib.Core.List.{[], _∷_};
+ghost use lib.ListN.{length, getD, replicate};
 ghost use Rattle.logic.specs.Graph.{Nodes, Pairs, anyBelow, allBelow, countBelow, implies};
 ghost use Rattle.logic.specs.Limits.{maxNodes, arrowCount};
 ghost use Rattle.words.specs.Words.{setOf, member, combined};
 ghost use Rattle.sheet.specs.Sheet.{graphOf, Rows};
 ghost use Rattle.sheet.specs.Questions.{Sound};
-ghost use Rattle.rows.specs.Operations.{arrowOperation, quantified, enough, least, looked, answered, turn, Among, OfSheet, Masked};
+ghost use Rattle.rows.specs.Operations.{arrowOperation, quantified, enough, least, looked, answered, turn, Among, OfSheet, Masked, Columns};
 use logic::Arrow;
 use logic::Node;
 use sheet::Sheet;
@@ -275,11 +276,37 @@ pub fn end_rows(n: usize, rows: &mut [u64], e: u64)
     mask_rows(n, rows, e);
 }
 
+// Column j of three rows. Inner: j is the number of a bit.
+fn column(a: u64, b: u64, c: u64, j: usize) -> u64
+    requires { ⌜ j < 64 ⌝ }
+    ensures { λ r. ⌜ r ≡ setOf 3 (λ i. member (getD (a ∷ b ∷ c ∷ []) i 0) j) ⌝ }
+{
+    (a >> j) % 2 + 2 * ((b >> j) % 2) + 4 * ((c >> j) % 2)
+}
+
+// The first three rows and columns exchanged: on a sheet of so few nodes the other rows need not move.
+fn reverse_three(rows: &mut [u64])
+    requires { ⌜ length (now rows) ≡ 64 ⌝ }
+    ensures { λ _. ⌜ Columns 3 (now (rows .entry)) (now (rows .exit)) × (length (now (rows .exit)) ≡ 64) ⌝ }
+{
+    let a = rows[0];
+    let b = rows[1];
+    let c = rows[2];
+    rows[0] = column(a, b, c, 0);
+    rows[1] = column(a, b, c, 1);
+    rows[2] = column(a, b, c, 2);
+}
+
 // 12: rows and columns exchanged. Rows from n on are free, so that as columns they are masked out.
 pub fn reverse_rows(n: usize, rows: &mut [u64])
     requires { ⌜ (n ≤ maxNodes) × (length (now rows) ≡ 64) ⌝ }
     ensures { λ _. ⌜ ((v : Pairs) → Rows n v (now (rows .entry)) → Rows n (λ i j. v j i) (now (rows .exit))) × (length (now (rows .exit)) ≡ 64) ⌝ }
 {
+    if n <= 3 {
+        reverse_three(rows);
+        mask_rows(n, rows, words::lowest(n));
+        return;
+    }
     words::transpose(rows);
     mask_rows(n, rows, words::lowest(n));
 }

@@ -11,6 +11,7 @@ mod nodes;
 mod paper;
 mod rules;
 mod sheets;
+mod small;
 mod store;
 
 // Number and place of an answer, 0 and 0 for done.
@@ -43,6 +44,17 @@ pub struct PartNumbers {
     pub place: usize,
     pub start: usize,
     pub length: usize,
+}
+
+// The same, and the four counts of small sheets: 0 each after a refusal.
+#[repr(C)]
+pub struct CountNumbers {
+    pub number: usize,
+    pub place: usize,
+    pub kept: usize,
+    pub lost: usize,
+    pub repaired: usize,
+    pub broken: usize,
 }
 
 fn answer_numbers(a: Answer) -> Numbers

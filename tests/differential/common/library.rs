@@ -28,6 +28,13 @@ pub struct CJudged {
     pub length: usize,
 }
 
+#[repr(C)]
+pub struct CCounts {
+    pub number: usize,
+    pub place: usize,
+    pub counts: [usize; 4],
+}
+
 #[link(name = "suite", kind = "static")]
 extern "C" {
     pub fn zamiathen_blank(sheet: *mut u8, sheet_length: usize, n: usize) -> CAnswer;
@@ -107,6 +114,13 @@ extern "C" {
         sent: *const u8,
         sent_length: usize,
     ) -> CAnswer;
+    pub fn zamiathen_count(
+        n: usize,
+        book: *const u8,
+        book_length: usize,
+        edit: *const u8,
+        edit_length: usize,
+    ) -> CCounts;
     pub fn zamiathen_rewrite(book: *const u8, book_length: usize, output: *mut u8, output_length: usize) -> CLength;
     pub fn zamiathen_apply(sheet: *mut u8, sheet_length: usize, edit: *const u8, edit_length: usize) -> CAnswer;
     pub fn zamiathen_carry_back(

@@ -1,0 +1,10 @@
+pub mod Numbering
+pub mod Totals
+pub mod Exact
+pub mod Walks
+pub mod Others
+pub mod Counting
+pub mod Sheets
+pub mod Asking
+pub mod Right
+pub mod Examples

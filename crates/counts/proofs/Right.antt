@@ -1,0 +1,73 @@
+-- Item 12, proved.
+use mathlib.Core.Path.{_≡_, refl, sym, ap, ap₂, _∙_, subst}
+use mathlib.Core.Bool.{Bool, true, false, not, _&&_, cond}
+use mathlib.Core.List.{List, [], _∷_}
+use Prim.Native.Nat.{ℕ, zero, suc, _+_, _^_, _≤_}
+use native.Mathlib.Omega.{arith}
+use Rattle.answer.specs.Asked.{Asked, passed, after, outcome}
+use Rattle.logic.specs.Syntax.{Expr, rule, Edit}
+use Rattle.logic.specs.Graph.{Graph, Nodes, countBelow}
+use Rattle.logic.specs.Steps.{run}
+use Rattle.logic.specs.Limits.{maxNodes}
+use Rattle.logic.specs.Carry.{carriedBook}
+use Rattle.logic.proofs.Theorem.{carried}
+use Rattle.logic.proofs.Below.{count-cong}
+use Rattle.counts.specs.declared.Four.{Four}
+use Rattle.counts.specs.Small.{bits, smallSheet, holdAll, fourOf, fourCounts, total}
+use Rattle.counts.specs.Exactly.{Exactly, Counted}
+use Rattle.counts.specs.Questions.{Texts, askCount, noCounts, countsOf}
+use Rattle.counts.specs.Right.{NumberedOnce, CountsRight, Item12}
+use Rattle.counts.proofs.Numbering.{numbered-once, each-numbered, number-small}
+use Rattle.counts.proofs.Totals.{totals}
+use Rattle.counts.proofs.Exact.{exactly, counted}
+use Rattle.counts.proofs.Asking.{found}
+
+-- The carried book holds before exactly when the book holds after.
+hold-carried : (Z : Edit) (rules : List (Expr rule)) (g : Graph) → holdAll g (carriedBook Z rules) ≡ holdAll (run Z g) rules
+unfolding holdAll
+hold-carried Z [] g = refl
+hold-carried Z (K ∷ rules) g = ap₂ _&&_ (carried Z K g) (hold-carried Z rules g)
+
+-- before or not, those with `next` are counted
+next-counted : (m : ℕ) (before next : Nodes) → countBelow m (λ x. before x && next x) + countBelow m (λ x. not (before x) && next x) ≡ countBelow m next
+unfolding countBelow
+next-counted zero before next = refl
+next-counted (suc m) before next = go (before m) (next m) (next-counted m before next)
+  where
+    go : (b a : Bool) → countBelow m (λ x. before x && next x) + countBelow m (λ x. not (before x) && next x) ≡ countBelow m next
+        → cond (b && a) (suc (countBelow m (λ x. before x && next x))) (countBelow m (λ x. before x && next x))
+        + cond (not b && a) (suc (countBelow m (λ x. not (before x) && next x))) (countBelow m (λ x. not (before x) && next x)) ≡ cond a (suc (countBelow m next)) (countBelow m next)
+    go true true h = omega arith
+    go true false h = omega arith
+    go false true h = omega arith
+    go false false h = omega arith
+
+kept-after : (n : ℕ) (rules : List (Expr rule)) (Z : Edit) → fourCounts n rules Z .kept + fourCounts n rules Z .repaired ≡ countBelow (2 ^ bits n) (λ x. holdAll (smallSheet n x) (carriedBook Z rules))
+unfolding fourCounts fourOf
+kept-after n rules Z =
+    next-counted (2 ^ bits n) (λ x. holdAll (smallSheet n x) rules) (λ x. holdAll (run Z (smallSheet n x)) rules)
+    ∙ count-cong (2 ^ bits n) _ _ (λ x l. sym (hold-carried Z rules (smallSheet n x)))
+
+numbered : (n : ℕ) → 1 ≤ n → n ≤ maxNodes → NumberedOnce n
+numbered n some few = record { small = λ x. number-small n x some few; each = each-numbered n; once = λ x y l k e. numbered-once n x y some l k e }
+
+module _ (n : ℕ) (book edit : List ℕ) (t : Texts) (is-read : askCount n book edit ≡ passed t) where
+  counts : countsOf n book edit ≡ fourCounts n (t .rules) (t .edit)
+  unfolding countsOf after
+  counts = ap (λ (q : Asked Texts). after q (λ u. fourCounts n (u .rules) (u .edit)) noCounts) is-read
+
+  counts-right : CountsRight n book edit t
+  unfolding outcome
+  counts-right =
+      let q = found n book edit (sym (ap outcome is-read)) in
+      let few : n ≤ maxNodes = omega (arith, q .few) in
+      record {
+        numbered = numbered n (q .some) few;
+        counted = subst (Counted n (t .rules) (t .edit)) (sym counts) (counted n (t .rules) (t .edit) (q .some) few);
+        totals = ap total counts ∙ totals n (t .rules) (t .edit);
+        carried-hold = subst (Exactly n (λ g. holdAll g (carriedBook (t .edit) (t .rules)))) (sym (kept-after n (t .rules) (t .edit)) ∙ sym (ap (λ (f : Four). f .kept + f .repaired) counts))
+            (exactly n (λ g. holdAll g (carriedBook (t .edit) (t .rules))) (q .some) few);
+      }
+
+pub item-12 : Item12
+item-12 = record { right = counts-right; one = refl; two = refl; three = refl }
