@@ -1,6 +1,6 @@
 /* The example station through the calls of zamiathen.h, as a planning suite would make them.
  *
- *   demo DIRECTORY      the directory with station.txt, book.hex, sheet.bin, clash.bin and the edits
+ *   demo DIRECTORY      the directory with station.txt, book.hex, goal.hex, sheet.bin, clash.bin and the edits
  */
 #include "zamiathen.h"
 
@@ -420,6 +420,76 @@ static void show_plans(const char *const variants[3]) {
     printf("   With a byte of the store changed zamiathen_keep answers %02zu %05zu.\n", answer.number, answer.place);
 }
 
+/* A game: the dispatcher's edits and the disruption's, their texts one behind the other. */
+enum { OURS = 2, EDITS = 4, MOVES = 3 };
+static const char *game_names[EDITS] = {"move_back.hex", "move.hex", "fault_s1.hex", "fault_s2.hex"};
+static struct text game_edits[EDITS], goal;
+
+static zamiathen_played play(const uint8_t *from, size_t moves) {
+    uint8_t edits[EDITS * ZAMIATHEN_TEXT_BYTES];
+    size_t lengths[EDITS], end = 0;
+    for (size_t i = 0; i < EDITS; i++) {
+        memcpy(edits + end, game_edits[i].bytes, game_edits[i].length);
+        end += lengths[i] = game_edits[i].length;
+    }
+    return zamiathen_play(from, sizeof sheet, book.bytes, book.length, goal.bytes, goal.length, edits, end, lengths, EDITS,
+                          OURS, moves);
+}
+
+static void print_played(zamiathen_played played, size_t moves) {
+    printf("zamiathen_play with %zu move%s answers %02zu %05zu: ", moves, moves == 1 ? "" : "s", played.number,
+           played.place);
+    if (played.number != ZAMIATHEN_DONE)
+        printf("refused.\n");
+    else if (played.outcome == ZAMIATHEN_PLAY_EDIT)
+        printf("edit %zu forces a win, %s.\n", played.edit, game_names[played.edit]);
+    else if (played.outcome == ZAMIATHEN_PLAY_PASS)
+        printf("a pass forces a win.\n");
+    else
+        printf("no win can be forced.\n");
+}
+
+/* The dispatcher's move that forces a win, entered. */
+static void make_move(uint8_t *on, size_t moves) {
+    zamiathen_played played = play(on, moves);
+    print_played(played, moves);
+    if (played.number == ZAMIATHEN_DONE && played.outcome == ZAMIATHEN_PLAY_EDIT)
+        zamiathen_enter(on, sizeof sheet, book.bytes, book.length, game_edits[played.edit].bytes,
+                        game_edits[played.edit].length, scratch, sizeof scratch);
+}
+
+static void print_place(const uint8_t *on, size_t train) {
+    for (size_t j = 0; j < node_count; j++)
+        if (has_arrow(on, 0, train, j))
+            printf("%s stands at %s", nodes[train], nodes[j]);
+}
+
+/* The winning line of play against each answer of the disruption. */
+static void show_game(size_t train) {
+    load_text(&goal, "goal.hex");
+    for (size_t i = 0; i < EDITS; i++)
+        load_text(&game_edits[i], game_names[i]);
+    printf("   The goal: %s. The dispatcher has move_back.hex and move.hex, the disruption two faults.\n\n   ",
+           goal.parts[0].why);
+    make_move(sheet, MOVES);
+    for (size_t i = OURS; i < EDITS; i++) {
+        uint8_t line[sizeof sheet];
+        memcpy(line, sheet, sizeof line);
+        zamiathen_apply(line, sizeof line, game_edits[i].bytes, game_edits[i].length);
+        printf("      The disruption answers by %s: ", game_names[i]);
+        print_place(line, train);
+        printf(".\n         ");
+        make_move(line, MOVES - 2);
+        printf("         ");
+        print_place(line, train);
+        zamiathen_judged j = zamiathen_judge(line, sizeof line, goal.bytes, goal.length);
+        printf(", and the goal %s.\n", j.number == ZAMIATHEN_DONE ? "holds" : "is broken");
+    }
+    load_sheet("sheet.bin");
+    printf("   With one move more the disruption has the last:\n   ");
+    print_played(play(sheet, MOVES + 1), MOVES + 1);
+}
+
 int main(int count, char **words) {
     if (count != 2) {
         fprintf(stderr, "usage: demo DIRECTORY\n");
@@ -459,5 +529,8 @@ int main(int count, char **words) {
     printf("\n8. Three variants of a weekend, and the best of them (move.hex, swap.hex, retire.hex)\n\n");
     load_sheet("sheet.bin");
     show_plans((const char *const[3]){"move.hex", "swap.hex", "retire.hex"});
+    printf("\n8. A game: can the dispatcher keep T34 at an open berth, whatever fails (goal.hex)?\n\n");
+    load_sheet("sheet.bin");
+    show_game(34);
     return 0;
 }

@@ -1,8 +1,8 @@
 /* Station sheets: make a blank sheet, ask whether a sheet is sound, convert an old card, read a sheet's bits, print its
  * blocks as pages and type pages back, judge a rule book on it, rewrite a stored book, join two edits into one, carry a
  * book back through an edit, check a carried rule that another tool has shortened, change the sheet by an edit, with a
- * book or without one, close and open its nodes, keep sheets in a store and return to them, join two sheets into one, and
- * count the small sheets that survive an edit.
+ * book or without one, close and open its nodes, keep sheets in a store and return to them, join two sheets into one,
+ * count the small sheets that survive an edit, and play a game on a sheet.
  *
  * Link with libzamiathen.a:  cc program.c $(pkg-config --cflags --libs zamiathen)
  *
@@ -37,7 +37,7 @@ extern "C" {
  * zamiathen_convert_255, one written under 2 or 3 by zamiathen_convert_257; one written under 4 has today's form). As one
  * number: 1000 * first + second. */
 #define ZAMIATHEN_VERSION_FIRST 5
-#define ZAMIATHEN_VERSION_SECOND 2
+#define ZAMIATHEN_VERSION_SECOND 3
 #define ZAMIATHEN_VERSION (1000 * ZAMIATHEN_VERSION_FIRST + ZAMIATHEN_VERSION_SECOND)
 
 /* Sizes. */
@@ -58,9 +58,11 @@ extern "C" {
 #define ZAMIATHEN_ARROWS 16    /* kinds of arrows of every sheet */
 #define ZAMIATHEN_MAX_RULES 32 /* of a book */
 #define ZAMIATHEN_MAX_SMALL 3  /* nodes of the small sheets that zamiathen_count counts */
+#define ZAMIATHEN_MAX_EDITS 4  /* of a side of a game */
+#define ZAMIATHEN_MAX_MOVES 6  /* of a game */
 
-/* Answer numbers. A call answers the number of the first question, in this order, whose answer is no; but 5 is asked
- * before 1. */
+/* Answer numbers. A call answers the number of the first question, in this order, whose answer is no; but 5 and 62 are
+ * asked before 1. */
 enum zamiathen_number {
     ZAMIATHEN_DONE = 0, /* place 0 */
 
@@ -123,7 +125,10 @@ enum zamiathen_number {
     ZAMIATHEN_SENT = 60, /* the text that the steps make is not the one sent; place: the first differing byte, or the shorter length */
 
     /* The small sheets to be counted. Place 0. n is asked before the book, names after the edit. */
-    ZAMIATHEN_SMALL_SHEETS = 61 /* n is not from 1 to 3, or another label or arrow than 0 is named */
+    ZAMIATHEN_SMALL_SHEETS = 61, /* n is not from 1 to 3, or another label or arrow than 0 is named */
+
+    /* The game. Asked before the sheet. Place 0. */
+    ZAMIATHEN_GAME_RANGE = 62 /* not 1 to 4 dispatcher edits, 0 to 4 disruption edits and 1 to 6 moves */
 };
 
 /* The answer: a number of enum zamiathen_number, and its place. */
@@ -154,6 +159,18 @@ typedef struct {
     size_t broken_kept;   /* broken before, kept after */
     size_t broken_broken; /* broken before and after */
 } zamiathen_counts;
+
+/* What play states, and its answer with it: the outcome, and the edit, 0 unless the outcome is an edit. After every number
+ * but done both are 0. */
+enum zamiathen_outcome {
+    ZAMIATHEN_PLAY_CANNOT = 0, /* no win can be forced */
+    ZAMIATHEN_PLAY_EDIT = 1,   /* one can, by this edit first: the lowest-numbered that forces it, from 0 */
+    ZAMIATHEN_PLAY_PASS = 2    /* one can, and the dispatcher, who can make no edit, passes first */
+};
+
+typedef struct {
+    size_t number, place, outcome, edit;
+} zamiathen_played;
 
 /*
  * Sheets
@@ -372,6 +389,29 @@ zamiathen_answer zamiathen_drop(uint8_t *store, size_t store_length, size_t name
  * millisecond or two, the longest up to a second. */
 zamiathen_counts zamiathen_count(size_t n, const uint8_t *book, size_t book_length, const uint8_t *edit,
                                  size_t edit_length);
+
+/*
+ * A game
+ */
+
+/* Dispatcher against disruption: single moves, the dispatcher first and then by turns. A dispatcher edit can be made when
+ * zamiathen_enter with a long enough scratch would answer done on the sheet then reached; a disruption edit can always be
+ * made, and its steps are carried out without the book. Whoever has no edit that can be made passes, and nobody else does.
+ * The dispatcher wins when the goal, a rule, holds after the last move. Can the dispatcher force a win, and by which move
+ * first? The sheet need not keep the book.
+ *
+ * The texts of the edits stand one behind the other in edits, the dispatcher's first; lengths has the length of each, cut
+ * off where edits ends, and bytes behind the last of them are not read. The first `dispatchers` of the lengths_count edits
+ * are the dispatcher's, the others the disruption's. The goal is a book of one rule: an empty one is answered 12, bytes
+ * behind the rule are 16.
+ *
+ * Answers 62, asked before the sheet, 1 to 4, 11 to 16 of the book and then of the goal, 21 to 26 of each edit in turn,
+ * with the place in its own text, 31 or 32 for the first dispatcher edit through which the carried book does not fit, and
+ * else 0 with the outcome. It does not say whose text a number is about: zamiathen_judge and zamiathen_apply tell. Writes
+ * nothing. At most 4,096 lines of play of 6 moves are gone through, and each is left as soon as it is decided. */
+zamiathen_played zamiathen_play(const uint8_t *sheet, size_t sheet_length, const uint8_t *book, size_t book_length,
+                                const uint8_t *goal, size_t goal_length, const uint8_t *edits, size_t edits_length,
+                                const size_t *lengths, size_t lengths_count, size_t dispatchers, size_t moves);
 
 #ifdef __cplusplus
 }

@@ -10,6 +10,7 @@
  *   enter BOOK EDIT     number, place and the sheet's bytes after the call; each call begins with the sheet of the file
  *   close BOOK NODE     the same
  *   open BOOK NODE      the same
+ *   play BOOK GOAL DISPATCHERS MOVES EDIT...    number, place, outcome and edit
  */
 #include "zamiathen.h"
 
@@ -79,6 +80,24 @@ static int turn(zamiathen_answer (*call)(uint8_t *, size_t, const uint8_t *, siz
     return 1;
 }
 
+static int play(const struct text *book) {
+    static struct text goal, edit;
+    static uint8_t edits[LINE];
+    size_t lengths[16], count = 0, end = 0;
+    const char *word, *ours, *moves;
+    if (!read_text(&goal, strtok(NULL, " \n")) || (ours = strtok(NULL, " \n")) == NULL || (moves = strtok(NULL, " \n")) == NULL)
+        return 0;
+    for (; (word = strtok(NULL, " \n")) != NULL; end += lengths[count++] = edit.length) {
+        if (count == 16 || !read_text(&edit, word) || end + edit.length > sizeof edits)
+            return 0;
+        memcpy(edits + end, edit.bytes, edit.length);
+    }
+    zamiathen_played p = zamiathen_play(sheet, sizeof sheet, book->bytes, book->length, goal.bytes, goal.length, edits, end, lengths,
+                                        count, strtoul(ours, NULL, 10), strtoul(moves, NULL, 10));
+    printf("%02zu %05zu %zu %zu\n", p.number, p.place, p.outcome, p.edit);
+    return 1;
+}
+
 static int call(char *line) {
     static struct text book, edit;
     const char *name = strtok(line, " \n");
@@ -105,6 +124,8 @@ static int call(char *line) {
         return turn(zamiathen_close, &book, strtok(NULL, " \n"));
     if (strcmp(name, "open") == 0)
         return turn(zamiathen_open, &book, strtok(NULL, " \n"));
+    if (strcmp(name, "play") == 0)
+        return play(&book);
     if (!read_text(&edit, strtok(NULL, " \n")))
         return 0;
     if (strcmp(name, "carry") == 0) {

@@ -1,4 +1,5 @@
-/* How much stack zamiathen_enter takes on the deepest carried rules there can be, 255 levels: each call runs in a thread
+/* How much stack zamiathen_enter takes on the deepest carried rules there can be, 255 levels, and zamiathen_play in games of
+ * six moves with edits and rules of 32 levels: each call runs in a thread
  * of its own, whose stack was filled with a pattern before. Prints the bytes that no longer hold it, less those of a
  * thread that does nothing. They must not pass ZAMIATHEN_STACK_BYTES. */
 #include "zamiathen.h"
@@ -118,6 +119,54 @@ static void branches(const char *what, const char *open, const char *close) {
     report(what);
 }
 
+/* A game of six moves: the book is the goal, too, and both sides have the edit. */
+static uint8_t edits[2 * ZAMIATHEN_TEXT_BYTES];
+static size_t lengths[2];
+static zamiathen_played played;
+
+static void *play(void *unused) {
+    played = zamiathen_play(sheet, sizeof sheet, book.bytes, book.length, book.bytes, book.length, edits,
+                            lengths[0] + lengths[1], lengths, 2, 1, ZAMIATHEN_MAX_MOVES);
+    return unused;
+}
+
+static void report_game(const char *what) {
+    lengths[0] = lengths[1] = edit.length;
+    memcpy(edits, edit.bytes, edit.length);
+    memcpy(edits + edit.length, edit.bytes, edit.length);
+    size_t bytes = changed_stack(play) - changed_stack(nothing);
+    printf("%-52s %02zu %05zu %8zu\n", what, played.number, played.place, bytes);
+    if (played.number == ZAMIATHEN_DONE && bytes <= ZAMIATHEN_STACK_BYTES)
+        passed++;
+    else
+        failed++;
+}
+
+/* A step and a rule whose expression goes down to level 32. */
+static void deep_game(const char *what, const char *rule, const char *step, const char *open, const char *name,
+                      const char *close, size_t times) {
+    book.length = edit.length = 0;
+    put(&book, rule);
+    put(&edit, step);
+    for (struct text *text = &book; text != NULL; text = text == &book ? &edit : NULL) {
+        put_many(text, open, times);
+        put(text, name);
+        put_many(text, close, times);
+    }
+    put(&book, name);
+    put(&edit, "30");
+    report_game(what);
+}
+
+static void branching_game(const char *what, const char *open, const char *close) {
+    book.length = edit.length = 0;
+    put(&book, "21 03 00 01");
+    put_many(&edit, open, 28);
+    put(&edit, "33 00 12 11 00 30");
+    put_many(&edit, close, 28);
+    report_game(what);
+}
+
 int main(void) {
     zamiathen_blank(sheet, sizeof sheet, ZAMIATHEN_MAX_NODES);
     printf("%-52s %-8s %8s\n", "enter, a carried rule of 255 levels", "answer", "bytes");
@@ -134,6 +183,13 @@ int main(void) {
     report("253 steps on one label");
     branches("30 branches, each in the first way of another", "35 21 01 01", "30 30");
     branches("30 branches, each in the second way of another", "35 21 01 01 30", "30");
+    printf("%-52s %-8s %8s\n", "play, six moves, 32 levels", "answer", "bytes");
+    deep_game("12 below 12", "22", "33 00", "12", "11 00", "", 30);
+    deep_game("13, second operand below", "22", "33 00", "13 11 0F", "11 00", "", 30);
+    deep_game("13, first operand below", "22", "33 00", "13", "11 00", "11 0F", 30);
+    deep_game("06, first operand below", "21", "31 00", "06", "03 00", "01", 30);
+    deep_game("08 in the expression of a 16 in the arrow of an 08", "21", "31 00", "08 16 11 0F", "03 00", "01", 15);
+    branching_game("28 branches, each in the first way of another", "35 21 01 01", "30 30");
     printf("%d passed, %d failed\n", passed, failed);
     return failed != 0;
 }

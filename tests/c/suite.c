@@ -1189,6 +1189,71 @@ static void counts(void) {
     }
 }
 
+/* Games on a blank sheet of two nodes: the edits' texts one behind the other, the dispatcher's first, their lengths, and
+ * the answer: number, place, outcome (0 can't, 1 an edit, 2 a pass), the edit. GIVE gives node 0 label 0. */
+#define GIVE "31 00 04 00 30 "
+#define TAKE_IT "32 00 04 00 30 "
+#define LABELLED "23 00 03 00"
+_Static_assert(ZAMIATHEN_GAME_RANGE == 62, "document 02");
+static const struct {
+    const char *book, *goal, *edits;
+    size_t lengths[9], count, dispatchers, moves, numbers[4];
+} games[] = {
+    {"", LABELLED, GIVE TAKE_IT, {5, 5}, 2, 1, 1, {0, 0, 1, 0}},
+    {"", LABELLED, GIVE TAKE_IT, {5, 5}, 2, 1, 2, {0, 0, 0, 0}},
+    {"", LABELLED, GIVE "30 " TAKE_IT, {5, 1, 5}, 3, 1, 2, {0, 0, 0, 0}},
+    {"", LABELLED, "30 " GIVE TAKE_IT, {1, 5, 5}, 3, 2, 3, {0, 0, 1, 0}},
+    {"", LABELLED, "30 " GIVE TAKE_IT, {1, 5, 5}, 3, 2, 1, {0, 0, 1, 1}},
+    {"", LABELLED, "30 " GIVE, {1, 5}, 2, 2, 2, {0, 0, 1, 1}},
+    {"21 03 00 02", "21 01 01", GIVE, {5}, 1, 1, 1, {0, 0, 2, 0}},
+    {"21 03 00 02", LABELLED, GIVE GIVE, {5, 5}, 2, 1, 2, {0, 0, 2, 0}},
+    {"", "27 " LABELLED, GIVE, {5}, 1, 1, 1, {0, 0, 0, 0}},
+    {"21 03 00 02", LABELLED, "30 " GIVE, {1, 5}, 2, 1, 3, {0, 0, 1, 0}},
+    {"21 03 00 02", LABELLED, TAKE_IT GIVE, {5, 5}, 2, 1, 3, {0, 0, 0, 0}},
+    {"", LABELLED, "30 30 30 " GIVE "30 30 30 30", {1, 1, 1, 5, 1, 1, 1, 1}, 8, 4, 6, {0, 0, 1, 0}},
+    {"FF", "", "FF", {1}, 1, 0, 1, {ZAMIATHEN_GAME_RANGE}},
+    {"FF", "", "FF", {1}, 1, 1, 0, {ZAMIATHEN_GAME_RANGE}},
+    {"FF", "", "FF", {1}, 1, 1, 7, {ZAMIATHEN_GAME_RANGE}},
+    {"FF", "", "FF", {1, 1, 1, 1, 1}, 5, 5, 1, {ZAMIATHEN_GAME_RANGE}},
+    {"FF", "", "FF", {1, 1, 1, 1, 1, 1}, 6, 1, 1, {ZAMIATHEN_GAME_RANGE}},
+    {"FF", "", "FF", {1}, 1, 1, 1, {ZAMIATHEN_BOOK_CODE, 0}},
+    {"", "", "FF", {1}, 1, 1, 1, {ZAMIATHEN_BOOK_ENDS, 0}},
+    {"", "23 02 01", "FF", {1}, 1, 1, 1, {ZAMIATHEN_BOOK_NUMBER, 1}},
+    {"", LABELLED " 21", "FF", {1}, 1, 1, 1, {ZAMIATHEN_BOOK_RULES, 4}},
+    {"", LABELLED, "30 30 30 FF", {1, 2, 1}, 3, 2, 1, {ZAMIATHEN_EDIT_MORE, 1}},
+    {"", LABELLED, "30 FF", {1, 1}, 2, 1, 1, {ZAMIATHEN_EDIT_CODE, 0}},
+    {"", LABELLED, "30 31 00", {1, SIZE_MAX}, 2, 2, 1, {ZAMIATHEN_EDIT_ENDS, 2}},
+};
+
+static void played(size_t sheet_length, size_t i, const struct text *edits, const size_t *numbers) {
+    static struct text book, goal;
+    size_t found_numbers[4];
+    book.length = goal.length = 0;
+    put(&book, games[i].book);
+    put(&goal, games[i].goal);
+    __auto_type found =
+        zamiathen_play(sheet, sheet_length, book.bytes, book.length, goal.bytes, goal.length, edits->bytes,
+                       edits->length, games[i].lengths, games[i].count, games[i].dispatchers, games[i].moves);
+    _Static_assert(sizeof found == sizeof found_numbers, "four numbers");
+    memcpy(found_numbers, &found, sizeof found_numbers);
+    same(games[i].edits, memcmp(found_numbers, numbers, sizeof found_numbers) == 0);
+    left_alone(games[i].edits);
+}
+
+static void play(void) {
+    static struct text edits;
+    start();
+    answered("blank", zamiathen_blank(sheet, whole, 2), ZAMIATHEN_DONE, 0);
+    memcpy(kept, sheet, whole);
+    for (size_t i = 0; i < sizeof games / sizeof *games; i++) {
+        edits.length = 0;
+        put(&edits, games[i].edits);
+        played(whole, i, &edits, games[i].numbers);
+        const size_t refused[4] = {games[i].numbers[0] == ZAMIATHEN_GAME_RANGE ? ZAMIATHEN_GAME_RANGE : ZAMIATHEN_SHEET_LENGTH};
+        played(whole - 1, i, &edits, refused);
+    }
+}
+
 int main(void) {
     examples();
     changes();
@@ -1218,6 +1283,7 @@ int main(void) {
     one_by_one();
     steps_of_a_tool();
     counts();
+    play();
     empty_buffers();
     printf("%d passed, %d failed\n", passed, failed);
     return failed != 0;

@@ -10,6 +10,7 @@ pub mod carry;
 pub mod chain;
 pub mod clerk;
 pub mod counts;
+pub mod game;
 pub mod graph;
 pub mod join;
 pub mod laws;

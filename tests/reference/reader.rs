@@ -57,8 +57,12 @@ pub fn edit(text: &[u8], n: usize) -> Asked<Edit> {
 
 /// Rule end: the length of the first rule of a text.
 pub fn first_rule(text: &[u8]) -> Asked<usize> {
-    let mut reader = Reader::begin(text, MOST_NODES, 10)?;
-    Ok(reader.placed_rule()?.part.len())
+    Ok(first_of(text, MOST_NODES)?.part.len())
+}
+
+/// The first rule of a text, with node numbers below n: 11, then 12 to 15.
+pub fn first_of(text: &[u8], n: usize) -> Asked<Placed> {
+    Reader::begin(text, n, 10)?.placed_rule()
 }
 
 /// A carried rule: 11 to 16 for one rule, with 16,384 bytes, 255 levels and n as 60.

@@ -1,10 +1,11 @@
 //! The marked examples of document 01, some of its remarks, check bytes, old cards, pages of its sheet T, rewritten books,
-//! closed nodes, stores, joined sheets and edits, laws and counts, asked of the reference itself.
+//! closed nodes, stores, joined sheets and edits, laws, counts and games, asked of the reference itself.
 
 use reference::answer::{Answer, DONE};
 use reference::calls::{apply, carry_back, close, enter, judge, open, Judged};
 use reference::chain::join_edits;
 use reference::counts::count;
+use reference::game::{self, Edits};
 use reference::graph::{Graph, Pairs, MOST_NODES};
 use reference::join::join_sheets;
 use reference::laws::check_steps;
@@ -609,6 +610,55 @@ fn counts(tally: &mut Tally) {
     }
 }
 
+/// Games on a blank sheet of two nodes: what the dispatcher and the disruption may do, and who wins after so many moves.
+fn games(tally: &mut Tally) {
+    let blank = sheet::store(&Graph::blank(2));
+    let played = |book: &str, goal: &str, ours: &[&str], theirs: &[&str], moves: usize| {
+        let texts: Vec<Vec<u8>> = ours.iter().chain(theirs).map(|text| hex(text)).collect();
+        let lengths: Vec<usize> = texts.iter().map(Vec::len).collect();
+        let edits = Edits { bytes: &texts.concat(), lengths: &lengths, dispatchers: ours.len() };
+        game::numbers(game::play(&blank, &hex(book), &hex(goal), &edits, moves))
+    };
+    let (give, take, idle) = ("31 00 04 00 30", "32 00 04 00 30", "30");
+    let labelled = "23 00 03 00";
+    tally.same("given last", played("", labelled, &[give], &[take], 1), [0, 0, 1, 0]);
+    tally.same("taken last", played("", labelled, &[give], &[take], 2), [0, 0, 0, 0]);
+    tally.same("given again", played("", labelled, &[idle, give], &[take], 3), [0, 0, 1, 0]);
+    tally.same("lowest that forces", played("", labelled, &[idle, give], &[take], 1), [0, 0, 1, 1]);
+    tally.same("no disruption", played("", labelled, &[idle, give], &[], 2), [0, 0, 1, 1]);
+    tally.same("none to choose from", played("", labelled, &[idle, idle], &[idle, give], 2), [0, 0, 0, 0]);
+    tally.same("they must give it", played("", labelled, &[idle, idle], &[give], 2), [0, 0, 1, 0]);
+    // The book forbids label 0: giving it cannot be made, so the dispatcher passes, and may only pass then.
+    let never = "21 03 00 02";
+    tally.same("a pass", played(never, "21 01 01", &[give], &[], 1), [0, 0, 2, 0]);
+    tally.same("a pass that loses", played(never, labelled, &[give], &[idle], 2), [0, 0, 0, 0]);
+    tally.same("a pass, then theirs", played(never, labelled, &[give], &[give], 2), [0, 0, 2, 0]);
+    tally.same("no pass beside an edit", played("", "27 23 00 03 00", &[give], &[], 1), [0, 0, 0, 0]);
+    // Once they break the book by giving the label, no edit of ours can be made but one that takes it.
+    tally.same("theirs without the book", played(never, labelled, &[idle], &[give], 3), [0, 0, 1, 0]);
+    tally.same("ours under it", played(never, labelled, &[take], &[give], 3), [0, 0, 0, 0]);
+    // The given sheet need not keep the book.
+    tally.same("repaired", played("21 01 03 00", "23 01 03 00", &[give, "31 00 01 30"], &[], 1), [0, 0, 1, 1]);
+    let four = ["30"; 5];
+    tally.same("no dispatcher", played("FF", "", &[], &[], 1), [62, 0, 0, 0]);
+    tally.same("five dispatchers", played("FF", "", &four, &[], 1), [62, 0, 0, 0]);
+    tally.same("five disruptions", played("FF", "", &["30"], &four, 1), [62, 0, 0, 0]);
+    tally.same("no move", played("FF", "", &["30"], &[], 0), [62, 0, 0, 0]);
+    tally.same("seven moves", played("FF", "", &["30"], &[], 7), [62, 0, 0, 0]);
+    tally.same("book", played("FF", "", &["FF"], &[], 1), [13, 0, 0, 0]);
+    tally.same("no goal", played("", "", &["FF"], &[], 1), [12, 0, 0, 0]);
+    tally.same("two goals", played("", "21 01 01 21 01 01", &["FF"], &[], 1), [16, 3, 0, 0]);
+    tally.same("a goal of node 2", played("", "23 02 01", &["FF"], &[], 1), [15, 1, 0, 0]);
+    tally.same("our second edit", played("", labelled, &["30", "30 30"], &["FF"], 1), [26, 1, 0, 0]);
+    tally.same("their edit", played("", labelled, &["30"], &["FF"], 1), [23, 0, 0, 0]);
+    let deep = ["31 00 02 "; 255].concat() + "30";
+    tally.same("too deep for ours", played(labelled, labelled, &["30", &deep], &[], 1), [32, 0, 0, 0]);
+    tally.same("not asked of theirs", played(labelled, labelled, &[give], &[&deep], 1), [0, 0, 1, 0]);
+    let cut = Edits { bytes: &hex("31 00 01 30 31"), lengths: &[4, 4], dispatchers: 1 };
+    let found = game::play(&blank, &[], &hex(labelled), &cut, 1);
+    tally.same("cut off where the bytes end", found, Err(Answer { number: 22, place: 1 }));
+}
+
 /// None of these may take exponential time.
 fn explosions(tally: &mut Tally) {
     let rule = hex("23 00 03 00");
@@ -645,6 +695,7 @@ fn main() {
     rule_by_rule(&mut tally);
     laws(&mut tally);
     counts(&mut tally);
+    games(&mut tally);
     explosions(&mut tally);
     println!("{} passed, {} failed", tally.passed, tally.failed);
     std::process::exit(i32::from(tally.failed > 0));

@@ -1,8 +1,10 @@
 -- Each call that lends a sheet asks the sheet first (blank, a blank store and drop are lent none), so what `Noticed` of `sheet` says of every caller holds of it.
 use mathlib.Core.Path.{_≡_}
+use mathlib.Core.Bool.{true}
 use mathlib.Core.List.{List}
 use Prim.Native.Nat.{ℕ}
-use Rattle.answer.specs.Asked.{_>>=_, _>>_, outcome}
+use lib.ListN.{length}
+use Rattle.answer.specs.Asked.{_>>=_, _>>_, is, outcome}
 use Rattle.sheet.specs.Questions.{askSheet, Sound, askLabelBit, askArrowBit}
 use Rattle.sheet.specs.Noticed.{AsksSheetFirst}
 use Rattle.judge.specs.Questions.{askSheetAndBook, askJudge}
@@ -13,6 +15,7 @@ use Rattle.plans.specs.Questions.{askKeep, askReturn}
 use Rattle.join.specs.Joined.{askJoin}
 use Rattle.pages.specs.Print.{askPrintArrow, askPrintLabels}
 use Rattle.pages.specs.Typed.{askType}
+use Rattle.play.specs.Questions.{inRange, askGame, askPlay}
 
 pub check-first : AsksSheetFirst askSheet
 check-first = record { first = λ sheet q p e. e }
@@ -73,3 +76,8 @@ join-first second = record { first = λ sheet q p e. rw e }
 pub join-second : (first : List ℕ) → Sound first → AsksSheetFirst (λ sheet. askJoin first sheet)
 unfolding askJoin _>>_
 join-second first sound = record { first = λ sheet q p e. rw (sound, e) }
+
+-- Play asks 62 first: it asks the sheet first where lists and moves are in their ranges.
+pub play-first : (book goal edits lengths : List ℕ) (dispatchers moves : ℕ) → inRange (length lengths) dispatchers moves ≡ true → AsksSheetFirst (λ sheet. askPlay sheet book goal edits lengths dispatchers moves)
+unfolding askPlay askGame askSheetAndBook is _>>_ _>>=_
+play-first book goal edits lengths dispatchers moves ok = record { first = λ sheet q p e. rw (ok, e) }

@@ -7,6 +7,7 @@ use answer::Answer;
 use answer::Written;
 
 mod edits;
+mod games;
 mod nodes;
 mod paper;
 mod rules;

@@ -35,6 +35,14 @@ pub struct CCounts {
     pub counts: [usize; 4],
 }
 
+#[repr(C)]
+pub struct CPlayed {
+    pub number: usize,
+    pub place: usize,
+    pub outcome: usize,
+    pub edit: usize,
+}
+
 #[link(name = "suite", kind = "static")]
 extern "C" {
     pub fn zamiathen_blank(sheet: *mut u8, sheet_length: usize, n: usize) -> CAnswer;
@@ -121,6 +129,20 @@ extern "C" {
         edit: *const u8,
         edit_length: usize,
     ) -> CCounts;
+    pub fn zamiathen_play(
+        sheet: *const u8,
+        sheet_length: usize,
+        book: *const u8,
+        book_length: usize,
+        goal: *const u8,
+        goal_length: usize,
+        edits: *const u8,
+        edits_length: usize,
+        lengths: *const usize,
+        lengths_count: usize,
+        dispatchers: usize,
+        moves: usize,
+    ) -> CPlayed;
     pub fn zamiathen_rewrite(book: *const u8, book_length: usize, output: *mut u8, output_length: usize) -> CLength;
     pub fn zamiathen_apply(sheet: *mut u8, sheet_length: usize, edit: *const u8, edit_length: usize) -> CAnswer;
     pub fn zamiathen_carry_back(

@@ -1,0 +1,8 @@
+pub mod Bools
+pub mod Search
+pub mod Plans
+pub mod Answer
+pub mod Examples
+pub mod Entered
+pub mod Pasts
+pub mod Chosen

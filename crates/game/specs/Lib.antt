@@ -1,0 +1,4 @@
+pub mod Game
+pub mod Play
+pub mod Examples
+pub mod Search

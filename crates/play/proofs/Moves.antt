@@ -1,0 +1,104 @@
+-- One move: the book judged on a sheet, and an edit made on a copy.
+use mathlib.Core.Path.{_≡_, refl, sym, ap, ap₂, _∙_}
+use mathlib.Core.Bool.{Bool, true, false, not, _&&_, and-true}
+use mathlib.Core.List.{List, [], _∷_, _++_, append-nil}
+use Prim.Native.Nat.{ℕ, suc, _+_, _-_, _<_}
+use native.Mathlib.Omega.{arith}
+use lib.ListN.{length, take, drop, getD, drop-of-length-le}
+use lib.Seq.{take-length}
+use Rattle.answer.specs.Asked.{Asked, passed, refused}
+use Rattle.answer.specs.Answers.{asked}
+use Rattle.answer.specs.declared.Refusal.{Refusal}
+use Rattle.answer.specs.declared.Answer.{Answer}
+use Rattle.answer.specs.declared.Answer.the-variants.{Done, Refused}
+use Rattle.logic.specs.Syntax.{Expr, rule, Edit}
+use Rattle.logic.specs.Graph.{Graph}
+use Rattle.logic.specs.Meaning.{value}
+use Rattle.logic.specs.Steps.{run}
+use Rattle.logic.specs.Limits.{ranges}
+use Rattle.logic.proofs.Inside.{run-within}
+use Rattle.sheet.specs.Sheet.{present, sheetBytes, graphOf}
+use Rattle.sheet.specs.Questions.{Sound}
+use Rattle.sheet.proofs.Blocks.{length-store}
+use Rattle.sheet.proofs.ReadBack.{read-back}
+use Rattle.sheet.proofs.Opening.{opening}
+use Rattle.text.specs.Stands.{EditStands}
+use Rattle.judge.specs.Questions.{askRules}
+use Rattle.write.specs.Laid.{laid}
+use Rattle.write.proofs.Laying.{laid-fits}
+use Rattle.apply.specs.Made.{Made}
+use Rattle.game.specs.Game.{Game, holdAll, mayLeave}
+use Rattle.game.specs.Search.{sideOf, goesWell, chosen}
+use Rattle.game.proofs.Chosen.{isCannot, well-over, well-more}
+use Rattle.play.specs.declared.search.Found.{Found}
+use Rattle.play.specs.Standing.{OnCopy, outcomeOf}
+
+-- 41 is not answered exactly when each rule holds.
+unfoldable pub isPassed : Asked (Unit {0}) → Bool
+isPassed (passed u) = true
+isPassed (refused q p) = false
+
+pub passed-holds : (g : Graph) (rules : List (Expr rule)) (i : ℕ) → isPassed (askRules g rules i) ≡ holdAll g rules
+unfolding isPassed askRules holdAll
+passed-holds g [] i = refl
+passed-holds g (K ∷ rules) i = go (value g K) (passed-holds g rules (suc i))
+  where
+    go : (b : Bool) → isPassed (askRules g rules (suc i)) ≡ holdAll g rules → isPassed (elim b [ true ↦ askRules g rules (suc i) | false ↦ refused 41 i ]) ≡ (b && holdAll g rules)
+    go true h = h
+    go false h = refl
+
+module _ (g : Graph) (rules : List (Expr rule)) (a : Answer) (judged : asked a ≡ askRules g rules 0) where
+  pub all-hold : a ≡ Done → true ≡ holdAll g rules
+  unfolding isPassed
+  all-hold e = ap isPassed (sym (ap asked e) ∙ judged) ∙ passed-holds g rules 0
+
+  pub one-broken : (r : Refusal) → a ≡ Refused r → false ≡ holdAll g rules
+  unfolding isPassed
+  one-broken r e = ap isPassed (sym (ap asked e) ∙ judged) ∙ passed-holds g rules 0
+
+-- The goal is a book of one rule.
+pub one-holds : (g : Graph) (K : Expr rule) → holdAll g (K ∷ []) ≡ value g K
+unfolding holdAll
+one-holds g K = and-true (value g K)
+
+-- Whether a side may leave a graph.
+module _ (G : Game) (h : Graph) {ours : Bool} where
+  pub may-ours : ours ≡ true → mayLeave G (sideOf ours) h ≡ holdAll h (G .book)
+  unfolding mayLeave
+  may-ours e = ap (λ (b : Bool). mayLeave G (sideOf b) h) e
+
+  pub may-theirs : ours ≡ false → mayLeave G (sideOf ours) h ≡ true
+  unfolding mayLeave
+  may-theirs e = ap (λ (b : Bool). mayLeave G (sideOf b) h) e
+
+module _ (sheet : List ℕ) (small : (p : ℕ) → getD sheet p 0 < 256) (sound : Sound sheet) where
+  pub sheet-length : length sheet ≡ sheetBytes
+  sheet-length = ap length (opening present sheet small sound .stored) ∙ length-store present (graphOf sheet)
+
+  -- A copy of the sheet is the sheet,
+  pub copied : (buffer copy : List ℕ) → length buffer ≡ sheetBytes → copy ≡ laid buffer 0 (take (length sheet) (drop 0 sheet)) → copy ≡ sheet
+  copied buffer copy l e =
+      e
+      ∙ ap (laid buffer 0) (take-length sheet)
+      ∙ laid-fits buffer 0 sheet (omega (arith, sheet-length))
+      ∙ ap (sheet ++_) (drop-of-length-le buffer {i = 0 + length sheet} (omega (arith, sheet-length)))
+      ∙ append-nil sheet
+
+  -- and the edit's steps made there leave the graph that they leave.
+  pub on-copy : (edits : List ℕ) (at : ℕ) (Z : Edit) (next : ℕ) (copy : List ℕ) → EditStands (ranges (graphOf sheet .n)) edits at Z → Made at Z next sheet copy → OnCopy at Z next sheet copy
+  on-copy edits at Z next copy s m =
+      record { graph = ap graphOf (m .sheet-is) ∙ read-back (run Z (graphOf sheet)) (run-within (ranges (graphOf sheet .n)) Z (s .range) (graphOf sheet) (opening present sheet small sound .within)); ends = m .ends }
+
+-- After the last move, by the goal; before it, when the other side has no move.
+module _ (G : Game) (g : Graph) (ours : Bool) (moves : ℕ) where
+  module _ (over : moves ≡ 0) {reached : Bool} (aim : reached ≡ holdAll g (G .goal ∷ [])) where
+    pub over-ours : ours ≡ true → reached ≡ goesWell G moves ours g
+    over-ours e = aim ∙ one-holds g (G .goal) ∙ sym (ap₂ (λ (m : ℕ) (b : Bool). goesWell G m b g) over e ∙ well-over G g true)
+
+    pub over-theirs : ours ≡ false → not reached ≡ goesWell G moves ours g
+    over-theirs e = ap not (aim ∙ one-holds g (G .goal)) ∙ sym (ap₂ (λ (m : ℕ) (b : Bool). goesWell G m b g) over e ∙ well-over G g false)
+
+  pub goes-by : (moves ≡ 0 → ⊥) → (f : Found) → outcomeOf f ≡ chosen G (moves - 1) (not ours) g → (h : Found) → f ≡ h → isCannot (outcomeOf h) ≡ goesWell G moves ours g
+  goes-by some f e h q =
+      let m : moves ≡ suc (moves - 1) = omega arith in
+      ap (λ (x : Found). isCannot (outcomeOf x)) (sym q) ∙ ap isCannot e ∙ sym (ap (λ (k : ℕ). goesWell G k ours g) m ∙ well-more G g (moves - 1) ours)

@@ -1,0 +1,118 @@
+-- The call, once its questions are answered: the game that the search is asked for, and its outcome in numbers.
+use mathlib.Core.Path.{_≡_, sym, ap, _∙_, subst}
+use mathlib.Core.Bool.{Bool, true, false}
+use mathlib.Core.List.{List, [], _∷_, append-nil}
+use Prim.Native.Nat.{ℕ, zero, suc, _+_, _-_, _≤_}
+use native.Mathlib.Omega.{arith}
+use lib.ListN.{length, take, drop, length-drop}
+use lib.Seq.{length-take-le}
+use Rattle.answer.specs.Asked.{Asked, passed, _>>=_, after, outcome}
+use Rattle.answer.specs.Answers.{asked, refusalNumber, refusalPlace}
+use Rattle.answer.specs.declared.Refusal.{Refusal}
+use Rattle.answer.specs.declared.Answer.{Answer}
+use Rattle.answer.specs.declared.Answer.the-variants.{Done, Refused}
+use Rattle.answer.proofs.AnswerLaws.{Learned, learned, not-learned}
+use Rattle.logic.specs.Syntax.{Edit}
+use Rattle.logic.specs.Limits.{Ranges, ranges}
+use Rattle.sheet.specs.Sheet.{graphOf}
+use Rattle.text.specs.Code.{bookCode, editCode}
+use Rattle.text.specs.Reading.{textLimits}
+use Rattle.text.specs.Questions.{askBook}
+use Rattle.text.proofs.Books.{rules-in-range, book-is-spelled}
+use Rattle.judge.specs.Judging.{RulesStand}
+use Rattle.game.specs.Game.{Game, editsOf, Outcome, answer}
+use Rattle.game.specs.Search.{sideOf, chosen}
+use Rattle.game.proofs.Chosen.{chosen-answer}
+use Rattle.play.specs.declared.search.Lists.{Lists}
+use Rattle.play.specs.declared.search.Found.{Found}
+use Rattle.play.specs.Questions.{askGame, askPlay, outcomeNumber, outcomeEdit}
+use Rattle.play.specs.Standing.{EditsStand, countOf, startOf, EditsAt, GameStands, outcomeOf}
+use Rattle.play.proofs.Edits.{edits-stand}
+use Rattle.play.proofs.Goal.{goal-stands}
+use Rattle.play.proofs.Asking.{enough, some-moves, gameOf, Passed, all-passed, edits-at}
+
+-- The first of the edits that stand there stand there.
+first-stand : (r : Ranges) (text : List ℕ) (m at : ℕ) (Zs : List Edit) → EditsStand r text at Zs → EditsStand r text at (take m Zs)
+unfolding EditsStand
+first-stand r text zero at Zs s = tt
+first-stand r text (suc m) at [] s = tt
+first-stand r text (suc m) at (Z ∷ Zs) s = (s .0, s .1, first-stand r text m (at + length (editCode Z)) Zs (s .2))
+
+book-stands : (n : ℕ) (book : List ℕ) (B : Learned (askBook (textLimits n) book)) → RulesStand (ranges n) book 0 (length book) (B .what)
+book-stands n book B =
+    let s = book-is-spelled (textLimits n) book (B .what) (B .is) .spells in
+    record { rest = []; here = s .text-is ∙ sym (append-nil (bookCode (B .what))); ends = omega (arith, ap length (s .text-is)); range = rules-in-range (textLimits n) (B .what) (s .rules) }
+
+module _ (sheet book goal edits lengths : List ℕ) (d moves : ℕ) where
+  abbrev Played : Asked Outcome
+  Played = askPlay sheet book goal edits lengths d moves
+
+  -- What is answered: the outcome of the questions, and the game's outcome in numbers.
+  pub record Says (a : Asked (Unit {0})) (number edit : ℕ) : Type 0 where
+    pub answer-is : a ≡ outcome Played
+    pub number-is : number ≡ after Played outcomeNumber 0
+    pub edit-is : edit ≡ after Played outcomeEdit 0
+
+  module _ (a : Answer) (s : asked a ≡ outcome (askGame sheet book goal edits lengths d moves)) where
+    -- A question stops.
+    pub game-stops : (r : Refusal) → a ≡ Refused r → Says (asked a) 0 0
+    unfolding askPlay _>>=_ outcome after
+    game-stops r e =
+        let q = ap (λ (x : Asked Game). x >>= (λ G. passed (answer G (moves - 1) (graphOf sheet)))) (not-learned (askGame sheet book goal edits lengths d moves) (refusalNumber r) (refusalPlace r) (sym (ap asked e) ∙ s)) in
+        record {
+          answer-is = ap asked e ∙ sym (ap outcome q);
+          number-is = sym (ap (λ (x : Asked Outcome). after x outcomeNumber 0) q);
+          edit-is = sym (ap (λ (x : Asked Outcome). after x outcomeEdit 0) q);
+        }
+
+    -- All pass.
+    module _ (e : a ≡ Done) where
+      abbrev read : Learned (askGame sheet book goal edits lengths d moves)
+      read = learned (askGame sheet book goal edits lengths d moves) (sym (ap asked e) ∙ s)
+
+      pub known : Passed sheet book goal edits lengths d moves (read .what)
+      known = all-passed sheet book goal edits lengths d moves (read .what) (read .is)
+
+      pub texts-stand : EditsAt edits d (known .edits-read .what)
+      texts-stand = edits-at sheet book goal edits lengths d moves (known .ok) (known .book-read) (known .edits-read)
+
+      pub no-fewer : d ≤ length lengths
+      no-fewer = enough (length lengths) d moves (known .ok)
+
+      pub one-move : 1 ≤ moves
+      one-move = some-moves (length lengths) d moves (known .ok)
+
+      module _ (second : ℕ) (later : (Zs : List Edit) (t : EditsAt edits d Zs) → EditsStand (t .limits) edits second (drop d Zs)) where
+        abbrev lists : Lists
+        lists = record { ours = d; second = second; theirs = length lengths - d }
+
+        pub game-stands : GameStands (graphOf sheet .n) book goal edits lists (read .what)
+        game-stands =
+            let Zs = known .edits-read .what in
+            let t = edits-stand (graphOf sheet .n) edits lengths Zs (known .edits-read .is) in
+            subst (GameStands (graphOf sheet .n) book goal edits lists) (known .is)
+            (record {
+              rules = book-stands (graphOf sheet .n) book (known .book-read);
+              aim = goal-stands (textLimits (graphOf sheet .n)) goal (known .goal-read .what) (known .goal-read .is);
+              stand = λ (ours : Bool). elim ours as (λ b. EditsStand (ranges (graphOf sheet .n)) edits (startOf lists b) (editsOf (gameOf sheet book goal edits lengths d moves (known .book-read .what) (known .goal-read .what) Zs) (sideOf b))) [
+                | true ↦ first-stand (ranges (graphOf sheet .n)) edits d 0 Zs (t .stand)
+                | false ↦ later Zs (edits-at sheet book goal edits lengths d moves (known .ok) (known .book-read) (known .edits-read))
+              ];
+              counted = λ (ours : Bool). elim ours as (λ b. countOf lists b ≡ length (editsOf (gameOf sheet book goal edits lengths d moves (known .book-read .what) (known .goal-read .what) Zs) (sideOf b))) [
+                | true ↦ sym (length-take-le d Zs (omega (arith, t .many, no-fewer)))
+                | false ↦ ap (λ (k : ℕ). k - d) (sym (t .many)) ∙ sym (length-drop d Zs)
+              ];
+            })
+
+        -- The search has found this.
+        pub found-is : (f : Found) → ((G : Game) → GameStands (graphOf sheet .n) book goal edits lists G → outcomeOf f ≡ chosen G (moves - 1) true (graphOf sheet)) → (h : Found) → f ≡ h
+            → Says (passed tt) (outcomeNumber (outcomeOf h)) (outcomeEdit (outcomeOf h))
+        unfolding askPlay _>>=_ outcome after
+        found-is f w h q =
+            let x : answer (read .what) (moves - 1) (graphOf sheet) ≡ outcomeOf h = sym (chosen-answer (read .what) (moves - 1) (graphOf sheet)) ∙ sym (w (read .what) game-stands) ∙ ap outcomeOf q in
+            let p : Played ≡ passed (outcomeOf h) = ap (λ (y : Asked Game). y >>= (λ G. passed (answer G (moves - 1) (graphOf sheet)))) (read .is) ∙ ap passed x in
+            record {
+              answer-is = sym (ap outcome p);
+              number-is = sym (ap (λ (y : Asked Outcome). after y outcomeNumber 0) p);
+              edit-is = sym (ap (λ (y : Asked Outcome). after y outcomeEdit 0) p);
+            }

@@ -1,0 +1,89 @@
+-- The questions of a game, in item 13's order, and what is answered when all have passed.
+use mathlib.Core.Bool.{Bool, _&&_}
+use mathlib.Core.List.{List, [], _∷_}
+use Prim.Native.Nat.{ℕ, _-_}
+use lib.Dec.{leb}
+use lib.ListN.{length, take, drop}
+use Rattle.answer.specs.Asked.{Asked, passed, refused, _>>=_, _>>_, is}
+use Rattle.logic.specs.Syntax.{Expr, rule, Edit}
+use Rattle.logic.specs.Carry.{carriedBook}
+use Rattle.sheet.specs.Sheet.{graphOf}
+use Rattle.text.specs.Code.{bookCode, bookLevels}
+use Rattle.text.specs.Reading.{Limits, textLimits, longestCarried, deepestCarried, expr, Read, got, fault, readAs}
+use Rattle.text.specs.Questions.{faultNumber, askEdit}
+use Rattle.judge.specs.Questions.{askSheetAndBook}
+use Rattle.game.specs.Game.{Game, Outcome, cannot, first, pass, edit, answer}
+
+-- "1 to 4 dispatcher edits and 0 to 4 disruption edits, and 1 to 6 moves"; the first `dispatchers` of `count` edits are the dispatcher's.
+abbrev pub mostEdits : ℕ
+mostEdits = 4
+
+abbrev pub mostMoves : ℕ
+mostMoves = 6
+
+unfoldable pub inRange : (count dispatchers moves : ℕ) → Bool
+inRange count dispatchers moves =
+    leb 1 dispatchers && (leb dispatchers mostEdits && (leb dispatchers count && (leb (count - dispatchers) mostEdits && (leb 1 moves && leb moves mostMoves))))
+
+-- "The goal is read after the book: empty it is 12, and bytes after its one rule are 16."
+unfoldable pub alone : Read (Expr rule) → Asked (Expr rule)
+alone (got K [] p) = passed K
+alone (got K (x ∷ t) p) = refused 16 p
+alone (fault why p) = refused (faultNumber 10 why) p
+
+unfoldable pub askGoal : Limits → List ℕ → Asked (Expr rule)
+askGoal l t = do
+  is (leb (length t) (l .longest)) 11 0
+  alone (readAs l (expr rule) t 0)
+
+-- The edits, each a text of its own: they stand one behind the other, and a length is cut off where they end.
+unfoldable pub cut : (edits lengths : List ℕ) → List (List ℕ)
+cut edits [] = []
+cut edits (l ∷ ls) = take l edits ∷ cut (drop l edits) ls
+
+-- 21 to 26 of each, with the place in its own text.
+unfoldable pub askEdits : Limits → List (List ℕ) → Asked (List Edit)
+askEdits l [] = passed []
+askEdits l (t ∷ ts) = do
+  Z ← askEdit l t
+  Zs ← askEdits l ts
+  passed (Z ∷ Zs)
+
+-- "then 31 or 32, place 0, for the first dispatcher edit through which the carried book doesn't fit"
+unfoldable pub askCarried : List (Expr rule) → Asked (Unit {0})
+askCarried carried = do
+  is (leb (length (bookCode carried)) longestCarried) 31 0
+  is (leb (bookLevels carried) deepestCarried) 32 0
+
+unfoldable pub askFits : List (Expr rule) → List Edit → Asked (Unit {0})
+askFits rules [] = passed tt
+askFits rules (Z ∷ Zs) = do
+  askCarried (carriedBook Z rules)
+  askFits rules Zs
+
+-- All questions: 62, "asked before the sheet", sheet, book, goal, edits, 31 and 32. What is learned is the game.
+unfoldable pub askGame : (sheet book goal edits lengths : List ℕ) (dispatchers moves : ℕ) → Asked Game
+askGame sheet book goal edits lengths dispatchers moves = do
+  is (inRange (length lengths) dispatchers moves) 62 0
+  rules ← askSheetAndBook sheet book
+  aim ← askGoal (textLimits (graphOf sheet .n)) goal
+  Zs ← askEdits (textLimits (graphOf sheet .n)) (cut edits lengths)
+  askFits rules (take dispatchers Zs)
+  passed (record { book = rules; goal = aim; dispatchers = take dispatchers Zs; disruptions = drop dispatchers Zs })
+
+-- The call: the game's answer for these moves.
+unfoldable pub askPlay : (sheet book goal edits lengths : List ℕ) (dispatchers moves : ℕ) → Asked Outcome
+askPlay sheet book goal edits lengths dispatchers moves = do
+  G ← askGame sheet book goal edits lengths dispatchers moves
+  passed (answer G (moves - 1) (graphOf sheet))
+
+-- An outcome in numbers: 0 can't, 1 an edit, 2 a pass; and the edit, 0 where there is none.
+abbrev pub outcomeNumber : Outcome → ℕ
+outcomeNumber cannot = 0
+outcomeNumber (first (edit i)) = 1
+outcomeNumber (first pass) = 2
+
+abbrev pub outcomeEdit : Outcome → ℕ
+outcomeEdit cannot = 0
+outcomeEdit (first (edit i)) = i
+outcomeEdit (first pass) = 0

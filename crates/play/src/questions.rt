@@ -1,0 +1,177 @@
+// The questions of a game, in order.
+ghost use mathlib.Core.Path.{_≡_};
+ghost use mathlib.Core.List.{List};
+ghost use Prim.Native.Nat.{_≤_};
+ghost use lib.ListN.{length, take, drop};
+ghost use Rattle.answer.specs.Answers.{asked};
+ghost use Rattle.answer.specs.Asked.{outcome};
+ghost use Rattle.logic.specs.Syntax.{Expr, rule, Edit};
+ghost use Rattle.logic.specs.Carry.{carriedBook};
+ghost use Rattle.text.specs.Reading.{longestText, textLimits};
+ghost use Rattle.ends.specs.Edits.{EditAt, SomeEdit};
+ghost use Rattle.ends.specs.Books.{BookIs, SomeBook};
+ghost use Rattle.play.specs.Questions.{inRange, askGoal, cut, askEdits, askCarried, askFits, askGame};
+ghost use Rattle.play.specs.Standing.{EditsStand, cutEnd, EditsAt, SomeEdits};
+use answer::Answer;
+use answer::Refusal;
+use answer::Written;
+use sheet::Sheet;
+use text::Text;
+
+// Edits of a side, and moves.
+const MOST_EDITS: usize = 4;
+
+const MOST_MOVES: usize = 6;
+
+// Are both lists and the number of moves in their ranges?
+fn in_range(count: usize, dispatchers: usize, moves: usize) -> bool
+    ensures { λ r. ⌜ r ≡ inRange count dispatchers moves ⌝ }
+{
+    if dispatchers < 1 {
+        return false;
+    }
+    if dispatchers > MOST_EDITS {
+        return false;
+    }
+    if dispatchers > count {
+        return false;
+    }
+    if count - dispatchers > MOST_EDITS {
+        return false;
+    }
+    if moves < 1 {
+        return false;
+    }
+    moves <= MOST_MOVES
+}
+
+// Is the goal one rule? 11 to 16. Where rule 1 would start is behind rule 0, or the goal's end where that cannot be read.
+fn check_goal(goal: &[u8], n: usize) -> Answer
+    ensures { λ r. ⌜ asked r ≡ outcome (askGoal (textLimits n) (now (goal .entry))) ⌝ }
+{
+    if goal.len() > Text::LONGEST {
+        return Answer::Refused(Refusal::BookLength { place: 0 });
+    }
+    if goal.len() == 0 {
+        return Answer::Refused(Refusal::BookEnds { place: 0 });
+    }
+    let end = Text::rule_start(goal, n, 1);
+    if end < goal.len() {
+        return Answer::Refused(Refusal::BookRules { place: end });
+    }
+    Text::check_book(goal, n)
+}
+
+// Where a text that starts at `at` ends. Inner: it starts within the edits.
+fn cut_end(total: usize, at: usize, size: usize) -> usize
+    requires { ⌜ at ≤ total ⌝ }
+    ensures { λ r. ⌜ r ≡ cutEnd total at size ⌝ }
+{
+    if size < total - at {
+        return at + size;
+    }
+    total
+}
+
+// Are the texts of the edits edits? 21 to 26 of each in turn.
+fn check_edits(edits: &[u8], lengths: &[usize], n: usize) -> Answer
+    ensures { λ r. ⌜ asked r ≡ outcome (askEdits (textLimits n) (cut (now (edits .entry)) (now (lengths .entry)))) ⌝ }
+{
+    let mut at = 0;
+    let mut i = 0;
+    while i < lengths.len() {
+        let end = cut_end(edits.len(), at, lengths[i]);
+        let answer = Text::check_edit(&edits[at..end], n);
+        let Answer::Done = answer else {
+            return answer;
+        };
+        at = end;
+        i += 1;
+    }
+    Answer::Done
+}
+
+// Does the book carried back through an edit fit? 31 and 32. An output without room tells it: 33 comes after them. Inner: both were read before.
+fn fits(book: &[u8], edit: &[u8]) -> Answer
+    requires { ⌜ SomeBook (now book) × SomeEdit (now edit) 0 × (length (now edit) ≤ longestText) ⌝ }
+    ensures { λ r. ⌜ ((rules : List (Expr rule)) (Z : Edit) → BookIs (now (book .entry)) rules → EditAt (now (edit .entry)) 0 Z → asked r ≡ askCarried (carriedBook Z rules)) ⌝ }
+{
+    let mut none = [0u8; 0];
+    match carry::carry_into(book, edit, &mut none) {
+        Written::Length(_) => Answer::Done,
+        Written::Refused(r) => {
+            if answer::refusal_number(r) == 33 {
+                return Answer::Done;
+            }
+            Answer::Refused(r)
+        },
+    }
+}
+
+// Does it through each of so many edits? Inner: they stand at the start of the text, one behind the other.
+fn check_fits(book: &[u8], edits: &[u8], count: usize) -> Answer
+    requires { ⌜ SomeBook (now book) × SomeEdits (now edits) count ⌝ }
+    ensures { λ r. ⌜ ((rules : List (Expr rule)) (Zs : List Edit) → BookIs (now (book .entry)) rules → EditsAt (now (edits .entry)) count Zs → asked r ≡ askFits rules (take count Zs)) ⌝ }
+{
+    let mut at = 0;
+    let mut i = 0;
+    while i < count {
+        let end = ends::end_of(edits, at);
+        let answer = fits(book, &edits[at..end]);
+        let Answer::Done = answer else {
+            return answer;
+        };
+        at = end;
+        i += 1;
+    }
+    Answer::Done
+}
+
+// The place behind so many edits. Inner: as above.
+pub fn behind(edits: &[u8], count: usize) -> usize
+    requires { ⌜ SomeEdits (now edits) count ⌝ }
+    ensures { λ r. ⌜ ((Zs : List Edit) (e : EditsAt (now (edits .entry)) count Zs) → EditsStand (e .limits) (now (edits .entry)) r (drop count Zs)) ⌝ }
+{
+    let mut at = 0;
+    let mut i = 0;
+    while i < count {
+        at = ends::end_of(edits, at);
+        i += 1;
+    }
+    at
+}
+
+// All questions of a game: 62, 1 to 4, 11 to 16 of the book and of the goal, 21 to 26 of each edit, 31 and 32.
+pub fn ask(
+    sheet: &[u8],
+    book: &[u8],
+    goal: &[u8],
+    edits: &[u8],
+    lengths: &[usize],
+    dispatchers: usize,
+    moves: usize,
+) -> Answer
+    ensures { λ r. ⌜ asked r ≡ outcome (askGame (now (sheet .entry)) (now (book .entry)) (now (goal .entry)) (now (edits .entry)) (now (lengths .entry)) dispatchers moves) ⌝ }
+{
+    if !in_range(lengths.len(), dispatchers, moves) {
+        return Answer::Refused(Refusal::GameRange { place: 0 });
+    }
+    let sound = Sheet::check(sheet);
+    let Answer::Done = sound else {
+        return sound;
+    };
+    let n = Sheet::node_count(sheet);
+    let rules = Text::check_book(book, n);
+    let Answer::Done = rules else {
+        return rules;
+    };
+    let aim = check_goal(goal, n);
+    let Answer::Done = aim else {
+        return aim;
+    };
+    let texts = check_edits(edits, lengths, n);
+    let Answer::Done = texts else {
+        return texts;
+    };
+    check_fits(book, edits, dispatchers)
+}
