@@ -529,7 +529,7 @@ int main(int count, char **words) {
     printf("\n8. Three variants of a weekend, and the best of them (move.hex, swap.hex, retire.hex)\n\n");
     load_sheet("sheet.bin");
     show_plans((const char *const[3]){"move.hex", "swap.hex", "retire.hex"});
-    printf("\n8. A game: can the dispatcher keep T34 at an open berth, whatever fails (goal.hex)?\n\n");
+    printf("\n9. A game: can the dispatcher keep T34 at an open berth, whatever fails (goal.hex)?\n\n");
     load_sheet("sheet.bin");
     show_game(34);
     return 0;
