@@ -4,7 +4,7 @@ use mathlib.Core.Bool.{Bool, true, false}
 use mathlib.Core.Logic.{_↔_}
 use mathlib.Core.List.{List, [], _∷_}
 use Prim.Native.Nat.{ℕ, suc, _+_, _*_}
-use lib.Dec.{T, eqb}
+use lib.Dec.{eqb}
 use borrow.Author.Tests.{eqb-true, eq-eqb}
 use Rattle.answer.specs.Asked.{Asked, passed, refused, _>>=_}
 use Rattle.logic.specs.Syntax.{Expr, rule}
@@ -19,26 +19,26 @@ use Rattle.laws.proofs.Sound.{OfMade, chain-sound}
 use Rattle.laws.proofs.Exact.{step-exact}
 
 -- what is so of what is learned when all has passed
-abbrev pub Learned : {A : Type 0} → (A → Type 0) → Asked A → Type 0
-Learned P (passed a) = P a
-Learned P (refused q p) = Unit {0}
+abbrev pub WhenPassed : {A : Type 0} → (A → Type 0) → Asked A → Type 0
+WhenPassed P (passed a) = P a
+WhenPassed P (refused q p) = Unit {0}
 
 -- The steps that are made are a chain,
 abbrev Led : List ℕ → Expr rule → Expr rule → Type 0
 Led t K L = (xs : List Step) × (stepsOf t ≡ made xs) × Chain xs K L
 
-steps-led : (t : List ℕ) (i : ℕ) (K : Expr rule) → Learned (Led t K) (askSteps t i K)
+steps-led : (t : List ℕ) (i : ℕ) (K : Expr rule) → WhenPassed (Led t K) (askSteps t i K)
 unfolding askSteps stepsOf Chain mapMade
 steps-led [] i K = ([], refl, refl)
 steps-led (a ∷ []) i K = tt
 steps-led (a ∷ b ∷ []) i K = tt
 steps-led (a ∷ b ∷ n ∷ t) i K = go (makeStep n K (a + 256 * b)) refl (λ M. steps-led t (suc i) M)
   where
-    one : (M : Expr rule) → Fits (stepOf a b n) K M → (q : Asked (Expr rule)) → Learned (Led t M) q → Learned (λ L. (xs : List Step) × (mapMade (stepOf a b n ∷_) (stepsOf t) ≡ made xs) × Chain xs K L) q
+    one : (M : Expr rule) → Fits (stepOf a b n) K M → (q : Asked (Expr rule)) → WhenPassed (Led t M) q → WhenPassed (λ L. (xs : List Step) × (mapMade (stepOf a b n ∷_) (stepsOf t) ≡ made xs) × Chain xs K L) q
     one M f (passed L) (xs, e, c) = (stepOf a b n ∷ xs, ap (mapMade (stepOf a b n ∷_)) e, (M, f, c))
     one M f (refused q p) h = tt
 
-    go : (m : Made (Expr rule)) → makeStep n K (a + 256 * b) ≡ m → ((M : Expr rule) → Learned (Led t M) (askSteps t (suc i) M)) → Learned (λ L. (xs : List Step) × (mapMade (stepOf a b n ∷_) (stepsOf t) ≡ made xs) × Chain xs K L) (elim m [ made M ↦ askSteps t (suc i) M | unfit ↦ refused 59 i ])
+    go : (m : Made (Expr rule)) → makeStep n K (a + 256 * b) ≡ m → ((M : Expr rule) → WhenPassed (Led t M) (askSteps t (suc i) M)) → WhenPassed (λ L. (xs : List Step) × (mapMade (stepOf a b n ∷_) (stepsOf t) ≡ made xs) × Chain xs K L) (elim m [ made M ↦ askSteps t (suc i) M | unfit ↦ refused 59 i ])
     go (made M) e rest = one M (step-exact (stepOf a b n) K M .0 e) (askSteps t (suc i) M) (rest M)
     go unfit e rest = tt
 
@@ -58,14 +58,14 @@ chain-made (a ∷ b ∷ n ∷ t) i K L xs e c = go (stepsOf t) refl (λ M ys. ch
     go unfit d rest e = absurd (subst (OfMade {A = List Step} (λ z. ⊥)) e tt)
 
 -- Nothing differs exactly when the texts are equal.
-same-text : (xs ys : List ℕ) (p : ℕ) → Learned (λ u. xs ≡ ys) (askSame xs ys p)
+same-text : (xs ys : List ℕ) (p : ℕ) → WhenPassed (λ u. xs ≡ ys) (askSame xs ys p)
 unfolding askSame
 same-text [] [] p = refl
 same-text [] (y ∷ ys) p = tt
 same-text (x ∷ xs) [] p = tt
 same-text (x ∷ xs) (y ∷ ys) p = go (eqb x y) refl (askSame xs ys (suc p)) (same-text xs ys (suc p))
   where
-    go : (b : Bool) → eqb x y ≡ b → (q : Asked (Unit {0})) → Learned (λ u. xs ≡ ys) q → Learned {A = Unit {0}} (λ u. _≡_ {A = List ℕ} (x ∷ xs) (y ∷ ys)) (elim b [ true ↦ q | false ↦ refused 60 p ])
+    go : (b : Bool) → eqb x y ≡ b → (q : Asked (Unit {0})) → WhenPassed (λ u. xs ≡ ys) q → WhenPassed {A = Unit {0}} (λ u. _≡_ {A = List ℕ} (x ∷ xs) (y ∷ ys)) (elim b [ true ↦ q | false ↦ refused 60 p ])
     go true e (passed u) h = ap₂ _∷_ (eqb-true x y e) h
     go true e (refused n r) h = tt
     go false e q h = tt
@@ -79,16 +79,16 @@ pub accepted : (K : Expr rule) (steps sent : List ℕ) → (askChain K steps sen
 unfolding askChain _>>=_
 accepted K steps sent = (there, back)
   where
-    compared : (L : Expr rule) → Led steps K L → (q : Asked (Unit {0})) → Learned (λ u. code L ≡ sent) q → Learned (λ u. Accepted K steps sent) q
+    compared : (L : Expr rule) → Led steps K L → (q : Asked (Unit {0})) → WhenPassed (λ u. code L ≡ sent) q → WhenPassed (λ u. Accepted K steps sent) q
     compared L (xs, e, c) (passed u) h = record { chain = xs; read = e; last = L; leads = c; same = h }
     compared L l (refused n p) h = tt
 
-    asked : (q : Asked (Expr rule)) → Learned (Led steps K) q → Learned (λ u. Accepted K steps sent) (q >>= (λ L. askSame (code L) sent 0))
+    asked : (q : Asked (Expr rule)) → WhenPassed (Led steps K) q → WhenPassed (λ u. Accepted K steps sent) (q >>= (λ L. askSame (code L) sent 0))
     asked (passed L) l = compared L l (askSame (code L) sent 0) (same-text (code L) sent 0)
     asked (refused n p) l = tt
 
     there : askChain K steps sent ≡ passed tt → Accepted K steps sent
-    there e = subst (Learned (λ u. Accepted K steps sent)) e (asked (askSteps steps 0 K) (steps-led steps 0 K))
+    there e = subst (WhenPassed (λ u. Accepted K steps sent)) e (asked (askSteps steps 0 K) (steps-led steps 0 K))
 
     back : Accepted K steps sent → askChain K steps sent ≡ passed tt
     back a = ap (_>>= (λ L. askSame (code L) sent 0)) (chain-made steps 0 K (a .last) (a .chain) (a .read) (a .leads)) ∙ ap (λ t. askSame (code (a .last)) t 0) (sym (a .same)) ∙ text-same (code (a .last)) 0

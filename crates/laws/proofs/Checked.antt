@@ -1,24 +1,23 @@
 -- The check over the bytes of the call: what is accepted, what accepting means, and that each step leaves one rule within the limits.
-use mathlib.Core.Path.{_≡_, refl, sym, _∙_, ap, subst}
+use mathlib.Core.Path.{_≡_, refl, _∙_, ap, subst}
 use mathlib.Core.Logic.{_↔_}
 use mathlib.Core.List.{List, [], _∷_}
-use Prim.Native.Nat.{ℕ, suc, _+_, _≤_, _<_}
+use Prim.Native.Nat.{ℕ}
 use native.Mathlib.Omega.{arith}
-use lib.ListN.{length}
 use Rattle.answer.specs.Asked.{Asked, passed, refused, _>>=_}
 use Rattle.logic.specs.Syntax.{Expr, rule}
 use Rattle.logic.specs.Graph.{Graph}
 use Rattle.logic.specs.Meaning.{value}
 use Rattle.logic.specs.Limits.{maxNodes, Within}
-use Rattle.text.specs.Code.{code, levels}
-use Rattle.text.specs.Reading.{Limits, carriedLimits, expr}
+use Rattle.text.specs.Code.{code}
+use Rattle.text.specs.Reading.{Limits, carriedLimits}
 use Rattle.text.specs.Questions.{askRule}
-use Rattle.text.proofs.Books.{SpellsRule, rule-is-spelled, spelled-rule-passes}
+use Rattle.text.proofs.Books.{rule-is-spelled, spelled-rule-passes}
 use Rattle.laws.specs.Laws.{Step, Fits, Chain}
 use Rattle.laws.specs.Asking.{askChain, askCheck, Accepted, CheckPasses}
 use Rattle.laws.proofs.Sound.{chain-sound}
 use Rattle.laws.proofs.Limits.{step-shorter, step-no-deeper, step-in-range}
-use Rattle.laws.proofs.Accepted.{Learned, accepted}
+use Rattle.laws.proofs.Accepted.{WhenPassed, accepted}
 
 module _ (l : Limits) where
   -- "After each fitting step the text is again one rule within the limits."
@@ -43,7 +42,7 @@ check-passes carried steps sent = (there, back)
   where
     asked : (q : Asked (Expr rule)) → askRule (carriedLimits maxNodes) carried ≡ q → (q >>= (λ K. askChain K steps sent)) ≡ passed tt → CheckPasses carried steps sent
     asked (passed K) e h = record { first = K; read = e; accepted = accepted K steps sent .0 h }
-    asked (refused n p) e h = absurd (subst (Learned {A = Unit {0}} (λ u. ⊥)) h tt)
+    asked (refused n p) e h = absurd (subst (WhenPassed {A = Unit {0}} (λ u. ⊥)) h tt)
 
     there : askCheck carried steps sent ≡ passed tt → CheckPasses carried steps sent
     there h = asked (askRule (carriedLimits maxNodes) carried) refl h

@@ -1,11 +1,8 @@
 -- The code of a term with x at a place: what stands before, the code of x, what stands behind. So the offset of the place is that of x's code.
-use mathlib.Core.Path.{_≡_, refl, sym, _∙_, ap, ap₂}
-use mathlib.Core.List.{List, [], _∷_, _++_, append-assoc, append-nil}
-use Prim.Native.Nat.{ℕ, suc, _+_, _≤_, _<_}
-use native.Mathlib.Omega.{arith}
-use lib.ListN.{length, drop, length-append}
-use lib.Seq.{drop-append-seam}
-use Rattle.logic.specs.Syntax.{Sort, node, arrow, rule, Expr, all, none, label, nominal, complement, and, or, some, every, atLeast, atMost, arrowKind, reversed, union, common, minus, endingIn, pair, subNodes, subArrows, nodeIn, pairIn, both, either, notRule}
+use mathlib.Core.Path.{_≡_, refl, sym, _∙_, ap}
+use mathlib.Core.List.{_++_, append-assoc, append-nil}
+use Prim.Native.Nat.{_+_}
+use Rattle.logic.specs.Syntax.{Sort, Expr}
 use Rattle.text.specs.Code.{code}
 use Rattle.laws.specs.Place.{Unary, complement·, reversed·, nodeIn·, pairIn·, notRule·, Binary, and·, or·, some·, every·, atLeast·, atMost·, union·, common·, minus·, endingIn·, subNodes·, subArrows·, both·, either·, build1, build2, head1, head2, Context, here, only, first, second, put, before, behind}
 

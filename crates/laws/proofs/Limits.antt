@@ -1,15 +1,15 @@
 -- After a fitting step the text is again one rule within the limits: shorter, no deeper, its numbers in range.
 -- And what the step does to the bytes.
-use mathlib.Core.Path.{_≡_, refl, sym, _∙_, ap, ap₂, subst}
-use mathlib.Core.List.{List, [], _∷_, _++_, append-assoc}
-use Prim.Native.Nat.{ℕ, suc, _+_, max, _≤_, _<_}
+use mathlib.Core.Path.{_≡_, refl, sym, _∙_, ap, subst}
+use mathlib.Core.List.{_++_}
+use Prim.Native.Nat.{suc, _+_, max, _≤_, _<_}
 use native.Mathlib.Omega.{arith}
 use lib.ListN.{length, length-append}
-use Rattle.logic.specs.Syntax.{Sort, node, arrow, rule, Expr, all, none, label, nominal, complement, and, or, some, every, atLeast, atMost, arrowKind, reversed, union, common, minus, endingIn, pair, subNodes, subArrows, nodeIn, pairIn, both, either, notRule}
+use Rattle.logic.specs.Syntax.{Sort, node, arrow, rule, Expr, complement}
 use Rattle.logic.specs.Limits.{Ranges, InRange}
 use Rattle.text.specs.Code.{code, levels}
 use Rattle.laws.specs.Place.{Unary, complement·, reversed·, nodeIn·, pairIn·, notRule·, Binary, and·, or·, some·, every·, atLeast·, atMost·, union·, common·, minus·, endingIn·, subNodes·, subArrows·, both·, either·, build1, build2, Context, here, only, first, second, put, before, behind}
-use Rattle.laws.specs.Laws.{Law, laws, operand1, operand2, made, numbered, Step, Fits}
+use Rattle.laws.specs.Laws.{Law, laws, Step, Fits}
 use Rattle.laws.proofs.Codes.{code-put}
 use Rattle.laws.proofs.Sound.{_&_, Each, OfMade, of-numbered}
 

@@ -1,16 +1,16 @@
 -- Each law is sound on every graph within the limits, with any set of nodes in use; so is a step, and a chain.
-use mathlib.Core.Path.{_≡_, refl, sym, _∙_, ap, ap₂, fun-ext, subst}
+use mathlib.Core.Path.{_≡_, refl, sym, _∙_, ap, fun-ext, subst}
 use mathlib.Core.Bool.{Bool, true, false, not, _&&_, _||_}
 use mathlib.Core.List.{List, [], _∷_}
 use Prim.Native.Nat.{ℕ}
 use lib.Dec.{leb, eqb}
-use Rattle.logic.specs.Syntax.{Sort, node, arrow, rule, Expr, all, none, label, nominal, complement, and, or, some, every, atLeast, atMost, arrowKind, reversed, union, common, minus, endingIn, pair, subNodes, subArrows, nodeIn, pairIn, both, either, notRule}
+use Rattle.logic.specs.Syntax.{Sort, node, arrow, rule, Expr}
 use Rattle.logic.specs.Graph.{Graph, isNode, anyBelow, allBelow, countBelow, implies}
-use Rattle.logic.specs.Meaning.{Value, value}
+use Rattle.logic.specs.Meaning.{value}
 use Rattle.logic.specs.Limits.{Within}
 use Rattle.logic.proofs.Inside.{value-in}
 use Rattle.laws.specs.Place.{Unary, complement·, reversed·, nodeIn·, pairIn·, notRule·, Binary, and·, or·, some·, every·, atLeast·, atMost·, union·, common·, minus·, endingIn·, subNodes·, subArrows·, both·, either·, build1, build2, Context, here, only, first, second, put}
-use Rattle.laws.specs.Laws.{Law, laws, operand1, operand2, Made, made, unfit, numbered, Step, Fits, Chain}
+use Rattle.laws.specs.Laws.{Law, laws, Made, made, unfit, numbered, Step, Fits, Chain}
 
 -- A term's value goes by its operands' values.
 module _ (g : Graph) where

@@ -1,7 +1,7 @@
 -- A chain that fits, and steps that do not. The rule's text is 21 06 0A 03 11 00 01 0A 03 11 00 01 05 05 03 00.
 use mathlib.Core.List.{List, [], _∷_}
 use Prim.Native.Nat.{ℕ}
-use Rattle.logic.specs.Syntax.{Expr, node, rule, all, label, complement, and, atLeast, arrowKind, subNodes, notRule}
+use Rattle.logic.specs.Syntax.{Expr, node, rule, all, label, complement, and, atLeast, arrowKind, subNodes}
 use Rattle.laws.specs.Laws.{Made, made, unfit, Step}
 use Rattle.answer.specs.Asked.{Asked, passed, refused}
 use Rattle.laws.specs.Checking.{makeSteps}

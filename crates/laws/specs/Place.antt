@@ -1,7 +1,7 @@
 -- Places in a term (item 11 of document 02): a code with one operand or two, and a term with a place for a term in it.
 use mathlib.Core.List.{List, [], _∷_, _++_}
 use Prim.Native.Nat.{ℕ}
-use Rattle.logic.specs.Syntax.{Sort, node, arrow, rule, Expr, all, none, label, nominal, complement, and, or, some, every, atLeast, atMost, arrowKind, reversed, union, common, minus, endingIn, pair, subNodes, subArrows, nodeIn, pairIn, both, either, notRule}
+use Rattle.logic.specs.Syntax.{Sort, node, arrow, rule, Expr, complement, and, or, some, every, atLeast, atMost, reversed, union, common, minus, endingIn, subNodes, subArrows, nodeIn, pairIn, both, either, notRule}
 use Rattle.text.specs.Code.{code}
 
 -- The codes with one operand, with their numbers: the operand's sort, and the sort of the whole.

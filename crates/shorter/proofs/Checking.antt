@@ -1,6 +1,6 @@
 -- The call: its questions in each case of the code.
 use mathlib.Core.Path.{_≡_, sym, ap, _∙_, subst}
-use mathlib.Core.List.{List, _++_}
+use mathlib.Core.List.{List}
 use Prim.Native.Nat.{ℕ, _-_, _≤_}
 use native.Mathlib.Nat.{sub-zero}
 use native.Mathlib.Omega.{arith}
@@ -9,19 +9,19 @@ use lib.Seq.{take-at}
 use Rattle.answer.specs.declared.Answer.{Answer}
 use Rattle.answer.specs.declared.Refusal.{Refusal}
 use Rattle.answer.specs.declared.Answer.the-variants.{Done, Refused}
-use Rattle.answer.specs.Asked.{Asked, passed, refused, _>>=_, outcome}
+use Rattle.answer.specs.Asked.{refused, _>>=_, outcome}
 use Rattle.answer.specs.Answers.{asked, refusalNumber, refusalPlace}
 use Rattle.answer.specs.Outputs.{writtenAtStart}
 use Rattle.answer.proofs.AnswerLaws.{Learned, learned, not-learned}
 use Rattle.logic.specs.Syntax.{Expr, rule}
-use Rattle.logic.specs.Limits.{maxNodes, ranges}
+use Rattle.logic.specs.Limits.{maxNodes}
 use Rattle.text.specs.Code.{code}
 use Rattle.text.specs.Reading.{Limits, longestCarried, carriedLimits}
 use Rattle.text.specs.Questions.{askRule}
 use Rattle.text.proofs.Books.{SpellsRule, rule-is-spelled}
 use Rattle.laws.specs.Asking.{askSteps, askSame, askChain, askCheck}
 use Rattle.shorter.specs.Raised.{raised, lowered}
-use Rattle.shorter.specs.Steps.{RuleIs, SomeRule, Led, Made}
+use Rattle.shorter.specs.Steps.{RuleIs, SomeRuleIs, Led, Stepped}
 use Rattle.shorter.specs.declared.Outcome.{Outcome}
 use Rattle.shorter.specs.declared.Outcome.the-variants.{Length, Unfit}
 use Rattle.shorter.proofs.Spans.{raised-length}
@@ -74,14 +74,14 @@ module _ (carried steps sent : List ℕ) where
         ∙ ap (λ t. askSame t sent 0) (ap lowered (ap (λ k. take k work) (sub-zero len) ∙ d .stands .is) ∙ lowered-text (d .last) (d .stands .range))
         ∙ sym (asks ∙ ap (_>>= (λ L. askSame (code L) sent 0)) (d .asked))
 
-    pub rule-some : (work₀ work : List ℕ) → length work₀ ≡ longestCarried → work ≡ writtenAtStart (raised 0 carried) work₀ → SomeRule work (length carried)
+    pub rule-some : (work₀ work : List ℕ) → length work₀ ≡ longestCarried → work ≡ writtenAtStart (raised 0 carried) work₀ → SomeRuleIs work (length carried)
     rule-some work₀ work h w = record { what = K; stands = rule-there work₀ work h w }
 
     -- what the steps answered
     module _ (work₀ work : List ℕ) (h : length work₀ ≡ longestCarried) (w : work ≡ writtenAtStart (raised 0 carried) work₀) (o : Outcome) (work′ : List ℕ)
-        (m : (K : Expr rule) → RuleIs work (length carried) K → Made K steps o work′) where
+        (m : (K : Expr rule) → RuleIs work (length carried) K → Stepped K steps o work′) where
       led : (len : ℕ) → o ≡ Length len → Led K steps work′ len
-      led len e = subst (λ x. Made K steps x work′) e (m K (rule-there work₀ work h w))
+      led len e = subst (λ x. Stepped K steps x work′) e (m K (rule-there work₀ work h w))
 
       pub length-in : (len : ℕ) → o ≡ Length len → len ≤ length work′
       length-in len e = led len e .stands .room
@@ -90,4 +90,4 @@ module _ (carried steps sent : List ℕ) where
       answer-compared len e b q = steps-made work′ len b (led len e) q
 
       pub answer-unfit : (i : ℕ) → o ≡ Unfit i → refused 59 i ≡ askCheck carried steps sent
-      answer-unfit i e = steps-unfit i (subst (λ x. Made K steps x work′) e (m K (rule-there work₀ work h w)))
+      answer-unfit i e = steps-unfit i (subst (λ x. Stepped K steps x work′) e (m K (rule-there work₀ work h w)))

@@ -2,12 +2,12 @@
 use mathlib.Core.Path.{_≡_, refl, sym, ap, ap₂, _∙_, subst}
 use mathlib.Core.Bool.{Bool, true, false, cond}
 use mathlib.Core.List.{List, [], _∷_, _++_, append-assoc}
-use Prim.Native.Nat.{ℕ, zero, suc, _+_, _-_, _≤_, _<_}
+use Prim.Native.Nat.{ℕ, _+_, _-_, _≤_, _<_}
 use native.Mathlib.Decide.{decLt, ℕ-discrete}
 use native.Mathlib.Omega.{arith}
 use lib.Dec.{eqb}
-use lib.ListN.{length, getD, set, take, drop, length-append, length-take, take-append-drop, List·getD-append}
-use lib.Seq.{ext-getD, getD-take, getD-append-seam, getD-append-add}
+use lib.ListN.{length, getD, take, drop, length-append, length-take, take-append-drop, List·getD-append}
+use lib.Seq.{ext-getD, getD-take, getD-append-add}
 use borrow.Author.Tests.{eqb-true, eq-eqb}
 use Rattle.logic.specs.Syntax.{Sort, node, arrow, rule, Expr, all, none, label, nominal, complement, and, or, some, every, atLeast, atMost, arrowKind, reversed, union, common, minus, endingIn, pair, subNodes, subArrows, nodeIn, pairIn, both, either, notRule}
 use Rattle.logic.specs.Limits.{maxNodes, ranges, InRange}
@@ -16,13 +16,13 @@ use Rattle.text.specs.Code.{code, levels}
 use Rattle.text.specs.Reading.{Limits, expr}
 use Rattle.text.proofs.ReadBack.{one-reading}
 use Rattle.text.proofs.Items.{each-below}
-use Rattle.laws.specs.Place.{Context, put, before, behind}
-use Rattle.laws.specs.Laws.{Law, laws, operand1, operand2, Made, made, unfit, numbered, Step, Fits}
+use Rattle.laws.specs.Place.{put, before, behind}
+use Rattle.laws.specs.Laws.{Law, laws, operand1, operand2, Made, made, unfit, numbered}
 use Rattle.laws.specs.Checking.{mapMade, makeStep}
 use Rattle.laws.proofs.Sound.{OfMade, of-numbered}
 use Rattle.laws.proofs.Limits.{range-at}
-use Rattle.laws.proofs.Exact.{place-in, fits-made, made-fits, FitsAt}
-use Rattle.shorter.specs.Raised.{raisedByte, raised, lowered, behindAt, alike, againAt, firstBytes, secondBytes, contraryAt, rightOf, rightAt, withByte, stepOn}
+use Rattle.laws.proofs.Exact.{fits-made, made-fits, FitsAt}
+use Rattle.shorter.specs.Raised.{raisedByte, raised, lowered, behindAt, againAt, firstBytes, secondBytes, contraryAt, rightOf, rightAt, withByte, stepOn}
 use Rattle.shorter.proofs.Spans.{raised-length, AgainIn, again-in}
 use Rattle.shorter.proofs.Sides.{right-4, right-again, contrary-none, contrary-other, side-short, side-unknown, side-first, side-any, side-second, side-both}
 use Rattle.shorter.proofs.Texts.{textOf, lowered-append, lowered-text, text-put, StandsIn, place-at}

@@ -8,10 +8,9 @@ use lib.ListN.{length, getD, take, drop, length-append, length-drop, drop-of-len
 use lib.Seq.{drop-cons, take-append-le, length-take-le}
 use native.Mathlib.Nat.{sub-zero}
 use borrow.Rule.Slice.PartMut.{postOf, post-is}
-use Rattle.answer.specs.Asked.{Asked, passed, refused}
+use Rattle.answer.specs.Asked.{Asked, refused}
 use Rattle.logic.specs.Syntax.{Expr, rule}
 use Rattle.logic.specs.Limits.{maxNodes, ranges, InRange}
-use Rattle.text.specs.Code.{code}
 use Rattle.text.specs.Reading.{longestCarried}
 use Rattle.laws.specs.Laws as table
 use Rattle.laws.specs.Checking.{mapMade, makeStep}
@@ -19,9 +18,8 @@ use Rattle.laws.specs.Asking.{askSteps}
 use Rattle.laws.proofs.Sound.{OfMade}
 use Rattle.laws.proofs.Limits.{step-in-range}
 use Rattle.laws.proofs.Exact.{made-fits, FitsAt}
-use Rattle.shorter.specs.Raised.{raised, stepOn, stepLength, stepLeaves}
-use Rattle.shorter.specs.Steps.{RuleIs, SomeRule, Led}
-use Rattle.shorter.proofs.Spans.{raised-length}
+use Rattle.shorter.specs.Raised.{stepLength, stepLeaves}
+use Rattle.shorter.specs.Steps.{RuleIs, SomeRuleIs, Led}
 use Rattle.shorter.proofs.Texts.{textOf}
 use Rattle.shorter.proofs.Fitting.{step-text}
 use Rattle.shorter.proofs.Leaving.{OfStep, of-step, leaves-length}
@@ -97,7 +95,7 @@ module _ {work₀ : List ℕ} {len₀ : ℕ} {steps work : List ℕ} {len p i : 
       cut M (x ∷ y ∷ z ∷ t) a b = absurd (omega arith)
 
   -- a step that is whole: what the code makes of the text
-  module _ (some : SomeRule work₀ len₀) (three : 3 ≤ length steps - p) where
+  module _ (some : SomeRuleIs work₀ len₀) (three : 3 ≤ length steps - p) where
     abbrev at : ℕ
     at = getD steps p 0 + 256 * getD steps (p + 1) 0
 

@@ -1,8 +1,8 @@
 -- What a step leaves.
 use mathlib.Core.Path.{_≡_, refl, sym, ap, ap₂, _∙_, subst}
 use mathlib.Core.Bool.{Bool, true, false, cond}
-use mathlib.Core.List.{List, [], _∷_, _++_, append-assoc}
-use Prim.Native.Nat.{ℕ, suc, _+_, _-_, _≤_, _<_}
+use mathlib.Core.List.{List, _++_}
+use Prim.Native.Nat.{ℕ, _+_, _-_, _≤_, _<_}
 use native.Mathlib.Decide.{ℕ-discrete}
 use native.Mathlib.Omega.{arith}
 use lib.Dec.{eqb}
@@ -12,8 +12,8 @@ use borrow.Author.Tests.{eq-eqb, ne-eqb}
 use Rattle.laws.specs.Laws.{Made, made, unfit}
 use Rattle.shorter.specs.Raised.{width, behindAt, againAt, secondBytes, contraryAt, rightOf, rightAt, withByte, movedDown, stepOn, stepLength, stepLeaves}
 use Rattle.shorter.proofs.Spans.{behind-in, again-in}
-use Rattle.shorter.proofs.Sides.{contrary-none, contrary-other, contrary-found, right-4, right-5, right-again, right-next, side-any, side-both}
-use Rattle.shorter.proofs.Fitting.{Found, found}
+use Rattle.shorter.proofs.Sides.{contrary-none, contrary-other, contrary-found, right-4, right-5, right-again, right-next}
+use Rattle.shorter.proofs.Fitting.{found}
 
 -- The right side lies in the text, behind the step's place.
 pub record Bounds (t : List ℕ) (at from : ℕ) : Type 0 where

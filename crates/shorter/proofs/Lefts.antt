@@ -1,8 +1,8 @@
 -- A law's left side in a text: where its right side is found, and the text that is left.
-use mathlib.Core.Path.{_≡_, refl, sym, ap, ap₂, _∙_, subst}
-use mathlib.Core.Bool.{Bool, true, false, cond}
-use mathlib.Core.List.{List, [], _∷_, _++_, append-assoc, append-nil}
-use Prim.Native.Nat.{ℕ, zero, suc, _+_, _-_, _≤_, _<_}
+use mathlib.Core.Path.{_≡_, refl, sym, ap, ap₂, _∙_}
+use mathlib.Core.Bool.{cond}
+use mathlib.Core.List.{List, [], _∷_, _++_, append-assoc}
+use Prim.Native.Nat.{ℕ, suc, _+_, _-_, _≤_, _<_}
 use native.Mathlib.Omega.{arith}
 use lib.Dec.{eqb}
 use lib.ListN.{length, getD, set, take, drop, length-append, List·getD-append}
@@ -12,10 +12,10 @@ use Rattle.logic.specs.Syntax.{Sort, node, arrow, rule, Expr, all, none, comple
 use Rattle.logic.proofs.Below.{all-true}
 use Rattle.text.specs.Code.{code}
 use Rattle.laws.specs.Place.{complement·, notRule·, and·, or·, either·, build1, build2}
-use Rattle.laws.specs.Laws.{Law, laws, Made, made, unfit}
+use Rattle.laws.specs.Laws.{Law, laws, made, unfit}
 use Rattle.laws.proofs.Sound.{_&_, Each}
 use Rattle.laws.proofs.Exact.{code-some}
-use Rattle.shorter.specs.Raised.{raised, width, behindAt, alike, againAt, firstBytes, secondBytes, contraryAt, rightOf, rightAt, withByte, stepOn}
+use Rattle.shorter.specs.Raised.{width, behindAt, againAt, firstBytes, secondBytes, contraryAt, rightAt, withByte, stepOn}
 use Rattle.shorter.proofs.Spans.{raised-length, again-found}
 use Rattle.shorter.proofs.Sides.{contrary-found, right-4, right-5, right-again, right-next, side-any, side-both}
 use Rattle.shorter.proofs.Terms.{head-1, head-2, build0, head-0, all·, none·}

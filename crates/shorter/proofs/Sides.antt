@@ -1,12 +1,12 @@
 -- The right side of a law, in each case of the code; and bytes moved down.
 use mathlib.Core.Path.{_≡_, refl, sym, ap, ap₂, _∙_}
 use mathlib.Core.Bool.{Bool, true, false, _&&_, cond}
-use mathlib.Core.List.{List, [], _∷_, _++_}
-use Prim.Native.Nat.{ℕ, suc, _+_, _-_, _≤_, _<_}
+use mathlib.Core.List.{List, _++_}
+use Prim.Native.Nat.{ℕ, _+_, _-_, _≤_, _<_}
 use native.Mathlib.Numerals.{add-one}
 use native.Mathlib.Omega.{arith}
 use lib.Dec.{leb, eqb}
-use lib.ListN.{length, getD, set, take, drop, length-take, length-drop, length-append}
+use lib.ListN.{length, getD, set, take, drop, length-drop}
 use lib.Seq.{take-length, paste, paste-zero, paste-suc, length-paste, length-paste-head, getD-append-add, getD-drop}
 use borrow.Author.Tests.{le-leb, lt-leb, eq-eqb, ne-eqb}
 use Rattle.shorter.specs.Raised.{behindAt, againAt, firstBytes, secondBytes, contraryAt, rightOf, rightAt, movedDown}

@@ -1,6 +1,6 @@
 -- The text on which the code makes steps: a rule's bytes, each number raised by 128, so that no number is taken for a code.
 -- And what the code finds in such a text.
-use mathlib.Core.Bool.{Bool, true, false, _&&_, cond}
+use mathlib.Core.Bool.{Bool, _&&_, cond}
 use mathlib.Core.List.{List, [], _∷_, _++_, map}
 use Prim.Native.Nat.{ℕ, zero, suc, _+_, _-_, _/_, _%_}
 use lib.Dec.{leb, eqb}

@@ -20,7 +20,7 @@ pub record RuleIs (work : List ℕ) (len : ℕ) (K : Expr rule) : Type 0 where
   pub short : length work ≤ longestCarried
   pub range : InRange (ranges maxNodes) K
 
-pub record SomeRule (work : List ℕ) (len : ℕ) : Type 0 where
+pub record SomeRuleIs (work : List ℕ) (len : ℕ) : Type 0 where
   pub what : Expr rule
   pub stands : RuleIs work len what
 
@@ -30,6 +30,6 @@ pub record Led (K : Expr rule) (steps work : List ℕ) (len : ℕ) : Type 0 wher
   pub asked : askSteps steps 0 K ≡ passed last
   pub stands : RuleIs work len last
 
-abbrev pub Made : Expr rule → (steps : List ℕ) → Outcome → (work : List ℕ) → Type 0
-Made K steps (Length len) work = Led K steps work len
-Made K steps (Unfit i) work = askSteps steps 0 K ≡ refused 59 i
+abbrev pub Stepped : Expr rule → (steps : List ℕ) → Outcome → (work : List ℕ) → Type 0
+Stepped K steps (Length len) work = Led K steps work len
+Stepped K steps (Unfit i) work = askSteps steps 0 K ≡ refused 59 i

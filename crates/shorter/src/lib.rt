@@ -3,16 +3,15 @@ use answer::Answer;
 use answer::Refusal;
 use text::Text;
 ghost use mathlib.Core.Path.{_≡_};
-ghost use mathlib.Core.List.{List, _++_};
 ghost use Prim.Native.Nat.{_+_, _*_, _<_, _≤_};
-ghost use lib.ListN.{length, take, drop};
+ghost use lib.ListN.{length};
 ghost use Rattle.answer.specs.Answers.{asked};
 ghost use Rattle.answer.specs.Outputs.{writtenAtStart};
 ghost use Rattle.text.specs.Reading.{longestCarried};
 ghost use Rattle.ends.specs.Shapes.{shapeOf};
 ghost use Rattle.laws.specs.Asking.{askSame, askCheck};
 ghost use Rattle.shorter.specs.Raised.{nextNumbers, raisedByte, raised, lowered, nextWanted, behindAt, againAt, contraryAt, rightOf, rightAt, withByte, movedDown, stepLength, stepLeaves};
-ghost use Rattle.shorter.specs.Steps.{RuleIs, SomeRule, Made};
+ghost use Rattle.shorter.specs.Steps.{RuleIs, SomeRuleIs, Stepped};
 ghost use Rattle.logic.specs.Syntax.{Expr, rule};
 
 // The first byte of each law's left side, by the law's number, and the second where it is fixed; 0 else.
@@ -242,8 +241,8 @@ fn law_number(byte: u8) -> usize
 // Makes the steps, one after the other. What stands in the work behind the text is of no account.
 // Inner: a rule stands in the work text.
 fn make_steps(work: &mut [u8], length: usize, steps: &[u8]) -> Outcome
-    requires { ⌜ SomeRule (now work) length ⌝ }
-    ensures { λ r. ⌜ ((K : Expr rule) → RuleIs (now (work .entry)) length K → Made K (now (steps .entry)) r (now (work .exit))) ⌝ }
+    requires { ⌜ SomeRuleIs (now work) length ⌝ }
+    ensures { λ r. ⌜ ((K : Expr rule) → RuleIs (now (work .entry)) length K → Stepped K (now (steps .entry)) r (now (work .exit))) ⌝ }
 {
     let mut len = length;
     let mut p = 0;
@@ -285,7 +284,8 @@ fn compare(text: &[u8], sent: &[u8]) -> Answer
     Answer::Done
 }
 
-// Is the text sent what the steps make of the carried rule? 11 to 16 of the rule, 59 of the steps, 60 of the text sent.
+// Is the text sent what the steps make of the carried rule? 11 to 16 of the rule, 59 of the steps, 60 of the text sent. The work text is on
+// the stack. At most 8,191 steps fit, and each moves down what stands behind it.
 pub fn check_steps(rule: &[u8], steps: &[u8], sent: &[u8]) -> Answer
     ensures { λ r. ⌜ asked r ≡ askCheck (now (rule .entry)) (now (steps .entry)) (now (sent .entry)) ⌝ }
 {

@@ -3,7 +3,6 @@ use native.Mathlib.Omega.{arith}
 use mathlib.Core.Path.{_≡_}
 use mathlib.Core.Bool.{true}
 use Prim.Native.Nat.{_-_, _≤_}
-use lib.ListN.{length}
 use denote.Ref.{now}
 use Rattle.shorter.specs.Raised.{alike}
 use Rattle.shorter.proofs.Spans.{behind-in, again-short, again-differs, again-found}

@@ -1,7 +1,5 @@
-use borrow.Author.Needs.{needs}
 use native.Mathlib.Omega.{arith}
 use Prim.Native.Nat.{_-_}
-use lib.ListN.{length}
 use Rattle.shorter.proofs.Sides.{Moving, moving-first, moving-length, moving-next, moving-end}
 use Rattle.shorter.proofs.cut.Statement.{statement}
 use Rattle.shorter.proofs.cut.Tie as tie

@@ -1,5 +1,4 @@
 use borrow.Author.Needs.{needs}
-use native.Mathlib.Omega.{arith}
 use Rattle.shorter.proofs.Leaving.{byte-4, byte-5, byte-none}
 use Rattle.shorter.proofs.put_byte.Statement.{statement}
 use Rattle.shorter.proofs.put_byte.Tie as tie
