@@ -10,7 +10,7 @@ ghost use Rattle.answer.specs.Answers.{asked};
 ghost use Rattle.words.specs.Words.{setOf, member};
 ghost use Rattle.seal.specs.Seal.{blockBytes, sealRight, reseal};
 ghost use Rattle.seal.specs.Forms.{formOf};
-ghost use Rattle.sheet.specs.Sheet.{present, padding, SheetForm};
+ghost use Rattle.sheet.specs.Sheet.{blockCount, present, padding, SheetForm};
 ghost use Rattle.sheet.specs.Forms.{formIn};
 ghost use Rattle.sheet.specs.Questions.{headRight, zeroRight, askBlock};
 ghost use Rattle.sheet.specs.Masks.{wordCount, bareIn, Outside, Edges, Bare, Over, Told, SomeTold, lineMask, rowMask};
@@ -18,7 +18,6 @@ ghost use Rattle.sheet.specs.Writes.{putRows, blankBlock};
 use super::Sheet;
 use answer::Answer;
 use answer::Refusal;
-use logic::Node;
 use seal::Modulo;
 
 // The words that fill a body from byte 16 on.
@@ -31,29 +30,25 @@ pub fn index(x: u8) -> usize
     x as usize
 }
 
-// Question 3: are bytes 0 to 2 of block b right, n from 1 to 60, and is some node below n in use? Inner: `all` is what is told of the nodes.
+// Question 3: are bytes 0 to 2 of block b right, n from 1 to 60, and is some node below n in use? They are looked at as one number.
+// Inner: it is a block of a sheet, and `all` is what is told of the nodes.
 fn head_right(block: &[u8], b: usize, all: u64) -> bool
-    requires { ⌜ length (now block) ≡ blockBytes ⌝ }
+    requires { ⌜ (length (now block) ≡ blockBytes) × (b < blockCount) ⌝ }
     ensures { λ r. ⌜ ((φ : SheetForm) (n : ℕ) (nodes : Nodes) → Told φ (now (block .entry)) b n all nodes → r ≡ headRight φ b (now (block .entry))) ⌝ }
 {
+    let head = words::load(block, 0) % 0x100_0000;
     if b == 0 {
-        if block[0] == 1 {
-            if block[1] == 0 {
-                if 1 <= block[2] {
-                    if block[2] <= Node::MAX {
-                        return all != 0;
-                    }
+        if head % 0x1_0000 == 1 {
+            let n = head / 0x1_0000;
+            if 1 <= n {
+                if n <= Sheet::NODES as u64 {
+                    return all != 0;
                 }
             }
         }
         return false;
     }
-    if block[0] == 2 {
-        if index(block[1]) == b {
-            return block[2] == 0;
-        }
-    }
-    false
+    head == 2 + 0x100 * b as u64
 }
 
 // The bytes behind the last word of a body, as the word in a block's last 8 bytes leaves them.
@@ -183,7 +178,7 @@ fn sums_right(sums: Modulo, block: &[u8], bare: bool) -> bool
 
 // Questions 2 to 4 of block b. Inner: n and `all` are what block 0 tells, and n is in range once it has its head.
 pub fn ask_block(sums: Modulo, held: bool, block: &[u8], b: usize, n: usize, all: u64) -> Answer
-    requires { ⌜ (length (now block) ≡ blockBytes) × (headRight (formIn sums held) b (now block) ≡ true → n ≤ maxNodes) × SomeTold (formIn sums held) (now block) b n all ⌝ }
+    requires { ⌜ (length (now block) ≡ blockBytes) × (headRight (formIn sums held) b (now block) ≡ true → n ≤ maxNodes) × SomeTold (formIn sums held) (now block) b n all × (b < blockCount) ⌝ }
     ensures { λ r. ⌜ ((nodes : Nodes) → Told (formIn sums held) (now (block .entry)) b n all nodes → asked r ≡ askBlock (formIn sums held) n nodes b (now (block .entry))) ⌝ }
 {
     let bare = bare_block(sums, block);

@@ -40,6 +40,7 @@ ask-block-requires c κs =
       ap length (part t (l .b)) ∙ length-take blockBytes (drop (blockBytes * l .b) t) ∙ omega (arith, length-drop (blockBytes * l .b) t, c .before .before .before .before .before .before .if1 .left, c .before .loop-test .taken),
       λ e. few φ t (i .result) (i .ensures) (l .b) (l .inv .1) (ap (headRight φ (l .b)) (sym (part t (l .b))) ∙ e),
       record { nodes = isNode (graphIn φ t); told = told-of φ t (i .result) _ (i .ensures) (c .before .before .before .nodes-told .ensures φ refl) (l .b) _ (part t (l .b)) },
+      c .before .loop-test .taken,
     )
 
 returns-2 : tie.Need-returns-2 Inv-loop μ-loop
