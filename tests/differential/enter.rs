@@ -419,8 +419,8 @@ fn main() {
     rule_by_rule(&mut tally);
     carried_limits(&mut tally);
     limit_texts(&mut tally);
-    single_calls(&mut tally, 3_500);
-    runs(&mut tally, 6_000);
+    single_calls(&mut tally, 11_500);
+    runs(&mut tally, 20_000);
     tally.all_reached("rule by rule", &[0, 33, 41]);
     tally.both_frequent("enter", 0, 41);
     tally.both_frequent("enter in a run", 0, 41);
