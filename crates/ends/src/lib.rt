@@ -1,7 +1,7 @@
 // Where expressions, steps and edits end, found from the code bytes alone: a table says of each code how long it is and how many operands follow.
 // At the end of the file: the 64 cells of names, in which numbers of each name are kept.
 ghost use mathlib.Core.Path.{_≡_};
-ghost use Prim.Native.Nat.{_+_, _*_, _/_, _%_, _^_, _<_};
+ghost use Prim.Native.Nat.{_+_, _*_, _/_, _<_};
 ghost use lib.ListN.{length, getD};
 ghost use Rattle.logic.specs.Syntax.{Edit};
 ghost use Rattle.text.specs.Code.{editCode};
@@ -11,37 +11,40 @@ ghost use Rattle.ends.specs.Shapes.{shapeOf, cell, At, Some};
 ghost use Rattle.ends.specs.Edits.{EditAt, SomeEdit, NextAt};
 
 // How each code goes on: the length of the code byte with its numbers, plus 4 for each operand, plus 16 for a name (03, 11); 0 for no code.
-// The table is in specs/Shapes.antt. Here it is a word for each binary digit of its entries, with a bit for each code: a table of 40 entries
-// would be stored anew at each use.
-const ONES: u64 = 0xF600FC03E6;
-
-const TWOS: u64 = 0x1800820C18;
-
-const FOURS: u64 = 0x9800040020;
-
-const EIGHTS: u64 = 0x6600780FC0;
-
-const SIXTEENS: u64 = 0x20008;
-
-// The bit of a code in a word.
-// Inner: asks for a code of the table.
-fn digit(word: u64, code: u8) -> usize
-    requires { ⌜ code < 40 ⌝ }
-    ensures { λ r. ⌜ r ≡ word / 2 ^ code % 2 ⌝ }
-{
-    (word >> code) as usize % 2
-}
-
+// The table is in specs/Shapes.antt. One `match` with constants: the compiler makes it a table in read-only memory.
 // Inner: asks for a code of the table.
 pub fn shape(code: u8) -> usize
     requires { ⌜ code < 40 ⌝ }
     ensures { λ r. ⌜ r ≡ shapeOf code ⌝ }
 {
-    digit(ONES, code)
-        + 2 * digit(TWOS, code)
-        + 4 * digit(FOURS, code)
-        + 8 * digit(EIGHTS, code)
-        + 16 * digit(SIXTEENS, code)
+    match code {
+        0x01 => 1,
+        0x02 => 1,
+        0x03 => 18,
+        0x04 => 2,
+        0x05 => 5,
+        0x06 => 9,
+        0x07 => 9,
+        0x08 => 9,
+        0x09 => 9,
+        0x0A => 10,
+        0x0B => 10,
+        0x11 => 18,
+        0x12 => 5,
+        0x13 => 9,
+        0x14 => 9,
+        0x15 => 9,
+        0x16 => 9,
+        0x17 => 3,
+        0x21 => 9,
+        0x22 => 9,
+        0x23 => 6,
+        0x24 => 7,
+        0x25 => 9,
+        0x26 => 9,
+        0x27 => 5,
+        _ => 0,
+    }
 }
 
 // The place behind the expression at `at`: each code takes one from the expressions that are wanted, and adds its operands.
