@@ -8,7 +8,7 @@ use lib.ListN.{length, getD, set, length-set}
 use lib.Seq.{getD-set-same}
 use Rattle.tree.specs.Tree.{Tree, name, leaf, one, two, height, count, deep, same, under}
 use Rattle.tree.specs.Sizes.{Measure, measure, substituted, beyond, capped, cappedMeasure}
-use Rattle.tree.proofs.Measured.{under-max, under-under, under-nothing}
+use Rattle.tree.proofs.Measured.{under-max, under-under, under-nothing, height-pos}
 use Rattle.tree.proofs.Capped.{capped-max, capped-under, capped-mul}
 use Rattle.ends.specs.Shapes.{Named, cell}
 use Rattle.ends.proofs.Names.{named-lt, apart, alike}
@@ -114,36 +114,32 @@ added-leaf w v h M = λ i. record { len = M .len; tall = max (M .tall) (sym (und
     flat : (x : ℕ) → x ≡ max x (under v 0)
     flat x = omega (arith, under-nothing v)
 
--- one level on
-on : (v x : ℕ) → max v (under (under v 2) x) ≡ under v (suc x)
+-- one level on; what is lower down stands deepest
+on : (v x : ℕ) → 0 < x → under (under v 2) x ≡ under v (suc x)
 unfolding under
-on zero x = omega arith
-on (suc v) zero = omega (arith, under-nothing (under (suc v) 2))
-on (suc v) (suc x) = omega arith
+on zero x p = refl
+on (suc v) zero p = absurd (omega arith)
+on (suc v) (suc x) p = omega arith
 
-pub added-one : (w v : ℕ) (h : List ℕ) (x : Tree) (M : Measure) → added w (under v 2) (measure x) (risen v M) ≡ added w v (measure (one h x)) M
+pub added-one : (w v : ℕ) (h : List ℕ) (x : Tree) (M : Measure) → added w (under v 2) (measure x) M ≡ added w v (measure (one h x)) M
 unfolding added measure height count deep
-added-one w v h x M = λ i. record { len = M .len; tall = tops (M .tall) (height x) i; counts = λ c k. M .counts c k + w * count x c k; deeps = λ c k. max (M .deeps c k) (under-under v 2 (deep x c k) i) }
-  where
-    tops : (m y : ℕ) → max (max m v) (under (under v 2) y) ≡ max m (under v (suc y))
-    tops m y = omega (arith, on v y)
+added-one w v h x M = λ i. record { len = M .len; tall = max (M .tall) (on v (height x) (height-pos x) i); counts = λ c k. M .counts c k + w * count x c k; deeps = λ c k. max (M .deeps c k) (under-under v 2 (deep x c k) i) }
 
-pub added-two : (w v : ℕ) (h : List ℕ) (x y : Tree) (M : Measure) → added w (under v 2) (measure y) (added w (under v 2) (measure x) (risen v M)) ≡ added w v (measure (two h x y)) M
+pub added-two : (w v : ℕ) (h : List ℕ) (x y : Tree) (M : Measure) → added w (under v 2) (measure y) (added w (under v 2) (measure x) M) ≡ added w v (measure (two h x y)) M
 unfolding added measure height count deep
-added-two w v h x y M = λ i. record { len = M .len; tall = tops (M .tall) (height x) (height y) i; counts = λ c k. sums (M .counts c k) (count x c k) (count y c k) i; deeps = λ c k. tips (M .deeps c k) (deep x c k) (deep y c k) i }
+added-two w v h x y M = λ i. record { len = M .len; tall = tops (M .tall) i; counts = λ c k. sums (M .counts c k) (count x c k) (count y c k) i; deeps = λ c k. tips (M .deeps c k) (deep x c k) (deep y c k) i }
   where
     sums : (m p q : ℕ) → m + w * p + w * q ≡ m + w * (p + q)
     sums m p q = omega arith
 
-    tops : (m p q : ℕ) → max (max (max m v) (under (under v 2) p)) (under (under v 2) q) ≡ max m (under v (suc (max p q)))
-    tops m p q =
-        let a : max (max (max m v) (under (under v 2) p)) (under (under v 2) q) ≡ max m (max v (max (under (under v 2) p) (under (under v 2) q))) = omega arith in
-        a ∙ ap (λ (u : ℕ). max m (max v u)) (sym (under-max (under v 2) p q)) ∙ ap (max m) (on v (max p q))
+    both : (m p q : ℕ) → max (max m (under (under v 2) p)) (under (under v 2) q) ≡ max m (under (under v 2) (max p q))
+    both m p q = (let a : max (max m (under (under v 2) p)) (under (under v 2) q) ≡ max m (max (under (under v 2) p) (under (under v 2) q)) = omega arith in a) ∙ ap (max m) (sym (under-max (under v 2) p q))
+
+    tops : (m : ℕ) → max (max m (under (under v 2) (height x))) (under (under v 2) (height y)) ≡ max m (under v (suc (max (height x) (height y))))
+    tops m = both m (height x) (height y) ∙ ap (max m) (on v (max (height x) (height y)) (omega (arith, height-pos x)))
 
     tips : (m p q : ℕ) → max (max m (under (under v 2) p)) (under (under v 2) q) ≡ max m (under v (under 2 (max p q)))
-    tips m p q =
-        let a : max (max m (under (under v 2) p)) (under (under v 2) q) ≡ max m (max (under (under v 2) p) (under (under v 2) q)) = omega arith in
-        a ∙ ap (max m) (sym (under-max (under v 2) p q) ∙ under-under v 2 (max p q))
+    tips m p q = both m p q ∙ ap (max m) (under-under v 2 (max p q))
 
 -- a level cut beforehand
 pub added-capped : (w v : ℕ) (E M : Measure) → cappedMeasure (added w (capped v) E M) ≡ cappedMeasure (added w v E M)

@@ -4,11 +4,11 @@ use mathlib.Core.List.{List}
 use Prim.Native.Nat.{ℕ, _+_, _%_, max, _≤_, _<_}
 use native.Mathlib.Omega.{arith}
 use lib.ListN.{length, getD, set, length-set}
-use Rattle.tree.specs.Tree.{Tree, size, under}
+use Rattle.tree.specs.Tree.{Tree, name, leaf, one, two, size, under}
 use Rattle.tree.specs.Sizes.{Measure, measure, beyond, capped, cappedMeasure}
-use Rattle.ends.specs.Shapes.{shapeOf, cell, At}
+use Rattle.ends.specs.Shapes.{shapeOf, cell, Formed, At, Some}
 use Rattle.measure.specs.State.{Holds, added, Scanned}
-use Rattle.ends.proofs.Places.{IsName, IsLeaf, IsOne, IsTwo}
+use Rattle.ends.proofs.Places.{IsName, IsLeaf, IsOne, IsTwo, tag-at, as-one, as-two, as-any}
 use Rattle.ends.proofs.Names.{named-lt}
 use Rattle.measure.proofs.Held.{holds-same, holds-is, holds-rise, holds-touch, risen, marked, added-name, added-leaf, added-one, added-two, added-capped}
 
@@ -40,34 +40,105 @@ module _ (text : List ℕ) (at w v : ℕ) where
       state = λ M h. holds-is (added-leaf w v (q .h) M) (risen-held M h);
     })
 
-    -- the level below, cut
-    module _ (below : ℕ) (down : below ≡ capped (under v 2)) where
-      lower : {l : List ℕ} (E M : Measure) → Holds l (added w below E M) → Holds l (added w (under v 2) E M)
-      lower E M h = holds-same (ap (λ (x : ℕ). cappedAt x) down ∙ added-capped w (under v 2) E M) h
-        where
-          cappedAt : ℕ → Measure
-          cappedAt x = cappedMeasure (added w x E M)
+  -- the level below, cut
+  module _ (below : ℕ) (down : below ≡ capped (under v 2)) where
+    lower : {l : List ℕ} (E M : Measure) → Holds l (added w below E M) → Holds l (added w (under v 2) E M)
+    lower E M h = holds-same (ap (λ (x : ℕ). cappedAt x) down ∙ added-capped w (under v 2) E M) h
+      where
+        cappedAt : ℕ → Measure
+        cappedAt x = cappedMeasure (added w x E M)
 
-      pub one-scanned : (t : Tree) → IsOne text at t → (s first next : ℕ) (l₂ : List ℕ) → s ≡ shapeOf (getD text at 0) → first ≡ at + s % 4
-          → ((x : Tree) → At text first x → Scanned first w below x next l₁ l₂) → Scanned at w v t next l₀ l₂
-      unfolding size
-      one-scanned t q s first next l₂ e f r =
-          let g : first ≡ at + shapeOf (getD text at 0) % 4 = f ∙ ap (λ (x : ℕ). at + x % 4) e in
-          let a = r (q .x) (subst (λ (p : ℕ). At text p (q .x)) (sym g) (q .first)) in
-          subst (λ (u : Tree). Scanned at w v u next l₀ l₂) (sym (q .is)) (record {
-            ends = omega (arith, a .ends, g, q .head);
-            state = λ M h. holds-is (added-one w v (q .h) (q .x) M) (lower (measure (q .x)) (risen v M) (a .state (risen v M) (risen-held M h)));
-          })
+    one-scanned : (t : Tree) (q : IsOne text at t) (first next : ℕ) (l l′ : List ℕ) → first ≡ at + shapeOf (getD text at 0) % 4 → Scanned first w below (q .x) next l l′ → Scanned at w v t next l l′
+    unfolding size
+    one-scanned t q first next l l′ g a = subst (λ (u : Tree). Scanned at w v u next l l′) (sym (q .is)) (record {
+      ends = omega (arith, a .ends, g, q .head);
+      state = λ M h. holds-is (added-one w v (q .h) (q .x) M) (lower (measure (q .x)) M (a .state M h));
+    })
 
-      pub two-scanned : (t : Tree) → IsTwo text at t → (s first second next : ℕ) (l₂ l₃ : List ℕ) → s ≡ shapeOf (getD text at 0) → first ≡ at + s % 4
-          → ((x : Tree) → At text first x → Scanned first w below x second l₁ l₂) → ((x : Tree) → At text second x → Scanned second w below x next l₂ l₃) → Scanned at w v t next l₀ l₃
-      unfolding size
-      two-scanned t q s first second next l₂ l₃ e f r r′ =
-          let g : first ≡ at + shapeOf (getD text at 0) % 4 = f ∙ ap (λ (x : ℕ). at + x % 4) e in
-          let a = r (q .x) (subst (λ (p : ℕ). At text p (q .x)) (sym g) (q .first)) in
-          let b = r′ (q .y) (q .second second (a .ends ∙ ap (λ (p : ℕ). p + size (q .x)) g)) in
-          subst (λ (u : Tree). Scanned at w v u next l₀ l₃) (sym (q .is)) (record {
-            ends = omega (arith, a .ends, b .ends, g, q .head);
-            state = λ M h. holds-is (added-two w v (q .h) (q .x) (q .y) M)
-                (lower (measure (q .y)) (added w (under v 2) (measure (q .x)) (risen v M)) (b .state _ (lower (measure (q .x)) (risen v M) (a .state (risen v M) (risen-held M h)))));
-          })
+    two-scanned : (t : Tree) (q : IsTwo text at t) (first second next : ℕ) (l l₁ l₂ : List ℕ) → first ≡ at + shapeOf (getD text at 0) % 4
+        → Scanned first w below (q .x) second l l₁ → Scanned second w below (q .y) next l₁ l₂ → Scanned at w v t next l l₂
+    unfolding size
+    two-scanned t q first second next l l₁ l₂ g a b = subst (λ (u : Tree). Scanned at w v u next l l₂) (sym (q .is)) (record {
+      ends = omega (arith, a .ends, b .ends, g, q .head);
+      state = λ M h. holds-is (added-two w v (q .h) (q .x) (q .y) M) (lower (measure (q .y)) (added w (under v 2) (measure (q .x)) M) (b .state _ (lower (measure (q .x)) M (a .state M h))));
+    })
+
+-- The loop's invariant looks forward: whatever stands at the start, a part of it stands at `p`, and scanning the part finishes the whole.
+module _ (text : List ℕ) (at w v : ℕ) (l₀ : List ℕ) where
+  pub record Part (p level : ℕ) (l : List ℕ) (t : Tree) : Type 0 where
+    pub what : Tree
+    pub stands : At text p what
+    pub whole : (next : ℕ) (l′ : List ℕ) → Scanned p w level what next l l′ → Scanned at w v t next l₀ l′
+
+  pub record Scanning (p level : ℕ) (l : List ℕ) : Type 0 where
+    pub some : Some text p
+    pub from : at ≤ p
+    pub low : level ≤ beyond
+    pub long : length l ≡ 130
+    pub part : (t : Tree) → At text at t → Part p level l t
+
+  pub scanning-first : Some text at → v ≤ beyond → length l₀ ≡ 130 → Scanning at v l₀
+  scanning-first s b e = record { some = s; from = omega arith; low = b; long = e; part = λ t h. record { what = t; stands = h; whole = λ next l′ a. a } }
+
+  pub scanning-end : {p level next : ℕ} {l l′ : List ℕ} → Scanning p level l → ((u : Tree) → At text p u → Scanned p w level u next l l′) → (t : Tree) → At text at t → Scanned at w v t next l₀ l′
+  scanning-end r f t h = let q = r .part t h in q .whole _ _ (f (q .what) (q .stands))
+
+-- a code with operands is no name
+operands : (text : List ℕ) (at : ℕ) (t : Tree) → At text at t → 4 ≤ shapeOf (getD text at 0) % 16 → shapeOf (getD text at 0) < 16
+unfolding Formed
+operands text at (name c k) h s = absurd (omega (arith, tag-at text at (name c k) h))
+operands text at (leaf l) h s = omega (arith, tag-at text at (leaf l) h, h .formed .short)
+operands text at (one l x) h s = omega (arith, tag-at text at (one l x) h, h .formed .0 .short)
+operands text at (two l x y) h s = omega (arith, tag-at text at (two l x y) h, h .formed .0 .short)
+
+-- One turn, at a code of shape s that has operands: the walk goes on at the last of them.
+module _ (text : List ℕ) (at w v : ℕ) (l₀ : List ℕ) (p level : ℕ) (l : List ℕ) (r : Scanning text at w v l₀ p level l) (s : ℕ) (e : s ≡ shapeOf (getD text p 0)) (many : 4 ≤ s % 16) where
+  head : 4 ≤ shapeOf (getD text p 0) % 16
+  head = subst (λ (x : ℕ). 4 ≤ x % 16) e many
+
+  pub record First : Type 0 where
+    pub here : Some text (p + s % 4)
+    pub on : 0 < s % 4
+    pub room : p + s % 4 < length text
+
+  pub first-operand : First
+  first-operand =
+      let q = as-any text p (r .some .what) (r .some .stands) (operands text p (r .some .what) (r .some .stands) head) (omega (arith, head)) in
+      record { here = record { what = q .x; stands = subst (λ (x : ℕ). At text (p + x % 4) (q .x)) (sym e) (q .first) }; on = omega (arith, e, q .head); room = omega (arith, e, q .room) }
+
+  module _ (below : ℕ) (down : below ≡ capped (under level 2)) (p′ : ℕ) (l′ : List ℕ) where
+    -- a step from each tree at `p` to a part of it is a step of the walk
+    onward : p < p′ → length l′ ≡ 130 → ((u : Tree) → At text p u → Part text p w level l p′ below l′ u) → (p < p′) × Scanning text at w v l₀ p′ below l′
+    onward further long step = (
+      further,
+      record {
+        some = let q = step (r .some .what) (r .some .stands) in record { what = q .what; stands = q .stands };
+        from = omega (arith, r .from);
+        low = omega (arith, down);
+        long = long;
+        part = λ t h. let q = r .part t h in let n = step (q .what) (q .stands) in record { what = n .what; stands = n .stands; whole = λ next l″ a. q .whole next l″ (n .whole next l″ a) };
+      },
+    )
+
+    pub turn-one : s < 8 → l′ ≡ l → p′ ≡ p + s % 4 → (p < p′) × Scanning text at w v l₀ p′ below l′
+    turn-one short same f =
+        let g : p′ ≡ p + shapeOf (getD text p 0) % 4 = f ∙ ap (λ (x : ℕ). p + x % 4) e in
+        onward (omega (arith, f, first-operand .on)) (ap length same ∙ r .long) (λ u h.
+        let q = as-one text p u h (omega (arith, head)) (omega (arith, e)) in
+        record {
+          what = q .x;
+          stands = subst (λ (n : ℕ). At text n (q .x)) (sym g) (q .first);
+          whole = λ next l″ a. one-scanned text p w level below down u q p′ next l l″ g (subst (λ (k : List ℕ). Scanned p′ w below (q .x) next k l″) same a);
+        })
+
+    pub turn-two : 8 ≤ s → (next : ℕ) (l₁ : List ℕ) → l′ ≡ l₁ → p′ ≡ next → length l₁ ≡ length l → ((x : Tree) → At text (p + s % 4) x → Scanned (p + s % 4) w below x next l l₁) → (p < p′) × Scanning text at w v l₀ p′ below l′
+    turn-two wide next l₁ same f long scanned =
+        let g : p + s % 4 ≡ p + shapeOf (getD text p 0) % 4 = ap (λ (x : ℕ). p + x % 4) e in
+        onward (omega (arith, f, first-operand .on, scanned (first-operand .here .what) (first-operand .here .stands) .ends)) (ap length same ∙ long ∙ r .long) (λ u h.
+        let q = as-two text p u h (operands text p u h head) (omega (arith, e)) in
+        let a = scanned (q .x) (subst (λ (n : ℕ). At text n (q .x)) (sym g) (q .first)) in
+        record {
+          what = q .y;
+          stands = q .second p′ (f ∙ a .ends ∙ ap (λ (n : ℕ). n + size (q .x)) g);
+          whole = λ end l″ b. two-scanned text p w level below down u q (p + s % 4) next end l l₁ l″ g a (subst (λ (n : ℕ). Scanned n w below (q .y) end l₁ l″) f (subst (λ (k : List ℕ). Scanned p′ w below (q .y) end k l″) same b));
+        })

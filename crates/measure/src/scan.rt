@@ -9,26 +9,28 @@ ghost use Rattle.measure.specs.State.{Scanned};
 use super::numbers;
 
 // Puts `w` copies of the expression at `at`, their first codes on level `v`, into the numbers, without their length; answers the place behind it.
+// The last operand is reached in a loop: only the first of two is a call. A code above others adds no level to the deepest, so `rise` is for the last.
 // One body serves every code. Inner: the text was read before.
 pub fn scan(text: &[u8], at: usize, w: usize, v: usize, state: &mut [usize]) -> usize
     requires { ⌜ Some (now text) at × (v ≤ beyond) × (length (now state) ≡ 130) ⌝ }
     ensures { λ r. ⌜ ((t : Tree) → At (now (text .entry)) at t → Scanned at w v t r (now (state .entry)) (now (state .exit))) ⌝ }
 {
-    let c = text[at];
-    let s = ends::shape(c);
-    numbers::rise(state, v);
+    let mut p = at;
+    let mut level = v;
+    let mut s = ends::shape(text[p]);
+    // as long as there are operands; a name's 18 has none
+    while s % 16 >= 4 {
+        p += s % 4;
+        level = numbers::deeper(level);
+        if s >= 8 {
+            p = scan(text, p, w, level, state);
+        }
+        s = ends::shape(text[p]);
+    }
+    numbers::rise(state, level);
     if s >= 16 {
-        numbers::touch(state, ends::cell_of(c, text[at + 1]), w, v);
-        return at + 2;
+        numbers::touch(state, ends::cell_of(text[p], text[p + 1]), w, level);
+        return p + 2;
     }
-    let first = at + s % 4;
-    if s < 4 {
-        return first;
-    }
-    let below = numbers::deeper(v);
-    let second = scan(text, first, w, below, state);
-    if s < 8 {
-        return second;
-    }
-    scan(text, second, w, below, state)
+    p + s % 4
 }
