@@ -1,52 +1,154 @@
--- A word put into a block's body byte by byte, and the sums of the body meanwhile: i bytes are put, and `rest` is what is left of the word.
+-- A word put into a block's body: its sums, from what they were and from the lanes of the word that was there and of the one that is.
 use mathlib.Core.Path.{_≡_, sym, ap, ap₂, _∙_}
 use mathlib.Core.List.{List, _++_}
-use Prim.Native.Nat.{ℕ, suc, _+_, _-_, _*_, _/_, _%_, _≤_, _<_}
+use mathlib.Core.Logic.{inr}
+use Prim.Native.Nat.{ℕ, zero, suc, _+_, _-_, _*_, _%_, _≤_, _<_}
 use native.Mathlib.Nat.{mod-add-mod}
 use native.Mathlib.Omega.{arith}
-use lib.ListN.{length, getD, set, take}
-use lib.Seq.{sets, sets-eq, take-set-lt, getD-take}
+use lib.ListN.{length, getD, take, drop, length-append}
+use lib.Seq.{take-at, take-append-le, length-take-le}
 use Rattle.words.specs.Words.{bytes, putWord}
-use Rattle.seal.specs.Seal.{blockBytes, Form, sums, stored, sealed, reseal}
-use Rattle.seal.proofs.SealLaws.{length-body}
-use Rattle.seal.proofs.TotalLaws.{s-moves, t-moves}
+use Rattle.words.proofs.WordLaws.{length-putWord, putWord-other}
+use Rattle.seal.specs.Seal.{blockBytes, modulo257, Form, sums, stored, sealed, reseal}
+use Rattle.seal.specs.Lanes.{pack, oddsAt, pairsAt, fold, shifts, total, weighed}
+use Rattle.seal.proofs.TotalLaws.{sums-total, sums-weighed, alike}
+use Rattle.seal.proofs.WordSums.{S, T, eight, placed, S-next, T-next, eight-more}
+use Rattle.seal.proofs.Thirds.{fold-pack, shifts-pack}
 
-module _ (at : ℕ) (k : List ℕ) where
-  pub word-begins : (x : ℕ) → at + 8 ≤ length k → sets k (at + 0) (bytes 8 x) ≡ putWord k at x
-  unfolding bytes putWord
-  word-begins x h = let z : at + 0 ≡ at = omega arith in ap (λ y. sets k y (bytes 8 x)) z ∙ sets-eq (bytes 8 x) k at h
+-- Two lists that differ only in the eight bytes from `at` on: the totals of all bytes up to those eight and j behind them.
+module _ (k r : List ℕ) (at : ℕ) (before : take at r ≡ take at k) (behind : (i : ℕ) → at + 8 ≤ i → getD r i 0 ≡ getD k i 0) (same : length r ≡ length k) where
+  word-moves : (j : ℕ) → at + (8 + j) ≤ length k → (S r (at + (8 + j)) + eight k at ≡ S k (at + (8 + j)) + eight r at)
+      × (T r (at + (8 + j)) + (8 + j) * eight k at + placed r at ≡ T k (at + (8 + j)) + (8 + j) * eight r at + placed k at)
+  word-moves zero h =
+      let a = eight-more k at (omega arith) in
+      let b = eight-more r at (omega arith) in
+      let s : S r at ≡ S k at = ap total before in
+      let t : T r at ≡ T k at = ap weighed before in
+      (omega (arith, a .0, b .0), omega (arith, a .1, b .1))
+  word-moves (suc j) h =
+      let n : ℕ = at + (8 + j) in
+      let e : at + (8 + suc j) ≡ suc n = omega arith in
+      let ih = word-moves j (omega arith) in
+      let c = behind n (omega arith) in
+      let sk = S-next k n (at + (8 + suc j)) e (omega arith) in
+      let sr = S-next r n (at + (8 + suc j)) e (omega arith) in
+      let tk = T-next k n (at + (8 + suc j)) e (omega arith) in
+      let tr = T-next r n (at + (8 + suc j)) e (omega arith) in
+      (omega (arith, ih .0, c, sk, sr), omega (arith, ih .0, ih .1, c, tk, tr))
 
-  pub word-goes-on : (i rest : ℕ) → i < 8 → sets (set k (at + i) (rest % 256)) (at + (i + 1)) (bytes (8 - (i + 1)) (rest / 256)) ≡ sets k (at + i) (bytes (8 - i) rest)
-  unfolding bytes
-  word-goes-on i rest l =
-      let next : at + (i + 1) ≡ suc (at + i) = omega arith in
-      let left : suc (8 - (i + 1)) ≡ 8 - i = omega arith in
-      ap (λ y. sets (set k (at + i) (rest % 256)) y (bytes (8 - (i + 1)) (rest / 256))) next ∙ ap (λ y. sets k (at + i) (bytes y rest)) left
+-- x is y and a multiple of m more
+record Over (m x y : ℕ) : Type 0 where
+  pub times : ℕ
+  pub is : x ≡ y + times * m
 
-  pub word-ends : (i rest : ℕ) → 8 ≤ i → k ≡ sets k (at + i) (bytes (8 - i) rest)
-  unfolding bytes
-  word-ends i rest l = let left : 0 ≡ 8 - i = omega arith in ap (λ y. sets k (at + i) (bytes y rest)) left
+-- The remainder s of a total, when bytes in it change from e to e′ together: d is e′ - e, and a multiple of m more.
+moved-s : (m a b e e′ s d : ℕ) → b + e ≡ a + e′ → Over m (d + e) e′ → s ≡ a % m → (s + d) % m ≡ b % m
+moved-s m a b e e′ s d f o g =
+    let c : a + d + 0 * m ≡ b + o .times * m = omega (arith, o .is) in
+    ap (λ y. (y + d) % m) g ∙ mod-add-mod a m d ∙ alike m (a + d) b 0 (o .times) c
+
+-- The same when they count w times, less their places, which change from p to p′: q is p′ - p, and z * m keeps the difference from going below 0.
+moved-t : (m a b w e e′ p p′ t d q z : ℕ) → b + w * e + p′ ≡ a + w * e′ + p → Over m (d + e) e′ → Over m (q + p) p′ → t ≡ a % m → q ≤ z * m → (t + w * d + z * m - q) % m ≡ b % m
+moved-t m a b w e e′ p p′ t d q z f o v g l =
+    let y : ℕ = w * d + z * m - q in
+    let i : y + q ≡ w * d + z * m = omega arith in
+    let j : t + w * d + z * m - q ≡ t + y = omega arith in
+    let c : a + y + v .times * m ≡ b + (w * o .times + z) * m = omega (arith, ap (w *_) (o .is), v .is) in
+    ap (_% m) j ∙ ap (λ u. (u + y) % m) g ∙ mod-add-mod a m y ∙ alike m (a + y) b (v .times) (w * o .times + z) c
+
+-- four lanes less four others, with n added to each
+differ : (n a0 a1 a2 a3 b0 b1 b2 b3 e0 e1 e2 e3 : ℕ) → e0 + a0 ≡ b0 + n → e1 + a1 ≡ b1 + n → e2 + a2 ≡ b2 + n → e3 + a3 ≡ b3 + n
+    → pack b0 b1 b2 b3 + n * 0x0001000100010001 - pack a0 a1 a2 a3 ≡ pack e0 e1 e2 e3
+unfolding pack
+differ n a0 a1 a2 a3 b0 b1 b2 b3 e0 e1 e2 e3 f0 f1 f2 f3 = omega arith
+
+-- The lanes of the eight bytes from `at` on, of r less those of k, with 514 and 257 added to each: what they fold to, and what they say of the places.
+module _ (k r : List ℕ) where
+  abbrev pub pairs : ℕ → ℕ
+  pairs at = pairsAt r at + 0x0202020202020202 - pairsAt k at
+
+  abbrev pub odds : ℕ → ℕ
+  odds at = oddsAt r at + 0x0101010101010101 - oddsAt k at
+
+  -- the lane of two bytes, and of one at an odd place
+  abbrev two : ℕ → ℕ → ℕ
+  two p q = getD r p 0 + getD r q 0 + 514 - (getD k p 0 + getD k q 0)
+
+  abbrev one : ℕ → ℕ
+  one p = getD r p 0 + 257 - getD k p 0
+
+module _ (k r : List ℕ) (at : ℕ) (small : (p : ℕ) → getD k p 0 < 256) (small′ : (p : ℕ) → getD r p 0 < 256) where
+  two-is : (p q : ℕ) → two k r p q + (getD k p 0 + getD k q 0) ≡ getD r p 0 + getD r q 0 + 514
+  two-is p q = omega (arith, small p, small q)
+
+  two-low : (p q : ℕ) → two k r p q < 65536
+  two-low p q = omega (arith, small′ p, small′ q)
+
+  one-is : (p : ℕ) → one k r p + getD k p 0 ≡ getD r p 0 + 257
+  one-is p = omega (arith, small p)
+
+  one-low : (p : ℕ) → one k r p < 65536
+  one-low p = omega (arith, small′ p)
+
+  pairs-lanes : pairs k r at ≡ pack (two k r at (at + 1)) (two k r (at + 2) (at + 3)) (two k r (at + 4) (at + 5)) (two k r (at + 6) (at + 7))
+  unfolding pairsAt
+  pairs-lanes = differ 514 _ _ _ _ _ _ _ _ _ _ _ _ (two-is at (at + 1)) (two-is (at + 2) (at + 3)) (two-is (at + 4) (at + 5)) (two-is (at + 6) (at + 7))
+
+  odds-lanes : odds k r at ≡ pack (one k r (at + 1)) (one k r (at + 3)) (one k r (at + 5)) (one k r (at + 7))
+  unfolding oddsAt
+  odds-lanes = differ 257 _ _ _ _ _ _ _ _ _ _ _ _ (one-is (at + 1)) (one-is (at + 3)) (one-is (at + 5)) (one-is (at + 7))
+
+  weight-over : Over 257 (fold (pairs k r at) + eight k at) (eight r at)
+  weight-over =
+      let e = ap fold pairs-lanes ∙ fold-pack _ _ (two k r (at + 4) (at + 5)) (two k r (at + 6) (at + 7)) (two-low at (at + 1)) (two-low (at + 2) (at + 3)) in
+      record {
+        times = 8 + 255 * (two k r (at + 2) (at + 3) + two k r (at + 6) (at + 7));
+        is = omega (arith, e, two-is at (at + 1), two-is (at + 2) (at + 3), two-is (at + 4) (at + 5), two-is (at + 6) (at + 7));
+      }
+
+  places-over : Over 257 (fold (odds k r at) + 2 * shifts (pairs k r at) + placed k at) (placed r at)
+  places-over =
+      let e = ap fold odds-lanes ∙ fold-pack _ _ (one k r (at + 5)) (one k r (at + 7)) (one-low (at + 1)) (one-low (at + 3)) in
+      let f = ap shifts pairs-lanes ∙ shifts-pack _ _ _ (two k r (at + 6) (at + 7)) (two-low at (at + 1)) (two-low (at + 2) (at + 3)) (two-low (at + 4) (at + 5)) in
+      record {
+        times = 28 + 255 * (one k r (at + 3) + one k r (at + 7) + 2 * (two k r (at + 4) (at + 5) + 65538 * two k r (at + 6) (at + 7)));
+        is = omega (arith, e, f, one-is (at + 1), one-is (at + 3), one-is (at + 5), one-is (at + 7), two-is (at + 2) (at + 3), two-is (at + 4) (at + 5), two-is (at + 6) (at + 7));
+      }
 
 -- Numbers that leave the sums of a block's body.
 pub record Leaves (f : Form) (k : List ℕ) (s t : ℕ) : Type 0 where
   pub s-is : s % f .modulus ≡ sums f (take (f .bodyBytes) k) .s
   pub t-is : t % f .modulus ≡ sums f (take (f .bodyBytes) k) .t
 
-module _ (f : Form) (k : List ℕ) (h : length k ≡ blockBytes) (s t : ℕ) (v : Leaves f k s t) where
-  -- byte p of it changes to x
-  pub leaves-on : (p x d w : ℕ) → p < f .bodyBytes → w ≡ f .bodyBytes - p → d + getD k p 0 ≡ x + f .modulus → Leaves f (set k p x) (s + d) (t + w * d)
-  leaves-on p x d w l g e =
-      let body : List ℕ = take (f .bodyBytes) k in
-      let n : length body ≡ f .bodyBytes = length-body f k h in
-      let i : p < length body = omega arith in
-      let c : d + getD body p 0 ≡ x + f .modulus = ap (d +_) (getD-take (f .bodyBytes) k p 0 l) ∙ e in
-      let same : set body p x ≡ take (f .bodyBytes) (set k p x) = sym (take-set-lt (f .bodyBytes) k p x l) in
-      record {
-        s-is = sym (mod-add-mod s (f .modulus) d) ∙ ap (λ y. (y + d) % f .modulus) (v .s-is) ∙ s-moves f body p x d i c ∙ ap (λ y. sums f y .s) same;
-        t-is = sym (mod-add-mod t (f .modulus) (w * d)) ∙ ap₂ (λ y z. (y + z * d) % f .modulus) (v .t-is) (g ∙ ap (_- p) (sym n)) ∙ t-moves f body p x d i c ∙ ap (λ y. sums f y .t) same;
-      }
+-- the block with the sums that they leave behind it
+pub leaves-sealed : (f : Form) (k : List ℕ) (s t : ℕ) → Leaves f k s t → take (f .bodyBytes) k ++ stored f (record { s = s % f .modulus; t = t % f .modulus }) ≡ reseal f k
+unfolding reseal sealed
+leaves-sealed f k s t v = ap₂ (λ y z. take (f .bodyBytes) k ++ stored f (record { s = y; t = z })) (v .s-is) (v .t-is)
 
-  -- the block with the sums that they leave behind it
-  pub leaves-sealed : take (f .bodyBytes) k ++ stored f (record { s = s % f .modulus; t = t % f .modulus }) ≡ reseal f k
-  unfolding reseal sealed
-  leaves-sealed = ap₂ (λ y z. take (f .bodyBytes) k ++ stored f (record { s = y; t = z })) (v .s-is) (v .t-is)
+-- A block k of which x is put into the body's eight bytes from `at` on, which makes it r: numbers that leave the sums of r, from the sums of k.
+module _ (k r : List ℕ) (at x : ℕ) (h : length k ≡ blockBytes) (i : at + 8 ≤ 508) (put : r ≡ putWord k at x) where
+  begins : take at r ≡ take at k
+  unfolding putWord
+  begins =
+      let n : length (take at k) ≡ at = length-take-le at k (omega arith) in
+      ap (take at) put ∙ take-append-le at (take at k ++ bytes 8 x) (drop (at + 8) k) (simp length-append (omega arith)) ∙ take-at (take at k) (bytes 8 x) at n
+
+  ends : (p : ℕ) → at + 8 ≤ p → getD r p 0 ≡ getD k p 0
+  ends p l = ap (λ y. getD y p 0) put ∙ putWord-other k at x (omega arith) p (inr l)
+
+  body-moves : (S r 508 + eight k at ≡ S k 508 + eight r at) × (T r 508 + (508 - at) * eight k at + placed r at ≡ T k 508 + (508 - at) * eight r at + placed k at)
+  body-moves =
+      let e : at + (8 + (500 - at)) ≡ 508 = omega arith in
+      let f : 8 + (500 - at) ≡ 508 - at = omega arith in
+      rw (e, f) at (word-moves k r at begins ends (ap length put ∙ length-putWord k at x (omega arith)) (500 - at) (omega arith))
+
+  module _ (small : (p : ℕ) → getD k p 0 < 256) (small′ : (p : ℕ) → getD r p 0 < 256) where
+    pub leaves-put : (s t d q : ℕ) → s ≡ sums modulo257 (take 508 k) .s → t ≡ sums modulo257 (take 508 k) .t → d ≡ fold (pairs k r at) → q ≡ fold (odds k r at) + 2 * shifts (pairs k r at) → q ≤ 0x7FFF800000000
+        → Leaves modulo257 r (s + d) (t + (508 - at) * d + 0x7FFF800000000 - q)
+    leaves-put s t d q es et ed eq l =
+        let o : Over 257 (d + eight k at) (eight r at) = rw ed (weight-over k r at small small′) in
+        let v : Over 257 (q + placed k at) (placed r at) = rw eq (places-over k r at small small′) in
+        record {
+          s-is = moved-s 257 (S k 508) (S r 508) (eight k at) (eight r at) s d (body-moves .0) o (es ∙ sums-total modulo257 (take 508 k)) ∙ sym (sums-total modulo257 (take 508 r));
+          t-is = moved-t 257 (T k 508) (T r 508) (508 - at) (eight k at) (eight r at) (placed k at) (placed r at) t d q 0x7F800000000 (body-moves .1) o v (et ∙ sums-weighed modulo257 (take 508 k)) l ∙ sym (sums-weighed modulo257 (take 508 r));
+        }

@@ -1,25 +1,22 @@
 -- The totals of 504 bytes from the lanes of three thirds of 21 words.
-use mathlib.Core.Path.{_≡_, refl, sym, ap, _∙_}
+use mathlib.Core.Path.{_≡_, refl, ap, _∙_}
 use mathlib.Core.List.{List}
 use Prim.Native.Nat.{ℕ, zero, suc, _+_, _-_, _*_, _/_, _%_, _≤_, _<_}
-use native.Mathlib.Nat.{add-mul-mod-self-right}
 use native.Mathlib.Omega.{arith}
 use lib.ListN.{length, getD, take}
-use Rattle.seal.specs.Lanes.{pack, oddsAt, pairsAt, fold, upTo, total, weighed}
+use Rattle.seal.specs.Lanes.{pack, oddsAt, pairsAt, fold, shifts, upTo, total, weighed}
+use Rattle.seal.proofs.TotalLaws.{alike}
 use Rattle.seal.proofs.WordSums.{S, T, eight, placed, x0, x1, x2, x3, odd, more, words-total, words-weighed, packed, lanes-low, odds-more, word-lanes, place-lanes}
 
--- numbers that differ by multiples of m leave the same
-alike : (m x y a b : ℕ) → x + a * m ≡ y + b * m → x % m ≡ y % m
-alike m x y a b e = sym (add-mul-mod-self-right x a m) ∙ ap (_% m) e ∙ add-mul-mod-self-right y b m
-
-fold-pack : (a b c d : ℕ) → a < 65536 → b < 65536 → fold (pack a b c d) ≡ a + b + c + d + (b + d) * 65535
+-- four lanes folded, and shifted
+pub fold-pack : (a b c d : ℕ) → a < 65536 → b < 65536 → fold (pack a b c d) ≡ a + b + c + d + (b + d) * 65535
 unfolding pack
 fold-pack a b c d h k = omega arith
 
-shifts : (a b c d : ℕ) → a < 65536 → b < 65536 → c < 65536
-    → pack a b c d / 0x10000 + pack a b c d / 0x100000000 + pack a b c d / 0x1000000000000 ≡ b + 2 * c + 3 * d + (c + 65538 * d) * 65535
+pub shifts-pack : (a b c d : ℕ) → a < 65536 → b < 65536 → c < 65536
+    → shifts (pack a b c d) ≡ b + 2 * c + 3 * d + (c + 65538 * d) * 65535
 unfolding pack
-shifts a b c d h k j =
+shifts-pack a b c d h k j =
     let e : pack a b c d / 0x10000 ≡ b + c * 65536 + d * 4294967296 = omega arith in
     let f : pack a b c d / 0x100000000 ≡ c + d * 65536 = omega arith in
     let g : pack a b c d / 0x1000000000000 ≡ d = omega arith in
@@ -115,13 +112,13 @@ module _ (l : List ℕ) (small : (p : ℕ) → getD l p 0 < 256) (long : 504 ≤
   folded-third : (at : ℕ → ℕ) (y : ℕ) → y ≡ upTo (λ i. pairsAt l (at i)) 21 → fold y ≡ upTo (x0 l at) 21 + upTo (x1 l at) 21 + upTo (x2 l at) 21 + upTo (x3 l at) 21 + (upTo (x1 l at) 21 + upTo (x3 l at) 21) * 65535
   folded-third at y e = let low = lanes-low l at small 21 in ap fold (e ∙ packed l at 21) ∙ fold-pack _ _ _ _ (omega arith) (omega arith)
 
-  pub t-right : (t : ℕ) → t + (fold odds + 2 * ((a + b + c) / 0x10000 + (a + b + c) / 0x100000000 + (a + b + c) / 0x1000000000000)) ≡ 8 * (z + 42 * fold a + 21 * fold b) + 0x7FFF800000000
+  pub t-right : (t : ℕ) → t + (fold odds + 2 * shifts (a + b + c)) ≡ 8 * (z + 42 * fold a + 21 * fold b) + 0x7FFF800000000
       → t % 65535 ≡ weighed (take 504 l) % 65535
   t-right t e =
       let la = lanes-low l first small 21 in
       let lb = lanes-low l second small 21 in
       let lc = lanes-low l third small 21 in
-      let moved = ap (λ (y : ℕ). y / 0x10000 + y / 0x100000000 + y / 0x1000000000000) all-packed ∙ shifts _ _ _ _ (omega arith) (omega arith) (omega arith) in
+      let moved = ap shifts all-packed ∙ shifts-pack _ _ _ _ (omega arith) (omega arith) (omega arith) in
       let half : fold odds + 4294967295 * (odds / 0x100000000) ≡ odds = omega arith in
       same-t _ _ (upTo (x1 l first) 21 + upTo (x3 l first) 21) (upTo (x1 l second) 21 + upTo (x3 l second) 21)
       (upTo (odd l first) 21 + upTo (odd l second) 21 + upTo (odd l third) 21) (upTo (more l first) 21 + upTo (more l second) 21 + upTo (more l third) 21)

@@ -55,26 +55,9 @@ weighed-set [] p x h = absurd (omega arith)
 weighed-set (b ∷ l) zero x h = let w : suc (length l) - 0 ≡ suc (length l) = omega arith in rw w (omega arith)
 weighed-set (b ∷ l) (suc p) x h = let w : suc (length l) - suc p ≡ length l - p = omega arith in rw w (omega (arith, weighed-set l p x (omega arith), ap (_* b) (length-set l p x)))
 
--- a total in which a byte counts w times, when that byte changes from b to x: d is x - b, and m more so that it is a number
-remainder-moves : (m before after w b x d : ℕ) → after + w * b ≡ before + w * x → d + b ≡ x + m → (before % m + w * d) % m ≡ after % m
-remainder-moves m before after w b x d e f =
-    let g : before + w * d ≡ after + w * m = omega (arith, ap (w *_) f) in
-    mod-add-mod before m (w * d) ∙ ap (_% m) g ∙ add-mul-mod-self-right after w m
-
--- The sums of a body with byte p changed to x, from the sums of the body.
-module _ (f : Form) (l : List ℕ) (p x d : ℕ) (h : p < length l) (e : d + getD l p 0 ≡ x + f .modulus) where
-  pub s-moves : (sums f l .s + d) % f .modulus ≡ sums f (set l p x) .s
-  s-moves =
-      let one : d ≡ 1 * d = omega arith in
-      ap₂ (λ y z. (y + z) % f .modulus) (sums-total f l) one
-      ∙ remainder-moves (f .modulus) (total l) (total (set l p x)) 1 (getD l p 0) x d (omega (arith, total-set l p x h)) e
-      ∙ sym (sums-total f (set l p x))
-
-  pub t-moves : (sums f l .t + (length l - p) * d) % f .modulus ≡ sums f (set l p x) .t
-  t-moves =
-      ap (λ y. (y + (length l - p) * d) % f .modulus) (sums-weighed f l)
-      ∙ remainder-moves (f .modulus) (weighed l) (weighed (set l p x)) (length l - p) (getD l p 0) x d (weighed-set l p x h) e
-      ∙ sym (sums-weighed f (set l p x))
+-- numbers that differ by multiples of m leave the same
+pub alike : (m x y a b : ℕ) → x + a * m ≡ y + b * m → x % m ≡ y % m
+alike m x y a b e = sym (add-mul-mod-self-right x a m) ∙ ap (_% m) e ∙ add-mul-mod-self-right y b m
 
 -- two sums whose parts leave the same leave the same
 pub add-alike : (m x y u v : ℕ) → x % m ≡ y % m → u % m ≡ v % m → (x + u) % m ≡ (y + v) % m

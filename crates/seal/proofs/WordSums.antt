@@ -38,7 +38,7 @@ module _ (l : List ℕ) where
   abbrev pub placed : ℕ → ℕ
   placed p = getD l (p + 1) 0 + 2 * getD l (p + 2) 0 + 3 * getD l (p + 3) 0 + 4 * getD l (p + 4) 0 + 5 * getD l (p + 5) 0 + 6 * getD l (p + 6) 0 + 7 * getD l (p + 7) 0
 
-  eight-more : (p : ℕ) → p + 8 ≤ length l → (S (p + 8) ≡ S p + eight p) × (T (p + 8) + placed p ≡ T p + 8 * S p + 8 * eight p)
+  pub eight-more : (p : ℕ) → p + 8 ≤ length l → (S (p + 8) ≡ S p + eight p) × (T (p + 8) + placed p ≡ T p + 8 * S p + 8 * eight p)
   eight-more p h =
       let s1 = S-next p (p + 1) (omega arith) (omega arith) in
       let s2 = S-next (p + 1) (p + 2) (omega arith) (omega arith) in

@@ -20,6 +20,10 @@ pairsAt l at =
 abbrev pub fold : ℕ → ℕ
 fold x = x % 0x100000000 + x / 0x100000000
 
+-- The lanes of a word brought down by shifts: the second once, the third twice, the fourth three times, up to a multiple of 65535.
+abbrev pub shifts : ℕ → ℕ
+shifts x = x / 0x10000 + x / 0x100000000 + x / 0x1000000000000
+
 -- The sum of f over the numbers below n.
 unfoldable pub upTo : (ℕ → ℕ) → ℕ → ℕ
 upTo f zero = 0

@@ -7,7 +7,7 @@ ghost use lib.ListN.{length, getD, take};
 ghost use Rattle.words.specs.Words.{putWord};
 ghost use Rattle.seal.specs.Seal.{blockBytes, modulo255, modulo257, sums, stored, sealRight, reseal};
 ghost use Rattle.seal.specs.Forms.{formOf};
-ghost use Rattle.seal.specs.Lanes.{oddsAt, pairsAt, fold, total, weighed};
+ghost use Rattle.seal.specs.Lanes.{oddsAt, pairsAt, fold, shifts, total, weighed};
 
 // A block's bytes, and those of its body: the check bytes fill what is left.
 pub const BLOCK: usize = 512;
@@ -29,6 +29,9 @@ const FORMER_S: usize = FORMER_BODY;
 const FORMER_T: usize = FORMER_BODY + 1;
 
 const FORMER_MODULUS: u64 = 255;
+
+// A multiple of 65535 that `places` never go above: added where they are taken off.
+const ROOM: u64 = 0x7FFF800000000;
 
 // What the sums are taken modulo: 257, or 255 on old cards.
 pub enum Modulo {
@@ -76,6 +79,15 @@ fn folded(x: u64) -> u64
     x % 0x100000000 + x / 0x100000000
 }
 
+// What lanes say of the bytes' places in their words: each byte as often as its place says, up to a multiple of 65535.
+// 65536 leaves 1, so a shift brings a lane down, and the lanes that come above it do no harm. Inner: the sum fits.
+fn places(pairs: u64, odds: u64) -> u64
+    requires { ⌜ pairs < 0x8000000000000000 ⌝ }
+    ensures { λ r. ⌜ (r ≡ fold odds + 2 * shifts pairs) × (r ≤ 0x7FFF800000000) ⌝ }
+{
+    folded(odds) + 2 * (pairs / 0x10000 + pairs / 0x100000000 + pairs / 0x1000000000000)
+}
+
 // The totals of a block's first 504 bytes, as far as their remainders by 65535 go: 65535 is 255 times 257, so they serve both forms.
 struct Totals {
     s: u64,
@@ -112,10 +124,10 @@ fn front(block: &[u8]) -> Totals
         j += 1;
     }
     let all = a + b + c;
-    let places = folded(odds) + 2 * (all / 0x10000 + all / 0x100000000 + all / 0x1000000000000);
+    let off = places(all, odds);
     Totals {
         s: folded(all),
-        t: 8 * (low + high + 42 * folded(a) + 21 * folded(b)) + 0x7FFF800000000 - places,
+        t: 8 * (low + high + 42 * folded(a) + 21 * folded(b)) + ROOM - off,
     }
 }
 
@@ -228,24 +240,21 @@ pub fn seal(block: &mut [u8])
 }
 
 // Puts x into the 8 bytes of a block's body from `at` on and keeps its check bytes right, from what they were: no other byte is read.
-// A byte that changes by d changes s by d, and t by d once for each byte from it to the body's end.
+// A byte that changes by d changes s by d, and t by d once for each byte from it to the body's end. All eight are taken at once:
+// the word's lanes less those there were, with 514 or 257 added to each, two times 257 or once, so that none is below 0.
 // Inner: the bytes are there, and the check bytes are right.
 pub fn put_word(block: &mut [u8], at: usize, x: u64)
     requires { ⌜ (length (now block) ≡ blockBytes) × (at + 8 ≤ modulo257 .bodyBytes) × (sealRight modulo257 (now block) ≡ true) ⌝ }
     ensures { λ _. ⌜ now (block .exit) ≡ reseal modulo257 (putWord (now (block .entry)) at x) ⌝ }
 {
-    let mut s = pair(block, S);
-    let mut t = pair(block, T);
-    let mut rest = x;
-    let mut i = 0;
-    while i < 8 {
-        let byte = rest % 0x100;
-        let d = byte + MODULUS - wide(block[at + i]);
-        s += d;
-        t += (BODY - at - i) as u64 * d;
-        block[at + i] = byte as u8;
-        rest /= 0x100;
-        i += 1;
-    }
-    put_sums(block, s % MODULUS, t % MODULUS);
+    let s = pair(block, S);
+    let t = pair(block, T);
+    let before = lanes(block, at);
+    words::store(block, at, x);
+    let after = lanes(block, at);
+    let pairs = after.pairs + 0x0202020202020202 - before.pairs;
+    let odds = after.odds + 0x0101010101010101 - before.odds;
+    let d = folded(pairs);
+    let moved = t + (BODY - at) as u64 * d + ROOM - places(pairs, odds);
+    put_sums(block, (s + d) % MODULUS, moved % MODULUS);
 }

@@ -52,24 +52,6 @@ more-fits x y j h f g = omega arith
 together : (lo hi a b v u : ℕ) → lo + hi ≡ u → lo + a * v + (hi + b * v) ≡ u + (a + b) * v
 together lo hi a b v u e = omega arith
 
--- the shifts of the lanes of 63 words
-shifts-low : (x : ℕ) → x < 0x8000000000000000 → x / 0x10000 + x / 0x100000000 + x / 0x1000000000000 ≤ 0x800080008000
-shifts-low x h =
-    let e : x / 0x10000 < 0x800000000000 = omega arith in
-    let f : x / 0x100000000 < 0x80000000 = omega arith in
-    let g : x / 0x1000000000000 < 0x8000 = omega arith in
-    omega (arith, e, f, g)
-
-places-low : (a b c j fo : ℕ) → j ≤ 21 → a ≤ 0x01FE01FE01FE01FE * j → b ≤ 0x01FE01FE01FE01FE * j → c ≤ 0x01FE01FE01FE01FE * j → fo ≤ 0x1FFFFFFFE
-    → fo + 2 * ((a + b + c) / 0x10000 + (a + b + c) / 0x100000000 + (a + b + c) / 0x1000000000000) ≤ 0x7FFF800000000
-places-low a b c j fo h ha hb hc hf =
-    let k : a + b + c < 0x8000000000000000 = omega arith in
-    let e : (a + b + c) / 0x10000 + (a + b + c) / 0x100000000 + (a + b + c) / 0x1000000000000 ≤ 0x800080008000 = shifts-low (a + b + c) k in
-    atoms _ _ e hf
-  where
-    atoms : (x y : ℕ) → x ≤ 0x800080008000 → y ≤ 0x1FFFFFFFE → y + 2 * x ≤ 0x7FFF800000000
-    atoms x y g k = omega arith
-
 mul-low : tie.Need-mul-low Inv-loop μ-loop
 mul-low c = record { fits = lt-of-le-of-lt (product _ (c .before .before .before .before .before .before .before .before .before .before .before .before .before .loop .j) (low-half _)) (lit< tt) }
 
@@ -109,19 +91,11 @@ loop-again c =
           ∙ ap (λ (w : ℕ). upTo (mixed (c .before .before .before .before .before .before .before .before .before .before .before .before .before .before .before .args .block .now)) (l .j) + fold w * (21 - l .j)) (ap₂ _+_ (ap₂ _+_ (x .ensures .0 .0) (y .ensures .0 .0)) (u .ensures .0 .0));
     })
 
-add-places : tie.Need-add-places-3 Inv-loop μ-loop
-add-places c =
-    let l = c .before .before .loop in
-    record { fits = lt-of-le-of-lt (places-low (l .a) (l .b) (l .c) (l .j) _ (l .inv .within) (l .inv .a-low) (l .inv .b-low) (l .inv .c-low) (c .folded .ensures .1)) (lit< tt) }
-
 sub-t31 : tie.Need-sub-t31 Inv-loop μ-loop
-sub-t31 c =
-    let l = c .before .before .before .before .before .loop in
-    le-trans (places-low (l .a) (l .b) (l .c) (l .j) _ (l .inv .within) (l .inv .a-low) (l .inv .b-low) (l .inv .c-low) (c .before .before .before .folded .ensures .1)) (le-add-left _ _)
+sub-t31 c = le-trans (c .before .before .before .places .ensures .1) (le-add-left _ _)
 
-whole : (fo odds z fa a fb b p : ℕ) → fo ≡ fold odds → fa ≡ fold a → fb ≡ fold b → fo + 2 * p ≤ 0x7FFF800000000
-    → 8 * (z + 42 * fa + 21 * fb) + 0x7FFF800000000 - (fo + 2 * p) + (fold odds + 2 * p) ≡ 8 * (z + 42 * fold a + 21 * fold b) + 0x7FFF800000000
-whole fo odds z fa a fb b p e f g h = rw (sym e, sym f, sym g) (atoms (8 * (z + 42 * fa + 21 * fb)) (fo + 2 * p) h)
+whole : (off p z fa a fb b : ℕ) → off ≡ p → fa ≡ fold a → fb ≡ fold b → off ≤ 0x7FFF800000000 → 8 * (z + 42 * fa + 21 * fb) + 0x7FFF800000000 - off + p ≡ 8 * (z + 42 * fold a + 21 * fold b) + 0x7FFF800000000
+whole off p z fa a fb b e f g h = rw (sym e, sym f, sym g) (atoms (8 * (z + 42 * fa + 21 * fb)) off h)
   where
     atoms : (x y : ℕ) → y ≤ 0x7FFF800000000 → x + 0x7FFF800000000 - y + y ≡ x + 0x7FFF800000000
     atoms x y k = omega arith
@@ -144,16 +118,14 @@ returns c =
     let c-is = v .c-is ∙ ap (upTo (λ i. pairsAt k (8 * i + 336))) e in
     let odds-is = v .odds-is ∙ ap (λ n. upTo (λ i. oddsAt k (8 * i)) n + upTo (λ i. oddsAt k (8 * i + 168)) n + upTo (λ i. oddsAt k (8 * i + 336)) n) e in
     let z-is = v .z-is ∙ ap (upTo (mixed k)) e in
-    let fo = c .before .before .before .folded in
-    let fs = c .before .before .folded2 in
-    let fa = c .before .folded3 in
-    let fb = c .folded4 in (
+    let off = c .before .before .before .places in
+    let fs = c .before .before .folded in
+    let fa = c .before .folded2 in
+    let fb = c .folded3 in (
       (
         ap (_% 65535) (fs .ensures .0) ∙ s-right k small (c .before .before .before .before .before .before .before .pre) (l .a) (l .b) (l .c) (l .odds) (l .low + l .high) a-is b-is c-is odds-is z-is,
         t-right k small (c .before .before .before .before .before .before .before .pre) (l .a) (l .b) (l .c) (l .odds) (l .low + l .high) a-is b-is c-is odds-is z-is _
-            (whole (fo .result) (l .odds) (l .low + l .high) (fa .result) (l .a) (fb .result) (l .b) ((l .a + l .b + l .c) / 0x10000 + (l .a + l .b + l .c) / 0x100000000 + (l .a + l .b + l .c) / 0x1000000000000)
-            (fo .ensures .0) (fa .ensures .0) (fb .ensures .0)
-            (places-low (l .a) (l .b) (l .c) (l .j) _ (v .within) (v .a-low) (v .b-low) (v .c-low) (fo .ensures .1))),
+            (whole (off .result) _ (l .low + l .high) (fa .result) (l .a) (fb .result) (l .b) (off .ensures .0) (fa .ensures .0) (fb .ensures .0) (off .ensures .1)),
       ),
       (fs .ensures .1, t-low (l .low + l .high) (fa .result) (fb .result) (l .j) _ (halves-low (l .low) (l .high) (l .j) (v .low-low) (v .high-low)) (v .within) (fa .ensures .1) (fb .ensures .1)),
     )
@@ -192,10 +164,6 @@ front-spec =
     (λ c. search needs)
     (λ c. search needs)
     (λ c κs. search needs)
-    (λ c. search needs)
-    (λ c. search needs)
-    (λ c. search needs)
-    add-places
     (λ c κs. search needs)
     (λ c. search needs)
     (λ c κs. search needs)
