@@ -31,10 +31,11 @@ fn longest_rule(book: &[u8], edit: &[u8], from: usize, work: &mut [u16], out: &m
     ensures { λ r. ⌜ ((rules : List (Expr rule)) (Z : Edit) → BookIs (now (book .entry)) rules → EditAt (now (edit .entry)) from Z
         → r ≡ longestRule (carriedBook Z rules)) ⌝ }
 {
+    let rest = write::start(edit, from, work);
     let mut most = 0;
     let mut at = 0;
     while at < book.len() {
-        let written = write::write_rule(book, edit, from, work, out, Place { at, pos: 0 });
+        let written = write::write_rule(book, edit, rest, work, out, Place { at, pos: 0 });
         let len = written.pos;
         most = if len > most { len } else { most };
         at = written.at;
@@ -62,10 +63,11 @@ fn judge_each(
 {
     let n = Sheet::node_count(sheet);
     let all = Sheet::all_nodes(sheet);
+    let rest = write::start(edit, from, work);
     let mut at = 0;
     let mut i = 0;
     while at < book.len() {
-        let written = write::write_rule(book, edit, from, work, scratch, Place { at, pos: 0 });
+        let written = write::write_rule(book, edit, rest, work, scratch, Place { at, pos: 0 });
         let k = eval::eval_rule(sheet, n, all, scratch, 0);
         if !k.holds {
             return Answer::Refused(Refusal::RuleBroken { place: i });

@@ -1,9 +1,9 @@
 -- A rule written along a way: at the end, and at a 35 both its ways.
 use mathlib.Core.Path.{_≡_, refl, sym, ap, _∙_}
-use mathlib.Core.List.{List, _∷_}
-use Prim.Native.Nat.{ℕ, _+_, _<_}
+use mathlib.Core.List.{List, [], _∷_}
+use Prim.Native.Nat.{ℕ, _+_, _-_, _<_, _≤_}
 use native.Mathlib.Omega.{arith}
-use lib.ListN.{length, getD, set}
+use lib.ListN.{length, getD, set, take, drop}
 use lib.Seq.{set-set, set-getD}
 use Rattle.logic.specs.Syntax.{Edit}
 use Rattle.tree.specs.Tree.{Tree, tree, treeCode, graft}
@@ -17,8 +17,7 @@ use Rattle.write.specs.Laid.{Wrote}
 use Rattle.write.specs.Offsets.{StackIs}
 use Rattle.write.specs.Writing.{SomeShown}
 use Rattle.write.specs.Ways.{followed, Walked, Chosen, SomeCarried, WayWritten}
-use Rattle.write.proofs.Laying.{wrote-more, wrote-as}
-use Rattle.write.proofs.Walking.{steps-kept}
+use Rattle.write.proofs.Laying.{wrote-more, wrote-as, wrote-stands}
 use Rattle.write.proofs.Choosing.{end-written, choice-written, choice-length, first-way, second-way}
 
 -- where the walk rests
@@ -68,6 +67,9 @@ module _ {edit behind : List ℕ} {at d first second next : ℕ} (C : (Z : Edit)
       first-counted : p ≡ pos + (3 + length (treeCode (graft (env (w .way .steps)) (tree (q .test)))))
       first-counted = omega (arith, f (w .way .steps) (tree (q .test)) (w .way .way .steps-passed) (w .way .way .steps) (q .test-at) .counted)
 
+      pub first-long : pos + 3 ≤ p
+      first-long = omega (arith, first-counted)
+
       pub first-further : {room′ : ℕ} → room′ ≡ room → Further text from edit stack behind₁ first h (d + 1) pos p room′
       first-further r = record {
         on = omega (arith, first-counted);
@@ -81,51 +83,48 @@ module _ {edit behind : List ℕ} {at d first second next : ℕ} (C : (Z : Edit)
       }
 
       module _ {stack₂ behind₂ o₂ : List ℕ} {p₂ : ℕ} (c : WayWritten text from edit stack behind₁ first h (d + 1) o₁ p p₂ stack₂ behind₂ o₂) where
-        second-counted : p₂ ≡ p + length (written (w .way .steps) (followed (q .P) (q .W ∷ w .way .later)) (w .K))
-        second-counted = c .wrote (w .way .steps) (q .P) (q .W ∷ w .way .later) (first-way (w .way .way) q (record { same = λ i b. refl }) e l) (w .K) (w .K-at) .counted
+        first-wrote : Wrote o₁ p (written (w .way .steps) (followed (q .P) (q .W ∷ w .way .later)) (w .K)) p₂ o₂
+        first-wrote = c .wrote (w .way .steps) (q .P) (q .W ∷ w .way .later) (first-way (w .way .way) q (record { same = λ i b. refl }) e l) (w .K) (w .K-at)
 
-        pub second-shown : {room′ : ℕ} → room′ ≡ room → SomeShown edit (at + 1) edit stack₂ h (p₂ + 1) room′
-        second-shown r = record {
-          steps = w .way .steps;
-          is = w .way .way .steps-passed;
-          stands = steps-kept edit (w .way .steps) (omega (arith, w .way .way .steps-passed)) (c .kept) (w .way .way .steps);
-          what = tree (q .test);
-          what-at = q .test-at;
-          fits = omega (arith, w .fits, sizes, first-counted, second-counted, r);
-        }
+        pub second-room : {room′ : ℕ} → room′ ≡ room → (pos + 3 + (p - (pos + 3)) ≤ p₂) × (p₂ + 1 + (p - (pos + 3)) ≤ room′)
+        second-room r = (omega (arith, first-counted, first-wrote .counted), omega (arith, w .fits, sizes, first-counted, first-wrote .counted, r))
 
-        module _ {o₃ : List ℕ} {p₃ : ℕ} (g : (σ : List Step) (t : Tree) → h ≡ length σ → StackIs edit stack₂ σ → At edit (at + 1) t → Wrote o₂ p₂ (0x26 ∷ treeCode (graft (env σ) t)) p₃ o₃) where
+        -- what is written again is the rule of the 35, which still stands where it was written
+        module _ {o₃ : List ℕ} {p₃ : ℕ} (x : room ≡ length o) (u : Wrote o₂ p₂ (0x26 ∷ take (p - (pos + 3)) (drop (pos + 3) o₂)) p₃ o₃) where
+          pub second-opened : (σ : List Step) (t : Tree) → h ≡ length σ → StackIs edit stack σ → At edit (at + 1) t → Wrote o₂ p₂ (0x26 ∷ treeCode (graft (env σ) t)) p₃ o₃
+          second-opened σ t n s a =
+              wrote-as (ap (λ (bs : List ℕ). 0x26 ∷ bs) (wrote-stands (0x25 ∷ 0x26 ∷ 0x27 ∷ []) (f σ t n s a) first-wrote (omega (arith, w .fits, sizes, first-counted, first-wrote .counted, x)))) u
+
           third-counted : p₃ ≡ p₂ + (1 + length (treeCode (graft (env (w .way .steps)) (tree (q .test)))))
-          third-counted = omega (arith, g (w .way .steps) (tree (q .test)) (w .way .way .steps-passed) (steps-kept edit (w .way .steps) (omega (arith, w .way .way .steps-passed)) (c .kept) (w .way .way .steps)) (q .test-at) .counted)
+          third-counted = omega (arith, second-opened (w .way .steps) (tree (q .test)) (w .way .way .steps-passed) (w .way .way .steps) (q .test-at) .counted)
 
           pub second-further : {room′ : ℕ} → room′ ≡ room → Further text from edit stack₂ behind₂ second h (d + 1) pos p₃ room′
           second-further r = record {
-            on = omega (arith, first-counted, second-counted, third-counted);
+            on = omega (arith, first-counted, first-wrote .counted, third-counted);
             inside = omega (arith, w .fits, sizes, r);
             some = record {
               way = record { steps = w .way .steps; what = q .Q; later = q .W ∷ w .way .later; way = second-way (w .way .way) q (c .kept) (c .again ∙ e) l; low = omega (arith, w .way .low, q .on, q .between); low-behind = omega (arith, w .way .low-behind, q .on, q .between) };
               K = w .K;
               K-at = w .K-at;
-              fits = omega (arith, w .fits, sizes, first-counted, second-counted, third-counted, r);
+              fits = omega (arith, w .fits, sizes, first-counted, first-wrote .counted, third-counted, r);
             };
           }
 
   pub choice-carried : {text stack₀ stack stack₂ stack₃ behind₁ behind₂ behind₃ behind₄ o o₁ o₂ o₃ o₄ : List ℕ} {from at₀ h₀ d₀ h pos p p₂ p₃ p₄ : ℕ} → Walked edit stack₀ behind at₀ h₀ d₀ stack at h d
       → ((σ : List Step) (t : Tree) → h ≡ length σ → StackIs edit stack σ → At edit (at + 1) t → Wrote o pos (0x25 ∷ 0x26 ∷ 0x27 ∷ treeCode (graft (env σ) t)) p o₁) → behind₁ ≡ set behind d next
       → WayWritten text from edit stack behind₁ first h (d + 1) o₁ p p₂ stack₂ behind₂ o₂
-      → ((σ : List Step) (t : Tree) → h ≡ length σ → StackIs edit stack₂ σ → At edit (at + 1) t → Wrote o₂ p₂ (0x26 ∷ treeCode (graft (env σ) t)) p₃ o₃)
+      → ((σ : List Step) (t : Tree) → h ≡ length σ → StackIs edit stack σ → At edit (at + 1) t → Wrote o₂ p₂ (0x26 ∷ treeCode (graft (env σ) t)) p₃ o₃)
       → WayWritten text from edit stack₂ behind₂ second h (d + 1) o₃ p₃ p₄ stack₃ behind₃ o₄ → behind₄ ≡ set behind₃ d (getD behind d 0)
       → WayWritten text from edit stack₀ behind at₀ h₀ d₀ o pos p₄ stack₃ behind₄ o₄
   choice-carried a f e c g c′ e′ = record {
     wrote = λ σ Z Ws y K r.
         let m = a .each σ Z Ws y in
         let q = C (m .what) (m .way .here) in
-        let s = steps-kept edit (m .steps) (omega (arith, m .way .steps-passed)) (c .kept) (m .way .steps) in
         wrote-as (choice-written (m .way) q K ∙ sym (m .same K))
         (wrote-more (wrote-more (wrote-more
         (f (m .steps) (tree (q .test)) (m .way .steps-passed) (m .way .steps) (q .test-at))
         (c .wrote (m .steps) (q .P) (q .W ∷ m .later) (first-way (m .way) q (record { same = λ i b. refl }) e l) K r))
-        (g (m .steps) (tree (q .test)) (m .way .steps-passed) s (q .test-at)))
+        (g (m .steps) (tree (q .test)) (m .way .steps-passed) (m .way .steps) (q .test-at)))
         (c′ .wrote (m .steps) (q .Q) (q .W ∷ m .later) (second-way (m .way) q (c .kept) (c .again ∙ e) l) K r));
     kept = kept-more (a .up) (a .kept) (kept-more (omega arith) (c .kept) (c′ .kept));
     again = e′ ∙ ap (λ (b : List ℕ). set b d (getD behind d 0)) (c′ .again ∙ c .again ∙ e) ∙ set-set behind d next (getD behind d 0) ∙ set-getD behind d 0;

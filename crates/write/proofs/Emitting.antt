@@ -7,16 +7,17 @@ use native.Mathlib.Omega.{arith}
 use lib.Dec.{eqb}
 use lib.ListN.{length, getD, set, take, drop, length-append}
 use lib.Seq.{take-append-seam}
-use Rattle.tree.specs.Tree.{Tree, name, leaf, one, two, treeCode, graft}
+use Rattle.tree.specs.Tree.{Tree, name, leaf, one, two, treeCode, graft, size}
 use Rattle.tree.specs.Stack.{Step, env, lead, inner}
 use Rattle.tree.proofs.Written.{code-becomes}
 use Rattle.ends.specs.Shapes.{At, Named, shapeOf}
 use Rattle.ends.proofs.Places.{IsName, as-name, tag, tag-at}
-use Rattle.ends.proofs.Pending.{headOf, partsOf, texts, texts-append, code-opened, Pending, pending-one, First, first, Turn, turn}
+use Rattle.ends.proofs.Pending.{headOf, partsOf, texts, texts-append, code-opened, Pending, pending-one, First, first, Turn, turn, To, Passing, passing-first, passing-more, passing-end}
 use Rattle.write.specs.Laid.{Wrote}
 use Rattle.write.specs.Offsets.{StackIs}
-use Rattle.write.specs.Links.{lastIn}
-use Rattle.write.proofs.Finding.{Hit, Found}
+use Rattle.write.specs.Work.{stackOf}
+use Rattle.write.specs.Links.{lastIn, SomeLinks}
+use Rattle.write.proofs.Finding.{Hit, Found, found-as, hit-at, hit-older}
 use Rattle.write.specs.Writing.{SomeName, SomeShown}
 use Rattle.write.proofs.Laying.{wrote-none, wrote-one, wrote-more, wrote-as}
 
@@ -25,7 +26,7 @@ pub untouched : {edit stack : List ℕ} {σ : List Step} {c k r : ℕ} → Found
 unfolding treeCode
 untouched f e = sym (ap treeCode (f .none e))
 
-pub last-hit : {edit stack : List ℕ} {σ : List Step} {c k r : ℕ} → Found edit stack σ c k r → (r ≡ 0 → ⊥) → Hit edit stack σ c k (r - 1)
+pub last-hit : {edit stack : List ℕ} {σ : List Step} {c k r : ℕ} → Found edit stack σ c k r → 0 < r → Hit edit stack σ c k (r - 1)
 last-hit {edit} {stack} {σ} {c} {k} {r} f n = f .some (r - 1) (omega arith)
 
 inner-first : (b : ℕ) (l : List ℕ) → inner b l ≡ inner b [] ++ l
@@ -53,6 +54,35 @@ module _ {edit stack : List ℕ} {σ : List Step} {c k j : ℕ} (H : Hit edit st
   pub hit-wrote : {o o₁ o₂ o₃ : List ℕ} {pos b p q r : ℕ} → b ≡ lead op → Wrote (set o pos b) (pos + 1) (treeCode (env (H .below) c k)) p o₁ → Wrote o₁ p (inner op []) q o₂
       → Wrote o₂ q (treeCode (graft (env (H .below)) (H .s .what))) r o₃ → Wrote o pos (treeCode (env σ c k)) r o₃
   hit-wrote {o} {o₁} {o₂} {o₃} {pos} {b} {p} {q} {r} f u v w = wrote-as hit-bytes (wrote-more (wrote-more (wrote-more (wrote-as (ap (λ (n : ℕ). n ∷ []) f) (wrote-one o pos b)) u) v) w)
+
+-- What writing a name leaves, whatever the steps of which the one below index j is the last that touches it.
+pub record NameWrote (edit stack : List ℕ) (j c k : ℕ) (o : List ℕ) (pos pos′ : ℕ) (o′ : List ℕ) : Type 0 where
+  pub each : (σ : List Step) → j ≡ lastIn edit stack (length σ) c k → StackIs edit stack σ → Wrote o pos (treeCode (env σ c k)) pos′ o′
+  pub long : length o′ ≡ length o
+
+pub name-wrote-as : {edit stack o o′ o″ : List ℕ} {j c k pos pos′ pos″ : ℕ} → o″ ≡ o′ → pos″ ≡ pos′ → NameWrote edit stack j c k o pos pos′ o′ → NameWrote edit stack j c k o pos pos″ o″
+name-wrote-as {edit} {stack} {o} {o′} {o″} {j} {c} {k} {pos} {pos′} {pos″} e f w = subst (λ (x : ℕ). NameWrote edit stack j c k o pos x o″) (sym f) (subst (NameWrote edit stack j c k o pos pos′) (sym e) w)
+
+-- where none touches it
+pub bare-wrote : {edit stack o o′ : List ℕ} {j c k pos pos′ : ℕ} → j ≡ 0 → Wrote o pos (c ∷ k ∷ []) pos′ o′ → length o′ ≡ length o → NameWrote edit stack j c k o pos pos′ o′
+bare-wrote e u l = record { each = λ σ f i. wrote-as (untouched (found-as f i) e) u; long = l }
+
+pub bare-room : {edit stack : List ℕ} {j c k pos room : ℕ} → SomeName edit stack j c k pos room → j ≡ 0 → pos + 2 ≤ room
+bare-room w e = omega (arith, w .fits, ap length (untouched (found-as (w .is) (w .stands)) e))
+
+-- where one does: the step, and the name under the steps below it
+module _ {edit work : List ℕ} {j c k pos room : ℕ} (l : 0 < j) (s : SomeLinks edit work j) (w : SomeName edit (stackOf work) j c k pos room) where
+  pub hit : Hit edit (stackOf work) (w .steps) c k (j - 1)
+  hit = last-hit (found-as (w .is) (w .stands)) l
+
+  pub hit-fits : pos + 1 + length (treeCode (env (hit .below) c k)) + length (inner (getD edit (getD work (64 + (j - 1)) 0) 0) []) + length (treeCode (graft (env (hit .below)) (hit .s .what))) ≤ room
+  hit-fits = omega (arith, w .fits, hit-length hit (getD edit (getD work (64 + (j - 1)) 0) 0) (hit-at s l hit .op-is))
+
+  pub older-some : {room′ : ℕ} → room′ ≡ room → SomeName edit (stackOf work) (getD work (4160 + (j - 1)) 0) c k (pos + 1) room′
+  older-some e = record { steps = hit .below; is = hit-older s (w .is) l hit .0; stands = hit .stands; fits = omega (arith, e, hit-fits) }
+
+  pub older-count : {o o′ : List ℕ} {p p′ : ℕ} → NameWrote edit (stackOf work) (getD work (4160 + (j - 1)) 0) c k o p p′ o′ → p′ ≡ p + length (treeCode (env (hit .below) c k))
+  older-count u = u .each (hit .below) (hit-older s (w .is) l hit .0) (hit .stands) .counted
 
 -- The text of a tree under the steps passed, and of one that is no name by its head and its operands.
 abbrev shownBy : List Step → Tree → List ℕ
@@ -92,16 +122,17 @@ shown-more {text} {σ} {t} {p} {wanted} {o} {pos} {q} {o′} w {p′} {wanted′
 -- whatever expression stands there, and whatever the steps on the stack
 pub record Showing (text : List ℕ) (at : ℕ) (edit stack : List ℕ) (h p wanted : ℕ) (o : List ℕ) (pos q : ℕ) (o′ : List ℕ) : Type 0 where
   pub each : (σ : List Step) (t : Tree) → h ≡ length σ → StackIs edit stack σ → At text at t → Emitted text σ t p wanted o pos q o′
+  pub passed : Passing text at p wanted
   pub long : length o′ ≡ length o
 
 pub showing-first : (text : List ℕ) (at : ℕ) (edit stack : List ℕ) (h : ℕ) (o : List ℕ) (pos : ℕ) → Showing text at edit stack h at 1 o pos pos o
 unfolding texts
-showing-first text at edit stack h o pos = record { each = λ σ t e i a. record { parts = t ∷ []; pending = pending-one text at t a; done = []; whole = append-nil (shownBy σ t); wrote = wrote-none o pos }; long = refl }
+showing-first text at edit stack h o pos = record { each = λ σ t e i a. record { parts = t ∷ []; pending = pending-one text at t a; done = []; whole = append-nil (shownBy σ t); wrote = wrote-none o pos }; passed = passing-first text at; long = refl }
 
 pub showing-end : {text edit stack o o′ : List ℕ} {at h p wanted pos q : ℕ} → Showing text at edit stack h p wanted o pos q o′ → wanted ≤ 0
-    → (σ : List Step) (t : Tree) → h ≡ length σ → StackIs edit stack σ → At text at t → Wrote o pos (treeCode (graft (env σ) t)) q o′
+    → (σ : List Step) (t : Tree) → h ≡ length σ → StackIs edit stack σ → At text at t → Wrote o pos (treeCode (graft (env σ) t)) q o′ × (p ≡ at + size t)
 unfolding texts
-showing-end {text} {edit} {stack} {o} {o′} {at} {h} {p} {wanted} {pos} {q} I l σ t e i a = let w = I .each σ t e i a in go w (w .parts) (w .pending .count) (w .whole)
+showing-end {text} {edit} {stack} {o} {o′} {at} {h} {p} {wanted} {pos} {q} I l σ t e i a = let w = I .each σ t e i a in (go w (w .parts) (w .pending .count) (w .whole), passing-end (I .passed) l t a)
   where
     go : (w : Emitted text σ t p wanted o pos q o′) (parts : List Tree) → length parts ≡ wanted → w .done ++ texts (shownBy σ) parts ≡ shownBy σ t → Wrote o pos (shownBy σ t) q o′
     go w [] n e = wrote-as (sym (append-nil (w .done)) ∙ e) (w .wrote)
@@ -131,15 +162,14 @@ module _ {text edit stack o o′ : List ℕ} {at h p wanted pos q : ℕ} (I : Sh
           ap (texts (shownBy σ)) (f .is) ∙ ap (λ (u : Tree). shownBy σ u ++ texts (shownBy σ) (f .more)) (q .is)
           ∙ sym (ap₂ (λ (c k : ℕ). treeCode (env σ c k) ++ texts (shownBy σ) (f .more)) (q .reads-c) (q .reads-k))
 
+      name-moved : (A : ℕ → ℕ → Type 0) {t : Tree} → At text p t → A (p + s % 4) (wanted - 1 + s / 4 % 4) → A (p + 2) (wanted - 1)
+      name-moved A {t} a x =
+          let is : s ≡ 18 = e ∙ tag-at text p t a ∙ ap tag (named a .is) in
+          let count : wanted - 1 + s / 4 % 4 ≡ wanted - 1 = ap (λ (y : ℕ). wanted - 1 + y / 4 % 4) is ∙ (let z : wanted - 1 + 0 ≡ wanted - 1 = omega arith in z) in
+          subst (λ (y : ℕ). A y (wanted - 1)) (ap (λ (y : ℕ). p + y % 4) is) (subst (A (p + s % 4)) count x)
+
       name-next : {parts : List Tree} → Pending text p wanted parts → (f : First text p parts) → Pending text (p + 2) (wanted - 1) (f .more)
-      name-next {parts} v f =
-          let q = named (f .at) in
-          let n = turn v f s e .next in
-          let is : s ≡ 18 = e ∙ tag-at text p (f .t) (f .at) ∙ ap tag (q .is) in
-          let parts-are : partsOf (f .t) ++ f .more ≡ f .more = ap (λ (u : Tree). partsOf u ++ f .more) (q .is) in
-          let place : p + s % 4 ≡ p + 2 = ap (λ (x : ℕ). p + x % 4) is in
-          let count : wanted - 1 + s / 4 % 4 ≡ wanted - 1 = ap (λ (x : ℕ). wanted - 1 + x / 4 % 4) is ∙ (let z : wanted - 1 + 0 ≡ wanted - 1 = omega arith in z) in
-          subst (Pending text (p + 2) (wanted - 1)) parts-are (subst (λ (x : ℕ). Pending text x (wanted - 1) (partsOf (f .t) ++ f .more)) place (subst (λ (x : ℕ). Pending text (p + s % 4) x (partsOf (f .t) ++ f .more)) count n))
+      name-next {parts} v f = name-moved (λ (x y : ℕ). Pending text x y (f .more)) (f .at) (subst (Pending text (p + s % 4) (wanted - 1 + s / 4 % 4)) (ap (λ (u : Tree). partsOf u ++ f .more) (named (f .at) .is)) (turn v f s e .next))
 
       module _ {room : ℕ} (w : SomeShown text at edit stack h pos room) where
         pub name-room : p + 2 ≤ length text
@@ -151,8 +181,12 @@ module _ {text edit stack o o′ : List ℕ} {at h p wanted pos q : ℕ} (I : Sh
         pub name-some : {j : ℕ} → j ≡ lastIn edit stack h (getD text p 0) (getD text (p + 1) 0) → SomeName edit stack j (getD text p 0) (getD text (p + 1) 0) q room
         name-some f = record { steps = w .steps; is = f ∙ ap (λ (x : ℕ). lastIn edit stack x (getD text p 0) (getD text (p + 1) 0)) (w .is); stands = w .stands; fits = omega (arith, still w .0, ap length (name-text (w .steps) (some w .parts) (head-first w)), length-append (treeCode (env (w .steps) (getD text p 0) (getD text (p + 1) 0))) (texts (shownBy (w .steps)) (head-first w .more))) }
 
-      pub name-shown : {q′ : ℕ} {o″ : List ℕ} → ((σ : List Step) → h ≡ length σ → StackIs edit stack σ → Wrote o′ q (treeCode (env σ (getD text p 0) (getD text (p + 1) 0))) q′ o″) → length o″ ≡ length o′ → Showing text at edit stack h (p + 2) (wanted - 1) o pos q′ o″
-      name-shown u m = record { each = λ σ t g i a. let v = I .each σ t g i a in let f = first (v .pending) l in shown-more v (name-next (v .pending) f) (name-text σ (v .parts) f) (u σ g i); long = m ∙ I .long }
+      pub name-shown : {j q′ : ℕ} {o″ : List ℕ} → j ≡ lastIn edit stack h (getD text p 0) (getD text (p + 1) 0) → NameWrote edit stack j (getD text p 0) (getD text (p + 1) 0) o′ q q′ o″ → Showing text at edit stack h (p + 2) (wanted - 1) o pos q′ o″
+      name-shown f u = record {
+        each = λ σ t g i a. let v = I .each σ t g i a in let m = first (v .pending) l in shown-more v (name-next (v .pending) m) (name-text σ (v .parts) m) (u .each σ (f ∙ ap (λ (x : ℕ). lastIn edit stack x (getD text p 0) (getD text (p + 1) 0)) g) i);
+        passed = λ t a. name-moved (λ (x y : ℕ). To text at x y t) (first (I .passed t a .pending) l .at) (passing-more (I .passed) l s e t a);
+        long = u .long ∙ I .long;
+      }
 
     -- any other code
     module _ (low : s < 16) where
@@ -181,7 +215,7 @@ module _ {text edit stack o o′ : List ℕ} {at h p wanted pos q : ℕ} (I : Sh
             )
 
       pub head-shown : {q′ : ℕ} {o″ : List ℕ} → Wrote o′ q (take (s % 4) (drop p text)) q′ o″ → length o″ ≡ length o′ → Showing text at edit stack h (p + s % 4) (wanted - 1 + s / 4 % 4) o pos q′ o″
-      head-shown u m = record { each = λ σ t g i a. let v = I .each σ t g i a in let f = first (v .pending) l in let n = turn (v .pending) f s e in shown-more v (n .next) (head-text σ (v .parts) f n) u; long = m ∙ I .long }
+      head-shown u m = record { each = λ σ t g i a. let v = I .each σ t g i a in let f = first (v .pending) l in let n = turn (v .pending) f s e in shown-more v (n .next) (head-text σ (v .parts) f n) u; passed = passing-more (I .passed) l s e; long = m ∙ I .long }
 
 pub shown-moved : {text edit stack : List ℕ} {at h pos pos′ room room′ : ℕ} → SomeShown text at edit stack h pos room → pos′ ≡ pos → room′ ≡ room → SomeShown text at edit stack h pos′ room′
 shown-moved w p r = record { steps = w .steps; is = w .is; stands = w .stands; what = w .what; what-at = w .what-at; fits = omega (arith, w .fits, p, r) }

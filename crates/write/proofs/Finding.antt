@@ -111,10 +111,10 @@ older-is {edit} {stack} {links} {last} {h} {j} c k m w e l r =
 older-at : {edit work : List ℕ} {h j : ℕ} (c k m : ℕ) (w : SomeLinks edit work h) → j ≡ lastIn edit (stackOf work) m c k → 0 < j → j - 1 < w .top → getD work (4160 + (j - 1)) 0 ≡ lastIn edit (stackOf work) (j - 1) c k
 older-at {edit} {work} {h} {j} c k m w e l r = sym (part-at 4160 4096 work (j - 1) (4160 + (j - 1)) (omega (arith, r, w .room)) refl) ∙ older-is c k m (w .linked) e l r
 
-pub hit-at : {edit work : List ℕ} {σ : List Step} {c k j : ℕ} → SomeLinks edit work j → (j ≡ 0 → ⊥) → (H : Hit edit (stackOf work) σ c k (j - 1)) → StepAt edit (getD work (64 + (j - 1)) 0) (H .s)
+pub hit-at : {edit work : List ℕ} {σ : List Step} {c k j : ℕ} → SomeLinks edit work j → 0 < j → (H : Hit edit (stackOf work) σ c k (j - 1)) → StepAt edit (getD work (64 + (j - 1)) 0) (H .s)
 hit-at {edit} {work} {σ} {c} {k} {j} w n H = subst (λ (o : ℕ). StepAt edit o (H .s)) (part-at 64 4096 work (j - 1) (64 + (j - 1)) (omega (arith, n, w .high, w .room)) refl) (H .at)
 
-pub hit-older : {edit work : List ℕ} {σ : List Step} {c k j : ℕ} → SomeLinks edit work j → j ≡ lastIn edit (stackOf work) (length σ) c k → (j ≡ 0 → ⊥) → (H : Hit edit (stackOf work) σ c k (j - 1))
+pub hit-older : {edit work : List ℕ} {σ : List Step} {c k j : ℕ} → SomeLinks edit work j → j ≡ lastIn edit (stackOf work) (length σ) c k → 0 < j → (H : Hit edit (stackOf work) σ c k (j - 1))
     → (getD work (4160 + (j - 1)) 0 ≡ lastIn edit (stackOf work) (length (H .below)) c k) × (getD work (4160 + (j - 1)) 0 < j)
 hit-older {edit} {work} {σ} {c} {k} {j} w e n H =
     let q = older-at c k (length σ) w e (omega (arith, n)) (omega (arith, n, w .high)) in

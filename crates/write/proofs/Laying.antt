@@ -1,13 +1,15 @@
 -- Bytes laid one part behind the other.
 use mathlib.Core.Path.{_≡_, refl, sym, ap, _∙_}
-use mathlib.Core.List.{List, [], _∷_, _++_}
-use Prim.Native.Nat.{ℕ, suc, _+_, _≤_, _<_}
+use mathlib.Core.List.{List, [], _∷_, _++_, append-assoc}
+use Prim.Native.Nat.{ℕ, suc, min, _+_, _-_, _≤_, _<_}
 use native.Mathlib.Omega.{arith}
 use native.Mathlib.Nat.{add-zero}
 use native.Mathlib.Numerals.{add-one}
 use lib.ListN.{length, getD, set, take, drop, length-set, length-append, length-take, length-drop}
-use lib.Seq.{sets, sets-eq, take-suc, getD-drop}
+use lib.Seq.{sets, sets-eq, take-suc, take-at, drop-at, getD-drop, getD-set-other}
+use Rattle.write.specs.Work.{part}
 use Rattle.write.specs.Laid.{laid, Wrote}
+use Rattle.write.proofs.Parts.{part-behind}
 
 laid-append : (o : List ℕ) (p : ℕ) (xs ys : List ℕ) → laid o p (xs ++ ys) ≡ laid (laid o p xs) (p + length xs) ys
 unfolding laid
@@ -27,6 +29,12 @@ laid-sets : (o : List ℕ) (p : ℕ) (bs : List ℕ) → laid o p bs ≡ sets o 
 unfolding laid
 laid-sets o p [] = refl
 laid-sets o p (b ∷ bs) = laid-sets (set o p b) (suc p) bs
+
+-- below the place all is as it was
+laid-below : (o : List ℕ) (p : ℕ) (bs : List ℕ) (j : ℕ) → j < p → getD (laid o p bs) j 0 ≡ getD o j 0
+unfolding laid
+laid-below o p [] j h = refl
+laid-below o p (b ∷ bs) j h = laid-below (set o p b) (suc p) bs j (omega arith) ∙ getD-set-other o p j b 0 (λ e. omega (arith, e))
 
 -- where they fit, the bytes stand between what was before and behind them
 pub laid-fits : (o : List ℕ) (p : ℕ) (bs : List ℕ) → p + length bs ≤ length o → laid o p bs ≡ take p o ++ bs ++ drop (p + length bs) o
@@ -61,3 +69,52 @@ module _ (text : List ℕ) (at i : ℕ) (h : at + i < length text) (o : List ℕ
       let l : i < length (drop at text) = simp length-drop (omega arith) in
       let n : length (take i (drop at text)) ≡ i = omega (arith, length-take i (drop at text), length-drop at text) in
       sym (rw (add-one i, take-suc (drop at text) i 0, laid-append, n, getD-drop at text i 0))
+
+-- n bytes of a text written one by one: the first k are there, or all
+pub record Coded (text : List ℕ) (at n : ℕ) (o : List ℕ) (pos k : ℕ) (out : List ℕ) : Type 0 where
+  pub inside : at + n ≤ length text
+  pub is : out ≡ laid o pos (take (min k n) (drop at text))
+
+pub coded-first : (text : List ℕ) (at n : ℕ) (o : List ℕ) (pos : ℕ) → at + n ≤ length text → 0 < n → Coded text at n o pos 1 (set o pos (getD text at 0))
+unfolding laid
+coded-first text at n o pos h l =
+    let e = copied-more text at 0 (omega arith) o pos in
+    record { inside = h; is = simp add-zero at e ∙ ap (λ (x : ℕ). laid o pos (take x (drop at text))) (let a : 1 ≡ min 1 n = omega arith in a) }
+
+module _ {text o out : List ℕ} {at n pos k : ℕ} (w : Coded text at n o pos k out) where
+  coded-as : (x : ℕ) → min k n ≡ x → out ≡ laid o pos (take x (drop at text))
+  coded-as x e = w .is ∙ ap (λ (y : ℕ). laid o pos (take y (drop at text))) e
+
+  pub coded-more : k < n → Coded text at n o pos (k + 1) (set out (pos + k) (getD text (at + k) 0))
+  coded-more l =
+      record { inside = w .inside; is = ap (λ (y : List ℕ). set y (pos + k) (getD text (at + k) 0)) (coded-as k (omega arith)) ∙ copied-more text at k (omega (arith, w .inside)) o pos ∙ ap (λ (x : ℕ). laid o pos (take x (drop at text))) (let a : k + 1 ≡ min (k + 1) n = omega arith in a) }
+
+  pub coded-stay : n ≤ k → Coded text at n o pos (k + 1) out
+  coded-stay l = record { inside = w .inside; is = coded-as (min (k + 1) n) (omega arith) }
+
+  pub coded-end : n ≤ k → Wrote o pos (take n (drop at text)) (pos + n) out
+  coded-end l = record { counted = omega (arith, w .inside, length-take n (drop at text), length-drop at text); stored = coded-as n (omega arith) }
+
+  pub coded-long : length out ≡ length o
+  coded-long = ap length (w .is) ∙ length-laid o pos (take (min k n) (drop at text))
+
+-- one byte more of the output itself, from below the place: writing leaves what stands there
+module _ (o : List ℕ) (from i pos : ℕ) (h : from + i < pos) (r : pos ≤ length o) where
+  pub again-more : set (laid o pos (take i (drop from o))) (pos + i) (getD (laid o pos (take i (drop from o))) (from + i) 0) ≡ laid o pos (take (i + 1) (drop from o))
+  again-more = ap (set (laid o pos (take i (drop from o))) (pos + i)) (laid-below o pos (take i (drop from o)) (from + i) h) ∙ copied-more o from i (omega arith) o pos
+
+-- a byte, and then bytes of the output from below it
+pub wrote-again : (o : List ℕ) (from n p b : ℕ) {o₂ : List ℕ} {p₂ : ℕ} → from + n ≤ p → Wrote (set o p b) (p + 1) (take n (drop from (set o p b))) p₂ o₂ → Wrote o p (b ∷ take n (drop from o)) p₂ o₂
+unfolding part
+wrote-again o from n p b h u = wrote-more (wrote-one o p b) (wrote-as (part-behind from n o p b h) u)
+
+-- bytes written stand there still when more is written behind them
+module _ {o o₁ o₂ ys zs : List ℕ} {pos p p₂ : ℕ} (xs : List ℕ) (u : Wrote o pos (xs ++ ys) p o₁) (v : Wrote o₁ p zs p₂ o₂) (h : p₂ ≤ length o) where
+  pub wrote-stands : take (p - (pos + length xs)) (drop (pos + length xs) o₂) ≡ ys
+  wrote-stands =
+      let w = wrote-more u v in
+      let rest : List ℕ = drop (pos + length ((xs ++ ys) ++ zs)) o in
+      let e : o₂ ≡ (take pos o ++ xs) ++ (ys ++ (zs ++ rest)) = w .stored ∙ laid-fits o pos ((xs ++ ys) ++ zs) (omega (arith, w .counted)) ∙ simp append-assoc in
+      let n : length (take pos o ++ xs) ≡ pos + length xs = omega (arith, length-append (take pos o) xs, length-take pos o, w .counted) in
+      let m : length ys ≡ p - (pos + length xs) = omega (arith, u .counted, length-append xs ys) in
+      ap (λ (l : List ℕ). take (p - (pos + length xs)) (drop (pos + length xs) l)) e ∙ ap (take (p - (pos + length xs))) (drop-at (take pos o ++ xs) (ys ++ (zs ++ rest)) (pos + length xs) n) ∙ take-at ys (zs ++ rest) (p - (pos + length xs)) m

@@ -1,5 +1,5 @@
 -- A rule from the start of an edit; the rules of a book one behind the other.
-use mathlib.Core.Path.{_≡_, refl, sym, ap, _∙_}
+use mathlib.Core.Path.{_≡_, refl, sym, ap, _∙_, subst}
 use mathlib.Core.List.{List, [], _∷_, _++_, append-assoc, append-nil}
 use Prim.Native.Nat.{ℕ, _+_, _≤_, _<_}
 use native.Mathlib.Omega.{arith}
@@ -7,22 +7,26 @@ use lib.ListN.{length, drop, length-append, length-drop}
 use Rattle.logic.specs.Syntax.{rule, Expr, Edit}
 use Rattle.logic.specs.Carry.{carry, carriedBook}
 use Rattle.logic.specs.Limits.{Ranges}
-use Rattle.text.specs.Code.{code, bookCode}
+use Rattle.text.specs.Code.{code, editCode, bookCode}
 use Rattle.text.specs.Stands.{RulesInRange}
 use Rattle.tree.specs.Tree.{Tree, tree, size}
 use Rattle.tree.specs.Stack.{written}
 use Rattle.tree.proofs.Written.{written-code}
 use Rattle.ends.specs.Shapes.{At, Some}
-use Rattle.ends.specs.Edits.{EditAt}
+use Rattle.ends.specs.Edits.{EditAt, SomeEdit}
 use Rattle.ends.specs.Books.{RuleAt, BookIs}
 use Rattle.text.proofs.Standing.{behind}
 use Rattle.ends.proofs.Rules.{rule-at, rule-fits}
 use Rattle.ends.proofs.Behind.{size-code}
 use Rattle.write.specs.Laid.{Wrote}
 use Rattle.write.specs.Offsets.{StackIs}
-use Rattle.write.specs.Ways.{followed, BehindIs, Way, SomeCarried, WayWritten}
-use Rattle.write.specs.Rules.{SomeRuleFits, RuleWritten, SomeBookFits, BookWritten}
+use Rattle.write.specs.Work.{stackOf, behindOf}
+use Rattle.write.specs.Links.{Relinked}
+use Rattle.write.specs.Ways.{followed, BehindIs, Way, SomeWay, SameWay, Walked, SomeCarried}
+use Rattle.write.specs.Rules.{SomeRuleFits, Started, SomeRuleLeft, RuleWritten, SomeBookFits, BookWritten}
 use Rattle.write.proofs.Laying.{laid-fits, wrote-none, wrote-more, wrote-as}
+use Rattle.write.proofs.Walking.{steps-kept}
+use Rattle.write.proofs.Storing.{Again}
 
 start : (edit stack behind : List ℕ) (from : ℕ) (Z : Edit) → EditAt edit from Z → Way edit stack behind from 0 0 [] Z []
 unfolding StackIs BehindIs
@@ -32,23 +36,65 @@ start-written : (Z : Edit) (K : Expr rule) → written [] (followed Z []) K ≡ 
 unfolding followed
 start-written Z K = written-code Z K
 
-pub rule-some : {text edit : List ℕ} {at from pos room : ℕ} → SomeRuleFits text at edit from pos room → Some text at
-rule-some {text} {edit} {at} w = record { what = tree (w .K); stands = rule-at text at (w .K) (w .K-at) }
+-- from an edit's start
+pub start-way : {edit : List ℕ} {from : ℕ} (stack behind : List ℕ) → SomeEdit edit from → SomeWay edit stack behind from 0 0
+start-way {edit} {from} stack behind w = record { steps = []; what = w .what; later = []; way = start edit stack behind from (w .what) (w .stands); low = omega arith; low-behind = omega arith }
 
-pub start-some : {text edit : List ℕ} {at from pos room : ℕ} (stack behind : List ℕ) → SomeRuleFits text at edit from pos room → SomeCarried text at edit stack behind from 0 0 pos room
-start-some {text} {edit} {at} {from} stack behind w = record {
-  way = record { steps = []; what = w .Z; later = []; way = start edit stack behind from (w .Z) (w .Z-at); low = omega arith; low-behind = omega arith };
-  K = w .K;
-  K-at = w .K-at;
-  fits = omega (arith, w .fits, ap length (start-written (w .Z) (w .K)));
+pub start-rests : {edit work₁ work : List ℕ} {from at h d : ℕ} → Walked edit (stackOf work₁) (behindOf work₁) from 0 0 (stackOf work) at h d → Relinked edit work₁ work 0 h → Started edit from work at h d
+start-rests {edit} {work₁} {work} {from} {at} {h} {d} w r = record {
+  each = λ Z z. subst (λ (b : List ℕ). SameWay edit (stackOf work) b at h d [] Z []) (sym (r .behind-same)) (w .each [] Z [] (start edit (stackOf work₁) (behindOf work₁) from Z z));
+  low = w .low;
+  low-behind = w .low-behind;
+  linked = r .linked;
 }
 
-pub rule-written : {text edit stack behind stack′ behind′ o o′ : List ℕ} {at from pos pos′ next : ℕ} → ((t : Tree) → At text at t → next ≡ at + size t) → WayWritten text at edit stack behind from 0 0 o pos pos′ stack′ behind′ o′
-    → (K : Expr rule) (Z : Edit) → RuleAt text at K → EditAt edit from Z → RuleWritten Z K at o pos next pos′ o′
-rule-written {text} {edit} {stack} {behind} {stack′} {behind′} {o} {o′} {at} {from} f c K Z r h = record {
-  read = f (tree K) (rule-at text at K r) ∙ ap (λ (n : ℕ). at + n) (size-code K);
-  wrote = wrote-as (start-written Z K) (c .wrote [] Z [] (start edit stack behind from Z h) K r);
-}
+pub rule-some : {text edit work : List ℕ} {place at h d pos room : ℕ} → SomeRuleLeft text place edit work at h d pos room → Some text place
+rule-some {text} {edit} {work} {place} w = let f = w .fits in record { what = tree (f .K); stands = rule-at text place (f .K) (f .K-at) }
+
+pub rest-some : {text edit work : List ℕ} {place at h d pos room : ℕ} → SomeRuleLeft text place edit work at h d pos room → SomeCarried text place edit (stackOf work) (behindOf work) at h d pos room
+rest-some w =
+    let f = w .fits in
+    let s = w .started .each (f .Z) (f .Z-at) in
+    record {
+      way = record { steps = s .steps; what = s .what; later = s .later; way = s .way; low = w .started .low; low-behind = w .started .low-behind };
+      K = f .K;
+      K-at = f .K-at;
+      fits = omega (arith, f .fits, ap length (sym (start-written (f .Z) (f .K)) ∙ s .same (f .K)));
+    }
+
+-- what is written from there, and that the next rule can be written from there, too
+module _ {text edit work work′ o o′ : List ℕ} {place at h d pos pos′ from : ℕ} (s : Started edit from work at h d)
+    (a : Again text place edit work at h d o pos pos′ work′ o′) where
+  pub rule-written : {next : ℕ} → ((t : Tree) → At text place t → next ≡ place + size t) → (K : Expr rule) (Z : Edit) → RuleAt text place K → EditAt edit from Z → RuleWritten Z K place o pos next pos′ o′
+  rule-written f K Z r z =
+      let m = s .each Z z in
+      record {
+        read = f (tree K) (rule-at text place K r) ∙ ap (λ (n : ℕ). place + n) (size-code K);
+        wrote = wrote-as (sym (m .same K) ∙ start-written Z K) (a .written .wrote (m .steps) (m .what) (m .later) (m .way) K r);
+      }
+
+  pub still-started : Started edit from work′ at h d
+  still-started = record {
+    each = λ Z z.
+        let m = s .each Z z in
+        let y = m .way in
+        record {
+          steps = m .steps;
+          what = m .what;
+          later = m .later;
+          same = m .same;
+          way = record {
+            steps-passed = y .steps-passed;
+            steps = steps-kept edit (m .steps) (omega (arith, y .steps-passed)) (a .written .kept) (y .steps);
+            here = y .here;
+            around = y .around;
+            rest = subst (λ (b : List ℕ). BehindIs edit b (at + length (editCode (m .what))) (m .later)) (sym (a .written .again)) (y .rest);
+          };
+        };
+    low = s .low;
+    low-behind = s .low-behind;
+    linked = a .linked;
+  }
 
 -- The rules not yet written.
 pub record Left (book : List ℕ) (rules : List (Expr rule)) (Z : Edit) (o : List ℕ) (at pos : ℕ) (out : List ℕ) : Type 0 where

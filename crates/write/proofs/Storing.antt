@@ -66,21 +66,19 @@ branch {text} {edit} {work} {work₁} {from} {at} {h} {d} {pos} {room} {at′} {
 pub record Again (text : List ℕ) (from : ℕ) (edit work : List ℕ) (at h d : ℕ) (o : List ℕ) (pos pos′ : ℕ) (work′ o′ : List ℕ) : Type 0 where
   pub written : WayWritten text from edit (stackOf work) (behindOf work) at h d o pos pos′ (stackOf work′) (behindOf work′) o′
   pub linked : LinkedIn edit work′ h
-  pub links : SomeLinks edit work′ h
   pub fits : Fitting edit work′
   pub kept : Kept h (linksOf work) (linksOf work′)
 
-pub again : (work₁ : List ℕ) {text edit work o o′ last last′ : List ℕ} {from at h d pos pos′ : ℕ} → LinkedIn edit work h → SomeLinks edit work h → Fitting edit work → length work₁ ≡ length work
+pub again : (work₁ : List ℕ) {text edit work o o′ last last′ : List ℕ} {from at h d pos pos′ : ℕ} → LinkedIn edit work h → Fitting edit work → length work₁ ≡ length work
     → WayWritten text from edit (stackOf work) (behindOf work) at h d o pos pos′ (stackOf work₁) (behindOf work₁) o′ → Kept h (linksOf work) (linksOf work₁) → Kept 64 (take 64 work) last → Kept 64 last last′
     → length last′ ≡ length (take 64 work₁) → Again text from edit work at h d o pos pos′ (last′ ++ drop 64 work₁) o′
-again work₁ {text} {edit} {work} {o} {o′} {last} {last′} {from} {at} {h} {d} w s f l c t a b e =
+again work₁ {text} {edit} {work} {o} {o′} {last} {last′} {from} {at} {h} {d} w f l c t a b e =
     let r = last-replaced work₁ last′ (e ∙ length-take-le 64 work₁ (omega (arith, l, f .long))) in
     let k : LinkedIn edit (last′ ++ drop 64 work₁) h = linked-kept (kept-on (r .stack-same) (c .kept)) (kept-on (r .links-same) t) (kept-on (r .last-is) (kept-of (last-first work) (kept-more (omega arith) a b))) w in
     let n = length-front work₁ last′ 64 e ∙ l ∙ f .long in
     record {
       written = written-on (r .stack-same) (r .behind-same) c;
       linked = k;
-      links = some-links k (omega (arith, s .high, s .room)) n;
       fits = record { short = f .short; long = n };
       kept = kept-on (r .links-same) t;
     }

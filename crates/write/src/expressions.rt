@@ -7,9 +7,9 @@ use crate::names;
 use crate::names::Name;
 ghost use mathlib.Core.Path.{_≡_};
 ghost use mathlib.Core.List.{List, []};
-ghost use Prim.Native.Nat.{_+_, _≤_};
+ghost use Prim.Native.Nat.{_+_, _<_, _≤_};
 ghost use lib.ListN.{length};
-ghost use Rattle.tree.specs.Tree.{Tree, treeCode, graft};
+ghost use Rattle.tree.specs.Tree.{Tree, treeCode, graft, size};
 ghost use Rattle.tree.specs.Stack.{Step, env, lead, inner};
 ghost use Rattle.ends.specs.Shapes.{At};
 ghost use Rattle.write.specs.Laid.{Wrote};
@@ -44,31 +44,33 @@ fn put_not(op: u8, out: &mut [u8], pos: usize) -> usize
     pos
 }
 
-// Writes a name under steps of which the one below index j is the last that touches it; j is 0 where none does.
+// Writes a name under steps of which the one below index j is the last that touches it.
 // Inner: the work array holds offsets of steps, with their links, and there is room; the room left falls with each call.
 fn name(edit: &[u8], work: &[u16], j: usize, of: Name, out: &mut [u8], pos: usize) -> usize
-    requires { ⌜ SomeName (now edit) (stackOf (now work)) j (of .code) (of .number) pos (length (now out)) × SomeLinks (now edit) (now work) j ⌝ }
+    requires { ⌜ (0 < j) × SomeName (now edit) (stackOf (now work)) j (of .code) (of .number) pos (length (now out)) × SomeLinks (now edit) (now work) j ⌝ }
     ensures { λ r. ⌜ ((σ : List Step) → j ≡ lastIn (now (edit .entry)) (stackOf (now (work .entry))) (length σ) (of .code) (of .number) → StackIs (now (edit .entry)) (stackOf (now (work .entry))) σ → Wrote (now (out .entry)) pos (treeCode (env σ (of .code) (of .number))) r (now (out .exit))) ⌝ }
 {
-    if j == 0 {
-        return bytes::put_two(of.code, of.number, out, pos);
-    }
     let below = j - 1;
     let o = work[STACK + below] as usize;
     let op = edit[o];
     out[pos] = lead(op);
     let older = work[LINKS + below] as usize;
-    let p = name(edit, work, older, of, out, pos + 1);
+    let mut p = pos + 1;
+    if older == 0 {
+        p = bytes::put_two(of.code, of.number, out, p);
+    } else {
+        p = name(edit, work, older, of, out, p);
+    }
     let q = put_not(op, out, p);
-    emit(edit, edit, work, below, out, Place { at: o + 2, pos: q })
+    emit(edit, edit, work, below, out, Place { at: o + 2, pos: q }).pos
 }
 
-// Writes an expression of a text under h steps, code by code: a name as it is under them, any other code with its numbers as it stands.
+// Writes an expression of a text under h steps, code by code: a name as it is under them, any other code with its numbers as it stands. Answers the places behind what was read and behind what was written.
 // Each code takes one from the expressions that are wanted, and adds its operands.
 // Inner: it stands there, the work array holds offsets of steps, and there is room.
-pub fn emit(text: &[u8], edit: &[u8], work: &[u16], h: usize, out: &mut [u8], place: Place) -> usize
+pub fn emit(text: &[u8], edit: &[u8], work: &[u16], h: usize, out: &mut [u8], place: Place) -> Place
     requires { ⌜ SomeShown (now text) (place .at) (now edit) (stackOf (now work)) h (place .pos) (length (now out)) × SomeLinks (now edit) (now work) h ⌝ }
-    ensures { λ r. ⌜ ((σ : List Step) (t : Tree) → h ≡ length σ → StackIs (now (edit .entry)) (stackOf (now (work .entry))) σ → At (now (text .entry)) (place .at) t → Wrote (now (out .entry)) (place .pos) (treeCode (graft (env σ) t)) r (now (out .exit))) ⌝ }
+    ensures { λ r. ⌜ ((σ : List Step) (t : Tree) → h ≡ length σ → StackIs (now (edit .entry)) (stackOf (now (work .entry))) σ → At (now (text .entry)) (place .at) t → Wrote (now (out .entry)) (place .pos) (treeCode (graft (env σ) t)) (r .pos) (now (out .exit)) × (r .at ≡ place .at + size t)) ⌝ }
 {
     let mut p = place.at;
     let mut q = place.pos;
@@ -80,14 +82,18 @@ pub fn emit(text: &[u8], edit: &[u8], work: &[u16], h: usize, out: &mut [u8], pl
             let number = text[p + 1];
             let of = Name { code: c, number };
             let j = names::find(edit, work, h, of);
-            q = name(edit, work, j, of, out, q);
+            if j == 0 {
+                q = bytes::put_two(c, number, out, q);
+            } else {
+                q = name(edit, work, j, of, out, q);
+            }
             p += 2;
             wanted -= 1;
         } else {
-            q = bytes::copy(text, p, s % 4, out, q);
+            q = bytes::copy_code(text, p, s % 4, out, q);
             p += s % 4;
             wanted = wanted - 1 + s / 4 % 4;
         }
     }
-    q
+    Place { at: p, pos: q }
 }

@@ -1,18 +1,17 @@
 // A rule carried back through an edit, written byte for byte, each byte once.
 ghost use mathlib.Core.List.{List};
+ghost use Prim.Native.Nat.{ℕ};
 ghost use lib.ListN.{length};
 ghost use Rattle.logic.specs.Syntax.{rule, Expr, Edit};
-ghost use Rattle.ends.specs.Edits.{EditAt};
+ghost use Rattle.ends.specs.Edits.{EditAt, SomeEdit};
 ghost use Rattle.ends.specs.Books.{RuleAt, BookIs};
-ghost use Rattle.write.specs.Rules.{SomeRuleFits, RuleWritten, SomeBookFits, BookWritten};
+ghost use Rattle.write.specs.Rules.{Started, SomeRuleLeft, RuleWritten, SomeBookFits, BookWritten};
 ghost use Rattle.write.specs.Links.{Fitting};
 
 pub mod bytes;
 mod expressions;
 mod names;
 mod ways;
-
-use ways::Reached;
 
 // The work array, in parts: for each of the 64 names its last step, the offsets of the steps passed, the link of each, the offsets of the edits behind.
 const STACK: usize = 64;
@@ -29,24 +28,22 @@ pub struct Place {
     pub pos: usize,
 }
 
-// Writes the rule at a place of a text as carried back through the edit that stands at `from`.
-// Inner: both were read before, and there is room. What `work` holds before and after is free.
-pub fn write_rule(
-    text: &[u8],
-    edit: &[u8],
-    from: usize,
-    work: &mut [u16],
-    out: &mut [u8],
-    place: Place,
-) -> Place
-    requires { ⌜ SomeRuleFits (now text) (place .at) (now edit) from (place .pos) (length (now out)) × Fitting (now edit) (now work) ⌝ }
-    ensures { λ r. ⌜ ((K : Expr rule) (Z : Edit) → RuleAt (now (text .entry)) (place .at) K → EditAt (now (edit .entry)) from Z → RuleWritten Z K (place .at) (now (out .entry)) (place .pos) (r .at) (r .pos) (now (out .exit))) ⌝ }
+// How far a walk has come: the place in the edit, the number of steps passed, the number of edits behind.
+pub struct Reached {
+    pub at: usize,
+    pub h: usize,
+    pub d: usize,
+}
+
+// Walks through the edit that stands at `from` as far as all rules go alike, for the rules to be written from there on.
+// Inner: it was read before. What `work` holds before is free; until the last rule is written, only these functions write it.
+pub fn start(edit: &[u8], from: usize, work: &mut [u16]) -> Reached
+    requires { ⌜ SomeEdit (now edit) from × Fitting (now edit) (now work) ⌝ }
+    ensures { λ r. ⌜ Started (now (edit .entry)) from (now (work .exit)) (r .at) (r .h) (r .d) ⌝ }
 {
-    let next = ends::past(text, place.at);
     let none = [0u16; 64];
     names::copy_last(&none, &mut work[..64]);
-    let end = ways::write_way(
-        text,
+    ways::walk(
         edit,
         work,
         Reached {
@@ -54,21 +51,42 @@ pub fn write_rule(
             h: 0,
             d: 0,
         },
-        out,
-        place,
-    );
+    )
+}
+
+// Writes the rule at a place of a text as carried back through an edit, from where the first walk through it rests.
+// Inner: rule and edit were read before, and there is room. The work array is after as it was left by that walk.
+pub fn write_rule(
+    text: &[u8],
+    edit: &[u8],
+    rest: Reached,
+    work: &mut [u16],
+    out: &mut [u8],
+    place: Place,
+) -> Place
+    requires { ⌜ SomeRuleLeft (now text) (place .at) (now edit) (now work) (rest .at) (rest .h) (rest .d) (place .pos) (length (now out)) × Fitting (now edit) (now work) ⌝ }
+    ensures { λ r. ⌜ ((from : ℕ) → Started (now (edit .entry)) from (now (work .entry)) (rest .at) (rest .h) (rest .d)
+        → ((K : Expr rule) (Z : Edit) → RuleAt (now (text .entry)) (place .at) K → EditAt (now (edit .entry)) from Z → RuleWritten Z K (place .at) (now (out .entry)) (place .pos) (r .at) (r .pos) (now (out .exit)))
+        × Started (now (edit .entry)) from (now (work .exit)) (rest .at) (rest .h) (rest .d)) ⌝ }
+{
+    let next = ends::past(text, place.at);
+    let mut last = [0u16; 64];
+    names::copy_last(&work[..64], &mut last);
+    let end = ways::write_way(text, edit, work, rest, out, place);
+    names::copy_last(&last, &mut work[..64]);
     Place { at: next, pos: end }
 }
 
 // Writes a book carried back through the edit that stands at `from`, rule by rule, and answers its length.
-// Inner: as above.
+// Inner: both were read before, and there is room. What `work` holds before and after is free.
 pub fn write_book(book: &[u8], edit: &[u8], from: usize, work: &mut [u16], out: &mut [u8]) -> usize
     requires { ⌜ SomeBookFits (now book) (now edit) from (length (now out)) × Fitting (now edit) (now work) ⌝ }
     ensures { λ r. ⌜ ((rules : List (Expr rule)) (Z : Edit) → BookIs (now (book .entry)) rules → EditAt (now (edit .entry)) from Z → BookWritten Z rules (now (out .entry)) r (now (out .exit))) ⌝ }
 {
+    let rest = start(edit, from, work);
     let mut place = Place { at: 0, pos: 0 };
     while place.at < book.len() {
-        place = write_rule(book, edit, from, work, out, place);
+        place = write_rule(book, edit, rest, work, out, place);
     }
     place.pos
 }

@@ -1,6 +1,7 @@
 // A way through an edit, and a rule written along it. A 35 has two ways, and the rule is written along both.
 use crate::BEHIND;
 use crate::Place;
+use crate::Reached;
 use crate::STACK;
 use crate::bytes;
 use crate::expressions::emit;
@@ -8,8 +9,8 @@ use crate::names;
 ghost use mathlib.Core.Path.{_≡_};
 ghost use mathlib.Core.List.{List, _∷_};
 ghost use mathlib.Core.Bool.{false};
-ghost use Prim.Native.Nat.{_+_, _<_};
-ghost use lib.ListN.{length, getD};
+ghost use Prim.Native.Nat.{_+_, _<_, _≤_};
+ghost use lib.ListN.{length, getD, take, drop};
 ghost use Rattle.tree.specs.Tree.{Tree, treeCode, graft};
 ghost use Rattle.tree.specs.Stack.{Step, env};
 ghost use Rattle.logic.specs.Syntax.{Edit};
@@ -22,13 +23,6 @@ ghost use Rattle.write.specs.Offsets.{StackIs};
 ghost use Rattle.write.specs.Links.{SomeLinks, LinkedIn, Relinked, Fitting};
 ghost use Rattle.write.specs.Ways.{SomeWay, resting, Passed, Walked, Chosen, SomeCarried, WayWritten};
 ghost use Rattle.write.specs.Writing.{SomeShown};
-
-// How far a walk has come: the place in the edit, the number of steps passed, the number of edits behind.
-pub struct Reached {
-    pub at: usize,
-    pub h: usize,
-    pub d: usize,
-}
 
 // Does a walk rest here: at a 35, or at the end?
 // Inner: the place is in the edit.
@@ -76,7 +70,7 @@ fn pass(edit: &[u8], work: &mut [u16], from: Reached) -> Reached
 
 // Goes on until the walk rests.
 // Inner: there is a way.
-fn walk(edit: &[u8], work: &mut [u16], from: Reached) -> Reached
+pub fn walk(edit: &[u8], work: &mut [u16], from: Reached) -> Reached
     requires { ⌜ SomeWay (now edit) (stackOf (now work)) (behindOf (now work)) (from .at) (from .h) (from .d) × Fitting (now edit) (now work) × LinkedIn (now edit) (now work) (from .h) ⌝ }
     ensures { λ r. ⌜ Walked (now (edit .entry)) (stackOf (now (work .entry))) (behindOf (now (work .entry))) (from .at) (from .h) (from .d) (stackOf (now (work .exit))) (r .at) (r .h) (r .d) × Relinked (now (edit .entry)) (now (work .entry)) (now (work .exit)) (from .h) (r .h) ⌝ }
 {
@@ -118,18 +112,17 @@ fn open_first(edit: &[u8], work: &[u16], rest: Reached, out: &mut [u8], pos: usi
     let at = rest.at + 1;
     let p = bytes::put_two(0x25, 0x26, out, pos);
     out[p] = 0x27;
-    emit(edit, edit, work, rest.h, out, Place { at, pos: p + 1 })
+    emit(edit, edit, work, rest.h, out, Place { at, pos: p + 1 }).pos
 }
 
-// Writes 26 and the rule of the 35 where a walk rests.
-// Inner: as above.
-fn open_second(edit: &[u8], work: &[u16], rest: Reached, out: &mut [u8], pos: usize) -> usize
-    requires { ⌜ SomeShown (now edit) (rest .at + 1) (now edit) (stackOf (now work)) (rest .h) (pos + 1) (length (now out)) × SomeLinks (now edit) (now work) (rest .h) ⌝ }
-    ensures { λ r. ⌜ ((σ : List Step) (t : Tree) → rest .h ≡ length σ → StackIs (now (edit .entry)) (stackOf (now (work .entry))) σ → At (now (edit .entry)) (rest .at + 1) t → Wrote (now (out .entry)) pos (0x26 ∷ treeCode (graft (env σ) t)) r (now (out .exit))) ⌝ }
+// Writes 26, and n bytes of the output again: the rule of the 35, which stands there.
+// Inner: they stand before the place, and there is room.
+fn open_second(out: &mut [u8], from: usize, n: usize, pos: usize) -> usize
+    requires { ⌜ (from + n ≤ pos) × (pos + 1 + n ≤ length (now out)) ⌝ }
+    ensures { λ r. ⌜ Wrote (now (out .entry)) pos (0x26 ∷ take n (drop from (now (out .entry)))) r (now (out .exit)) ⌝ }
 {
-    let at = rest.at + 1;
     out[pos] = 0x26;
-    emit(edit, edit, work, rest.h, out, Place { at, pos: pos + 1 })
+    bytes::again(out, from, n, pos + 1)
 }
 
 // Writes the rule at a place of a text as carried back along a way of the edit.
@@ -148,7 +141,7 @@ pub fn write_way(
     let rest = walk(edit, work, from);
     let p = rest.at;
     if edit[p] == 0x30 {
-        return emit(text, edit, work, rest.h, out, place);
+        return emit(text, edit, work, rest.h, out, place).pos;
     }
     let ways = ways_at(edit, p);
     let top = BEHIND + rest.d;
@@ -163,7 +156,8 @@ pub fn write_way(
     way.at = ways.first;
     let b = write_way(text, edit, work, way, out, Place { at, pos: a });
     names::copy_last(&last, &mut work[..64]);
-    let c = open_second(edit, work, rest, out, b);
+    let test = place.pos + 3;
+    let c = open_second(out, test, a - test, b);
     way.at = ways.second;
     let end = write_way(text, edit, work, way, out, Place { at, pos: c });
     work[top] = saved;

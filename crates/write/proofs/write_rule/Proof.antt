@@ -1,27 +1,30 @@
 use native.Mathlib.Omega.{arith}
 use borrow.Author.Needs.{needs}
-use mathlib.Core.List.{_++_}
 use mathlib.Core.Path.{refl, _∙_}
 use denote.Ref.{now}
-use lib.ListN.{drop}
 use lib.Seq.{length-front, length-take-le}
-use Rattle.write.specs.Work.{stackOf, behindOf}
-use Rattle.write.proofs.Parts.{last-replaced}
-use Rattle.write.proofs.Finding.{linked-none}
-use Rattle.write.proofs.Storing.{kept-on}
-use Rattle.write.proofs.Rules.{rule-some, start-some, rule-written}
+use Rattle.write.proofs.Storing.{again}
+use Rattle.write.proofs.Rules.{rule-some, rest-some, rule-written, still-started}
 use Rattle.write.proofs.write_rule.Statement.{statement}
 use Rattle.write.proofs.write_rule.Tie as tie
 
 pub write-rule-spec : {M : Type 1} → statement M
 write-rule-spec = tie.close (tie.spec
     (λ c κs. rule-some (c .before .before .before .before .pre .0))
+    (λ c. omega (arith, c .before .before .before .before .before .pre .1 .long))
+    (λ c. omega (arith, length-take-le 64 (now (c .before .before .before .before .before .before .args .work)) (omega (arith, c .before .before .before .before .before .before .pre .1 .long))))
     (λ c. search needs)
+    (λ c κs. (length-take-le 64 (now (c .before .before .before .before .before .before .before .args .work)) (omega (arith, c .before .before .before .before .before .before .before .pre .1 .long)), refl))
+    (λ c κs. let p = c .before .before .before .before .before .before .before .before .before .before .before .pre in (rest-some (p .0), p .1, p .0 .started .linked))
     (λ c. search needs)
-    (λ c. omega (arith, length-take-le 64 (now (c .before .before .before .before .before .before .before .args .work)) (omega (arith, c .before .before .before .before .before .before .before .pre .1 .long))))
-    (λ c κs. (refl, length-take-le 64 (now (c .before .before .before .before .before .before .before .args .work)) (omega (arith, c .before .before .before .before .before .before .before .pre .1 .long))))
-    (λ c κs. let s = c .before .before .before .before .before .before .before .before .before .before .before .before in let p = s .pre in let work = now (s .args .work) in let e = c .before .before .before .before .copy-last .last .1 .0 in let l = c .before .before .before .before .copy-last .kept .1 .0 in (start-some (stackOf (e ++ drop 64 work)) (behindOf (e ++ drop 64 work)) (p .0), record { short = p .1 .short; long = length-front work e 64 l ∙ p .1 .long }, linked-none (now (s .args .edit)) (e ++ drop 64 work) (kept-on (last-replaced work e (l ∙ length-take-le 64 work (omega (arith, p .1 .long))) .last-is) (c .before .before .before .before .copy-last .ensures))))
-    (λ c. let s = c .before .before .before .before .before .before .before .before .before .before .before .before .before .before .before .before .before in c .before .before .before .before .write-way .kept .1 .1 .0 ∙ length-front (now (s .args .work)) (c .before .before .before .before .before .before .before .before .before .copy-last .last .1 .0) 64 (c .before .before .before .before .before .before .before .before .before .copy-last .kept .1 .0))
+    (λ c. omega (arith, c .before .before .before .before .before .before .before .before .before .before .before .before .before .before .before .before .before .pre .1 .long, c .before .before .before .before .before .write-way .kept .1 .1 .0))
+    (λ c. omega (arith, length-take-le 64 (c .before .before .before .before .before .before .write-way .last .1 .1 .0) (omega (arith, c .before .before .before .before .before .before .before .before .before .before .before .before .before .before .before .before .before .before .pre .1 .long, c .before .before .before .before .before .before .write-way .kept .1 .1 .0))))
+    (λ c κs. (c .before .before .before .before .before .before .before .before .before .before .copy-last .kept .1 .0, length-take-le 64 (c .before .before .before .before .before .before .write-way .last .1 .1 .0) (omega (arith, c .before .before .before .before .before .before .before .before .before .before .before .before .before .before .before .before .before .before .pre .1 .long, c .before .before .before .before .before .before .write-way .kept .1 .1 .0))))
+    (λ c. length-front (c .before .before .before .before .before .before .before .before .before .write-way .last .1 .1 .0) (c .before .before .copy-last2 .last .1 .0) 64 (c .before .before .copy-last2 .kept .1 .0) ∙ c .before .before .before .before .before .before .before .before .before .write-way .kept .1 .1 .0)
     (λ c. search needs)
-    (λ c. rule-written (c .before .before .before .before .before .before .before .before .before .before .before .before .past .ensures) (c .before .before .before .before .write-way .ensures .0))
+    (λ c. λ from s.
+    let p = c .before .before .before .before .before .before .before .before .before .before .before .before .before .before .before .before .before .before .before .before .before .pre in
+    let w = c .before .before .before .before .before .before .before .before .before .write-way in
+    let a = again (w .last .1 .1 .0) (s .linked) (p .1) (w .kept .1 .1 .0) (w .ensures .0) (w .ensures .1) (c .before .before .before .before .before .before .before .before .before .before .before .before .before .copy-last .ensures) (c .before .before .copy-last2 .ensures) (c .before .before .copy-last2 .kept .1 .0) in
+    (rule-written s a (c .before .before .before .before .before .before .before .before .before .before .before .before .before .before .before .before .past .ensures), still-started s a))
     )

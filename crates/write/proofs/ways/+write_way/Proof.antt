@@ -10,7 +10,7 @@ use Rattle.write.proofs.Finding.{some-links, kept-all}
 use Rattle.ends.proofs.Kept.{kept-more}
 use Rattle.write.proofs.Walking.{at-end, at-choice, way-low}
 use Rattle.write.proofs.Storing.{written-on, branch, again, stored-back}
-use Rattle.write.proofs.Carrying.{rested, place-inside, end-some, end-carried, first-shown, first-further, second-shown, second-further, choice-carried}
+use Rattle.write.proofs.Carrying.{rested, place-inside, end-some, end-carried, first-shown, first-further, first-long, second-room, second-opened, second-further, choice-carried}
 use borrow.Fn.Kinds.{In}
 use borrow.Fn.PlainCycle.{Measures, is, falls, and}
 use Rattle.write.proofs.ways.write_way.Reads as write-way
@@ -43,7 +43,7 @@ pub +write-way-spec : {M : Type 1} → statement M
     (λ c κs. let p = c .before .before .before .before .before .before .before .before .before .before .before .before .pre .1 in let k = c .before .before .before .before .before .before .walk in let v = rested (p .0) (k .ensures .0) in (end-some v (c .before .before .if1 .taken) (at-end _ _ (k .ensures .0 .rests) (c .before .before .if1 .taken)), some-links (k .ensures .1 .linked) (omega (arith, way-low (v .way) (p .1 .short) .0)) (k .kept .1 .0 ∙ p .1 .long)))
     (λ c. c .before .before .before .before .before .before .before .before .before .walk .kept .1 .0)
     (λ c. c .before .before .emit .kept .1 .1 .1 .1 .0)
-    (λ c. let k = c .before .before .before .before .before .before .before .before .before .walk in (written-on refl (k .ensures .1 .behind-same) (end-carried (k .ensures .0) (c .before .before .before .before .before .if1 .taken) (at-end _ _ (k .ensures .0 .rests) (c .before .before .before .before .before .if1 .taken)) (c .before .before .emit .ensures)), k .ensures .1 .kept))
+    (λ c. let k = c .before .before .before .before .before .before .before .before .before .walk in (written-on refl (k .ensures .1 .behind-same) (end-carried (k .ensures .0) (c .before .before .before .before .before .if1 .taken) (at-end _ _ (k .ensures .0 .rests) (c .before .before .before .before .before .if1 .taken)) (λ σ x e i a. c .before .before .emit .ensures σ x e i a .0)), k .ensures .1 .kept))
     (λ c κs. let k = c .before .before .before .before .walk in let v = rested (c .before .before .before .before .before .before .before .before .before .before .pre .1 .0) (k .ensures .0) in (record { what = v .way .what; stands = v .way .way .here }, at-choice _ _ (k .ensures .0 .rests) (c .if1 .left)))
     (λ c. omega (arith, way-low (rested (c .before .before .before .before .before .before .before .before .before .before .before .before .pre .1 .0) (c .before .before .before .before .before .before .walk .ensures .0) .way) (c .before .before .before .before .before .before .before .before .before .before .before .before .pre .1 .1 .short) .1))
     (λ c. omega (arith, way-low (rested (c .before .before .before .before .before .before .before .before .before .before .before .before .pre .1 .0) (c .before .before .before .before .before .before .walk .ensures .0) .way) (c .before .before .before .before .before .before .before .before .before .before .before .before .pre .1 .1 .short) .1))
@@ -62,11 +62,13 @@ pub +write-way-spec : {M : Type 1} → statement M
     (λ c. let s = c .before .before .before .before .before .before .before .before .before .before .before .before .before .before .before .before .before .before .before .before .before .before .before .before .before .before .before .before .before .before .before .before in let p = s .pre .1 in let k = c .before .before .before .before .before .before .before .before .before .before .before .before .before .before .before .before .before .before .before .before .before .before .before .before .before .before .walk in let C = c .before .before .before .before .before .before .before .before .before .before .before .before .before .before .before .before .before .before .before .before .before .ways-at .ensures in let b = branch (p .0) (p .1) (k .kept .1 .0) (k .ensures .0) (k .ensures .1) (c .before .before .before .before .before .before .before .before .before .before .before .before .before .before .before .before .before .before .before .before .before .ways-at .result .next) in omega (arith, b .fits .long, c .before .before .before .before .before .write-way .kept .1 .1 .0))
     (λ c. let s = c .before .before .before .before .before .before .before .before .before .before .before .before .before .before .before .before .before .before .before .before .before .before .before .before .before .before .before .before .before .before .before .before .before in let p = s .pre .1 in let k = c .before .before .before .before .before .before .before .before .before .before .before .before .before .before .before .before .before .before .before .before .before .before .before .before .before .before .before .walk in let C = c .before .before .before .before .before .before .before .before .before .before .before .before .before .before .before .before .before .before .before .before .before .before .ways-at .ensures in let b = branch (p .0) (p .1) (k .kept .1 .0) (k .ensures .0) (k .ensures .1) (c .before .before .before .before .before .before .before .before .before .before .before .before .before .before .before .before .before .before .before .before .before .before .ways-at .result .next) in omega (arith, length-take-le 64 (c .before .before .before .before .before .before .write-way .last .1 .1 .0) (omega (arith, b .fits .long, c .before .before .before .before .before .before .write-way .kept .1 .1 .0))))
     (λ c κs. let s = c .before .before .before .before .before .before .before .before .before .before .before .before .before .before .before .before .before .before .before .before .before .before .before .before .before .before .before .before .before .before .before .before .before in let p = s .pre .1 in let k = c .before .before .before .before .before .before .before .before .before .before .before .before .before .before .before .before .before .before .before .before .before .before .before .before .before .before .before .walk in let C = c .before .before .before .before .before .before .before .before .before .before .before .before .before .before .before .before .before .before .before .before .before .before .ways-at .ensures in let b = branch (p .0) (p .1) (k .kept .1 .0) (k .ensures .0) (k .ensures .1) (c .before .before .before .before .before .before .before .before .before .before .before .before .before .before .before .before .before .before .before .before .before .before .ways-at .result .next) in (c .before .before .before .before .before .before .before .before .before .before .before .before .before .before .before .before .copy-last .kept .1 .0, length-take-le 64 (c .before .before .before .before .before .before .write-way .last .1 .1 .0) (omega (arith, b .fits .long, c .before .before .before .before .before .before .write-way .kept .1 .1 .0))))
-    (λ c κs. let s = c .before .before .before .before .before .before .before .before .before .before .before .before .before .before .before .before .before .before .before .before .before .before .before .before .before .before .before .before .before .before .before .before .before .before .before .before .before .before in let p = s .pre .1 in let k = c .before .before .before .before .before .before .before .before .before .before .before .before .before .before .before .before .before .before .before .before .before .before .before .before .before .before .before .before .before .before .before .before .walk in let C = c .before .before .before .before .before .before .before .before .before .before .before .before .before .before .before .before .before .before .before .before .before .before .before .before .before .before .before .ways-at .ensures in let b = branch (p .0) (p .1) (k .kept .1 .0) (k .ensures .0) (k .ensures .1) (c .before .before .before .before .before .before .before .before .before .before .before .before .before .before .before .before .before .before .before .before .before .before .before .before .before .before .before .ways-at .result .next) in let a = again (c .before .before .before .before .before .before .before .before .before .before .before .write-way .last .1 .1 .0) (b .linked) (b .links) (b .fits) (c .before .before .before .before .before .before .before .before .before .before .before .write-way .kept .1 .1 .0) (c .before .before .before .before .before .before .before .before .before .before .before .write-way .ensures .0) (c .before .before .before .before .before .before .before .before .before .before .before .write-way .ensures .1) (c .before .before .before .before .before .before .before .before .before .before .before .before .before .before .before .before .before .before .before .before .before .copy-last .ensures) (c .before .before .before .before .copy-last2 .ensures) (c .before .before .before .before .copy-last2 .kept .1 .0) in (second-shown C (b .low) (b .some) (c .before .before .before .before .before .before .before .before .before .before .before .before .before .before .before .before .open-first .ensures) (b .behind) (a .written) (c .before .before .before .before .before .before .before .before .before .before .before .write-way .kept .1 .1 .1 .1 .0 ∙ c .before .before .before .before .before .before .before .before .before .before .before .before .before .before .before .before .open-first .kept .1 .1 .1 .0), a .links))
-    (λ c κs. let s = c .before .before .before .before .before .before .before .before .before .before .before .before .before .before .before .before .before .before .before .before .before .before .before .before .before .before .before .before .before .before .before .before .before .before .before .before .before .before .before .before .before .before .before in let p = s .pre .1 in let k = c .before .before .before .before .before .before .before .before .before .before .before .before .before .before .before .before .before .before .before .before .before .before .before .before .before .before .before .before .before .before .before .before .before .before .before .before .before .walk in let C = c .before .before .before .before .before .before .before .before .before .before .before .before .before .before .before .before .before .before .before .before .before .before .before .before .before .before .before .before .before .before .before .before .ways-at .ensures in let b = branch (p .0) (p .1) (k .kept .1 .0) (k .ensures .0) (k .ensures .1) (c .before .before .before .before .before .before .before .before .before .before .before .before .before .before .before .before .before .before .before .before .before .before .before .before .before .before .before .before .before .before .before .before .ways-at .result .next) in let a = again (c .before .before .before .before .before .before .before .before .before .before .before .before .before .before .before .before .write-way .last .1 .1 .0) (b .linked) (b .links) (b .fits) (c .before .before .before .before .before .before .before .before .before .before .before .before .before .before .before .before .write-way .kept .1 .1 .0) (c .before .before .before .before .before .before .before .before .before .before .before .before .before .before .before .before .write-way .ensures .0) (c .before .before .before .before .before .before .before .before .before .before .before .before .before .before .before .before .write-way .ensures .1) (c .before .before .before .before .before .before .before .before .before .before .before .before .before .before .before .before .before .before .before .before .before .before .before .before .before .before .copy-last .ensures) (c .before .before .before .before .before .before .before .before .before .copy-last2 .ensures) (c .before .before .before .before .before .before .before .before .before .copy-last2 .kept .1 .0) in let f = second-further C (b .low) (b .some) (c .before .before .before .before .before .before .before .before .before .before .before .before .before .before .before .before .before .before .before .before .before .open-first .ensures) (b .behind) (a .written) (c .before .before .before .before .open-second .ensures) (c .before .before .before .before .open-second .kept .1 .1 .1 .0 ∙ c .before .before .before .before .before .before .before .before .before .before .before .before .before .before .before .before .write-way .kept .1 .1 .1 .1 .0 ∙ c .before .before .before .before .before .before .before .before .before .before .before .before .before .before .before .before .before .before .before .before .before .open-first .kept .1 .1 .1 .0) in (omega (arith, s .pre .0, f .on, f .inside, c .before .before .before .before .open-second .kept .1 .1 .1 .0 ∙ c .before .before .before .before .before .before .before .before .before .before .before .before .before .before .before .before .write-way .kept .1 .1 .1 .1 .0 ∙ c .before .before .before .before .before .before .before .before .before .before .before .before .before .before .before .before .before .before .before .before .before .open-first .kept .1 .1 .1 .0), (f .some, a .fits, a .linked)))
+    (λ c. let s = c .before .before .before .before .before .before .before .before .before .before .before .before .before .before .before .before .before .before .before .before .before .before .before .before .before .before .before .before .before .before .before .before .before .before .before .before .before in let p = s .pre .1 in let k = c .before .before .before .before .before .before .before .before .before .before .before .before .before .before .before .before .before .before .before .before .before .before .before .before .before .before .before .before .before .before .before .walk in let C = c .before .before .before .before .before .before .before .before .before .before .before .before .before .before .before .before .before .before .before .before .before .before .before .before .before .before .ways-at .ensures in let b = branch (p .0) (p .1) (k .kept .1 .0) (k .ensures .0) (k .ensures .1) (c .before .before .before .before .before .before .before .before .before .before .before .before .before .before .before .before .before .before .before .before .before .before .before .before .before .before .ways-at .result .next) in omega (arith, first-long C (b .low) (b .some) (c .before .before .before .before .before .before .before .before .before .before .before .before .before .before .before .open-first .ensures) (b .behind)))
+    (λ c. let s = c .before .before .before .before .before .before .before .before .before .before .before .before .before .before .before .before .before .before .before .before .before .before .before .before .before .before .before .before .before .before .before .before .before .before .before .before .before .before in let p = s .pre .1 in let k = c .before .before .before .before .before .before .before .before .before .before .before .before .before .before .before .before .before .before .before .before .before .before .before .before .before .before .before .before .before .before .before .before .walk in let C = c .before .before .before .before .before .before .before .before .before .before .before .before .before .before .before .before .before .before .before .before .before .before .before .before .before .before .before .ways-at .ensures in let b = branch (p .0) (p .1) (k .kept .1 .0) (k .ensures .0) (k .ensures .1) (c .before .before .before .before .before .before .before .before .before .before .before .before .before .before .before .before .before .before .before .before .before .before .before .before .before .before .before .ways-at .result .next) in first-long C (b .low) (b .some) (c .before .before .before .before .before .before .before .before .before .before .before .before .before .before .before .before .open-first .ensures) (b .behind))
+    (λ c κs. let s = c .before .before .before .before .before .before .before .before .before .before .before .before .before .before .before .before .before .before .before .before .before .before .before .before .before .before .before .before .before .before .before .before .before .before .before .before .before .before in let p = s .pre .1 in let k = c .before .before .before .before .before .before .before .before .before .before .before .before .before .before .before .before .before .before .before .before .before .before .before .before .before .before .before .before .before .before .before .before .walk in let C = c .before .before .before .before .before .before .before .before .before .before .before .before .before .before .before .before .before .before .before .before .before .before .before .before .before .before .before .ways-at .ensures in let b = branch (p .0) (p .1) (k .kept .1 .0) (k .ensures .0) (k .ensures .1) (c .before .before .before .before .before .before .before .before .before .before .before .before .before .before .before .before .before .before .before .before .before .before .before .before .before .before .before .ways-at .result .next) in let a = again (c .before .before .before .before .before .before .before .before .before .before .before .write-way .last .1 .1 .0) (b .linked) (b .fits) (c .before .before .before .before .before .before .before .before .before .before .before .write-way .kept .1 .1 .0) (c .before .before .before .before .before .before .before .before .before .before .before .write-way .ensures .0) (c .before .before .before .before .before .before .before .before .before .before .before .write-way .ensures .1) (c .before .before .before .before .before .before .before .before .before .before .before .before .before .before .before .before .before .before .before .before .before .copy-last .ensures) (c .before .before .before .before .copy-last2 .ensures) (c .before .before .before .before .copy-last2 .kept .1 .0) in second-room C (b .low) (b .some) (c .before .before .before .before .before .before .before .before .before .before .before .before .before .before .before .before .open-first .ensures) (b .behind) (a .written) (c .before .before .before .before .before .before .before .before .before .before .before .write-way .kept .1 .1 .1 .1 .0 ∙ c .before .before .before .before .before .before .before .before .before .before .before .before .before .before .before .before .open-first .kept .1 .1 .1 .0))
+    (λ c κs. let s = c .before .before .before .before .before .before .before .before .before .before .before .before .before .before .before .before .before .before .before .before .before .before .before .before .before .before .before .before .before .before .before .before .before .before .before .before .before .before .before .before .before .before .before in let p = s .pre .1 in let k = c .before .before .before .before .before .before .before .before .before .before .before .before .before .before .before .before .before .before .before .before .before .before .before .before .before .before .before .before .before .before .before .before .before .before .before .before .before .walk in let C = c .before .before .before .before .before .before .before .before .before .before .before .before .before .before .before .before .before .before .before .before .before .before .before .before .before .before .before .before .before .before .before .before .ways-at .ensures in let b = branch (p .0) (p .1) (k .kept .1 .0) (k .ensures .0) (k .ensures .1) (c .before .before .before .before .before .before .before .before .before .before .before .before .before .before .before .before .before .before .before .before .before .before .before .before .before .before .before .before .before .before .before .before .ways-at .result .next) in let a = again (c .before .before .before .before .before .before .before .before .before .before .before .before .before .before .before .before .write-way .last .1 .1 .0) (b .linked) (b .fits) (c .before .before .before .before .before .before .before .before .before .before .before .before .before .before .before .before .write-way .kept .1 .1 .0) (c .before .before .before .before .before .before .before .before .before .before .before .before .before .before .before .before .write-way .ensures .0) (c .before .before .before .before .before .before .before .before .before .before .before .before .before .before .before .before .write-way .ensures .1) (c .before .before .before .before .before .before .before .before .before .before .before .before .before .before .before .before .before .before .before .before .before .before .before .before .before .before .copy-last .ensures) (c .before .before .before .before .before .before .before .before .before .copy-last2 .ensures) (c .before .before .before .before .before .before .before .before .before .copy-last2 .kept .1 .0) in let f = second-further C (b .low) (b .some) (c .before .before .before .before .before .before .before .before .before .before .before .before .before .before .before .before .before .before .before .before .before .open-first .ensures) (b .behind) (a .written) refl (c .before .before .before .before .open-second .ensures) (c .before .before .before .before .open-second .kept .0 ∙ c .before .before .before .before .before .before .before .before .before .before .before .before .before .before .before .before .write-way .kept .1 .1 .1 .1 .0 ∙ c .before .before .before .before .before .before .before .before .before .before .before .before .before .before .before .before .before .before .before .before .before .open-first .kept .1 .1 .1 .0) in (omega (arith, s .pre .0, f .on, f .inside, c .before .before .before .before .open-second .kept .0 ∙ c .before .before .before .before .before .before .before .before .before .before .before .before .before .before .before .before .write-way .kept .1 .1 .1 .1 .0 ∙ c .before .before .before .before .before .before .before .before .before .before .before .before .before .before .before .before .before .before .before .before .before .open-first .kept .1 .1 .1 .0), (f .some, a .fits, a .linked)))
     (λ c. omega (arith, way-low (rested (c .before .before .before .before .before .before .before .before .before .before .before .before .before .before .before .before .before .before .before .before .before .before .before .before .before .before .before .before .before .before .before .before .before .before .before .before .before .before .before .before .before .before .before .before .before .before .before .before .pre .1 .0) (c .before .before .before .before .before .before .before .before .before .before .before .before .before .before .before .before .before .before .before .before .before .before .before .before .before .before .before .before .before .before .before .before .before .before .before .before .before .before .before .before .before .before .walk .ensures .0) .way) (c .before .before .before .before .before .before .before .before .before .before .before .before .before .before .before .before .before .before .before .before .before .before .before .before .before .before .before .before .before .before .before .before .before .before .before .before .before .before .before .before .before .before .before .before .before .before .before .before .pre .1 .1 .short) .1))
-    (λ c. let s = c .before .before .before .before .before .before .before .before .before .before .before .before .before .before .before .before .before .before .before .before .before .before .before .before .before .before .before .before .before .before .before .before .before .before .before .before .before .before .before .before .before .before .before .before .before .before .before .before in let p = s .pre .1 in let k = c .before .before .before .before .before .before .before .before .before .before .before .before .before .before .before .before .before .before .before .before .before .before .before .before .before .before .before .before .before .before .before .before .before .before .before .before .before .before .before .before .before .before .walk in let C = c .before .before .before .before .before .before .before .before .before .before .before .before .before .before .before .before .before .before .before .before .before .before .before .before .before .before .before .before .before .before .before .before .before .before .before .before .before .ways-at .ensures in let b = branch (p .0) (p .1) (k .kept .1 .0) (k .ensures .0) (k .ensures .1) (c .before .before .before .before .before .before .before .before .before .before .before .before .before .before .before .before .before .before .before .before .before .before .before .before .before .before .before .before .before .before .before .before .before .before .before .before .before .ways-at .result .next) in let a = again (c .before .before .before .before .before .before .before .before .before .before .before .before .before .before .before .before .before .before .before .before .before .write-way .last .1 .1 .0) (b .linked) (b .links) (b .fits) (c .before .before .before .before .before .before .before .before .before .before .before .before .before .before .before .before .before .before .before .before .before .write-way .kept .1 .1 .0) (c .before .before .before .before .before .before .before .before .before .before .before .before .before .before .before .before .before .before .before .before .before .write-way .ensures .0) (c .before .before .before .before .before .before .before .before .before .before .before .before .before .before .before .before .before .before .before .before .before .write-way .ensures .1) (c .before .before .before .before .before .before .before .before .before .before .before .before .before .before .before .before .before .before .before .before .before .before .before .before .before .before .before .before .before .before .before .copy-last .ensures) (c .before .before .before .before .before .before .before .before .before .before .before .before .before .before .copy-last2 .ensures) (c .before .before .before .before .before .before .before .before .before .before .before .before .before .before .copy-last2 .kept .1 .0) in omega (arith, way-low (rested (c .before .before .before .before .before .before .before .before .before .before .before .before .before .before .before .before .before .before .before .before .before .before .before .before .before .before .before .before .before .before .before .before .before .before .before .before .before .before .before .before .before .before .before .before .before .before .before .before .pre .1 .0) (c .before .before .before .before .before .before .before .before .before .before .before .before .before .before .before .before .before .before .before .before .before .before .before .before .before .before .before .before .before .before .before .before .before .before .before .before .before .before .before .before .before .before .walk .ensures .0) .way) (p .1 .short) .1, a .fits .long, c .before .before .before .before .write-way2 .kept .1 .1 .0))
-    (λ c. let s = c .before .before .before .before .before .before .before .before .before .before .before .before .before .before .before .before .before .before .before .before .before .before .before .before .before .before .before .before .before .before .before .before .before .before .before .before .before .before .before .before .before .before .before .before .before .before .before .before in let p = s .pre .1 in let k = c .before .before .before .before .before .before .before .before .before .before .before .before .before .before .before .before .before .before .before .before .before .before .before .before .before .before .before .before .before .before .before .before .before .before .before .before .before .before .before .before .before .before .walk in let C = c .before .before .before .before .before .before .before .before .before .before .before .before .before .before .before .before .before .before .before .before .before .before .before .before .before .before .before .before .before .before .before .before .before .before .before .before .before .ways-at .ensures in let b = branch (p .0) (p .1) (k .kept .1 .0) (k .ensures .0) (k .ensures .1) (c .before .before .before .before .before .before .before .before .before .before .before .before .before .before .before .before .before .before .before .before .before .before .before .before .before .before .before .before .before .before .before .before .before .before .before .before .before .ways-at .result .next) in let a = again (c .before .before .before .before .before .before .before .before .before .before .before .before .before .before .before .before .before .before .before .before .before .write-way .last .1 .1 .0) (b .linked) (b .links) (b .fits) (c .before .before .before .before .before .before .before .before .before .before .before .before .before .before .before .before .before .before .before .before .before .write-way .kept .1 .1 .0) (c .before .before .before .before .before .before .before .before .before .before .before .before .before .before .before .before .before .before .before .before .before .write-way .ensures .0) (c .before .before .before .before .before .before .before .before .before .before .before .before .before .before .before .before .before .before .before .before .before .write-way .ensures .1) (c .before .before .before .before .before .before .before .before .before .before .before .before .before .before .before .before .before .before .before .before .before .before .before .before .before .before .before .before .before .before .before .copy-last .ensures) (c .before .before .before .before .before .before .before .before .before .before .before .before .before .before .copy-last2 .ensures) (c .before .before .before .before .before .before .before .before .before .before .before .before .before .before .copy-last2 .kept .1 .0) in length-set (c .before .before .before .before .write-way2 .last .1 .1 .0) (8256 + k .result .d) (getD (k .last .1 .0) (8256 + k .result .d) 0) ∙ c .before .before .before .before .write-way2 .kept .1 .1 .0 ∙ a .fits .long ∙ sym (p .1 .long))
-    (λ c. c .before .before .before .before .write-way2 .kept .1 .1 .1 .1 .0 ∙ c .before .before .before .before .before .before .before .before .before .open-second .kept .1 .1 .1 .0 ∙ c .before .before .before .before .before .before .before .before .before .before .before .before .before .before .before .before .before .before .before .before .before .write-way .kept .1 .1 .1 .1 .0 ∙ c .before .before .before .before .before .before .before .before .before .before .before .before .before .before .before .before .before .before .before .before .before .before .before .before .before .before .open-first .kept .1 .1 .1 .0)
-    (λ c. let s = c .before .before .before .before .before .before .before .before .before .before .before .before .before .before .before .before .before .before .before .before .before .before .before .before .before .before .before .before .before .before .before .before .before .before .before .before .before .before .before .before .before .before .before .before .before .before .before .before in let p = s .pre .1 in let k = c .before .before .before .before .before .before .before .before .before .before .before .before .before .before .before .before .before .before .before .before .before .before .before .before .before .before .before .before .before .before .before .before .before .before .before .before .before .before .before .before .before .before .walk in let C = c .before .before .before .before .before .before .before .before .before .before .before .before .before .before .before .before .before .before .before .before .before .before .before .before .before .before .before .before .before .before .before .before .before .before .before .before .before .ways-at .ensures in let b = branch (p .0) (p .1) (k .kept .1 .0) (k .ensures .0) (k .ensures .1) (c .before .before .before .before .before .before .before .before .before .before .before .before .before .before .before .before .before .before .before .before .before .before .before .before .before .before .before .before .before .before .before .before .before .before .before .before .before .ways-at .result .next) in let a = again (c .before .before .before .before .before .before .before .before .before .before .before .before .before .before .before .before .before .before .before .before .before .write-way .last .1 .1 .0) (b .linked) (b .links) (b .fits) (c .before .before .before .before .before .before .before .before .before .before .before .before .before .before .before .before .before .before .before .before .before .write-way .kept .1 .1 .0) (c .before .before .before .before .before .before .before .before .before .before .before .before .before .before .before .before .before .before .before .before .before .write-way .ensures .0) (c .before .before .before .before .before .before .before .before .before .before .before .before .before .before .before .before .before .before .before .before .before .write-way .ensures .1) (c .before .before .before .before .before .before .before .before .before .before .before .before .before .before .before .before .before .before .before .before .before .before .before .before .before .before .before .before .before .before .before .copy-last .ensures) (c .before .before .before .before .before .before .before .before .before .before .before .before .before .before .copy-last2 .ensures) (c .before .before .before .before .before .before .before .before .before .before .before .before .before .before .copy-last2 .kept .1 .0) in stored-back (now (s .args .work)) (k .last .1 .0) (c .before .before .before .before .write-way2 .last .1 .1 .0) (b .low) (p .1 .long) (k .ensures .1 .behind-same) (λ y e. choice-carried C (b .low) (b .walked) (c .before .before .before .before .before .before .before .before .before .before .before .before .before .before .before .before .before .before .before .before .before .before .before .before .before .before .open-first .ensures) (b .behind) (a .written) (c .before .before .before .before .before .before .before .before .before .open-second .ensures) (c .before .before .before .before .write-way2 .ensures .0) e) (kept-more (omega arith) (kept-more (b .walked .up) (b .kept) (a .kept)) (kept-more (b .walked .up) kept-all (c .before .before .before .before .write-way2 .ensures .1))))
+    (λ c. let s = c .before .before .before .before .before .before .before .before .before .before .before .before .before .before .before .before .before .before .before .before .before .before .before .before .before .before .before .before .before .before .before .before .before .before .before .before .before .before .before .before .before .before .before .before .before .before .before .before in let p = s .pre .1 in let k = c .before .before .before .before .before .before .before .before .before .before .before .before .before .before .before .before .before .before .before .before .before .before .before .before .before .before .before .before .before .before .before .before .before .before .before .before .before .before .before .before .before .before .walk in let C = c .before .before .before .before .before .before .before .before .before .before .before .before .before .before .before .before .before .before .before .before .before .before .before .before .before .before .before .before .before .before .before .before .before .before .before .before .before .ways-at .ensures in let b = branch (p .0) (p .1) (k .kept .1 .0) (k .ensures .0) (k .ensures .1) (c .before .before .before .before .before .before .before .before .before .before .before .before .before .before .before .before .before .before .before .before .before .before .before .before .before .before .before .before .before .before .before .before .before .before .before .before .before .ways-at .result .next) in let a = again (c .before .before .before .before .before .before .before .before .before .before .before .before .before .before .before .before .before .before .before .before .before .write-way .last .1 .1 .0) (b .linked) (b .fits) (c .before .before .before .before .before .before .before .before .before .before .before .before .before .before .before .before .before .before .before .before .before .write-way .kept .1 .1 .0) (c .before .before .before .before .before .before .before .before .before .before .before .before .before .before .before .before .before .before .before .before .before .write-way .ensures .0) (c .before .before .before .before .before .before .before .before .before .before .before .before .before .before .before .before .before .before .before .before .before .write-way .ensures .1) (c .before .before .before .before .before .before .before .before .before .before .before .before .before .before .before .before .before .before .before .before .before .before .before .before .before .before .before .before .before .before .before .copy-last .ensures) (c .before .before .before .before .before .before .before .before .before .before .before .before .before .before .copy-last2 .ensures) (c .before .before .before .before .before .before .before .before .before .before .before .before .before .before .copy-last2 .kept .1 .0) in omega (arith, way-low (rested (c .before .before .before .before .before .before .before .before .before .before .before .before .before .before .before .before .before .before .before .before .before .before .before .before .before .before .before .before .before .before .before .before .before .before .before .before .before .before .before .before .before .before .before .before .before .before .before .before .pre .1 .0) (c .before .before .before .before .before .before .before .before .before .before .before .before .before .before .before .before .before .before .before .before .before .before .before .before .before .before .before .before .before .before .before .before .before .before .before .before .before .before .before .before .before .before .walk .ensures .0) .way) (p .1 .short) .1, a .fits .long, c .before .before .before .before .write-way2 .kept .1 .1 .0))
+    (λ c. let s = c .before .before .before .before .before .before .before .before .before .before .before .before .before .before .before .before .before .before .before .before .before .before .before .before .before .before .before .before .before .before .before .before .before .before .before .before .before .before .before .before .before .before .before .before .before .before .before .before in let p = s .pre .1 in let k = c .before .before .before .before .before .before .before .before .before .before .before .before .before .before .before .before .before .before .before .before .before .before .before .before .before .before .before .before .before .before .before .before .before .before .before .before .before .before .before .before .before .before .walk in let C = c .before .before .before .before .before .before .before .before .before .before .before .before .before .before .before .before .before .before .before .before .before .before .before .before .before .before .before .before .before .before .before .before .before .before .before .before .before .ways-at .ensures in let b = branch (p .0) (p .1) (k .kept .1 .0) (k .ensures .0) (k .ensures .1) (c .before .before .before .before .before .before .before .before .before .before .before .before .before .before .before .before .before .before .before .before .before .before .before .before .before .before .before .before .before .before .before .before .before .before .before .before .before .ways-at .result .next) in let a = again (c .before .before .before .before .before .before .before .before .before .before .before .before .before .before .before .before .before .before .before .before .before .write-way .last .1 .1 .0) (b .linked) (b .fits) (c .before .before .before .before .before .before .before .before .before .before .before .before .before .before .before .before .before .before .before .before .before .write-way .kept .1 .1 .0) (c .before .before .before .before .before .before .before .before .before .before .before .before .before .before .before .before .before .before .before .before .before .write-way .ensures .0) (c .before .before .before .before .before .before .before .before .before .before .before .before .before .before .before .before .before .before .before .before .before .write-way .ensures .1) (c .before .before .before .before .before .before .before .before .before .before .before .before .before .before .before .before .before .before .before .before .before .before .before .before .before .before .before .before .before .before .before .copy-last .ensures) (c .before .before .before .before .before .before .before .before .before .before .before .before .before .before .copy-last2 .ensures) (c .before .before .before .before .before .before .before .before .before .before .before .before .before .before .copy-last2 .kept .1 .0) in length-set (c .before .before .before .before .write-way2 .last .1 .1 .0) (8256 + k .result .d) (getD (k .last .1 .0) (8256 + k .result .d) 0) ∙ c .before .before .before .before .write-way2 .kept .1 .1 .0 ∙ a .fits .long ∙ sym (p .1 .long))
+    (λ c. c .before .before .before .before .write-way2 .kept .1 .1 .1 .1 .0 ∙ c .before .before .before .before .before .before .before .before .before .open-second .kept .0 ∙ c .before .before .before .before .before .before .before .before .before .before .before .before .before .before .before .before .before .before .before .before .before .write-way .kept .1 .1 .1 .1 .0 ∙ c .before .before .before .before .before .before .before .before .before .before .before .before .before .before .before .before .before .before .before .before .before .before .before .before .before .before .open-first .kept .1 .1 .1 .0)
+    (λ c. let s = c .before .before .before .before .before .before .before .before .before .before .before .before .before .before .before .before .before .before .before .before .before .before .before .before .before .before .before .before .before .before .before .before .before .before .before .before .before .before .before .before .before .before .before .before .before .before .before .before in let p = s .pre .1 in let k = c .before .before .before .before .before .before .before .before .before .before .before .before .before .before .before .before .before .before .before .before .before .before .before .before .before .before .before .before .before .before .before .before .before .before .before .before .before .before .before .before .before .before .walk in let C = c .before .before .before .before .before .before .before .before .before .before .before .before .before .before .before .before .before .before .before .before .before .before .before .before .before .before .before .before .before .before .before .before .before .before .before .before .before .ways-at .ensures in let b = branch (p .0) (p .1) (k .kept .1 .0) (k .ensures .0) (k .ensures .1) (c .before .before .before .before .before .before .before .before .before .before .before .before .before .before .before .before .before .before .before .before .before .before .before .before .before .before .before .before .before .before .before .before .before .before .before .before .before .ways-at .result .next) in let a = again (c .before .before .before .before .before .before .before .before .before .before .before .before .before .before .before .before .before .before .before .before .before .write-way .last .1 .1 .0) (b .linked) (b .fits) (c .before .before .before .before .before .before .before .before .before .before .before .before .before .before .before .before .before .before .before .before .before .write-way .kept .1 .1 .0) (c .before .before .before .before .before .before .before .before .before .before .before .before .before .before .before .before .before .before .before .before .before .write-way .ensures .0) (c .before .before .before .before .before .before .before .before .before .before .before .before .before .before .before .before .before .before .before .before .before .write-way .ensures .1) (c .before .before .before .before .before .before .before .before .before .before .before .before .before .before .before .before .before .before .before .before .before .before .before .before .before .before .before .before .before .before .before .copy-last .ensures) (c .before .before .before .before .before .before .before .before .before .before .before .before .before .before .copy-last2 .ensures) (c .before .before .before .before .before .before .before .before .before .before .before .before .before .before .copy-last2 .kept .1 .0) in stored-back (now (s .args .work)) (k .last .1 .0) (c .before .before .before .before .write-way2 .last .1 .1 .0) (b .low) (p .1 .long) (k .ensures .1 .behind-same) (λ y e. choice-carried C (b .low) (b .walked) (c .before .before .before .before .before .before .before .before .before .before .before .before .before .before .before .before .before .before .before .before .before .before .before .before .before .before .open-first .ensures) (b .behind) (a .written) (second-opened C (b .low) (b .some) (c .before .before .before .before .before .before .before .before .before .before .before .before .before .before .before .before .before .before .before .before .before .before .before .before .before .before .open-first .ensures) (b .behind) (a .written) refl (c .before .before .before .before .before .before .before .before .before .open-second .ensures)) (c .before .before .before .before .write-way2 .ensures .0) e) (kept-more (omega arith) (kept-more (b .walked .up) (b .kept) (a .kept)) (kept-more (b .walked .up) kept-all (c .before .before .before .before .write-way2 .ensures .1))))
     )
