@@ -123,18 +123,18 @@ module _ (k : List ℕ) where
     row-mask : (j : ℕ) → j < wordCount → (b : Bool) → nodes j ≡ b → rowMask all j ≡ cond b all 0
     row-mask j l b e = ap (λ c. cond c all 0) (ap (λ (x : ℕ). member x j) is-all ∙ member-setOf 64 nodes j (omega arith) ∙ e)
 
-    pub rows-over : (r s t : ℕ) → Outside k 0 n all r → Bare k closed s → Outside k n wordCount 0 t → Over k (rowMask all) (bitOr (bitOr r s) t)
+    pub rows-over : (r s t : ℕ) → Outside k 0 wordCount all r → Bare k closed s → Outside k n wordCount 0 t → Over k (rowMask all) (bitOr (bitOr r s) t)
     rows-over r s t o p q =
         record {
-          none = λ z j l. let a = or-zero (bitOr r s) t z in let b = or-zero r s (a .0) in to j l (o .none (b .0) j (omega arith)) (p .none (b .1) j l) (λ d. q .none (a .1) j d l) (nodes j) refl (decLt j n);
+          none = λ z j l. let a = or-zero (bitOr r s) t z in let b = or-zero r s (a .0) in to j l (o .none (b .0) j (omega arith) l) (p .none (b .1) j l) (λ d. q .none (a .1) j d l) (nodes j) refl (decLt j n);
           some = λ h. zero-or (bitOr r s) t
-              (zero-or r s (o .some (λ j a b. from j (omega arith) (h j (omega arith)) (nodes j) refl)) (p .some (λ j l m. bare j l m (h j l) (nodes j) refl)))
+              (zero-or r s (o .some (λ j a b. from j b (h j b) (nodes j) refl)) (p .some (λ j l m. bare j l m (h j l) (nodes j) refl)))
               (q .some (λ j a b. ap (λ (m : ℕ). within k m j) (sym (row-mask j b false (below j a))) ∙ h j b));
         }
       where
-        to : (j : ℕ) → j < wordCount → (j < n → within k all j ≡ true) → (member closed j ≡ true → within k 0 j ≡ true) → (n ≤ j → within k 0 j ≡ true)
+        to : (j : ℕ) → j < wordCount → within k all j ≡ true → (member closed j ≡ true → within k 0 j ≡ true) → (n ≤ j → within k 0 j ≡ true)
             → (b : Bool) → nodes j ≡ b → Dec (j < n) → within k (rowMask all j) j ≡ true
-        to j l f g h true e (yes d) = ap (λ (m : ℕ). within k m j) (row-mask j l true e) ∙ f d
+        to j l f g h true e (yes d) = ap (λ (m : ℕ). within k m j) (row-mask j l true e) ∙ f
         to j l f g h false e (yes d) = ap (λ (m : ℕ). within k m j) (row-mask j l false e) ∙ g (is-closed j (omega arith) ∙ ap₂ (λ x y. x && not y) (lt-ltb j n d) e)
         to j l f g h b e (no d) = ap (λ (m : ℕ). within k m j) (row-mask j l false (below j (omega arith))) ∙ h (omega arith)
 

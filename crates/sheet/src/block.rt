@@ -117,11 +117,12 @@ fn bare(block: &[u8], set: u64) -> u64
 }
 
 // What lies outside the masks of an arrow's block, all together: rows have nodes in use only, and a closed node has none.
+// All rows are looked at by the same mask, those from n on too: a loop of fixed length takes half the time.
 fn rows_over(block: &[u8], n: usize, all: u64) -> u64
     requires { ⌜ (n ≤ maxNodes) × (length (now block) ≡ blockBytes) ⌝ }
     ensures { λ r. ⌜ ((nodes : Nodes) → ((i : ℕ) → n ≤ i → nodes i ≡ false) → all ≡ setOf 64 nodes → Over (now (block .entry)) (rowMask all) r) ⌝ }
 {
-    let rows = outside(block, 0, n, all);
+    let rows = outside(block, 0, WORDS, all);
     let closed = bare(block, words::minus(words::lowest(n), all));
     rows | closed | outside(block, n, WORDS, 0)
 }
