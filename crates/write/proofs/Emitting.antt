@@ -217,5 +217,18 @@ module _ {text edit stack o o′ : List ℕ} {at h p wanted pos q : ℕ} (I : Sh
       pub head-shown : {q′ : ℕ} {o″ : List ℕ} → Wrote o′ q (take (s % 4) (drop p text)) q′ o″ → length o″ ≡ length o′ → Showing text at edit stack h (p + s % 4) (wanted - 1 + s / 4 % 4) o pos q′ o″
       head-shown u m = record { each = λ σ t g i a. let v = I .each σ t g i a in let f = first (v .pending) l in let n = turn (v .pending) f s e in shown-more v (n .next) (head-text σ (v .parts) f n) u; passed = passing-more (I .passed) l s e; long = m ∙ I .long }
 
+-- A code without operands that is no name is written as it stands, whatever the steps.
+module _ (text edit stack : List ℕ) (at h pos s : ℕ) (e : s ≡ shapeOf (getD text at 0)) (l : s < 4) where
+  pub leaf-room : {room : ℕ} → SomeShown text at edit stack h pos room → (0 < s) × (s < 4) × (at + s ≤ length text) × (pos + s ≤ room)
+  leaf-room w =
+      let I = showing-first text at edit stack h [] pos in
+      let g = head-turn I (omega arith) s e (omega arith) w in
+      (omega (arith, g .on), l, omega (arith, g .in-text), omega (arith, head-room I (omega arith) s e (omega arith) w))
+
+  pub leaf-shown : {o o′ : List ℕ} {q : ℕ} → Wrote o pos (take s (drop at text)) q o′ → length o′ ≡ length o → (σ : List Step) (t : Tree) → h ≡ length σ → StackIs edit stack σ → At text at t → Wrote o pos (treeCode (graft (env σ) t)) q o′
+  leaf-shown {o} u m σ t f i a =
+      let n : s ≡ s % 4 = omega arith in
+      showing-end (head-shown (showing-first text at edit stack h o pos) (omega arith) s e (omega arith) (wrote-as (ap (λ (x : ℕ). take x (drop at text)) n) u) m) (omega arith) σ t f i a .0
+
 pub shown-moved : {text edit stack : List ℕ} {at h pos pos′ room room′ : ℕ} → SomeShown text at edit stack h pos room → pos′ ≡ pos → room′ ≡ room → SomeShown text at edit stack h pos′ room′
 shown-moved w p r = record { steps = w .steps; is = w .is; stands = w .stands; what = w .what; what-at = w .what-at; fits = omega (arith, w .fits, p, r) }

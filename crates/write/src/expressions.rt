@@ -44,7 +44,7 @@ fn put_not(op: u8, out: &mut [u8], pos: usize) -> usize
     pos
 }
 
-// Writes a name under steps of which the one below index j is the last that touches it.
+// Writes a name under steps of which the one below index j is the last that touches it. A step's expression of one code is written here: most are.
 // Inner: the work array holds offsets of steps, with their links, and there is room; the room left falls with each call.
 fn name(edit: &[u8], work: &[u16], j: usize, of: Name, out: &mut [u8], pos: usize) -> usize
     requires { ⌜ (0 < j) × SomeName (now edit) (stackOf (now work)) j (of .code) (of .number) pos (length (now out)) × SomeLinks (now edit) (now work) j ⌝ }
@@ -62,7 +62,12 @@ fn name(edit: &[u8], work: &[u16], j: usize, of: Name, out: &mut [u8], pos: usiz
         p = name(edit, work, older, of, out, p);
     }
     let q = put_not(op, out, p);
-    emit(edit, edit, work, below, out, Place { at: o + 2, pos: q }).pos
+    let at = o + 2;
+    let s = ends::shape(edit[at]);
+    if s < 4 {
+        return bytes::copy_code(edit, at, s, out, q);
+    }
+    emit(edit, edit, work, below, out, Place { at, pos: q }).pos
 }
 
 // Writes an expression of a text under h steps, code by code: a name as it is under them, any other code with its numbers as it stands. Answers the places behind what was read and behind what was written.

@@ -3,10 +3,12 @@ use lib.ListN.{length, getD, set, length-set}
 use denote.Ref.{now}
 use mathlib.Core.Path.{_∙_}
 use mathlib.Core.Logic.{⊎-elim}
+use mathlib.Core.List.{[]}
 use Prim.Native.Nat.{ℕ, _<_, _-_, _+_, _*_}
 use native.Mathlib.Omega.{arith}
 use borrow.Author.Needs.{needs}
 use Rattle.write.specs.Work.{stackOf}
+use Rattle.write.specs.Writing.{SomeShown}
 use Rattle.write.proofs.Finding.{found-as, hit-at, hit-older, links-lower}
 use Rattle.write.proofs.Emitting as parts
 use borrow.Fn.Kinds.{In}
@@ -55,12 +57,22 @@ abbrev emit-claims : ℕ → emit-lts.Claims
 emit-claims t = (shape-reads.Asked, shape-reads.Learnt, find-reads.Asked, find-reads.Learnt, put-two-reads.Asked, put-two-reads.Learnt, name-below t, name.Post, copy-code-reads.Asked, copy-code-reads.Learnt)
 
 abbrev name-claims : ℕ → name-lts.Claims
-name-claims t = (lead-reads.Asked, lead-reads.Learnt, put-two-reads.Asked, put-two-reads.Learnt, name-below t, name.Post, put-not-reads.Asked, put-not-reads.Learnt, emit-below t, emit.Post)
+name-claims t = (lead-reads.Asked, lead-reads.Learnt, put-two-reads.Asked, put-two-reads.Learnt, name-below t, name.Post, put-not-reads.Asked, put-not-reads.Learnt, shape-reads.Asked, shape-reads.Learnt, copy-code-reads.Asked, copy-code-reads.Learnt, emit-below t, emit.Post)
 
 -- the name under the steps below, written by either way
 older : (t : ℕ) (c : name-lts.Joined1 (name-claims t) (name-at t) name.Post) → let s = c .before .before .before .before .before .before .before .before in
     parts.NameWrote (now (s .args .edit)) (stackOf (now (s .args .work))) (getD (now (s .args .work)) (4160 + (s .args .j - 1)) 0) (s .args .of .code) (s .args .of .number) (set (now (s .args .out)) (s .args .pos) (c .before .before .lead .result)) (s .args .pos + 1) (c .if1 .p) (c .if1 .out)
 older t c = ⊎-elim (λ w. parts.name-wrote-as (w .5) (w .6) (parts.bare-wrote (w .0 .taken) (w .2 .ensures) (w .2 .kept .1 .1 .0))) (λ w. parts.name-wrote-as (w .5) (w .6) (record { each = w .2 .ensures; long = w .2 .kept .1 .1 .1 .1 .0 })) (c .if1 .came)
+
+-- the step's expression stands in the edit, and there is room for it
+there : (t : ℕ) (c : name-lts.After-put-not (name-claims t) (name-at t) name.Post) → let s = c .before .before .before .before .before .before .before .before .before .before in
+    SomeShown (now (s .args .edit)) (getD (now (s .args .work)) (64 + (s .args .j - 1)) 0 + 2) (now (s .args .edit)) (stackOf (now (s .args .work))) (s .args .j - 1) (c .put-not .result) (length (c .put-not .last .1 .0))
+there t c =
+    let s = c .before .before .before .before .before .before .before .before .before .before in
+    let H = parts.hit (s .pre .1 .0) (s .pre .1 .2) (s .pre .1 .1) in
+    let u = older t (c .before .before) in
+    let l = c .put-not .kept .1 .0 ∙ u .long ∙ length-set (now (s .args .out)) (s .args .pos) (c .before .before .before .before .lead .result) in
+    record { steps = H .below; is = H .len; stands = H .stands; what = H .s .what; what-at = hit-at (s .pre .1 .2) (s .pre .1 .0) H .what-at; fits = omega (arith, l, parts.hit-fits (s .pre .1 .0) (s .pre .1 .2) (s .pre .1 .1), parts.older-count (s .pre .1 .0) (s .pre .1 .2) (s .pre .1 .1) u, c .put-not .ensures .counted) }
 
 pub +emit+name-spec : {M : Type 1} → statement M
 +emit+name-spec = close μ-emit μ-name
@@ -103,8 +115,13 @@ pub +emit+name-spec : {M : Type 1} → statement M
     (λ c κs. let s = c .before .before .before .before .before .before .before .before .before in parts.bare-room (parts.older-some (s .pre .1 .0) (s .pre .1 .2) (s .pre .1 .1) (length-set (now (s .args .out)) (s .args .pos) (c .before .before .before .lead .result))) (c .before .if1 .taken))
     (λ c κs. let s = c .before .before .before .before .before .before .before .before .before in let l = length-set (now (s .args .out)) (s .args .pos) (c .before .before .before .lead .result) in (omega (arith, s .pre .0, l, parts.hit-fits (s .pre .1 .0) (s .pre .1 .2) (s .pre .1 .1)), (omega (arith, c .before .if1 .left), parts.older-some (s .pre .1 .0) (s .pre .1 .2) (s .pre .1 .1) l, links-lower (omega (arith, hit-older (s .pre .1 .2) (s .pre .1 .1 .is) (s .pre .1 .0) (parts.hit (s .pre .1 .0) (s .pre .1 .2) (s .pre .1 .1)) .1)) (s .pre .1 .2))))
     (λ c κs. let s = c .before .before .before .before .before .before .before .before .before in let u = older t (c .before) in omega (arith, u .long, length-set (now (s .args .out)) (s .args .pos) (c .before .before .before .lead .result), parts.hit-fits (s .pre .1 .0) (s .pre .1 .2) (s .pre .1 .1), parts.older-count (s .pre .1 .0) (s .pre .1 .2) (s .pre .1 .1) u))
-    (λ c. let s = c .before .before .before .before .before .before .before .before .before .before .before .before .before in omega (arith, hit-at (s .pre .1 .2) (s .pre .1 .0) (parts.hit (s .pre .1 .0) (s .pre .1 .2) (s .pre .1 .1)) .room, s .good .0 .0))
-    (λ c κs. let s = c .before .before .before .before .before .before .before .before .before .before .before .before .before in let H = parts.hit (s .pre .1 .0) (s .pre .1 .2) (s .pre .1 .1) in let u = older t (c .before .before .before .before .before) in let z = parts.hit-fits (s .pre .1 .0) (s .pre .1 .2) (s .pre .1 .1) in let n = parts.older-count (s .pre .1 .0) (s .pre .1 .2) (s .pre .1 .1) u in let l = c .before .before .before .put-not .kept .1 .0 ∙ u .long ∙ length-set (now (s .args .out)) (s .args .pos) (c .before .before .before .before .before .before .before .lead .result) in let v = c .before .before .before .put-not .ensures .counted in (omega (arith, s .pre .0, l, z, n, v), (record { steps = H .below; is = H .len; stands = H .stands; what = H .s .what; what-at = hit-at (s .pre .1 .2) (s .pre .1 .0) H .what-at; fits = omega (arith, l, z, n, v) }, links-lower (omega arith) (s .pre .1 .2))))
-    (λ c. let s = c .before .before .before .before .before .before .before .before .before .before .before .before .before .before .before .before in c .before .before .emit .kept .1 .1 .1 .1 .0 ∙ c .before .before .before .before .before .before .put-not .kept .1 .0 ∙ older t (c .before .before .before .before .before .before .before .before) .long ∙ length-set (now (s .args .out)) (s .args .pos) (c .before .before .before .before .before .before .before .before .before .before .lead .result))
-    (λ c. let s = c .before .before .before .before .before .before .before .before .before .before .before .before .before .before .before .before in λ σ e i. let H = parts.last-hit (found-as e i) (s .pre .1 .0) in let A = hit-at (s .pre .1 .2) (s .pre .1 .0) H in parts.hit-wrote H _ (A .op-is) (c .before .before .before .before .before .before .before .before .before .before .lead .ensures) (older t (c .before .before .before .before .before .before .before .before) .each (H .below) (hit-older (s .pre .1 .2) e (s .pre .1 .0) H .0) (H .stands)) (c .before .before .before .before .before .before .put-not .ensures) (c .before .before .emit .ensures (H .below) (H .s .what) (H .len) (H .stands) (A .what-at) .0))
+    (λ c. let s = c .before .before .before .before .before .before .before .before .before .before .before .before in omega (arith, hit-at (s .pre .1 .2) (s .pre .1 .0) (parts.hit (s .pre .1 .0) (s .pre .1 .2) (s .pre .1 .1)) .room, s .good .0 .0))
+    (λ c. parts.head-first (parts.showing-first _ _ _ _ _ [] _) (omega arith) (there t (c .before .before .before)) .inside-text)
+    (λ c κs. parts.head-first (parts.showing-first _ _ _ _ _ [] _) (omega arith) (there t (c .before .before .before)) .low)
+    (λ c κs. parts.leaf-room _ _ _ _ _ _ _ (c .before .before .shape .ensures) (c .before .if2 .taken) (there t (c .before .before .before .before .before .before)))
+    (λ c. let s = c .before .before .before .before .before .before .before .before .before .before .before .before .before .before .before .before .before .before .before in c .before .before .copy-code .kept .1 .1 .1 .0 ∙ c .before .before .before .before .before .before .before .before .before .put-not .kept .1 .0 ∙ older t (c .before .before .before .before .before .before .before .before .before .before .before) .long ∙ length-set (now (s .args .out)) (s .args .pos) (c .before .before .before .before .before .before .before .before .before .before .before .before .before .lead .result))
+    (λ c. let s = c .before .before .before .before .before .before .before .before .before .before .before .before .before .before .before .before .before .before .before in λ σ e i. let H = parts.last-hit (found-as e i) (s .pre .1 .0) in let A = hit-at (s .pre .1 .2) (s .pre .1 .0) H in parts.hit-wrote H _ (A .op-is) (c .before .before .before .before .before .before .before .before .before .before .before .before .before .lead .ensures) (older t (c .before .before .before .before .before .before .before .before .before .before .before) .each (H .below) (hit-older (s .pre .1 .2) e (s .pre .1 .0) H .0) (H .stands)) (c .before .before .before .before .before .before .before .before .before .put-not .ensures) (parts.leaf-shown _ (now (s .args .edit)) (stackOf (now (s .args .work))) _ _ _ _ (c .before .before .before .before .before .shape .ensures) (c .before .before .before .before .if2 .taken) (c .before .before .copy-code .ensures) (c .before .before .copy-code .kept .1 .1 .1 .0) (H .below) (H .s .what) (H .len) (H .stands) (A .what-at)))
+    (λ c κs. let s = c .before .before .before .before .before .before .before .before .before .before .before .before .before .before .before .before in let u = older t (c .before .before .before .before .before .before .before .before) in let l = c .before .before .before .before .before .before .put-not .kept .1 .0 ∙ u .long ∙ length-set (now (s .args .out)) (s .args .pos) (c .before .before .before .before .before .before .before .before .before .before .lead .result) in (omega (arith, s .pre .0, l, parts.hit-fits (s .pre .1 .0) (s .pre .1 .2) (s .pre .1 .1), parts.older-count (s .pre .1 .0) (s .pre .1 .2) (s .pre .1 .1) u, c .before .before .before .before .before .before .put-not .ensures .counted), (there t (c .before .before .before .before .before .before), links-lower (omega arith) (s .pre .1 .2))))
+    (λ c. let s = c .before .before .before .before .before .before .before .before .before .before .before .before .before .before .before .before .before .before .before in c .before .before .emit .kept .1 .1 .1 .1 .0 ∙ c .before .before .before .before .before .before .before .before .before .put-not .kept .1 .0 ∙ older t (c .before .before .before .before .before .before .before .before .before .before .before) .long ∙ length-set (now (s .args .out)) (s .args .pos) (c .before .before .before .before .before .before .before .before .before .before .before .before .before .lead .result))
+    (λ c. let s = c .before .before .before .before .before .before .before .before .before .before .before .before .before .before .before .before .before .before .before in λ σ e i. let H = parts.last-hit (found-as e i) (s .pre .1 .0) in let A = hit-at (s .pre .1 .2) (s .pre .1 .0) H in parts.hit-wrote H _ (A .op-is) (c .before .before .before .before .before .before .before .before .before .before .before .before .before .lead .ensures) (older t (c .before .before .before .before .before .before .before .before .before .before .before) .each (H .below) (hit-older (s .pre .1 .2) e (s .pre .1 .0) H .0) (H .stands)) (c .before .before .before .before .before .before .before .before .before .put-not .ensures) (c .before .before .emit .ensures (H .below) (H .s .what) (H .len) (H .stands) (A .what-at) .0))
     )
