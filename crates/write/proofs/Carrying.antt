@@ -5,20 +5,23 @@ use Prim.Native.Nat.{ℕ, _+_, _-_, _<_, _≤_}
 use native.Mathlib.Omega.{arith}
 use lib.ListN.{length, getD, set, take, drop}
 use lib.Seq.{set-set, set-getD}
-use Rattle.logic.specs.Syntax.{Edit}
-use Rattle.tree.specs.Tree.{Tree, tree, treeCode, graft}
+use Rattle.logic.specs.Syntax.{rule, Expr, Edit}
+use Rattle.text.specs.Code.{code}
+use Rattle.tree.specs.Tree.{Tree, tree, treeCode, graft, size}
 use Rattle.tree.specs.Stack.{Step, env, written}
 use Rattle.ends.specs.Shapes.{At}
 use Rattle.ends.specs.Edits.{EditAt}
+use Rattle.ends.specs.Books.{RuleAt}
 use Rattle.ends.proofs.Steps.{edit-inside}
 use Rattle.ends.proofs.Kept.{kept-more}
+use Rattle.ends.proofs.Behind.{behind-stands}
 use Rattle.ends.proofs.Rules.{rule-at}
 use Rattle.write.specs.Laid.{Wrote}
 use Rattle.write.specs.Offsets.{StackIs}
 use Rattle.write.specs.Writing.{SomeShown}
-use Rattle.write.specs.Ways.{followed, Walked, Chosen, SomeCarried, WayWritten}
+use Rattle.write.specs.Ways.{followed, Walked, SomeTwo, Chosen, SomeCarried, WayWritten}
 use Rattle.write.proofs.Laying.{wrote-more, wrote-as, wrote-stands}
-use Rattle.write.proofs.Choosing.{end-written, choice-written, choice-length, first-way, second-way}
+use Rattle.write.proofs.Choosing.{parted, two-some, end-written, choice-written, choice-length, first-way, second-way}
 
 -- where the walk rests
 pub rested : {text edit stack behind stack′ : List ℕ} {from at h d at′ h′ d′ pos room : ℕ} → SomeCarried text from edit stack behind at h d pos room → Walked edit stack behind at h d stack′ at′ h′ d′
@@ -43,13 +46,26 @@ end-carried {text} {edit} {stack} {behind} {stack′} {o} {o′} {from} a c z f 
   again = refl;
 }
 
+pub end-read : {text edit stack behind : List ℕ} {from at h d pos room : ℕ} → SomeCarried text from edit stack behind at h d pos room → {next : ℕ} → ((σ : List Step) (t : Tree) → h ≡ length σ → StackIs edit stack σ → At text from t → next ≡ from + size t) → (K : Expr rule) → RuleAt text from K → next ≡ from + length (code K)
+end-read w {next} f K r = behind-stands next (λ t a. f (w .way .steps) t (w .way .way .steps-passed) (w .way .way .steps) a) K (r .place)
+
 -- further along a way that is still to be written, with some of the room used
 pub record Further (text : List ℕ) (from : ℕ) (edit stack behind : List ℕ) (at h d pos pos′ room : ℕ) : Type 0 where
   pub on : pos < pos′
   pub inside : pos < room
   pub some : SomeCarried text from edit stack behind at h d pos′ room
 
--- a 35
+-- a 35: its rule
+module _ {text edit stack behind : List ℕ} {from at h d pos room : ℕ} (w : SomeCarried text from edit stack behind at h d pos room) (m : getD edit at 0 ≡ 0x35) where
+  pub first-shown : SomeShown edit (at + 1) edit stack h (pos + 3) room
+  first-shown =
+      let q = parted edit at m (w .way .what) (w .way .way .here) refl refl refl in
+      record { steps = w .way .steps; is = w .way .way .steps-passed; stands = w .way .way .steps; what = tree (q .test); what-at = q .test-at; fits = omega (arith, w .fits, choice-length (w .way .way) q (w .K)) }
+
+  pub ways-some : {first : ℕ} → ((σ : List Step) (t : Tree) → h ≡ length σ → StackIs edit stack σ → At edit (at + 1) t → first ≡ at + 1 + size t) → SomeTwo edit first
+  ways-some f = two-some edit at m (λ t a. f (w .way .steps) t (w .way .way .steps-passed) (w .way .way .steps) a) (w .way .what) (w .way .way .here)
+
+-- and its ways
 module _ {edit behind : List ℕ} {at d first second next : ℕ} (C : (Z : Edit) → EditAt edit at Z → Chosen edit at first second next Z) (l : d < length behind) where
   module _ {text stack : List ℕ} {from h pos room : ℕ} (w : SomeCarried text from edit stack behind at h d pos room) where
     abbrev q : Chosen edit at first second next (w .way .what)
@@ -59,9 +75,6 @@ module _ {edit behind : List ℕ} {at d first second next : ℕ} (C : (Z : Edit)
         ≡ 4 + length (treeCode (graft (env (w .way .steps)) (tree (q .test)))) + length (written (w .way .steps) (followed (q .P) (q .W ∷ w .way .later)) (w .K))
         + length (treeCode (graft (env (w .way .steps)) (tree (q .test)))) + length (written (w .way .steps) (followed (q .Q) (q .W ∷ w .way .later)) (w .K))
     sizes = choice-length (w .way .way) q (w .K)
-
-    pub first-shown : SomeShown edit (at + 1) edit stack h (pos + 3) room
-    first-shown = record { steps = w .way .steps; is = w .way .way .steps-passed; stands = w .way .way .steps; what = tree (q .test); what-at = q .test-at; fits = omega (arith, w .fits, sizes) }
 
     module _ {o o₁ behind₁ : List ℕ} {p : ℕ} (f : (σ : List Step) (t : Tree) → h ≡ length σ → StackIs edit stack σ → At edit (at + 1) t → Wrote o pos (0x25 ∷ 0x26 ∷ 0x27 ∷ treeCode (graft (env σ) t)) p o₁) (e : behind₁ ≡ set behind d next) where
       first-counted : p ≡ pos + (3 + length (treeCode (graft (env (w .way .steps)) (tree (q .test)))))

@@ -11,54 +11,49 @@ use Rattle.text.specs.Code.{editCode}
 use Rattle.tree.specs.Tree.{Tree, tree, size, treeCode, graft}
 use Rattle.tree.specs.Stack.{Step, env, written, shown}
 use Rattle.tree.proofs.Written.{written-finish, written-choose}
-use Rattle.ends.specs.Shapes.{At, Some}
-use Rattle.ends.specs.Edits.{EditAt, SomeEdit, behindStep}
+use Rattle.ends.specs.Shapes.{At}
+use Rattle.ends.specs.Edits.{EditAt, behindStep}
 use Rattle.ends.specs.Kept.{Kept}
-use Rattle.ends.proofs.Places.{inside, size-pos}
+use Rattle.ends.proofs.Places.{size-pos}
 use Rattle.ends.proofs.Steps.{as-choose, as-finish}
 use Rattle.ends.proofs.Kept.{kept-set}
-use Rattle.write.specs.Ways.{followed, BehindIs, Way, Chosen}
+use Rattle.write.specs.Ways.{followed, BehindIs, Way, SomeTwo, Chosen}
 use Rattle.write.proofs.Walking.{steps-kept, behind-kept, followed-through}
 
--- where the parts of a 35 stand, as `past` and `end_of` say
+-- where the parts of a 35 stand, as `open_first` and `end_of` say
 module _ (edit : List ℕ) (at : ℕ) (m : getD edit at 0 ≡ 0x35) where
-  pub test-some : SomeEdit edit at → (at + 1 < length edit) × Some edit (at + 1)
-  test-some s = let q = as-choose edit at (s .what) (s .stands) m in (inside edit (at + 1) (tree (q .K)) (q .what), record { what = tree (q .K); stands = q .what })
+  pub parted : {first second next : ℕ} (Z : Edit) (h : EditAt edit at Z) → let q = as-choose edit at Z h m in first ≡ at + 1 + size (tree (q .K)) → second ≡ first + length (editCode (q .P)) → next ≡ second + length (editCode (q .Q))
+      → Chosen edit at first second next Z
+  parted {first} {second} {next} Z h a b′ c′ =
+      let q = as-choose edit at Z h m in
+      let b : second ≡ at + 1 + size (tree (q .K)) + length (editCode (q .P)) = b′ ∙ ap (λ (n : ℕ). n + length (editCode (q .P))) a in
+      let c : next ≡ at + 1 + size (tree (q .K)) + length (editCode (q .P)) + length (editCode (q .Q)) = c′ ∙ ap (λ (n : ℕ). n + length (editCode (q .Q))) b in
+      record {
+        test = q .K;
+        P = q .P;
+        Q = q .Q;
+        W = behindStep Z;
+        is = q .is;
+        test-at = q .what;
+        first-at = q .first first a;
+        second-at = q .second second b;
+        next-at = q .next next c;
+        on = omega (arith, a, size-pos (tree (q .K)) (q .what .formed));
+        between = sym b′;
+        behind = sym c′;
+        ends = omega (arith, c, q .long);
+      }
 
-  module _ (first : ℕ) (f : (t : Tree) → At edit (at + 1) t → first ≡ at + 1 + size t) where
-    pub first-edit : SomeEdit edit at → SomeEdit edit first
-    first-edit s = let q = as-choose edit at (s .what) (s .stands) m in record { what = q .P; stands = q .first first (f (tree (q .K)) (q .what)) }
+  module _ {first : ℕ} (f : (t : Tree) → At edit (at + 1) t → first ≡ at + 1 + size t) where
+    pub two-some : (Z : Edit) → EditAt edit at Z → SomeTwo edit first
+    two-some Z h = let q = as-choose edit at Z h m in let a = f (tree (q .K)) (q .what) in record { P = q .P; Q = q .Q; P-at = q .first first a; Q-at = q .second _ (ap (λ (n : ℕ). n + length (editCode (q .P))) a) }
 
-    module _ (second : ℕ) (g : (Y : Edit) → EditAt edit first Y → second ≡ first + length (editCode Y)) where
-      pub second-edit : SomeEdit edit at → SomeEdit edit second
-      second-edit s =
-          let q = as-choose edit at (s .what) (s .stands) m in
-          let a = f (tree (q .K)) (q .what) in
-          record { what = q .Q; stands = q .second second (g (q .P) (q .first first a) ∙ ap (λ (n : ℕ). n + length (editCode (q .P))) a) }
-
-      pub chosen : (next : ℕ) → ((Y : Edit) → EditAt edit second Y → next ≡ second + length (editCode Y)) → (Z : Edit) → EditAt edit at Z → Chosen edit at first second next Z
-      chosen next k Z h =
-          let q = as-choose edit at Z h m in
-          let a = f (tree (q .K)) (q .what) in
-          let b′ = g (q .P) (q .first first a) in
-          let b : second ≡ at + 1 + size (tree (q .K)) + length (editCode (q .P)) = b′ ∙ ap (λ (n : ℕ). n + length (editCode (q .P))) a in
-          let c′ = k (q .Q) (q .second second b) in
-          let c : next ≡ at + 1 + size (tree (q .K)) + length (editCode (q .P)) + length (editCode (q .Q)) = c′ ∙ ap (λ (n : ℕ). n + length (editCode (q .Q))) b in
-          record {
-            test = q .K;
-            P = q .P;
-            Q = q .Q;
-            W = behindStep Z;
-            is = q .is;
-            test-at = q .what;
-            first-at = q .first first a;
-            second-at = q .second second b;
-            next-at = q .next next c;
-            on = omega (arith, a, size-pos (tree (q .K)) (q .what .formed));
-            between = sym b′;
-            behind = sym c′;
-            ends = omega (arith, c, q .long);
-          }
+    pub chosen : {second next : ℕ} → ((Y : Edit) → EditAt edit first Y → second ≡ first + length (editCode Y)) → ((Y : Edit) → EditAt edit second Y → next ≡ second + length (editCode Y)) → (Z : Edit) → EditAt edit at Z → Chosen edit at first second next Z
+    chosen {second} g k Z h =
+        let q = as-choose edit at Z h m in
+        let a = f (tree (q .K)) (q .what) in
+        let b = g (q .P) (q .first first a) in
+        parted Z h a b (k (q .Q) (q .second second (b ∙ ap (λ (n : ℕ). n + length (editCode (q .P))) a)))
 
 -- The end: what is written is the rule under the steps passed.
 pub end-written : {edit stack behind : List ℕ} {at h d : ℕ} {σ : List Step} {Z : Edit} {Ws : List Edit} → Way edit stack behind at h d σ Z Ws → getD edit at 0 ≡ 0x30 → d ≡ 0 → (K : Expr rule)

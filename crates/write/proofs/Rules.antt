@@ -9,15 +9,12 @@ use Rattle.logic.specs.Carry.{carry, carriedBook}
 use Rattle.logic.specs.Limits.{Ranges}
 use Rattle.text.specs.Code.{code, editCode, bookCode}
 use Rattle.text.specs.Stands.{RulesInRange}
-use Rattle.tree.specs.Tree.{Tree, tree, size}
 use Rattle.tree.specs.Stack.{written}
 use Rattle.tree.proofs.Written.{written-code}
-use Rattle.ends.specs.Shapes.{At, Some}
 use Rattle.ends.specs.Edits.{EditAt, SomeEdit}
 use Rattle.ends.specs.Books.{RuleAt, BookIs}
 use Rattle.text.proofs.Standing.{behind}
-use Rattle.ends.proofs.Rules.{rule-at, rule-fits}
-use Rattle.ends.proofs.Behind.{size-code}
+use Rattle.ends.proofs.Rules.{rule-fits}
 use Rattle.write.specs.Laid.{Wrote}
 use Rattle.write.specs.Offsets.{StackIs}
 use Rattle.write.specs.Work.{stackOf, behindOf}
@@ -48,9 +45,6 @@ start-rests {edit} {work₁} {work} {from} {at} {h} {d} w r = record {
   linked = r .linked;
 }
 
-pub rule-some : {text edit work : List ℕ} {place at h d pos room : ℕ} → SomeRuleLeft text place edit work at h d pos room → Some text place
-rule-some {text} {edit} {work} {place} w = let f = w .fits in record { what = tree (f .K); stands = rule-at text place (f .K) (f .K-at) }
-
 pub rest-some : {text edit work : List ℕ} {place at h d pos room : ℕ} → SomeRuleLeft text place edit work at h d pos room → SomeCarried text place edit (stackOf work) (behindOf work) at h d pos room
 rest-some w =
     let f = w .fits in
@@ -65,11 +59,11 @@ rest-some w =
 -- what is written from there, and that the next rule can be written from there, too
 module _ {text edit work work′ o o′ : List ℕ} {place at h d pos pos′ from : ℕ} (s : Started edit from work at h d)
     (a : Again text place edit work at h d o pos pos′ work′ o′) where
-  pub rule-written : {next : ℕ} → ((t : Tree) → At text place t → next ≡ place + size t) → (K : Expr rule) (Z : Edit) → RuleAt text place K → EditAt edit from Z → RuleWritten Z K place o pos next pos′ o′
+  pub rule-written : {next : ℕ} → ((K : Expr rule) → RuleAt text place K → next ≡ place + length (code K)) → (K : Expr rule) (Z : Edit) → RuleAt text place K → EditAt edit from Z → RuleWritten Z K place o pos next pos′ o′
   rule-written f K Z r z =
       let m = s .each Z z in
       record {
-        read = f (tree K) (rule-at text place K r) ∙ ap (λ (n : ℕ). place + n) (size-code K);
+        read = f K r;
         wrote = wrote-as (sym (m .same K) ∙ start-written Z K) (a .written .wrote (m .steps) (m .what) (m .later) (m .way) K r);
       }
 

@@ -1,18 +1,27 @@
 -- The work array at a 35: an offset behind is stored, and the last steps of names are put back for the second way.
 use mathlib.Core.Path.{_≡_, refl, sym, ap, _∙_, subst}
-use mathlib.Core.List.{List, _++_}
+use mathlib.Core.List.{List, _∷_, _++_}
 use Prim.Native.Nat.{ℕ, _+_, _<_}
 use native.Mathlib.Omega.{arith}
 use lib.ListN.{length, getD, set, take, drop, length-set}
 use lib.Seq.{length-front, length-take-le}
+use Rattle.logic.specs.Syntax.{Edit}
+use Rattle.text.specs.Code.{editCode}
+use Rattle.tree.specs.Tree.{Tree, treeCode, graft, size}
+use Rattle.tree.specs.Stack.{Step, env}
+use Rattle.ends.specs.Shapes.{At}
+use Rattle.ends.specs.Edits.{EditAt}
 use Rattle.ends.specs.Kept.{Kept}
+use Rattle.write.specs.Laid.{Wrote}
+use Rattle.write.specs.Offsets.{StackIs}
 use Rattle.write.specs.Work.{workLength, stackOf, linksOf, behindOf}
-use Rattle.write.specs.Links.{LinkedIn, SomeLinks, Relinked, Fitting}
-use Rattle.write.specs.Ways.{Walked, SomeCarried, WayWritten}
+use Rattle.write.specs.Links.{LinkedIn, Relinked, Fitting}
+use Rattle.write.specs.Ways.{Walked, Chosen, SomeCarried, WayWritten}
 use Rattle.write.proofs.Parts.{part-at, part-length, last-first, behind-stored, last-replaced}
 use Rattle.ends.proofs.Kept.{kept-more}
-use Rattle.write.proofs.Walking.{way-low}
-use Rattle.write.proofs.Finding.{linked-kept, some-links}
+use Rattle.write.proofs.Walking.{way-low, at-choice}
+use Rattle.write.proofs.Finding.{linked-kept}
+use Rattle.write.proofs.Choosing.{chosen}
 use Rattle.write.proofs.Carrying.{rested}
 
 -- where the stack or the offsets behind are given otherwise
@@ -32,33 +41,37 @@ kept-of {n} {l} {l′} {m} e k = subst (λ (x : List ℕ). Kept n x m) (sym e) k
 kept-same : {n : ℕ} {l m : List ℕ} → m ≡ l → Kept n l m
 kept-same e = record { same = λ i r. ap (λ (x : List ℕ). getD x i 0) e }
 
--- the first way of a 35: behind it stands `next`
-pub record Branch (text : List ℕ) (from : ℕ) (edit work : List ℕ) (at h d pos room : ℕ) (work′ : List ℕ) (at′ h′ d′ next : ℕ) : Type 0 where
+-- the first way of a 35: its rule is written, and behind it stands `next`
+pub record Branch (text : List ℕ) (from : ℕ) (edit work : List ℕ) (at h d : ℕ) (o : List ℕ) (pos : ℕ) (work′ : List ℕ) (at′ h′ d′ first second next pos′ : ℕ) (o′ : List ℕ) : Type 0 where
   pub walked : Walked edit (stackOf work) (behindOf work) at h d (stackOf work′) at′ h′ d′
-  pub some : SomeCarried text from edit (stackOf work′) (behindOf work) at′ h′ d′ pos room
+  pub some : SomeCarried text from edit (stackOf work′) (behindOf work) at′ h′ d′ pos (length o)
+  pub chosen : (Z : Edit) → EditAt edit at′ Z → Chosen edit at′ first second next Z
+  pub opened : (σ : List Step) (t : Tree) → h′ ≡ length σ → StackIs edit (stackOf work′) σ → At edit (at′ + 1) t → Wrote o pos (0x25 ∷ 0x26 ∷ 0x27 ∷ treeCode (graft (env σ) t)) pos′ o′
   pub low : d′ < length (behindOf work)
   pub behind : behindOf work′ ≡ set (behindOf work) d′ next
   pub linked : LinkedIn edit work′ h′
-  pub links : SomeLinks edit work′ h′
   pub fits : Fitting edit work′
   pub kept : Kept h (linksOf work) (linksOf work′)
 
-pub branch : {text edit work work₁ : List ℕ} {from at h d pos room at′ h′ d′ : ℕ} → SomeCarried text from edit (stackOf work) (behindOf work) at h d pos room → Fitting edit work → length work₁ ≡ length work
-    → Walked edit (stackOf work) (behindOf work) at h d (stackOf work₁) at′ h′ d′ → Relinked edit work work₁ h h′ → (next : ℕ) → Branch text from edit work at h d pos room (set work₁ (8256 + d′) next) at′ h′ d′ next
-branch {text} {edit} {work} {work₁} {from} {at} {h} {d} {pos} {room} {at′} {h′} {d′} w f l a r next =
-    let q = way-low (rested w a .way) (f .short) in
+pub branch : {text edit work work₁ o o′ : List ℕ} {from at h d pos at′ h′ d′ first second next pos′ : ℕ} → SomeCarried text from edit (stackOf work) (behindOf work) at h d pos (length o) → Fitting edit work → length work₁ ≡ length work
+    → Walked edit (stackOf work) (behindOf work) at h d (stackOf work₁) at′ h′ d′ → Relinked edit work work₁ h h′ → (getD edit at′ 0 ≡ 0x30 → ⊥)
+    → ((σ : List Step) (t : Tree) → h′ ≡ length σ → StackIs edit (stackOf work₁) σ → At edit (at′ + 1) t → Wrote o pos (0x25 ∷ 0x26 ∷ 0x27 ∷ treeCode (graft (env σ) t)) pos′ o′ × (first ≡ at′ + 1 + size t))
+    → ((P : Edit) → EditAt edit first P → second ≡ first + length (editCode P)) → ((Q : Edit) → EditAt edit second Q → next ≡ second + length (editCode Q))
+    → Branch text from edit work at h d o pos (set work₁ (8256 + d′) next) at′ h′ d′ first second next pos′ o′
+branch {text} {edit} {work} {work₁} {o} {o′} {from} {at} {h} {d} {pos} {at′} {h′} {d′} {first} {second} {next} {pos′} w f l a r m u g e =
+    let y = rested w a .way in
+    let q = way-low y (f .short) in
     let b = behind-stored work₁ d′ next (q .1) in
-    let k : LinkedIn edit (set work₁ (8256 + d′) next) h′ = linked-kept (kept-same (b .stack-same)) (kept-same (b .links-same)) (kept-same (b .last-same)) (r .linked) in
-    let n = length-set work₁ (8256 + d′) next ∙ l ∙ f .long in
     let v = walked-on (b .stack-same) a in
     record {
       walked = v;
       some = rested w v;
+      chosen = chosen edit at′ (at-choice _ _ (a .rests) m) (λ t i. u (y .steps) t (y .way .steps-passed) (y .way .steps) i .1) g e;
+      opened = λ σ t n s i. u σ t n (subst (λ (x : List ℕ). StackIs edit x σ) (b .stack-same) s) i .0;
       low = omega (arith, q .1, part-length 8256 2048 work (omega (arith, f .long)));
       behind = b .behind-is ∙ ap (λ (x : List ℕ). set x d′ next) (r .behind-same);
-      linked = k;
-      links = some-links k (omega (arith, q .0)) n;
-      fits = record { short = f .short; long = n };
+      linked = linked-kept (kept-same (b .stack-same)) (kept-same (b .links-same)) (kept-same (b .last-same)) (r .linked);
+      fits = record { short = f .short; long = length-set work₁ (8256 + d′) next ∙ l ∙ f .long };
       kept = kept-on (b .links-same) (r .kept);
     }
 

@@ -74,6 +74,13 @@ pub record Walked (edit stack behind : List ℕ) (at h d : ℕ) (stack′ : List
   pub low-behind : 2 * d′ ≤ at′
   pub rests : resting (getD edit at′ 0) d′ ≡ true
 
+-- some two edits, one behind the other
+pub record SomeTwo (edit : List ℕ) (at : ℕ) : Type 0 where
+  pub P : Edit
+  pub Q : Edit
+  pub P-at : EditAt edit at P
+  pub Q-at : EditAt edit (at + length (editCode P)) Q
+
 -- the parts of a 35 and where they stand
 pub record Chosen (edit : List ℕ) (at first second next : ℕ) (Z : Edit) : Type 0 where
   pub test : Expr rule

@@ -69,12 +69,11 @@ pub fn write_rule(
         → ((K : Expr rule) (Z : Edit) → RuleAt (now (text .entry)) (place .at) K → EditAt (now (edit .entry)) from Z → RuleWritten Z K (place .at) (now (out .entry)) (place .pos) (r .at) (r .pos) (now (out .exit)))
         × Started (now (edit .entry)) from (now (work .exit)) (rest .at) (rest .h) (rest .d)) ⌝ }
 {
-    let next = ends::past(text, place.at);
     let mut last = [0u16; 64];
     names::copy_last(&work[..64], &mut last);
     let end = ways::write_way(text, edit, work, rest, out, place);
     names::copy_last(&last, &mut work[..64]);
-    Place { at: next, pos: end }
+    end
 }
 
 // Writes a book carried back through the edit that stands at `from`, rule by rule, and answers its length.

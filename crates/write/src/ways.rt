@@ -11,17 +11,19 @@ ghost use mathlib.Core.List.{List, _∷_};
 ghost use mathlib.Core.Bool.{false};
 ghost use Prim.Native.Nat.{_+_, _<_, _≤_};
 ghost use lib.ListN.{length, getD, take, drop};
-ghost use Rattle.tree.specs.Tree.{Tree, treeCode, graft};
+ghost use Rattle.tree.specs.Tree.{Tree, treeCode, graft, size};
 ghost use Rattle.tree.specs.Stack.{Step, env};
-ghost use Rattle.logic.specs.Syntax.{Edit};
+ghost use Rattle.logic.specs.Syntax.{rule, Expr, Edit};
+ghost use Rattle.text.specs.Code.{code, editCode};
 ghost use Rattle.ends.specs.Shapes.{At};
-ghost use Rattle.ends.specs.Edits.{EditAt, SomeEdit};
+ghost use Rattle.ends.specs.Edits.{EditAt};
+ghost use Rattle.ends.specs.Books.{RuleAt};
 ghost use Rattle.ends.specs.Kept.{Kept};
 ghost use Rattle.write.specs.Laid.{Wrote};
 ghost use Rattle.write.specs.Work.{stackOf, linksOf, behindOf};
 ghost use Rattle.write.specs.Offsets.{StackIs};
 ghost use Rattle.write.specs.Links.{SomeLinks, LinkedIn, Relinked, Fitting};
-ghost use Rattle.write.specs.Ways.{SomeWay, resting, Passed, Walked, Chosen, SomeCarried, WayWritten};
+ghost use Rattle.write.specs.Ways.{SomeWay, resting, Passed, Walked, SomeTwo, SomeCarried, WayWritten};
 ghost use Rattle.write.specs.Writing.{SomeShown};
 
 // Does a walk rest here: at a 35, or at the end?
@@ -81,38 +83,32 @@ pub fn walk(edit: &[u8], work: &mut [u16], from: Reached) -> Reached
     here
 }
 
-// Where the ways of a 35 stand, and what follows it.
+// Where the second way of a 35 stands, and what follows it.
 struct Ways {
-    first: usize,
     second: usize,
     next: usize,
 }
 
-// Inner: a 35 stands there.
-fn ways_at(edit: &[u8], at: usize) -> Ways
-    requires { ⌜ SomeEdit (now edit) at × (getD (now edit) at 0 ≡ 0x35) ⌝ }
-    ensures { λ r. ⌜ ((Z : Edit) → EditAt (now (edit .entry)) at Z → Chosen (now (edit .entry)) at (r .first) (r .second) (r .next) Z) ⌝ }
+// Inner: the first way stands there, and the second behind it.
+fn ways_at(edit: &[u8], first: usize) -> Ways
+    requires { ⌜ SomeTwo (now edit) first ⌝ }
+    ensures { λ r. ⌜ ((P : Edit) → EditAt (now (edit .entry)) first P → r .second ≡ first + length (editCode P)) × ((Q : Edit) → EditAt (now (edit .entry)) (r .second) Q → r .next ≡ r .second + length (editCode Q)) ⌝ }
 {
-    let first = ends::past(edit, at + 1);
     let second = ends::end_of(edit, first);
     let next = ends::end_of(edit, second);
-    Ways {
-        first,
-        second,
-        next,
-    }
+    Ways { second, next }
 }
 
-// Writes 25 26 27 and the rule of the 35 where a walk rests.
+// Writes 25 26 27 and the rule of the 35 where a walk rests. Answers the places behind what was read and behind what was written.
 // Inner: it stands there, the work array holds offsets of steps, and there is room.
-fn open_first(edit: &[u8], work: &[u16], rest: Reached, out: &mut [u8], pos: usize) -> usize
+fn open_first(edit: &[u8], work: &[u16], rest: Reached, out: &mut [u8], pos: usize) -> Place
     requires { ⌜ SomeShown (now edit) (rest .at + 1) (now edit) (stackOf (now work)) (rest .h) (pos + 3) (length (now out)) × SomeLinks (now edit) (now work) (rest .h) ⌝ }
-    ensures { λ r. ⌜ ((σ : List Step) (t : Tree) → rest .h ≡ length σ → StackIs (now (edit .entry)) (stackOf (now (work .entry))) σ → At (now (edit .entry)) (rest .at + 1) t → Wrote (now (out .entry)) pos (0x25 ∷ 0x26 ∷ 0x27 ∷ treeCode (graft (env σ) t)) r (now (out .exit))) ⌝ }
+    ensures { λ r. ⌜ ((σ : List Step) (t : Tree) → rest .h ≡ length σ → StackIs (now (edit .entry)) (stackOf (now (work .entry))) σ → At (now (edit .entry)) (rest .at + 1) t → Wrote (now (out .entry)) pos (0x25 ∷ 0x26 ∷ 0x27 ∷ treeCode (graft (env σ) t)) (r .pos) (now (out .exit)) × (r .at ≡ rest .at + 1 + size t)) ⌝ }
 {
     let at = rest.at + 1;
     let p = bytes::put_two(0x25, 0x26, out, pos);
     out[p] = 0x27;
-    emit(edit, edit, work, rest.h, out, Place { at, pos: p + 1 }).pos
+    emit(edit, edit, work, rest.h, out, Place { at, pos: p + 1 })
 }
 
 // Writes 26, and n bytes of the output again: the rule of the 35, which stands there.
@@ -125,7 +121,7 @@ fn open_second(out: &mut [u8], from: usize, n: usize, pos: usize) -> usize
     bytes::again(out, from, n, pos + 1)
 }
 
-// Writes the rule at a place of a text as carried back along a way of the edit.
+// Writes the rule at a place of a text as carried back along a way of the edit. Answers the places behind what was read and behind what was written.
 // Inner: the rule stands there, there is a way, and there is room; the room left falls with each call. What the last steps of names are after is free.
 pub fn write_way(
     text: &[u8],
@@ -134,16 +130,19 @@ pub fn write_way(
     from: Reached,
     out: &mut [u8],
     place: Place,
-) -> usize
+) -> Place
     requires { ⌜ SomeCarried (now text) (place .at) (now edit) (stackOf (now work)) (behindOf (now work)) (from .at) (from .h) (from .d) (place .pos) (length (now out)) × Fitting (now edit) (now work) × LinkedIn (now edit) (now work) (from .h) ⌝ }
-    ensures { λ r. ⌜ WayWritten (now (text .entry)) (place .at) (now (edit .entry)) (stackOf (now (work .entry))) (behindOf (now (work .entry))) (from .at) (from .h) (from .d) (now (out .entry)) (place .pos) r (stackOf (now (work .exit))) (behindOf (now (work .exit))) (now (out .exit)) × Kept (from .h) (linksOf (now (work .entry))) (linksOf (now (work .exit))) ⌝ }
+    ensures { λ r. ⌜ WayWritten (now (text .entry)) (place .at) (now (edit .entry)) (stackOf (now (work .entry))) (behindOf (now (work .entry))) (from .at) (from .h) (from .d) (now (out .entry)) (place .pos) (r .pos) (stackOf (now (work .exit))) (behindOf (now (work .exit))) (now (out .exit)) × Kept (from .h) (linksOf (now (work .entry))) (linksOf (now (work .exit)))
+        × ((K : Expr rule) → RuleAt (now (text .entry)) (place .at) K → r .at ≡ place .at + length (code K)) ⌝ }
 {
     let rest = walk(edit, work, from);
     let p = rest.at;
     if edit[p] == 0x30 {
-        return emit(text, edit, work, rest.h, out, place).pos;
+        return emit(text, edit, work, rest.h, out, place);
     }
-    let ways = ways_at(edit, p);
+    let k = open_first(edit, work, rest, out, place.pos);
+    let a = k.pos;
+    let ways = ways_at(edit, k.at);
     let top = BEHIND + rest.d;
     let saved = work[top];
     work[top] = ways.next as u16;
@@ -152,9 +151,8 @@ pub fn write_way(
     let at = place.at;
     let mut way = rest;
     way.d = rest.d + 1;
-    let a = open_first(edit, work, rest, out, place.pos);
-    way.at = ways.first;
-    let b = write_way(text, edit, work, way, out, Place { at, pos: a });
+    way.at = k.at;
+    let b = write_way(text, edit, work, way, out, Place { at, pos: a }).pos;
     names::copy_last(&last, &mut work[..64]);
     let test = place.pos + 3;
     let c = open_second(out, test, a - test, b);

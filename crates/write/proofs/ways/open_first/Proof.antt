@@ -15,5 +15,5 @@ open-first-spec = tie.close (tie.spec
     (λ c. omega (arith, c .before .before .before .before .before .before .before .before .before .pre .0 .fits, c .before .before .before .put-two .ensures .counted))
     (λ c κs. (shown-moved (c .before .before .before .before .before .before .before .before .before .pre .0) (omega (arith, c .before .before .before .put-two .ensures .counted)) (length-set (c .before .before .before .put-two .last .1 .1 .0) (c .before .before .before .put-two .result) 0x27 ∙ c .before .before .before .put-two .kept .1 .1 .0), c .before .before .before .before .before .before .before .before .before .pre .1))
     (λ c. c .before .before .emit .kept .1 .1 .1 .1 .0 ∙ length-set (c .before .before .before .before .before .before .put-two .last .1 .1 .0) (c .before .before .before .before .before .before .put-two .result) 0x27 ∙ c .before .before .before .before .before .before .put-two .kept .1 .1 .0)
-    (λ c. λ σ t e i a. wrote-more (wrote-more (c .before .before .before .before .before .before .put-two .ensures) (wrote-one _ _ 0x27)) (c .before .before .emit .ensures σ t e i a .0))
+    (λ c. λ σ t e i a. let r = c .before .before .emit .ensures σ t e i a in (wrote-more (wrote-more (c .before .before .before .before .before .before .put-two .ensures) (wrote-one _ _ 0x27)) (r .0), r .1))
     )
