@@ -2,7 +2,7 @@
 use mathlib.Core.Path.{_≡_, refl, sym, ap, _∙_, subst}
 use mathlib.Core.Bool.{Bool, true, false}
 use mathlib.Core.List.{List, [], _∷_}
-use Prim.Native.Nat.{ℕ, _+_, _-_, _≤_, _<_}
+use Prim.Native.Nat.{ℕ, _+_, _-_, _%_, _≤_, _<_}
 use native.Mathlib.Omega.{arith}
 use lib.Dec.{eqb}
 use lib.ListN.{length, getD, set}
@@ -14,10 +14,11 @@ use Rattle.text.specs.Code.{editCode}
 use Rattle.tree.specs.Tree.{Tree, size}
 use Rattle.tree.specs.Stack.{Step, touched, written}
 use Rattle.tree.proofs.Written.{written-addLabel, written-takeLabel, written-addArrow, written-takeArrow}
-use Rattle.ends.specs.Shapes.{At, Some, Named}
+use Rattle.ends.specs.Shapes.{shapeOf, At, Some, Named}
 use Rattle.ends.specs.Edits.{EditAt, behindStep}
 use Rattle.ends.specs.Kept.{Kept}
 use Rattle.ends.proofs.Steps.{editTag, editTree, stepOf, IsStep, as-step, as-finish, edit-inside}
+use Rattle.ends.proofs.Pending.{passing-first, passing-more, passing-end}
 use Rattle.ends.proofs.Kept.{kept-set, kept-more}
 use Rattle.write.specs.Offsets.{StepAt, StackIs}
 use Rattle.write.specs.Ways.{followed, BehindIs, Way, SomeWay, SameWay, resting, Passed, Walked}
@@ -39,6 +40,12 @@ pub followed-through : (f : Edit → Edit) → ((P Z : Edit) → followedBy (f P
 unfolding followed
 followed-through f g Z [] = refl
 followed-through f g Z (W ∷ Ws) = g Z (followed W Ws)
+
+-- an expression of one code, which is no name
+pub one-code : (text : List ℕ) (at s : ℕ) → s ≡ shapeOf (getD text at 0) → s < 4 → (t : Tree) → At text at t → at + s ≡ at + size t
+one-code text at s e l t a =
+    let n : at + s ≡ at + s % 4 = omega arith in
+    n ∙ passing-end (passing-more (passing-first text at) (omega arith) s e) (omega arith) t a
 
 -- a step of the edit as the stack holds it
 step-holds : {edit : List ℕ} {at : ℕ} (Z : Edit) → IsStep edit at Z → StepAt edit at (stepOf Z)

@@ -15,7 +15,7 @@ ghost use Rattle.tree.specs.Tree.{Tree, treeCode, graft, size};
 ghost use Rattle.tree.specs.Stack.{Step, env};
 ghost use Rattle.logic.specs.Syntax.{rule, Expr, Edit};
 ghost use Rattle.text.specs.Code.{code, editCode};
-ghost use Rattle.ends.specs.Shapes.{At};
+ghost use Rattle.ends.specs.Shapes.{At, Some};
 ghost use Rattle.ends.specs.Edits.{EditAt};
 ghost use Rattle.ends.specs.Books.{RuleAt};
 ghost use Rattle.ends.specs.Kept.{Kept};
@@ -42,6 +42,20 @@ fn rests(edit: &[u8], at: usize, d: usize) -> bool
     d == 0
 }
 
+// The place behind the expression of a step, as `ends::past` finds it. One of a single code is looked at here: a rule passes each step, and most steps
+// have such a one.
+// Inner: the edit was read before.
+fn behind(edit: &[u8], at: usize) -> usize
+    requires { ⌜ Some (now edit) at ⌝ }
+    ensures { λ r. ⌜ ((t : Tree) → At (now (edit .entry)) at t → r ≡ at + size t) ⌝ }
+{
+    let s = ends::shape(edit[at]);
+    if s < 4 {
+        return at + s;
+    }
+    ends::past(edit, at)
+}
+
 // Goes past a step, which is put on the stack and linked, or past an end, to the edit behind it.
 // Inner: there is a way, and it does not rest here.
 fn pass(edit: &[u8], work: &mut [u16], from: Reached) -> Reached
@@ -62,7 +76,7 @@ fn pass(edit: &[u8], work: &mut [u16], from: Reached) -> Reached
     }
     work[STACK + h] = at as u16;
     names::link(edit, at, work, h);
-    let next = ends::past(edit, at + 2);
+    let next = behind(edit, at + 2);
     Reached {
         at: next,
         h: h + 1,

@@ -28,5 +28,5 @@ pass-spec = tie.close (tie.spec
     (λ c κs. let s = c .before .before .before .before .before .before .before .before in step-some (s .pre .0) (c .before .before .before .before .if1 .left) (not-choice _ _ (s .pre .1)) .1)
     (λ c. let s = c .before .before .before .before .before .before .before .before .before in omega (arith, way-low (s .pre .0) (s .pre .2 .short) .0))
     (λ c. let s = c .before .before .before .before .before .before .before .before .before in c .before .before .before .link .kept .1 .1 .0 ∙ length-set (now (s .args .work)) (64 + s .args .from .h) (s .args .from .at))
-    (λ c. let s = c .before .before .before .before .before .before .before .before .before in let w = s .pre .0 in let f = s .pre .2 in let l = way-low w (f .short) .0 in let n = step-named w (c .before .before .before .before .before .if1 .left) (not-choice _ _ (s .pre .1)) in (passed-on (stack-is (now (s .args .edit)) (s .args .from .at) (s .args .from .h) (now (s .args .work)) l (f .long) n (c .before .before .before .link .ensures)) (step-passed w (c .before .before .before .before .before .if1 .left) (not-choice _ _ (s .pre .1)) (omega (arith, l, part-length 64 4096 (now (s .args .work)) (omega (arith, f .long)))) _ (c .past .ensures)), linked-more (now (s .args .edit)) (s .args .from .at) (s .args .from .h) (now (s .args .work)) l (f .long) n (c .before .before .before .link .ensures) (s .pre .3)))
+    (λ c. let s = c .before .before .before .before .before .before .before .before .before in let w = s .pre .0 in let f = s .pre .2 in let l = way-low w (f .short) .0 in let n = step-named w (c .before .before .before .before .before .if1 .left) (not-choice _ _ (s .pre .1)) in (passed-on (stack-is (now (s .args .edit)) (s .args .from .at) (s .args .from .h) (now (s .args .work)) l (f .long) n (c .before .before .before .link .ensures)) (step-passed w (c .before .before .before .before .before .if1 .left) (not-choice _ _ (s .pre .1)) (omega (arith, l, part-length 64 4096 (now (s .args .work)) (omega (arith, f .long)))) _ (c .behind .ensures)), linked-more (now (s .args .edit)) (s .args .from .at) (s .args .from .h) (now (s .args .work)) l (f .long) n (c .before .before .before .link .ensures) (s .pre .3)))
     )
