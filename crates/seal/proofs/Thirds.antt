@@ -48,15 +48,28 @@ module _ (l : List ℕ) where
   extra i = x1 l first i + x1 l second i + x1 l third i + (x3 l first i + x3 l second i + x3 l third i)
 
 module _ (l : List ℕ) (small : (p : ℕ) → getD l p 0 < 256) where
-  mixed-step : (i : ℕ) → mixed l i ≡ eight l (8 * i) * (21 - i) + eight l (8 * i + 168) * (21 - i) + eight l (8 * i + 336) * (21 - i) + 65535 * (extra l i * (21 - i))
+  two : (p q : ℕ) → getD l p 0 + getD l q 0 ≤ 510
+  two p q = omega (arith, small p, small q)
+
+  three-is : (i : ℕ) → fold (pairsAt l (8 * i) + pairsAt l (8 * i + 168) + pairsAt l (8 * i + 336)) ≡ eight l (8 * i) + eight l (8 * i + 168) + eight l (8 * i + 336) + 65535 * extra l i
   unfolding pairsAt
-  mixed-step i =
-      counted-apart _ (eight l (8 * i)) (eight l (8 * i + 168)) (eight l (8 * i + 336)) (extra l i) (21 - i)
-      (sum-of-three (x0 l first i) (x1 l first i) (x2 l first i) (x3 l first i) (x0 l second i) (x1 l second i) (x2 l second i) (x3 l second i) (x0 l third i) (x1 l third i) (x2 l third i) (x3 l third i)
-      (two (8 * i) (8 * i + 1)) (two (8 * i + 2) (8 * i + 3)) (two (8 * i + 168) (8 * i + 168 + 1)) (two (8 * i + 168 + 2) (8 * i + 168 + 3)) (two (8 * i + 336) (8 * i + 336 + 1)) (two (8 * i + 336 + 2) (8 * i + 336 + 3)))
-    where
-      two : (p q : ℕ) → getD l p 0 + getD l q 0 ≤ 510
-      two p q = omega (arith, small p, small q)
+  three-is i =
+      sum-of-three (x0 l first i) (x1 l first i) (x2 l first i) (x3 l first i) (x0 l second i) (x1 l second i) (x2 l second i) (x3 l second i) (x0 l third i) (x1 l third i) (x2 l third i) (x3 l third i)
+      (two (8 * i) (8 * i + 1)) (two (8 * i + 2) (8 * i + 3)) (two (8 * i + 168) (8 * i + 168 + 1)) (two (8 * i + 168 + 2) (8 * i + 168 + 3)) (two (8 * i + 336) (8 * i + 336 + 1)) (two (8 * i + 336 + 2) (8 * i + 336 + 3))
+
+  eight-low : (p : ℕ) → eight l p ≤ 2040
+  eight-low p = omega (arith, two p (p + 1), two (p + 2) (p + 3), two (p + 4) (p + 5), two (p + 6) (p + 7))
+
+  extra-low : (i : ℕ) → extra l i ≤ 3060
+  extra-low i =
+      omega (arith, two (8 * i + 2) (8 * i + 3), two (8 * i + 168 + 2) (8 * i + 168 + 3), two (8 * i + 336 + 2) (8 * i + 336 + 3), two (8 * i + 6) (8 * i + 7), two (8 * i + 168 + 6) (8 * i + 168 + 7), two (8 * i + 336 + 6) (8 * i + 336 + 7))
+
+  -- both halves of the lanes, added, are below 32 bits
+  pub three-low : (i : ℕ) → fold (pairsAt l (8 * i) + pairsAt l (8 * i + 168) + pairsAt l (8 * i + 336)) ≤ 0xFFFFFFFF
+  three-low i = omega (arith, three-is i, eight-low (8 * i), eight-low (8 * i + 168), eight-low (8 * i + 336), extra-low i)
+
+  mixed-step : (i : ℕ) → mixed l i ≡ eight l (8 * i) * (21 - i) + eight l (8 * i + 168) * (21 - i) + eight l (8 * i + 336) * (21 - i) + 65535 * (extra l i * (21 - i))
+  mixed-step i = counted-apart _ (eight l (8 * i)) (eight l (8 * i + 168)) (eight l (8 * i + 336)) (extra l i) (21 - i) (three-is i)
 
   mixed-is : (n : ℕ) → upTo (mixed l) n ≡ upTo (λ i. eight l (8 * i) * (21 - i)) n + upTo (λ i. eight l (8 * i + 168) * (21 - i)) n + upTo (λ i. eight l (8 * i + 336) * (21 - i)) n + 65535 * upTo (λ i. extra l i * (21 - i)) n
   unfolding upTo

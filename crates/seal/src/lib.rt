@@ -94,8 +94,8 @@ struct Totals {
     t: u64,
 }
 
-// Three thirds of 21 words side by side: their lanes added as whole words, for t each word as often as words follow it in its third, itself counted,
-// in halves of 32 bits, which the compiler multiplies two at a time.
+// Three thirds of 21 words side by side: their lanes added as whole words, for t each word as often as words follow it in its third, itself counted.
+// For that its halves are added: 32 bits hold the sum, and the compiler multiplies two such numbers at a time.
 // 65536 leaves 1, so a sum of lanes is the number itself; a byte's place in its word is taken off once, by shifts. Inner: the bytes are there.
 fn front(block: &[u8]) -> Totals
     requires { ⌜ 504 ≤ length (now block) ⌝ }
@@ -106,8 +106,7 @@ fn front(block: &[u8]) -> Totals
     let mut b = 0;
     let mut c = 0;
     let mut odds = 0;
-    let mut low = 0;
-    let mut high = 0;
+    let mut z = 0;
     let mut j = 0;
     while j < 21 {
         let x = lanes(block, 8 * j);
@@ -119,15 +118,14 @@ fn front(block: &[u8]) -> Totals
         odds += x.odds + y.odds + u.odds;
         let three = x.pairs + y.pairs + u.pairs;
         let v = 21 - j as u64;
-        low += three % 0x100000000 * v;
-        high += three / 0x100000000 * v;
+        z += (three + three / 0x100000000) % 0x100000000 * v;
         j += 1;
     }
     let all = a + b + c;
     let off = places(all, odds);
     Totals {
         s: folded(all),
-        t: 8 * (low + high + 42 * folded(a) + 21 * folded(b)) + ROOM - off,
+        t: 8 * (z + 42 * folded(a) + 21 * folded(b)) + ROOM - off,
     }
 }
 
