@@ -16,9 +16,9 @@ ghost use Rattle.carry.specs.Into.{Into};
 ghost use Rattle.text.specs.Reading.{longestText};
 
 // Bytes and levels of a carried book.
-pub const LONGEST_CARRIED: usize = 16384;
+pub const LONGEST_CARRIED: usize = Text::LONGEST_CARRIED;
 
-pub const DEEPEST_CARRIED: usize = 255;
+pub const DEEPEST_CARRIED: usize = Text::DEEPEST_CARRIED as usize;
 
 // Carries a book back through an edit into an output: 31, 32, 33, and only then it is written, at the output's start.
 // The edit that is written with lacks the idle steps, which change nothing, so that none is passed more than once in vain.
