@@ -9,6 +9,7 @@ mod library;
 mod sheets;
 
 use calls::{Buffers, Call, Outcome, Row, Sides};
+use instructions::Count;
 use std::time::{Duration, Instant};
 
 /// One call on buffers that were set anew, outside the time.
@@ -58,21 +59,29 @@ fn print_head(rounds: usize) {
     println!("Both sides answered and left the same in every row. Times are the best of up to {rounds} rounds");
     println!("(at least 20, about a second each), both sides in turn; before each call, outside the time, the sheet");
     println!("is copied anew and the 16,384 bytes of scratch or output are filled. Instructions are those of one");
-    println!("call, by callgrind. The sheets of the region are checked one after the other: the time is that of");
-    println!("them all, the instructions are those of one sheet on average.");
+    println!("call, by callgrind, all of them and without those that clear memory (memset). The sheets of the");
+    println!("region are checked one after the other: the time is that of them all, the instructions are those of");
+    println!("one sheet on average.");
     println!();
-    println!("{:<36} | {:^37} | {:^29}", "", "microseconds", "instructions a call");
+    println!("{:<36} | {:^37} | {:^29} | {:^29}", "", "microseconds", "instructions a call", "without clearing");
     let sides = format!("{:>10} {:>10} {:>7}", "library", "plain Rust", "ratio");
-    println!("{:<27} {:<8} | {sides} {:>7} | {sides}", "call", "answer", "rounds");
+    println!("{:<27} {:<8} | {sides} {:>7} | {sides} | {sides}", "call", "answer", "rounds");
 }
 
-fn print_row(row: &mut Row, [library, plain]: [u64; 2], rounds: usize) -> Result<(), String> {
+/// Two counts and how many times the second the first is.
+fn beside([library, plain]: [u64; 2]) -> String {
+    format!("{library:>10} {plain:>10} {:>7.2}", library as f64 / plain as f64)
+}
+
+fn print_row(row: &mut Row, counts: [Count; 2], rounds: usize) -> Result<(), String> {
     let [number, place, ..] = compare(&mut row.buffers, row.sides)?;
+    let calls = row.sheets().max(1) as u64;
     let answer = if row.sheets() == 0 { format!("{number:02} {place:05}") } else { format!("{number} done") };
     let ([ours, theirs], done) = best_times(row, rounds);
     let times = format!("{ours:>10.2} {theirs:>10.2} {:>7.2} {done:>7}", ours / theirs);
-    let instructions = format!("{library:>10} {plain:>10} {:>7.2}", library as f64 / plain as f64);
-    println!("{:<27} {answer:<8} | {times} | {instructions}", row.name);
+    let all = beside(counts.map(|count| count.all / calls));
+    let uncleared = beside(counts.map(|count| (count.all - count.clearing) / calls));
+    println!("{:<27} {answer:<8} | {times} | {all} | {uncleared}", row.name);
     Ok(())
 }
 
@@ -88,8 +97,7 @@ fn run() -> Result<(), String> {
     let counts = instructions::count(rows.len())?;
     print_head(rounds);
     for (row, count) in rows.iter_mut().zip(counts) {
-        let calls = row.sheets().max(1) as u64;
-        print_row(row, count.map(|count| count / calls), rounds)?;
+        print_row(row, count, rounds)?;
     }
     Ok(())
 }

@@ -348,13 +348,18 @@ fn decided(c: u8, k: bool) -> bool
 }
 
 // Whether a rule holds. Where the first rule of a 25 or 26 decides, the second is passed over.
+// An answer is taken apart and put together again: handed on whole, it is copied with the bytes between its fields, which takes longer.
 pub fn eval_rule(sheet: &[u8], n: usize, all: u64, text: &[u8], at: usize) -> Truth
     requires { ⌜ Opened (now sheet) n all × SomeStands (ranges n) (now text) at rule ⌝ }
     ensures { λ r. ⌜ ((e : Expr rule) → Stands (ranges n) (now (text .entry)) at e → IsTruth (now (sheet .entry)) at e (r .holds) (r .next)) ⌝ }
 {
     let c = text[at];
     if c <= 0x24 {
-        leaf_rule(sheet, n, all, text, at)
+        let k = leaf_rule(sheet, n, all, text, at);
+        Truth {
+            holds: k.holds,
+            next: k.next,
+        }
     } else if c <= 0x26 {
         let k = eval_rule(sheet, n, all, text, at + 1);
         if decided(c, k.holds) {
@@ -363,7 +368,11 @@ pub fn eval_rule(sheet: &[u8], n: usize, all: u64, text: &[u8], at: usize) -> Tr
                 next: ends::past(text, k.next),
             }
         } else {
-            eval_rule(sheet, n, all, text, k.next)
+            let l = eval_rule(sheet, n, all, text, k.next);
+            Truth {
+                holds: l.holds,
+                next: l.next,
+            }
         }
     } else {
         let k = eval_rule(sheet, n, all, text, at + 1);

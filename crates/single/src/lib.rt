@@ -1,6 +1,6 @@
 // Carried rules one by one, in a scratch that need not hold the whole carried book (item 10 of document 02).
 //
-// Stack: 24,704 bytes for the edit without its idle steps and the work array, under what measuring, writing and evaluating take; 16,384 more during
+// Stack: 13,784 bytes for the edit without its idle steps and the work array, under what measuring, writing and evaluating take; 16,384 more during
 // a dry run of writing.
 ghost use mathlib.Core.Path.{_≡_};
 ghost use mathlib.Core.List.{List};

@@ -108,14 +108,14 @@ older-is {edit} {stack} {links} {last} {h} {j} c k m w e l r =
     w .olders (j - 1) r ∙ sym (ap₂ (λ (x y : ℕ). lastIn edit stack (j - 1) x y) (b .0) (b .1))
 
 -- as the work array has it
-older-at : {edit work : List ℕ} {h j : ℕ} (c k m : ℕ) (w : SomeLinks edit work h) → j ≡ lastIn edit (stackOf work) m c k → 0 < j → j - 1 < w .top → getD work (4160 + (j - 1)) 0 ≡ lastIn edit (stackOf work) (j - 1) c k
-older-at {edit} {work} {h} {j} c k m w e l r = sym (part-at 4160 4096 work (j - 1) (4160 + (j - 1)) (omega (arith, r, w .room)) refl) ∙ older-is c k m (w .linked) e l r
+older-at : {edit work : List ℕ} {h j : ℕ} (c k m : ℕ) (w : SomeLinks edit work h) → j ≡ lastIn edit (stackOf work) m c k → 0 < j → j - 1 < w .top → getD work (1430 + (j - 1)) 0 ≡ lastIn edit (stackOf work) (j - 1) c k
+older-at {edit} {work} {h} {j} c k m w e l r = sym (part-at 1430 1366 work (j - 1) (1430 + (j - 1)) (omega (arith, r, w .room)) refl) ∙ older-is c k m (w .linked) e l r
 
 pub hit-at : {edit work : List ℕ} {σ : List Step} {c k j : ℕ} → SomeLinks edit work j → 0 < j → (H : Hit edit (stackOf work) σ c k (j - 1)) → StepAt edit (getD work (64 + (j - 1)) 0) (H .s)
-hit-at {edit} {work} {σ} {c} {k} {j} w n H = subst (λ (o : ℕ). StepAt edit o (H .s)) (part-at 64 4096 work (j - 1) (64 + (j - 1)) (omega (arith, n, w .high, w .room)) refl) (H .at)
+hit-at {edit} {work} {σ} {c} {k} {j} w n H = subst (λ (o : ℕ). StepAt edit o (H .s)) (part-at 64 1366 work (j - 1) (64 + (j - 1)) (omega (arith, n, w .high, w .room)) refl) (H .at)
 
 pub hit-older : {edit work : List ℕ} {σ : List Step} {c k j : ℕ} → SomeLinks edit work j → j ≡ lastIn edit (stackOf work) (length σ) c k → 0 < j → (H : Hit edit (stackOf work) σ c k (j - 1))
-    → (getD work (4160 + (j - 1)) 0 ≡ lastIn edit (stackOf work) (length (H .below)) c k) × (getD work (4160 + (j - 1)) 0 < j)
+    → (getD work (1430 + (j - 1)) 0 ≡ lastIn edit (stackOf work) (length (H .below)) c k) × (getD work (1430 + (j - 1)) 0 < j)
 hit-older {edit} {work} {σ} {c} {k} {j} w e n H =
     let q = older-at c k (length σ) w e (omega (arith, n)) (omega (arith, n, w .high)) in
     (q ∙ ap (λ (x : ℕ). lastIn edit (stackOf work) x c k) (H .len), omega (arith, q, n, last-low edit (stackOf work) (j - 1) c k))
@@ -138,19 +138,19 @@ following-first {edit} {work} {h} {c} {k} {i} w n e = record {
 }
 
 module _ {edit work : List ℕ} {h c k j : ℕ} (f : Following edit work h c k j) where
-  pub following-low : j ≤ 4096
+  pub following-low : j ≤ 1366
   following-low = omega (arith, f .is, last-low edit (stackOf work) (f .m) c k, f .below, f .some .room)
 
-  lower-is : h < j → (j - 1 < f .m) × (getD work (4160 + (j - 1)) 0 ≡ lastIn edit (stackOf work) (j - 1) c k)
+  lower-is : h < j → (j - 1 < f .m) × (getD work (1430 + (j - 1)) 0 ≡ lastIn edit (stackOf work) (j - 1) c k)
   lower-is l =
       let e : lastIn edit (stackOf work) (f .m) c k ≡ suc (j - 1) = omega (arith, f .is) in
       let q = last-hits edit (stackOf work) (f .m) c k (j - 1) e in
       (q .0, older-at c k (f .m) (f .some) (f .is) (omega arith) (omega (arith, q .0, f .below)))
 
-  pub following-more : h < j → Following edit work h c k (getD work (4160 + (j - 1)) 0)
+  pub following-more : h < j → Following edit work h c k (getD work (1430 + (j - 1)) 0)
   following-more l = let q = lower-is l in record { some = f .some; m = j - 1; above = omega arith; below = omega (arith, q .0, f .below); is = q .1 }
 
-  pub following-less : h < j → getD work (4160 + (j - 1)) 0 < j
+  pub following-less : h < j → getD work (1430 + (j - 1)) 0 < j
   following-less l = omega (arith, lower-is l .1, last-low edit (stackOf work) (j - 1) c k)
 
   pub following-end : j ≤ h → j ≡ lastIn edit (stackOf work) h c k
@@ -208,7 +208,7 @@ module _ (edit : List ℕ) (at h : ℕ) {stack links last links′ last′ : Lis
           ∙ ap (λ (o : ℕ). lastIn edit (set stack h at) h (codeAt edit o) (numberAt edit o)) (sym here))
 
 -- the step at `at` put on the stack of the work array and linked
-module _ (edit : List ℕ) (at h : ℕ) (work : List ℕ) {work′ : List ℕ} (low : h < 4096) (long : length work ≡ workLength) (n : Named (codeAt edit at) (numberAt edit at)) (e : work′ ≡ linkStep edit at h (set work (64 + h) at)) where
+module _ (edit : List ℕ) (at h : ℕ) (work : List ℕ) {work′ : List ℕ} (low : h < 1366) (long : length work ≡ workLength) (n : Named (codeAt edit at) (numberAt edit at)) (e : work′ ≡ linkStep edit at h (set work (64 + h) at)) where
   abbrev i : ℕ
   i = cell (codeAt edit at) (numberAt edit at)
 
@@ -216,34 +216,34 @@ module _ (edit : List ℕ) (at h : ℕ) (work : List ℕ) {work′ : List ℕ} (
   one = set work (64 + h) at
 
   abbrev two : List ℕ
-  two = set one (4160 + h) (getD one i 0)
+  two = set one (1430 + h) (getD one i 0)
 
   under : i < 64
   under = named-lt (codeAt edit at) (numberAt edit at) n
 
   pub stack-is : stackOf work′ ≡ set (stackOf work) h at
   stack-is =
-      ap stackOf e ∙ part-before 64 4096 two i (h + 1) under ∙ part-behind 64 4096 one (4160 + h) (getD one i 0) (omega arith) ∙ part-in 64 4096 work (64 + h) at h low refl
+      ap stackOf e ∙ part-before 64 1366 two i (h + 1) under ∙ part-behind 64 1366 one (1430 + h) (getD one i 0) (omega arith) ∙ part-in 64 1366 work (64 + h) at h low refl
 
   links-are : linksOf work′ ≡ set (linksOf work) h (getD (lastOf work) i 0)
   links-are =
-      ap linksOf e ∙ part-before 4160 4096 two i (h + 1) (omega (arith, under)) ∙ part-in 4160 4096 one (4160 + h) (getD one i 0) h low refl
-      ∙ ap₂ (λ (l : List ℕ) (x : ℕ). set l h x) (part-before 4160 4096 work (64 + h) at (omega (arith, low)))
+      ap linksOf e ∙ part-before 1430 1366 two i (h + 1) (omega (arith, under)) ∙ part-in 1430 1366 one (1430 + h) (getD one i 0) h low refl
+      ∙ ap₂ (λ (l : List ℕ) (x : ℕ). set l h x) (part-before 1430 1366 work (64 + h) at (omega (arith, low)))
       (getD-set-other work (64 + h) i at 0 (λ q. omega (arith, q, under)) ∙ sym (part-at 0 64 work i i under (omega arith)))
 
   last-is : lastOf work′ ≡ set (lastOf work) i (h + 1)
   last-is =
       ap lastOf e ∙ part-in 0 64 two i (h + 1) i under (omega arith)
-      ∙ ap (λ (l : List ℕ). set l i (h + 1)) (part-behind 0 64 one (4160 + h) (getD one i 0) (omega arith) ∙ part-behind 0 64 work (64 + h) at (omega arith))
+      ∙ ap (λ (l : List ℕ). set l i (h + 1)) (part-behind 0 64 one (1430 + h) (getD one i 0) (omega arith) ∙ part-behind 0 64 work (64 + h) at (omega arith))
 
   behind-is : behindOf work′ ≡ behindOf work
   behind-is =
-      ap behindOf e ∙ part-before 8256 2048 two i (h + 1) (omega (arith, under)) ∙ part-before 8256 2048 one (4160 + h) (getD one i 0) (omega (arith, low))
-      ∙ part-before 8256 2048 work (64 + h) at (omega (arith, low))
+      ap behindOf e ∙ part-before 2796 2048 two i (h + 1) (omega (arith, under)) ∙ part-before 2796 2048 one (1430 + h) (getD one i 0) (omega (arith, low))
+      ∙ part-before 2796 2048 work (64 + h) at (omega (arith, low))
 
   pub linked-more : LinkedIn edit work h → Relinked edit work work′ h (h + 1)
   linked-more w =
-      let q = linked-set edit at h (omega (arith, part-length 64 4096 work (omega (arith, long)), low)) (omega (arith, part-length 4160 4096 work (omega (arith, long)), low)) (part-length 0 64 work (omega (arith, long))) n w links-are last-is in
+      let q = linked-set edit at h (omega (arith, part-length 64 1366 work (omega (arith, long)), low)) (omega (arith, part-length 1430 1366 work (omega (arith, long)), low)) (part-length 0 64 work (omega (arith, long))) n w links-are last-is in
       record { linked = subst (λ (l : List ℕ). Linked edit l (linksOf work′) (lastOf work′) (h + 1)) (sym stack-is) (q .0); kept = q .1; behind-same = behind-is }
 
 pub relinked-none : {edit work : List ℕ} {h : ℕ} → LinkedIn edit work h → Relinked edit work work h h
@@ -260,7 +260,7 @@ pub linked-none : (edit work : List ℕ) → Kept 64 (replicate 64 0) (lastOf wo
 unfolding lastIn
 linked-none edit work s = record { lasts = λ c k n. s .same (cell c k) (named-lt c k n) ∙ getD-replicate 64 (cell c k) 0 0 (named-lt c k n); olders = λ j l. absurd (omega (arith, l)) }
 
-pub some-links : {edit work : List ℕ} {h : ℕ} → LinkedIn edit work h → h ≤ 4096 → length work ≡ workLength → SomeLinks edit work h
+pub some-links : {edit work : List ℕ} {h : ℕ} → LinkedIn edit work h → h ≤ 1366 → length work ≡ workLength → SomeLinks edit work h
 some-links {edit} {work} {h} w r l = record { top = h; high = omega arith; room = r; long = l; linked = w }
 
 pub links-lower : {edit work : List ℕ} {h h′ : ℕ} → h′ ≤ h → SomeLinks edit work h → SomeLinks edit work h′

@@ -47,17 +47,17 @@ last-first work = refl
 
 -- an offset of an edit behind stored
 pub record BehindStored (work : List ℕ) (d v : ℕ) : Type 0 where
-  pub last-same : lastOf (set work (8256 + d) v) ≡ lastOf work
-  pub stack-same : stackOf (set work (8256 + d) v) ≡ stackOf work
-  pub links-same : linksOf (set work (8256 + d) v) ≡ linksOf work
-  pub behind-is : behindOf (set work (8256 + d) v) ≡ set (behindOf work) d v
+  pub last-same : lastOf (set work (2796 + d) v) ≡ lastOf work
+  pub stack-same : stackOf (set work (2796 + d) v) ≡ stackOf work
+  pub links-same : linksOf (set work (2796 + d) v) ≡ linksOf work
+  pub behind-is : behindOf (set work (2796 + d) v) ≡ set (behindOf work) d v
 
 pub behind-stored : (work : List ℕ) (d v : ℕ) → d < 2048 → BehindStored work d v
 behind-stored work d v l = record {
-  last-same = part-behind 0 64 work (8256 + d) v (omega arith);
-  stack-same = part-behind 64 4096 work (8256 + d) v (omega arith);
-  links-same = part-behind 4160 4096 work (8256 + d) v (omega arith);
-  behind-is = part-in 8256 2048 work (8256 + d) v d l refl;
+  last-same = part-behind 0 64 work (2796 + d) v (omega arith);
+  stack-same = part-behind 64 1366 work (2796 + d) v (omega arith);
+  links-same = part-behind 1430 1366 work (2796 + d) v (omega arith);
+  behind-is = part-in 2796 2048 work (2796 + d) v d l refl;
 }
 
 -- the last steps of names replaced
@@ -70,7 +70,7 @@ pub record LastReplaced (work e work′ : List ℕ) : Type 0 where
 pub last-replaced : (work e : List ℕ) → length e ≡ 64 → LastReplaced work e (e ++ drop 64 work)
 last-replaced work e l = record {
   last-is = last-first (e ++ drop 64 work) ∙ take-at e (drop 64 work) 64 l;
-  stack-same = part-front 64 4096 work e 64 l (omega arith);
-  links-same = part-front 4160 4096 work e 64 l (omega arith);
-  behind-same = part-front 8256 2048 work e 64 l (omega arith);
+  stack-same = part-front 64 1366 work e 64 l (omega arith);
+  links-same = part-front 1430 1366 work e 64 l (omega arith);
+  behind-same = part-front 2796 2048 work e 64 l (omega arith);
 }

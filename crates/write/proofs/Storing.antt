@@ -57,7 +57,7 @@ pub branch : {text edit work work₁ o o′ : List ℕ} {from at h d pos at′ h
     → Walked edit (stackOf work) (behindOf work) at h d (stackOf work₁) at′ h′ d′ → Relinked edit work work₁ h h′ → (getD edit at′ 0 ≡ 0x30 → ⊥)
     → ((σ : List Step) (t : Tree) → h′ ≡ length σ → StackIs edit (stackOf work₁) σ → At edit (at′ + 1) t → Wrote o pos (0x25 ∷ 0x26 ∷ 0x27 ∷ treeCode (graft (env σ) t)) pos′ o′ × (first ≡ at′ + 1 + size t))
     → ((P : Edit) → EditAt edit first P → second ≡ first + length (editCode P)) → ((Q : Edit) → EditAt edit second Q → next ≡ second + length (editCode Q))
-    → Branch text from edit work at h d o pos (set work₁ (8256 + d′) next) at′ h′ d′ first second next pos′ o′
+    → Branch text from edit work at h d o pos (set work₁ (2796 + d′) next) at′ h′ d′ first second next pos′ o′
 branch {text} {edit} {work} {work₁} {o} {o′} {from} {at} {h} {d} {pos} {at′} {h′} {d′} {first} {second} {next} {pos′} w f l a r m u g e =
     let y = rested w a .way in
     let q = way-low y (f .short) in
@@ -68,10 +68,10 @@ branch {text} {edit} {work} {work₁} {o} {o′} {from} {at} {h} {d} {pos} {at�
       some = rested w v;
       chosen = chosen edit at′ (at-choice _ _ (a .rests) m) (λ t i. u (y .steps) t (y .way .steps-passed) (y .way .steps) i .1) g e;
       opened = λ σ t n s i. u σ t n (subst (λ (x : List ℕ). StackIs edit x σ) (b .stack-same) s) i .0;
-      low = omega (arith, q .1, part-length 8256 2048 work (omega (arith, f .long)));
+      low = omega (arith, q .1, part-length 2796 2048 work (omega (arith, f .long)));
       behind = b .behind-is ∙ ap (λ (x : List ℕ). set x d′ next) (r .behind-same);
       linked = linked-kept (kept-same (b .stack-same)) (kept-same (b .links-same)) (kept-same (b .last-same)) (r .linked);
-      fits = record { short = f .short; long = length-set work₁ (8256 + d′) next ∙ l ∙ f .long };
+      fits = record { short = f .short; long = length-set work₁ (2796 + d′) next ∙ l ∙ f .long };
       kept = kept-on (b .links-same) (r .kept);
     }
 
@@ -100,11 +100,11 @@ again work₁ {text} {edit} {work} {o} {o′} {last} {last′} {from} {at} {h} {
 pub stored-back : (work₀ work₁ work : List ℕ) {text edit : List ℕ} {from at h d : ℕ} {o : List ℕ} {pos pos′ : ℕ} {o′ : List ℕ} {d′ : ℕ} → d′ < length (behindOf work₀) → length work₀ ≡ workLength → behindOf work₁ ≡ behindOf work₀
     → ((behind′ : List ℕ) → behind′ ≡ set (behindOf work) d′ (getD (behindOf work₀) d′ 0) → WayWritten text from edit (stackOf work₀) (behindOf work₀) at h d o pos pos′ (stackOf work) behind′ o′)
     → Kept h (linksOf work₀) (linksOf work)
-    → WayWritten text from edit (stackOf work₀) (behindOf work₀) at h d o pos pos′ (stackOf (set work (8256 + d′) (getD work₁ (8256 + d′) 0))) (behindOf (set work (8256 + d′) (getD work₁ (8256 + d′) 0))) o′
-    × Kept h (linksOf work₀) (linksOf (set work (8256 + d′) (getD work₁ (8256 + d′) 0)))
+    → WayWritten text from edit (stackOf work₀) (behindOf work₀) at h d o pos pos′ (stackOf (set work (2796 + d′) (getD work₁ (2796 + d′) 0))) (behindOf (set work (2796 + d′) (getD work₁ (2796 + d′) 0))) o′
+    × Kept h (linksOf work₀) (linksOf (set work (2796 + d′) (getD work₁ (2796 + d′) 0)))
 stored-back work₀ work₁ work {text} {edit} {from} {at} {h} {d} {o} {pos} {pos′} {o′} {d′} l n e c k =
-    let r : d′ < 2048 = omega (arith, l, part-length 8256 2048 work₀ (omega (arith, n))) in
-    let v = getD work₁ (8256 + d′) 0 in
+    let r : d′ < 2048 = omega (arith, l, part-length 2796 2048 work₀ (omega (arith, n))) in
+    let v = getD work₁ (2796 + d′) 0 in
     let b = behind-stored work d′ v r in
-    let x : v ≡ getD (behindOf work₀) d′ 0 = sym (part-at 8256 2048 work₁ d′ (8256 + d′) r refl) ∙ ap (λ (y : List ℕ). getD y d′ 0) e in
-    (written-on (b .stack-same) refl (c (behindOf (set work (8256 + d′) v)) (b .behind-is ∙ ap (λ (y : ℕ). set (behindOf work) d′ y) x)), kept-on (b .links-same) k)
+    let x : v ≡ getD (behindOf work₀) d′ 0 = sym (part-at 2796 2048 work₁ d′ (2796 + d′) r refl) ∙ ap (λ (y : List ℕ). getD y d′ 0) e in
+    (written-on (b .stack-same) refl (c (behindOf (set work (2796 + d′) v)) (b .behind-is ∙ ap (λ (y : ℕ). set (behindOf work) d′ y) x)), kept-on (b .links-same) k)

@@ -18,6 +18,7 @@ use Rattle.ends.specs.Shapes.{shapeOf, At, Some, Named}
 use Rattle.ends.specs.Edits.{EditAt, behindStep}
 use Rattle.ends.specs.Kept.{Kept}
 use Rattle.ends.proofs.Steps.{editTag, editTree, stepOf, IsStep, as-step, as-finish, edit-inside}
+use Rattle.ends.proofs.Places.{size-pos}
 use Rattle.ends.proofs.Pending.{passing-first, passing-more, passing-end}
 use Rattle.ends.proofs.Kept.{kept-set, kept-more}
 use Rattle.write.specs.Offsets.{StepAt, StackIs}
@@ -79,7 +80,7 @@ module _ {edit stack behind : List ℕ} {at h d : ℕ} where
         kept = kept-set stack h at;
         on = omega (arith, l);
         up = omega arith;
-        low = omega (arith, l, w .low);
+        low = omega (arith, l, size-pos (editTree (w .what)) (p .what .formed), w .low);
         low-behind = omega (arith, l, w .low-behind);
       }
     where
@@ -102,7 +103,7 @@ module _ {edit stack behind : List ℕ} {at h d : ℕ} where
           }
 
   -- past the end of what a 35 does
-  pub way-low : SomeWay edit stack behind at h d → length edit ≤ 4096 → (h < 4096) × (d < 2048)
+  pub way-low : SomeWay edit stack behind at h d → length edit ≤ 4096 → (h < 1366) × (d < 2048)
   way-low w l = let r = edit-inside edit at (w .what) (w .way .here) in (omega (arith, w .low, r, l), omega (arith, w .low-behind, r, l))
 
   pub end-passed : SomeWay edit stack behind at h d → getD edit at 0 ≡ 0x30 → 0 < d → Passed edit stack behind at h d stack (getD behind (d - 1) 0) h (d - 1)

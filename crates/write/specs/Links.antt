@@ -8,7 +8,7 @@ use Rattle.tree.specs.Tree.{same}
 use Rattle.tree.specs.Stack.{touched}
 use Rattle.ends.specs.Shapes.{Named, cell}
 use Rattle.ends.specs.Kept.{Kept}
-use Rattle.write.specs.Work.{linksStart, workLength, lastOf, stackOf, linksOf, behindOf}
+use Rattle.write.specs.Work.{mostSteps, linksStart, workLength, lastOf, stackOf, linksOf, behindOf}
 
 -- the code and the number of the name that the step at a place touches
 abbrev pub codeAt : (edit : List ℕ) → ℕ → ℕ
@@ -33,7 +33,7 @@ LinkedIn edit work h = Linked edit (stackOf work) (linksOf work) (lastOf work) h
 pub record SomeLinks (edit work : List ℕ) (h : ℕ) : Type 0 where
   pub top : ℕ
   pub high : h ≤ top
-  pub room : top ≤ 4096
+  pub room : top ≤ mostSteps
   pub long : length work ≡ workLength
   pub linked : LinkedIn edit work top
 

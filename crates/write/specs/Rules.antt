@@ -24,7 +24,7 @@ pub record SomeRuleFits (text : List ℕ) (at : ℕ) (edit : List ℕ) (from pos
 -- All rules go alike through an edit up to its first 35, or its end: a walk from its start rests there, and the work array is as it left it.
 pub record Started (edit : List ℕ) (from : ℕ) (work : List ℕ) (at h d : ℕ) : Type 0 where
   pub each : (Z : Edit) → EditAt edit from Z → SameWay edit (stackOf work) (behindOf work) at h d [] Z []
-  pub low : h ≤ at
+  pub low : 3 * h ≤ at
   pub low-behind : 2 * d ≤ at
   pub linked : LinkedIn edit work h
 

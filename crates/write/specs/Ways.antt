@@ -36,13 +36,13 @@ pub record Way (edit stack behind : List ℕ) (at h d : ℕ) (σ : List Step) (Z
   pub around : d ≡ length Ws
   pub rest : BehindIs edit behind (at + length (editCode Z)) Ws
 
--- some way, with room for its offsets below its place
+-- some way, with room for its offsets below its place: a step has three bytes at least
 pub record SomeWay (edit stack behind : List ℕ) (at h d : ℕ) : Type 0 where
   pub steps : List Step
   pub what : Edit
   pub later : List Edit
   pub way : Way edit stack behind at h d steps what later
-  pub low : h ≤ at
+  pub low : 3 * h ≤ at
   pub low-behind : 2 * d ≤ at
 
 -- further on the same way: what is written of each rule is the same
@@ -63,14 +63,14 @@ pub record Passed (edit stack behind : List ℕ) (at h d : ℕ) (stack′ : List
   pub kept : Kept h stack stack′
   pub on : at < at′
   pub up : h ≤ h′
-  pub low : h′ ≤ at′
+  pub low : 3 * h′ ≤ at′
   pub low-behind : 2 * d′ ≤ at′
 
 pub record Walked (edit stack behind : List ℕ) (at h d : ℕ) (stack′ : List ℕ) (at′ h′ d′ : ℕ) : Type 0 where
   pub each : (σ : List Step) (Z : Edit) (Ws : List Edit) → Way edit stack behind at h d σ Z Ws → SameWay edit stack′ behind at′ h′ d′ σ Z Ws
   pub kept : Kept h stack stack′
   pub up : h ≤ h′
-  pub low : h′ ≤ at′
+  pub low : 3 * h′ ≤ at′
   pub low-behind : 2 * d′ ≤ at′
   pub rests : resting (getD edit at′ 0) d′ ≡ true
 

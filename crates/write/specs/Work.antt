@@ -6,18 +6,22 @@ use lib.ListN.{take, drop}
 unfoldable pub part : (from n : ℕ) → List ℕ → List ℕ
 part from n work = take n (drop from work)
 
+-- so many steps an edit of 4,096 bytes can have, and one more: each has three bytes or more
+abbrev pub mostSteps : ℕ
+mostSteps = 1366
+
 -- where the second, third and fourth part start, and the length of all
 abbrev pub stackStart : ℕ
 stackStart = 64
 
 abbrev pub linksStart : ℕ
-linksStart = 4160
+linksStart = 1430
 
 abbrev pub behindStart : ℕ
-behindStart = 8256
+behindStart = 2796
 
 abbrev pub workLength : ℕ
-workLength = 10304
+workLength = 4844
 
 -- the last step of each of the 64 names
 abbrev pub lastOf : List ℕ → List ℕ
@@ -25,10 +29,10 @@ lastOf work = part 0 64 work
 
 -- the offsets of the steps passed, and the link of each
 abbrev pub stackOf : List ℕ → List ℕ
-stackOf work = part stackStart 4096 work
+stackOf work = part stackStart mostSteps work
 
 abbrev pub linksOf : List ℕ → List ℕ
-linksOf work = part linksStart 4096 work
+linksOf work = part linksStart mostSteps work
 
 -- the offsets of the edits behind
 abbrev pub behindOf : List ℕ → List ℕ

@@ -14,13 +14,14 @@ mod names;
 mod ways;
 
 // The work array, in parts: for each of the 64 names its last step, the offsets of the steps passed, the link of each, the offsets of the edits behind.
+// A step has three bytes at least, so that an edit has 1,365 at most.
 const STACK: usize = 64;
 
-const LINKS: usize = 4160;
+const LINKS: usize = 1430;
 
-const BEHIND: usize = 8256;
+const BEHIND: usize = 2796;
 
-pub const WORK: usize = 10304;
+pub const WORK: usize = 4844;
 
 // Where reading and writing stand.
 pub struct Place {

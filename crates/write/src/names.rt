@@ -3,11 +3,10 @@ use crate::LINKS;
 ghost use mathlib.Core.Path.{_≡_};
 ghost use Prim.Native.Nat.{_+_, _<_, _≤_};
 ghost use lib.ListN.{length, getD};
-ghost use Rattle.text.specs.Reading.{longestText};
 ghost use Rattle.tree.specs.Stack.{touched};
 ghost use Rattle.ends.specs.Shapes.{Named};
 ghost use Rattle.ends.specs.Kept.{Kept};
-ghost use Rattle.write.specs.Work.{workLength, stackOf};
+ghost use Rattle.write.specs.Work.{mostSteps, workLength, stackOf};
 ghost use Rattle.write.specs.Links.{lastIn, SomeLinks, linkStep};
 
 // A name: its code and its number.
@@ -35,7 +34,7 @@ pub fn find(edit: &[u8], work: &[u16], h: usize, of: Name) -> usize
 // Links the step at `at`, which is the one on top of h others, to the one before it of its name.
 // Inner: a step stands there.
 pub fn link(edit: &[u8], at: usize, work: &mut [u16], h: usize)
-    requires { ⌜ (at + 1 < length (now edit)) × (h < longestText) × (length (now work) ≡ workLength) × Named (touched (getD (now edit) at 0)) (getD (now edit) (at + 1) 0) ⌝ }
+    requires { ⌜ (at + 1 < length (now edit)) × (h < mostSteps) × (length (now work) ≡ workLength) × Named (touched (getD (now edit) at 0)) (getD (now edit) (at + 1) 0) ⌝ }
     ensures { λ r. ⌜ now (work .exit) ≡ linkStep (now (edit .entry)) at h (now (work .entry)) ⌝ }
 {
     let i = ends::cell_of(ends::name_code(edit[at]), edit[at + 1]);

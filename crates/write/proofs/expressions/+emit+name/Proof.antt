@@ -61,7 +61,7 @@ name-claims t = (lead-reads.Asked, lead-reads.Learnt, put-two-reads.Asked, put-t
 
 -- the name under the steps below, written by either way
 older : (t : ℕ) (c : name-lts.Joined1 (name-claims t) (name-at t) name.Post) → let s = c .before .before .before .before .before .before .before .before in
-    parts.NameWrote (now (s .args .edit)) (stackOf (now (s .args .work))) (getD (now (s .args .work)) (4160 + (s .args .j - 1)) 0) (s .args .of .code) (s .args .of .number) (set (now (s .args .out)) (s .args .pos) (c .before .before .lead .result)) (s .args .pos + 1) (c .if1 .p) (c .if1 .out)
+    parts.NameWrote (now (s .args .edit)) (stackOf (now (s .args .work))) (getD (now (s .args .work)) (1430 + (s .args .j - 1)) 0) (s .args .of .code) (s .args .of .number) (set (now (s .args .out)) (s .args .pos) (c .before .before .lead .result)) (s .args .pos + 1) (c .if1 .p) (c .if1 .out)
 older t c = ⊎-elim (λ w. parts.name-wrote-as (w .5) (w .6) (parts.bare-wrote (w .0 .taken) (w .2 .ensures) (w .2 .kept .1 .1 .0))) (λ w. parts.name-wrote-as (w .5) (w .6) (record { each = w .2 .ensures; long = w .2 .kept .1 .1 .1 .1 .0 })) (c .if1 .came)
 
 -- the step's expression stands in the edit, and there is room for it
@@ -110,7 +110,7 @@ pub +emit+name-spec : {M : Type 1} → statement M
     (λ c. let p = c .before .before .before .before .before .before .pre .1 in omega (arith, p .0, p .2 .high, p .2 .room))
     (λ c. let p = c .before .before .before .before .before .before .pre .1 in omega (arith, p .0, p .2 .high, p .2 .room))
     (λ c. let p = c .before .before .before .before .before .before .before .pre .1 in omega (arith, p .0, p .2 .high, p .2 .room, p .2 .long))
-    (λ c. omega (arith, c .shared-slice-known5 .given (4160 + (c .before .before .before .before .before .before .before .args .j - 1))))
+    (λ c. omega (arith, c .shared-slice-known5 .given (1430 + (c .before .before .before .before .before .before .before .args .j - 1))))
     (λ c. let s = c .before .before .before .before .before .before .before in omega (arith, parts.hit-fits (s .pre .1 .0) (s .pre .1 .2) (s .pre .1 .1)))
     (λ c κs. let s = c .before .before .before .before .before .before .before .before .before in parts.bare-room (parts.older-some (s .pre .1 .0) (s .pre .1 .2) (s .pre .1 .1) (length-set (now (s .args .out)) (s .args .pos) (c .before .before .before .lead .result))) (c .before .if1 .taken))
     (λ c κs. let s = c .before .before .before .before .before .before .before .before .before in let l = length-set (now (s .args .out)) (s .args .pos) (c .before .before .before .lead .result) in (omega (arith, s .pre .0, l, parts.hit-fits (s .pre .1 .0) (s .pre .1 .2) (s .pre .1 .1)), (omega (arith, c .before .if1 .left), parts.older-some (s .pre .1 .0) (s .pre .1 .2) (s .pre .1 .1) l, links-lower (omega (arith, hit-older (s .pre .1 .2) (s .pre .1 .1 .is) (s .pre .1 .0) (parts.hit (s .pre .1 .0) (s .pre .1 .2) (s .pre .1 .1)) .1)) (s .pre .1 .2))))

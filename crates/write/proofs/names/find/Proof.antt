@@ -23,7 +23,7 @@ find-spec = tie.close (tie.spec Inv-loop μ-loop
     (λ c. omega (arith, following-low (c .before .loop .inv)))
     (λ c. omega (arith, following-low (c .before .loop .inv)))
     (λ c. omega (arith, following-low (c .before .before .loop .inv), c .before .loop-test .taken, c .before .before .before .before .before .before .before .pre .0 .long))
-    (λ c. omega (arith, c .shared-slice-known4 .given (4160 + (c .before .before .loop .j - 1))))
+    (λ c. omega (arith, c .shared-slice-known4 .given (1430 + (c .before .before .loop .j - 1))))
     (λ c. following-less (c .before .before .loop .inv) (c .before .loop-test .taken))
     (λ c. following-more (c .before .before .loop .inv) (c .before .loop-test .taken))
     (λ c. (following-end (c .before .loop .inv) (c .loop-test .left), c .loop-test .left))
