@@ -2,7 +2,7 @@
 use mathlib.Core.Path.{_≡_, refl, sym, ap, ap₂, _∙_}
 use mathlib.Core.Bool.{Bool, true, false, cond}
 use mathlib.Core.List.{List, [], _∷_, _++_, append-nil, map}
-use Prim.Native.Nat.{ℕ, _+_, max}
+use Prim.Native.Nat.{ℕ, _+_}
 use native.Mathlib.Omega.{arith}
 use borrow.Author.Tests.{eqb-true}
 use lib.Dec.{eqb}
@@ -10,11 +10,11 @@ use lib.ListN.{length}
 use Rattle.logic.specs.Syntax.{rule, Expr, label, complement, and, or, arrowKind, union, minus, Edit, finish, addLabel, takeLabel, addArrow, takeArrow, choose}
 use Rattle.logic.specs.Carry.{carry, carriedBook}
 use Rattle.logic.specs.Limits.{Ranges, EditInRange}
-use Rattle.text.specs.Code.{code, editCode, bookCode, bookLevels}
+use Rattle.text.specs.Code.{code, editCode, bookCode}
 use Rattle.text.specs.Stands.{EditStands}
-use Rattle.tree.specs.Tree.{Tree, name, leaf, one, two, treeCode, height, graft, only, same, count, tree}
+use Rattle.tree.specs.Tree.{Tree, name, leaf, one, two, treeCode, graft, only, same, count, tree}
 use Rattle.tree.specs.Sizes.{Measure, measure, back, join, nothing, measures}
-use Rattle.tree.proofs.Trees.{code-tree, height-tree, tree-putLabel, tree-putArrow}
+use Rattle.tree.proofs.Trees.{code-tree, tree-putLabel, tree-putArrow}
 use Rattle.tree.proofs.Measured.{measured}
 use Rattle.tree.proofs.Books.{join-nothing, join-comm, join-assoc, back-join}
 use Rattle.measure.specs.Pruned.{pruned}
@@ -108,10 +108,6 @@ pruned-code Z rules = same-rules (List ℕ) (λ t l. treeCode t ++ l) bookCode (
 -- .. rule by rule
 pub pruned-codes : (Z : Edit) (rules : List (Expr rule)) → map code (carriedBook (pruned (length rules) Z (measures rules)) rules) ≡ map code (carriedBook Z rules)
 pruned-codes Z rules = same-rules (List (List ℕ)) (λ t l. treeCode t ∷ l) (map code) (λ K Ks. ap (λ (x : List ℕ). x ∷ map code Ks) (sym (code-tree K))) (length rules) 0 Z rules (measures rules) nothing (omega arith) (sym (join-nothing (measures rules)))
-
-pub pruned-levels : (Z : Edit) (rules : List (Expr rule)) → bookLevels (carriedBook (pruned (length rules) Z (measures rules)) rules) ≡ bookLevels (carriedBook Z rules)
-unfolding bookLevels
-pruned-levels Z rules = same-rules ℕ (λ t n. max (height t) n) bookLevels (λ K Ks. ap (λ (n : ℕ). max n (bookLevels Ks)) (sym (height-tree K))) (length rules) 0 Z rules (measures rules) nothing (omega arith) (sym (join-nothing (measures rules)))
 
 kept-range : (lim : Ranges) (b : Bool) (Y step : Edit) → EditInRange lim Y → EditInRange lim step → EditInRange lim (cond b Y step)
 kept-range lim true Y step h g = h

@@ -12,15 +12,8 @@ use lib.Seq.{drop-cons, sets-eq, getD-take, length-take-le}
 use Rattle.words.specs.Words.{bytes}
 use Rattle.seal.specs.Seal.{blockBytes, modulo255, modulo257, sums, stored, sameBytes, sealRight}
 use Rattle.seal.specs.Lanes.{total, weighed}
-use Rattle.seal.proofs.TotalLaws.{sums-total, sums-weighed, modulo-255, modulo-257}
+use Rattle.seal.proofs.TotalLaws.{sums-total, sums-weighed}
 use Rattle.seal.proofs.SealLaws.{s-low, t-low}
-
--- the sums from totals that are right modulo 65535
-pub sums-257 : (l : List ℕ) (s t : ℕ) → s % 65535 ≡ total l % 65535 → t % 65535 ≡ weighed l % 65535 → (s % 257 ≡ sums modulo257 l .s) × (t % 257 ≡ sums modulo257 l .t)
-sums-257 l s t e f = (modulo-257 s (total l) e ∙ sym (sums-total modulo257 l), modulo-257 t (weighed l) f ∙ sym (sums-weighed modulo257 l))
-
-pub sums-255 : (l : List ℕ) (s t : ℕ) → s % 65535 ≡ total l % 65535 → t % 65535 ≡ weighed l % 65535 → (s % 255 ≡ sums modulo255 l .s) × (t % 255 ≡ sums modulo255 l .t)
-sums-255 l s t e f = (modulo-255 s (total l) e ∙ sym (sums-total modulo255 l), modulo-255 t (weighed l) f ∙ sym (sums-weighed modulo255 l))
 
 -- a number in two bytes
 two-bytes : (a b s : ℕ) (r : Bool) → a < 256 → b < 256 → s < 65536 → (eqb a (s % 256) && (eqb b (s / 256 % 256) && r)) ≡ (eqb (a + b * 256) s && r)

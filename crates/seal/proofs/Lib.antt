@@ -1,6 +1,6 @@
 pub mod LaneLaws
 pub mod WordSums
-pub mod Thirds
+pub mod Quarters
 pub mod TotalLaws
 pub mod SealLaws
 pub mod Noticed

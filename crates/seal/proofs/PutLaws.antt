@@ -3,17 +3,17 @@ use mathlib.Core.Path.{_≡_, sym, ap, ap₂, _∙_}
 use mathlib.Core.List.{List, _++_}
 use mathlib.Core.Logic.{inr}
 use Prim.Native.Nat.{ℕ, zero, suc, _+_, _-_, _*_, _%_, _≤_, _<_}
-use native.Mathlib.Nat.{mod-add-mod}
+use native.Mathlib.Nat.{mod-add-mod, le-trans, mul-le-mul-right}
 use native.Mathlib.Omega.{arith}
 use lib.ListN.{length, getD, take, drop, length-append}
 use lib.Seq.{take-at, take-append-le, length-take-le}
 use Rattle.words.specs.Words.{bytes, putWord}
 use Rattle.words.proofs.WordLaws.{length-putWord, putWord-other}
 use Rattle.seal.specs.Seal.{blockBytes, modulo257, Form, sums, stored, sealed, reseal}
-use Rattle.seal.specs.Lanes.{pack, oddsAt, pairsAt, fold, shifts, total, weighed}
+use Rattle.seal.specs.Lanes.{pack, oddsAt, pairsAt, laneSum, lanePlaces, total, weighed}
 use Rattle.seal.proofs.TotalLaws.{sums-total, sums-weighed, alike}
 use Rattle.seal.proofs.WordSums.{S, T, eight, placed, S-next, T-next, eight-more}
-use Rattle.seal.proofs.Thirds.{fold-pack, shifts-pack}
+use Rattle.seal.proofs.Quarters.{lane-sum, lane-places}
 
 -- Two lists that differ only in the eight bytes from `at` on: the totals of all bytes up to those eight and j behind them.
 module _ (k r : List ℕ) (at : ℕ) (before : take at r ≡ take at k) (behind : (i : ℕ) → at + 8 ≤ i → getD r i 0 ≡ getD k i 0) (same : length r ≡ length k) where
@@ -47,14 +47,13 @@ moved-s m a b e e′ s d f o g =
     let c : a + d + 0 * m ≡ b + o .times * m = omega (arith, o .is) in
     ap (λ y. (y + d) % m) g ∙ mod-add-mod a m d ∙ alike m (a + d) b 0 (o .times) c
 
--- The same when they count w times, less their places, which change from p to p′: q is p′ - p, and z * m keeps the difference from going below 0.
-moved-t : (m a b w e e′ p p′ t d q z : ℕ) → b + w * e + p′ ≡ a + w * e′ + p → Over m (d + e) e′ → Over m (q + p) p′ → t ≡ a % m → q ≤ z * m → (t + w * d + z * m - q) % m ≡ b % m
-moved-t m a b w e e′ p p′ t d q z f o v g l =
-    let y : ℕ = w * d + z * m - q in
-    let i : y + q ≡ w * d + z * m = omega arith in
-    let j : t + w * d + z * m - q ≡ t + y = omega arith in
-    let c : a + y + v .times * m ≡ b + (w * o .times + z) * m = omega (arith, ap (w *_) (o .is), v .is) in
-    ap (_% m) j ∙ ap (λ u. (u + y) % m) g ∙ mod-add-mod a m y ∙ alike m (a + y) b (v .times) (w * o .times + z) c
+-- The same when they count w times, less their places, which change from p to p′: q is p′ - p, and a multiple of m more.
+moved-t : (m a b w e e′ p p′ t d q : ℕ) → b + w * e + p′ ≡ a + w * e′ + p → Over m (d + e) e′ → Over m (q + p) p′ → t ≡ a % m → q ≤ w * d → (t + w * d - q) % m ≡ b % m
+moved-t m a b w e e′ p p′ t d q f o v g l =
+    let y : ℕ = w * d - q in
+    let j : t + w * d - q ≡ t + y = omega arith in
+    let c : a + y + v .times * m ≡ b + w * o .times * m = omega (arith, ap (w *_) (o .is), v .is) in
+    ap (_% m) j ∙ ap (λ u. (u + y) % m) g ∙ mod-add-mod a m y ∙ alike m (a + y) b (v .times) (w * o .times) c
 
 -- four lanes less four others, with n added to each
 differ : (n a0 a1 a2 a3 b0 b1 b2 b3 e0 e1 e2 e3 : ℕ) → e0 + a0 ≡ b0 + n → e1 + a1 ≡ b1 + n → e2 + a2 ≡ b2 + n → e3 + a3 ≡ b3 + n
@@ -98,22 +97,36 @@ module _ (k r : List ℕ) (at : ℕ) (small : (p : ℕ) → getD k p 0 < 256) (s
   unfolding oddsAt
   odds-lanes = differ 257 _ _ _ _ _ _ _ _ _ _ _ _ (one-is (at + 1)) (one-is (at + 3)) (one-is (at + 5)) (one-is (at + 7))
 
-  weight-over : Over 257 (fold (pairs k r at) + eight k at) (eight r at)
-  weight-over =
-      let e = ap fold pairs-lanes ∙ fold-pack _ _ (two k r (at + 4) (at + 5)) (two k r (at + 6) (at + 7)) (two-low at (at + 1)) (two-low (at + 2) (at + 3)) in
+  d-is : laneSum (pairs k r at) ≡ two k r at (at + 1) + two k r (at + 2) (at + 3) + two k r (at + 4) (at + 5) + two k r (at + 6) (at + 7)
+  d-is = ap laneSum pairs-lanes ∙ lane-sum _ _ _ (two k r (at + 6) (at + 7)) (two-low at (at + 1)) (two-low (at + 2) (at + 3)) (two-low (at + 4) (at + 5))
+
+  q-is : lanePlaces (pairs k r at) (odds k r at)
+      ≡ one k r (at + 1) + one k r (at + 3) + one k r (at + 5) + one k r (at + 7) + 2 * (two k r (at + 2) (at + 3) + 2 * two k r (at + 4) (at + 5) + 3 * two k r (at + 6) (at + 7))
+  q-is =
+      let o = ap laneSum odds-lanes ∙ lane-sum _ _ _ (one k r (at + 7)) (one-low (at + 1)) (one-low (at + 3)) (one-low (at + 5)) in
+      ap (λ x. lanePlaces x (odds k r at)) pairs-lanes ∙ lane-places _ _ _ (two k r (at + 6) (at + 7)) (two-low at (at + 1)) (two-low (at + 2) (at + 3)) (two-low (at + 4) (at + 5)) _ _ o
+
+  weight-over : Over 257 (laneSum (pairs k r at) + eight k at) (eight r at)
+  weight-over = record { times = 8; is = omega (arith, d-is, two-is at (at + 1), two-is (at + 2) (at + 3), two-is (at + 4) (at + 5), two-is (at + 6) (at + 7)) }
+
+  places-over : Over 257 (lanePlaces (pairs k r at) (odds k r at) + placed k at) (placed r at)
+  places-over =
       record {
-        times = 8 + 255 * (two k r (at + 2) (at + 3) + two k r (at + 6) (at + 7));
-        is = omega (arith, e, two-is at (at + 1), two-is (at + 2) (at + 3), two-is (at + 4) (at + 5), two-is (at + 6) (at + 7));
+        times = 28;
+        is = omega (arith, q-is, one-is (at + 1), one-is (at + 3), one-is (at + 5), one-is (at + 7), two-is (at + 2) (at + 3), two-is (at + 4) (at + 5), two-is (at + 6) (at + 7));
       }
 
-  places-over : Over 257 (fold (odds k r at) + 2 * shifts (pairs k r at) + placed k at) (placed r at)
-  places-over =
-      let e = ap fold odds-lanes ∙ fold-pack _ _ (one k r (at + 5)) (one k r (at + 7)) (one-low (at + 1)) (one-low (at + 3)) in
-      let f = ap shifts pairs-lanes ∙ shifts-pack _ _ _ (two k r (at + 6) (at + 7)) (two-low at (at + 1)) (two-low (at + 2) (at + 3)) (two-low (at + 4) (at + 5)) in
-      record {
-        times = 28 + 255 * (one k r (at + 3) + one k r (at + 7) + 2 * (two k r (at + 4) (at + 5) + 65538 * two k r (at + 6) (at + 7)));
-        is = omega (arith, e, f, one-is (at + 1), one-is (at + 3), one-is (at + 5), one-is (at + 7), two-is (at + 2) (at + 3), two-is (at + 4) (at + 5), two-is (at + 6) (at + 7));
-      }
+  one-two : (p q : ℕ) → one k r q ≤ two k r p q
+  one-two p q = omega (arith, one-is q, two-is p q, small p)
+
+  -- no place in a word is above 7
+  pub places-low : lanePlaces (pairs k r at) (odds k r at) ≤ 8 * laneSum (pairs k r at)
+  places-low =
+      lanes-enough (one k r (at + 1)) (one k r (at + 3)) (one k r (at + 5)) (one k r (at + 7)) (two k r at (at + 1)) (two k r (at + 2) (at + 3)) (two k r (at + 4) (at + 5)) (two k r (at + 6) (at + 7)) _ _
+      (one-two at (at + 1)) (one-two (at + 2) (at + 3)) (one-two (at + 4) (at + 5)) (one-two (at + 6) (at + 7)) q-is d-is
+    where
+      lanes-enough : (a b c d x y z w q e : ℕ) → a ≤ x → b ≤ y → c ≤ z → d ≤ w → q ≡ a + b + c + d + 2 * (y + 2 * z + 3 * w) → e ≡ x + y + z + w → q ≤ 8 * e
+      lanes-enough a b c d x y z w q e f g h i j k = omega arith
 
 -- Numbers that leave the sums of a block's body.
 pub record Leaves (f : Form) (k : List ℕ) (s t : ℕ) : Type 0 where
@@ -143,12 +156,16 @@ module _ (k r : List ℕ) (at x : ℕ) (h : length k ≡ blockBytes) (i : at + 8
       rw (e, f) at (word-moves k r at begins ends (ap length put ∙ length-putWord k at x (omega arith)) (500 - at) (omega arith))
 
   module _ (small : (p : ℕ) → getD k p 0 < 256) (small′ : (p : ℕ) → getD r p 0 < 256) where
-    pub leaves-put : (s t d q : ℕ) → s ≡ sums modulo257 (take 508 k) .s → t ≡ sums modulo257 (take 508 k) .t → d ≡ fold (pairs k r at) → q ≡ fold (odds k r at) + 2 * shifts (pairs k r at) → q ≤ 0x7FFF800000000
-        → Leaves modulo257 r (s + d) (t + (508 - at) * d + 0x7FFF800000000 - q)
-    leaves-put s t d q es et ed eq l =
+    pub places-there : lanePlaces (pairs k r at) (odds k r at) ≤ (508 - at) * laneSum (pairs k r at)
+    places-there = le-trans (places-low k r at small small′) (mul-le-mul-right {m = 8} {n = 508 - at} (laneSum (pairs k r at)) (omega arith))
+
+    pub leaves-put : (s t d q : ℕ) → s ≡ sums modulo257 (take 508 k) .s → t ≡ sums modulo257 (take 508 k) .t → d ≡ laneSum (pairs k r at) → q ≡ lanePlaces (pairs k r at) (odds k r at)
+        → Leaves modulo257 r (s + d) (t + (508 - at) * d - q)
+    leaves-put s t d q es et ed eq =
         let o : Over 257 (d + eight k at) (eight r at) = rw ed (weight-over k r at small small′) in
         let v : Over 257 (q + placed k at) (placed r at) = rw eq (places-over k r at small small′) in
+        let l : q ≤ (508 - at) * d = rw (eq, ed) places-there in
         record {
           s-is = moved-s 257 (S k 508) (S r 508) (eight k at) (eight r at) s d (body-moves .0) o (es ∙ sums-total modulo257 (take 508 k)) ∙ sym (sums-total modulo257 (take 508 r));
-          t-is = moved-t 257 (T k 508) (T r 508) (508 - at) (eight k at) (eight r at) (placed k at) (placed r at) t d q 0x7F800000000 (body-moves .1) o v (et ∙ sums-weighed modulo257 (take 508 k)) l ∙ sym (sums-weighed modulo257 (take 508 r));
+          t-is = moved-t 257 (T k 508) (T r 508) (508 - at) (eight k at) (eight r at) (placed k at) (placed r at) t d q (body-moves .1) o v (et ∙ sums-weighed modulo257 (take 508 k)) l ∙ sym (sums-weighed modulo257 (take 508 r));
         }

@@ -10,7 +10,7 @@ use lib.ListN.{length, getD, take, drop, take-append-drop, length-append, List·
 use lib.Seq.{length-take-le, take-at, drop-at}
 use Rattle.words.specs.Words.{bytes, numberOf}
 use Rattle.words.proofs.WordLaws.{length-bytes, numberOf-bytes}
-use Rattle.seal.specs.Seal.{blockBytes, Form, Sums, sums, stored, seal, sealed, sameBytes, sealRight, reseal}
+use Rattle.seal.specs.Seal.{blockBytes, Form, Sums, sums, stored, seal, sealed, sameBytes, sealRight}
 use Rattle.seal.specs.Lanes.{total, weighed}
 use Rattle.seal.proofs.TotalLaws.{sums-total, sums-weighed}
 
@@ -43,10 +43,6 @@ module _ (f : Form) where
   unfolding sealed
   right-sealed k e = sym (take-append-drop (f .bodyBytes) k) ∙ ap (take (f .bodyBytes) k ++_) (right-check k e)
 
-  pub right-reseal : (k : List ℕ) → sealRight f k ≡ true → k ≡ reseal f k
-  unfolding reseal
-  right-reseal k e = right-sealed k e
-
   -- A body with its check bytes begins with the body and passes its question.
   pub getD-sealed : (body : List ℕ) (p : ℕ) → p < length body → getD (sealed f body) p 0 ≡ getD body p 0
   unfolding sealed
@@ -64,14 +60,6 @@ module _ (f : Form) where
   module _ (k : List ℕ) (h : length k ≡ blockBytes) where
     pub length-body : length (take (f .bodyBytes) k) ≡ f .bodyBytes
     length-body = length-take-le (f .bodyBytes) k (omega (arith, f .whole))
-
-    pub reseal-right : sealRight f (reseal f k) ≡ true
-    unfolding reseal
-    reseal-right = sealed-right f (take (f .bodyBytes) k) length-body
-
-    pub length-reseal : length (reseal f k) ≡ blockBytes
-    unfolding reseal
-    length-reseal = length-sealed (take (f .bodyBytes) k) length-body
 
   -- sums are told by their check bytes
   pub stored-told : (u v : Sums) → u .s < f .modulus → u .t < f .modulus → v .s < f .modulus → v .t < f .modulus → stored f u ≡ stored f v → (u .s ≡ v .s) × (u .t ≡ v .t)

@@ -4,7 +4,10 @@ use mathlib.Core.List.{List, [], _∷_}
 use Prim.Native.Nat.{ℕ, zero, suc, _+_, _-_, _*_, _%_, _≤_, _<_}
 use native.Mathlib.Nat.{mod-add-mod, add-mod, mod-eq-of-lt, add-mul-mod-self-right, mul-le-mul-left}
 use native.Mathlib.Omega.{arith}
-use lib.ListN.{length, getD, set, length-set}
+use native.Mathlib.Decide.{decLt}
+use lib.Dec.{lit<}
+use lib.ListN.{length, getD, take, set, length-set, List·getD-eq-default}
+use lib.Seq.{getD-take, length-take-le}
 use Rattle.seal.specs.Seal.{Form, Sums, sums, sumsFrom}
 use Rattle.seal.specs.Lanes.{total, weighed}
 
@@ -35,13 +38,6 @@ module _ (f : Form) (l : List ℕ) where
   pub sums-weighed : sums f l .t ≡ weighed l % f .modulus
   sums-weighed = ap (λ (u : Sums). u .t) from-zero
 
--- what leaves the same modulo 65535 leaves the same modulo 255 and 257
-pub modulo-255 : (x y : ℕ) → x % 65535 ≡ y % 65535 → x % 255 ≡ y % 255
-modulo-255 x y e = let d : x % 65535 % 255 ≡ x % 255 = omega arith in let f : y % 65535 % 255 ≡ y % 255 = omega arith in sym d ∙ ap (_% 255) e ∙ f
-
-pub modulo-257 : (x y : ℕ) → x % 65535 ≡ y % 65535 → x % 257 ≡ y % 257
-modulo-257 x y e = let d : x % 65535 % 257 ≡ x % 257 = omega arith in let f : y % 65535 % 257 ≡ y % 257 = omega arith in sym d ∙ ap (_% 257) e ∙ f
-
 -- byte p changes from what it was to x
 pub total-set : (l : List ℕ) (p x : ℕ) → p < length l → total (set l p x) + getD l p 0 ≡ total l + x
 unfolding total
@@ -58,10 +54,6 @@ weighed-set (b ∷ l) (suc p) x h = let w : suc (length l) - suc p ≡ length l 
 -- numbers that differ by multiples of m leave the same
 pub alike : (m x y a b : ℕ) → x + a * m ≡ y + b * m → x % m ≡ y % m
 alike m x y a b e = sym (add-mul-mod-self-right x a m) ∙ ap (_% m) e ∙ add-mul-mod-self-right y b m
-
--- two sums whose parts leave the same leave the same
-pub add-alike : (m x y u v : ℕ) → x % m ≡ y % m → u % m ≡ v % m → (x + u) % m ≡ (y + v) % m
-add-alike m x y u v e f = add-mod x u m ∙ ap₂ (λ a b. (a + b) % m) e f ∙ sym (add-mod y v m)
 
 -- The plain totals of bytes: of 508 they are at most 129,540 and 32,967,930.
 total-low : (l : List ℕ) → ((p : ℕ) → getD l p 0 < 256) → total l ≤ 255 * length l
@@ -85,3 +77,14 @@ plain-totals l h small = (omega (arith, total-low l small), weigh (length l) (we
   where
     weigh : (n w : ℕ) → n ≡ 508 → 2 * w ≤ 255 * (n * suc n) → w ≤ 32967930
     weigh n w e k = let g : 2 * w ≤ 255 * (508 * 509) = rw e at k in omega arith
+
+-- of a body, the first 508 bytes of more
+pub body-totals : (k : List ℕ) → 508 ≤ length k → ((p : ℕ) → getD k p 0 < 256) → (total (take 508 k) ≤ 129540) × (weighed (take 508 k) ≤ 32967930)
+body-totals k h small = plain-totals (take 508 k) long (λ p. go p (decLt p 508))
+  where
+    long : length (take 508 k) ≡ 508
+    long = length-take-le 508 k h
+
+    go : (p : ℕ) → Dec (p < 508) → getD (take 508 k) p 0 < 256
+    go p (yes u) = rw (getD-take 508 k p 0 u) (small p)
+    go p (no u) = rw (List·getD-eq-default (take 508 k) 0 {n = p} (omega (arith, long))) (lit< tt)

@@ -62,7 +62,7 @@ weigh : (t t′ pl p w x s s0 t0 v n c : ℕ) → t′ + p ≡ t + 8 * s + 8 * x
     → t′ + (pl + p) + 8 * (v * (w + x)) ≡ t0 + 8 * (suc n * s0) + 8 * (c + x * suc v)
 weigh t t′ pl p w x s s0 t0 v n c e f g = omega arith
 
--- words one behind the other, at `at` 0, `at` 1 and so on: the word i of 21 counts 21 - i times
+-- words one behind the other, at `at` 0, `at` 1 and so on: the word i of 16 counts 16 - i times
 module _ (l : List ℕ) (at : ℕ → ℕ) (move : (i : ℕ) → at (suc i) ≡ at i + 8) where
   abbrev pub word : ℕ → ℕ
   word i = eight l (at i)
@@ -71,7 +71,7 @@ module _ (l : List ℕ) (at : ℕ → ℕ) (move : (i : ℕ) → at (suc i) ≡ 
   places i = placed l (at i)
 
   abbrev pub counted : ℕ → ℕ
-  counted i = eight l (at i) * (21 - i)
+  counted i = eight l (at i) * (16 - i)
 
   pub words-total : (n : ℕ) → at n ≤ length l → S l (at n) ≡ S l (at 0) + upTo word n
   unfolding upTo
@@ -80,20 +80,20 @@ module _ (l : List ℕ) (at : ℕ → ℕ) (move : (i : ℕ) → at (suc i) ≡ 
       let f : at n + 8 ≤ length l = omega (arith, move n) in
       ap (S l) (move n) ∙ omega (arith, eight-more l (at n) f .0, words-total n (omega arith))
 
-  pub words-weighed : (n : ℕ) → n ≤ 21 → at n ≤ length l → T l (at n) + upTo places n + 8 * ((21 - n) * upTo word n) ≡ T l (at 0) + 8 * (n * S l (at 0)) + 8 * upTo counted n
+  pub words-weighed : (n : ℕ) → n ≤ 16 → at n ≤ length l → T l (at n) + upTo places n + 8 * ((16 - n) * upTo word n) ≡ T l (at 0) + 8 * (n * S l (at 0)) + 8 * upTo counted n
   unfolding upTo
   words-weighed zero k h = omega arith
   words-weighed (suc n) k h =
       let f : at n + 8 ≤ length l = omega (arith, move n) in
-      let v : ℕ = 20 - n in
-      let e : 21 - n ≡ suc v = omega arith in
-      let g : 21 - suc n ≡ v = omega arith in
-      let ih : T l (at n) + upTo places n + 8 * ((21 - n) * upTo word n) ≡ T l (at 0) + 8 * (n * S l (at 0)) + 8 * upTo counted n = words-weighed n (omega arith) (omega arith) in
+      let v : ℕ = 15 - n in
+      let e : 16 - n ≡ suc v = omega arith in
+      let g : 16 - suc n ≡ v = omega arith in
+      let ih : T l (at n) + upTo places n + 8 * ((16 - n) * upTo word n) ≡ T l (at 0) + 8 * (n * S l (at 0)) + 8 * upTo counted n = words-weighed n (omega arith) (omega arith) in
       rw (e, g, move n)
       (weigh (T l (at n)) (T l (at n + 8)) (upTo places n) (places n) (upTo word n) (word n) (S l (at n)) (S l (at 0)) (T l (at 0)) v n (upTo counted n)
       (eight-more l (at n) f .1) (words-total n (omega arith)) (rw e at ih))
 
--- four lanes of words, and the bytes at odd places, up to a multiple of 65535
+-- four lanes of words, and of the bytes at odd places
 module _ (l : List ℕ) (at : ℕ → ℕ) where
   abbrev pub x0 : ℕ → ℕ
   x0 i = getD l (at i) 0 + getD l (at i + 1) 0
@@ -107,16 +107,18 @@ module _ (l : List ℕ) (at : ℕ → ℕ) where
   abbrev pub x3 : ℕ → ℕ
   x3 i = getD l (at i + 6) 0 + getD l (at i + 7) 0
 
-  abbrev pub odd : ℕ → ℕ
-  odd i = getD l (at i + 1) 0 + getD l (at i + 3) 0 + getD l (at i + 5) 0 + getD l (at i + 7) 0
-
-  abbrev pub more : ℕ → ℕ
-  more i = getD l (at i + 3) 0 + getD l (at i + 5) 0 * 65537 + getD l (at i + 7) 0 * 4295032833
+  abbrev pub odd : ℕ → ℕ → ℕ
+  odd p i = getD l (at i + p) 0
 
   pub packed : (n : ℕ) → upTo (λ i. pairsAt l (at i)) n ≡ pack (upTo x0 n) (upTo x1 n) (upTo x2 n) (upTo x3 n)
   unfolding upTo pack pairsAt
   packed zero = refl
   packed (suc n) = omega (arith, packed n)
+
+  pub odds-packed : (n : ℕ) → upTo (λ i. oddsAt l (at i)) n ≡ pack (upTo (odd 1) n) (upTo (odd 3) n) (upTo (odd 5) n) (upTo (odd 7) n)
+  unfolding upTo pack oddsAt
+  odds-packed zero = refl
+  odds-packed (suc n) = omega (arith, odds-packed n)
 
   pub lanes-low : ((p : ℕ) → getD l p 0 < 256) → (n : ℕ) → (upTo x0 n ≤ 510 * n) × (upTo x1 n ≤ 510 * n) × (upTo x2 n ≤ 510 * n) × (upTo x3 n ≤ 510 * n)
   unfolding upTo
@@ -129,17 +131,17 @@ module _ (l : List ℕ) (at : ℕ → ℕ) where
         omega (arith, small (at n + 6), small (at n + 7)),
       )
 
-  pub odds-more : (n : ℕ) → upTo (λ i. oddsAt l (at i)) n ≡ upTo odd n + 65535 * upTo more n
-  unfolding upTo pack oddsAt
-  odds-more zero = refl
-  odds-more (suc n) = omega (arith, odds-more n)
+  pub odd-low : ((p : ℕ) → getD l p 0 < 256) → (p n : ℕ) → upTo (odd p) n ≤ 255 * n
+  unfolding upTo
+  odd-low small p zero = omega arith
+  odd-low small p (suc n) = omega (arith, odd-low small p n, small (at n + p))
 
   pub word-lanes : (n : ℕ) → upTo (λ i. eight l (at i)) n ≡ upTo x0 n + upTo x1 n + upTo x2 n + upTo x3 n
   unfolding upTo
   word-lanes zero = refl
   word-lanes (suc n) = omega (arith, word-lanes n)
 
-  pub place-lanes : (n : ℕ) → upTo (λ i. placed l (at i)) n ≡ 2 * upTo x1 n + 4 * upTo x2 n + 6 * upTo x3 n + upTo odd n
+  pub place-lanes : (n : ℕ) → upTo (λ i. placed l (at i)) n ≡ 2 * upTo x1 n + 4 * upTo x2 n + 6 * upTo x3 n + (upTo (odd 1) n + upTo (odd 3) n + upTo (odd 5) n + upTo (odd 7) n)
   unfolding upTo
   place-lanes zero = refl
   place-lanes (suc n) = omega (arith, place-lanes n)

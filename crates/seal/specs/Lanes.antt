@@ -16,13 +16,12 @@ pairsAt l at =
     pack (getD l at 0 + getD l (at + 1) 0) (getD l (at + 2) 0 + getD l (at + 3) 0)
     (getD l (at + 4) 0 + getD l (at + 5) 0) (getD l (at + 6) 0 + getD l (at + 7) 0)
 
--- The halves of a word added.
-abbrev pub fold : ℕ → ℕ
-fold x = x % 0x100000000 + x / 0x100000000
+-- The lanes of a word added; and what lanes say of the bytes' places in their words, each byte as often as its place says.
+abbrev pub laneSum : ℕ → ℕ
+laneSum x = x % 0x10000 + x / 0x10000 % 0x10000 + x / 0x100000000 % 0x10000 + x / 0x1000000000000
 
--- The lanes of a word brought down by shifts: the second once, the third twice, the fourth three times, up to a multiple of 65535.
-abbrev pub shifts : ℕ → ℕ
-shifts x = x / 0x10000 + x / 0x100000000 + x / 0x1000000000000
+abbrev pub lanePlaces : ℕ → ℕ → ℕ
+lanePlaces pairs odds = laneSum odds + 2 * (pairs / 0x10000 % 0x10000 + 2 * (pairs / 0x100000000 % 0x10000) + 3 * (pairs / 0x1000000000000))
 
 -- The sum of f over the numbers below n.
 unfoldable pub upTo : (ℕ → ℕ) → ℕ → ℕ

@@ -7,7 +7,7 @@ ghost use lib.ListN.{length, getD, take};
 ghost use Rattle.words.specs.Words.{putWord};
 ghost use Rattle.seal.specs.Seal.{blockBytes, modulo255, modulo257, sums, stored, sealRight, reseal};
 ghost use Rattle.seal.specs.Forms.{formOf};
-ghost use Rattle.seal.specs.Lanes.{oddsAt, pairsAt, fold, shifts, total, weighed};
+ghost use Rattle.seal.specs.Lanes.{oddsAt, pairsAt, laneSum, lanePlaces, total, weighed};
 
 // A block's bytes, and those of its body: the check bytes fill what is left.
 pub const BLOCK: usize = 512;
@@ -19,7 +19,7 @@ const S: usize = BODY;
 
 const T: usize = BODY + 2;
 
-const MODULUS: u64 = 257;
+const MODULUS: u32 = 257;
 
 // The same of an old card.
 const FORMER_BODY: usize = 510;
@@ -29,9 +29,6 @@ const FORMER_S: usize = FORMER_BODY;
 const FORMER_T: usize = FORMER_BODY + 1;
 
 const FORMER_MODULUS: u64 = 255;
-
-// A multiple of 65535 that `places` never go above: added where they are taken off.
-const ROOM: u64 = 0x7FFF800000000;
 
 // What the sums are taken modulo: 257, or 255 on old cards.
 pub enum Modulo {
@@ -72,90 +69,101 @@ fn lanes(s: &[u8], at: usize) -> Word
     }
 }
 
-// The halves of a word added.
-fn folded(x: u64) -> u64
-    ensures { λ r. ⌜ (r ≡ fold x) × (r ≤ 0x1FFFFFFFE) ⌝ }
+// The lanes of a word added.
+fn lane_sum(x: u64) -> u64
+    ensures { λ r. ⌜ (r ≡ laneSum x) × (r ≤ 0x3FFFC) ⌝ }
 {
-    x % 0x100000000 + x / 0x100000000
+    x % 0x10000 + x / 0x10000 % 0x10000 + x / 0x100000000 % 0x10000 + x / 0x1000000000000
 }
 
-// What lanes say of the bytes' places in their words: each byte as often as its place says, up to a multiple of 65535.
-// 65536 leaves 1, so a shift brings a lane down, and the lanes that come above it do no harm. Inner: the sum fits.
+// What lanes say of the bytes' places in their words: each byte as often as its place says.
 fn places(pairs: u64, odds: u64) -> u64
-    requires { ⌜ pairs < 0x8000000000000000 ⌝ }
-    ensures { λ r. ⌜ (r ≡ fold odds + 2 * shifts pairs) × (r ≤ 0x7FFF800000000) ⌝ }
+    ensures { λ r. ⌜ (r ≡ lanePlaces pairs odds) × (r ≤ 0x100000) ⌝ }
 {
-    folded(odds) + 2 * (pairs / 0x10000 + pairs / 0x100000000 + pairs / 0x1000000000000)
+    let second = pairs / 0x10000 % 0x10000;
+    let third = pairs / 0x100000000 % 0x10000;
+    let fourth = pairs / 0x1000000000000;
+    lane_sum(odds) + 2 * (second + 2 * third + 3 * fourth)
 }
 
-// The totals of a block's first 504 bytes, as far as their remainders by 65535 go: 65535 is 255 times 257, so they serve both forms.
+// The plain totals of bytes: of them all, and with each counted as often as bytes follow it, itself counted.
 struct Totals {
     s: u64,
     t: u64,
 }
 
-// Three thirds of 21 words side by side: their lanes added as whole words, for t each word as often as words follow it in its third, itself counted.
-// For that its halves are added: 32 bits hold the sum, and the compiler multiplies two such numbers at a time.
-// 65536 leaves 1, so a sum of lanes is the number itself; a byte's place in its word is taken off once, by shifts. Inner: the bytes are there.
-fn front(block: &[u8]) -> Totals
-    requires { ⌜ 504 ≤ length (now block) ⌝ }
-    ensures { λ r. ⌜ (r .s % 65535 ≡ total (take 504 (now (block .entry))) % 65535) × (r .t % 65535 ≡ weighed (take 504 (now (block .entry))) % 65535) ⌝ }
-    ensures { λ r. ⌜ (r .s ≤ 0x1FFFFFFFE) × (r .t < 0x10000000000000) ⌝ }
+// Those of a whole block, its check bytes too. Four quarters of 16 words go side by side: their lanes are added as whole words; for t the sum of
+// four words' lanes counts as often as words follow in their quarter, themselves counted, and each quarter's sum once for every byte behind it.
+// A byte's place in its word is taken off at the end. A loop of even length: the compiler takes two words at a time. Inner: it is a block.
+fn block_totals(block: &[u8]) -> Totals
+    requires { ⌜ length (now block) ≡ blockBytes ⌝ }
+    ensures { λ r. ⌜ (r .s ≡ total (now (block .entry))) × (r .t ≡ weighed (now (block .entry))) ⌝ }
 {
     let mut a = 0;
     let mut b = 0;
     let mut c = 0;
+    let mut d = 0;
     let mut odds = 0;
     let mut z = 0;
     let mut j = 0;
-    while j < 21 {
+    while j < 16 {
         let x = lanes(block, 8 * j);
-        let y = lanes(block, 8 * j + 168);
-        let u = lanes(block, 8 * j + 336);
+        let y = lanes(block, 8 * j + 128);
+        let u = lanes(block, 8 * j + 256);
+        let w = lanes(block, 8 * j + 384);
         a += x.pairs;
         b += y.pairs;
         c += u.pairs;
-        odds += x.odds + y.odds + u.odds;
-        let three = x.pairs + y.pairs + u.pairs;
-        let v = 21 - j as u64;
-        z += (three + three / 0x100000000) % 0x100000000 * v;
+        d += w.pairs;
+        odds += x.odds + y.odds + u.odds + w.odds;
+        let four = x.pairs + y.pairs + u.pairs + w.pairs;
+        let halves = four + four / 0x100000000;
+        let v = 16 - j as u64;
+        z += (halves + halves / 0x10000) % 0x10000 * v;
         j += 1;
     }
-    let all = a + b + c;
-    let off = places(all, odds);
+    let all = a + b + c + d;
+    let before = lane_sum(3 * a + 2 * b + c);
     Totals {
-        s: folded(all),
-        t: 8 * (z + 42 * folded(a) + 21 * folded(b)) + ROOM - off,
+        s: lane_sum(all),
+        t: 8 * (z + 16 * before) - places(all, odds),
     }
 }
 
-// The same of the first `end` bytes: those behind the 504 one by one. Inner: they are there, and are few.
+// The same of a block's first `end` bytes: those behind are taken off again, one by one. Inner: it is a block.
 fn totals_to(block: &[u8], end: usize) -> Totals
-    requires { ⌜ (504 ≤ end) × (end ≤ 512) × (end ≤ length (now block)) ⌝ }
-    ensures { λ r. ⌜ (r .s % 65535 ≡ total (take end (now (block .entry))) % 65535) × (r .t % 65535 ≡ weighed (take end (now (block .entry))) % 65535) ⌝ }
+    requires { ⌜ (length (now block) ≡ blockBytes) × (end ≤ blockBytes) ⌝ }
+    ensures { λ r. ⌜ (r .s ≡ total (take end (now (block .entry)))) × (r .t ≡ weighed (take end (now (block .entry)))) ⌝ }
 {
-    let f = front(block);
-    let mut s = f.s;
-    let mut t = f.t;
-    let mut i = 504;
-    while i < end {
-        s += wide(block[i]);
-        t += s;
-        i += 1;
+    let whole = block_totals(block);
+    let mut s = whole.s;
+    let mut t = whole.t;
+    let mut i = BLOCK;
+    while end < i {
+        i -= 1;
+        t -= s;
+        s -= wide(block[i]);
     }
     Totals { s: s, t: t }
 }
 
-// The sums of a block's body. Inner: the body is there.
-pub fn sums_of(block: &[u8]) -> Sums
-    requires { ⌜ modulo257 .bodyBytes ≤ length (now block) ⌝ }
+// What a number leaves by 257. It has 32 bits: a remainder takes less there.
+fn left(x: u32) -> u64
+    ensures { λ r. ⌜ (r ≡ x % modulo257 .modulus) × (r < modulo257 .modulus) ⌝ }
+{
+    (x % MODULUS) as u64
+}
+
+// The sums of a block's body. Plain totals of 508 bytes have 32 bits. Inner: it is a block.
+fn sums_of(block: &[u8]) -> Sums
+    requires { ⌜ length (now block) ≡ blockBytes ⌝ }
     ensures { λ r. ⌜ (r .s ≡ sums modulo257 (take (modulo257 .bodyBytes) (now (block .entry))) .s) × (r .t ≡ sums modulo257 (take (modulo257 .bodyBytes) (now (block .entry))) .t) ⌝ }
     ensures { λ r. ⌜ (r .s < modulo257 .modulus) × (r .t < modulo257 .modulus) ⌝ }
 {
     let all = totals_to(block, BODY);
     Sums {
-        s: all.s % MODULUS,
-        t: all.t % MODULUS,
+        s: left(all.s as u32),
+        t: left(all.t as u32),
     }
 }
 
@@ -210,9 +218,9 @@ pub fn right_if_bare(block: &[u8]) -> bool
     let x = wide(block[0]);
     let y = wide(block[1]);
     let z = wide(block[2]);
-    if pair(block, S) == (x + y + z) % MODULUS {
+    if pair(block, S) == (x + y + z) % 257 {
         let w = BODY as u64;
-        return pair(block, T) == (w * x + (w - 1) * y + (w - 2) * z) % MODULUS;
+        return pair(block, T) == (w * x + (w - 1) * y + (w - 2) * z) % 257;
     }
     false
 }
@@ -252,7 +260,7 @@ pub fn put_word(block: &mut [u8], at: usize, x: u64)
     let after = lanes(block, at);
     let pairs = after.pairs + 0x0202020202020202 - before.pairs;
     let odds = after.odds + 0x0101010101010101 - before.odds;
-    let d = folded(pairs);
-    let moved = t + (BODY - at) as u64 * d + ROOM - places(pairs, odds);
-    put_sums(block, (s + d) % MODULUS, moved % MODULUS);
+    let d = lane_sum(pairs);
+    let moved = t + (BODY - at) as u64 * d - places(pairs, odds);
+    put_sums(block, left((s + d) as u32), left(moved as u32));
 }

@@ -78,9 +78,6 @@ module _ (make : List ℕ → List ℕ) (t u : List ℕ) (ht : length t ≡ shee
   abbrev pub Made : ℕ → List ℕ → Type 0
   Made b l = l ≡ take (blockBytes * b) u ++ drop (blockBytes * b) t
 
-  pub made-none : Made 0 t
-  made-none = refl
-
   module _ (b : ℕ) (h : b ≤ blockCount) (l : List ℕ) (made : Made b l) where
     front-length : length (take (blockBytes * b) u) ≡ blockBytes * b
     front-length = length-take-le (blockBytes * b) u (omega arith)

@@ -57,10 +57,6 @@ pub within-none : (k : List ℕ) → ((p : ℕ) → getD k p 0 < 256) → (node 
 within-none k bytes node j h e = bits-within k bytes node j h (λ r l. if-clear (member (getD k (16 + 8 * j + r / 8) 0) (r % 8)) (node r) (word-clear k bytes j h e r l))
 
 module _ (φ : SheetForm) where
-  -- the words lie in the body
-  words-fit : 16 + 8 * wordCount ≤ φ .sums .bodyBytes
-  words-fit = omega (arith, φ .sums .whole, φ .sums .few)
-
   -- a block whose bits are free where their masks have them
   module _ (k : List ℕ) (bytes : (p : ℕ) → getD k p 0 < 256) (n : ℕ) (nodes : Nodes) (b : ℕ) (masks : ℕ → Nodes)
       (head : (p i : ℕ) → p < 3 → free φ n nodes b p i ≡ true)

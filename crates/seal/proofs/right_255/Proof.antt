@@ -6,7 +6,9 @@ use borrow.Author.Needs.{needs}
 use borrow.Author.Tests.{eq-eqb, ne-eqb}
 use lib.Dec.{eqb, lit<}
 use lib.ListN.{getD, take}
-use Rattle.seal.proofs.CodeLaws.{right-255, sums-255}
+use Rattle.seal.specs.Seal.{modulo255}
+use Rattle.seal.proofs.TotalLaws.{sums-total, sums-weighed}
+use Rattle.seal.proofs.CodeLaws.{right-255}
 use Rattle.seal.proofs.right_255.Statement.{statement}
 use Rattle.seal.proofs.right_255.Tie as tie
 
@@ -14,9 +16,10 @@ returns : tie.Need-returns
 returns c =
     let k = c .before .before .before .before .before .before .before .before .before .args .block .now in
     let r = c .before .before .before .before .before .before .before .totals-to in
-    let e = sums-255 (take 510 k) (r .result .s) (r .result .t) (r .ensures .0) (r .ensures .1) in
+    let s = ap (_% 255) (r .ensures .0) ∙ sym (sums-total modulo255 (take 510 k)) in
+    let t = ap (_% 255) (r .ensures .1) ∙ sym (sums-weighed modulo255 (take 510 k)) in
     sym
-    (right-255 k (c .before .before .before .before .before .before .before .before .before .pre) (r .result .s % 255) (r .result .t % 255) (mod-lt (r .result .s) (lit< tt)) (mod-lt (r .result .t) (lit< tt)) (e .0) (e .1)
+    (right-255 k (c .before .before .before .before .before .before .before .before .before .pre) (r .result .s % 255) (r .result .t % 255) (mod-lt (r .result .s) (lit< tt)) (mod-lt (r .result .t) (lit< tt)) s t
     ∙ ap (_&& eqb (getD k 511 0) (r .result .t % 255)) (eq-eqb _ _ (sym (c .before .before .before .before .before .wide .ensures .0) ∙ c .before .before .before .if1 .taken))
     ∙ ap (λ (x : ℕ). eqb x (r .result .t % 255)) (sym (c .before .wide2 .ensures .0)))
 
@@ -24,9 +27,10 @@ returns-2 : tie.Need-returns-2
 returns-2 c =
     let k = c .before .before .before .before .before .before .args .block .now in
     let r = c .before .before .before .before .totals-to in
-    let e = sums-255 (take 510 k) (r .result .s) (r .result .t) (r .ensures .0) (r .ensures .1) in
+    let s = ap (_% 255) (r .ensures .0) ∙ sym (sums-total modulo255 (take 510 k)) in
+    let t = ap (_% 255) (r .ensures .1) ∙ sym (sums-weighed modulo255 (take 510 k)) in
     sym
-    (right-255 k (c .before .before .before .before .before .before .pre) (r .result .s % 255) (r .result .t % 255) (mod-lt (r .result .s) (lit< tt)) (mod-lt (r .result .t) (lit< tt)) (e .0) (e .1)
+    (right-255 k (c .before .before .before .before .before .before .pre) (r .result .s % 255) (r .result .t % 255) (mod-lt (r .result .s) (lit< tt)) (mod-lt (r .result .t) (lit< tt)) s t
     ∙ ap (_&& eqb (getD k 511 0) (r .result .t % 255)) (ne-eqb _ _ (λ g. c .if1 .left (c .before .before .wide .ensures .0 ∙ g))))
 
 pub right-255-spec : {M : Type 1} → statement M

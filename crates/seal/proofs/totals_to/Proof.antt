@@ -1,61 +1,77 @@
 use mathlib.Core.Path.{_≡_, sym, ap, _∙_}
 use mathlib.Core.List.{List}
-use Prim.Native.Nat.{ℕ, _≤_, _<_, _-_, _*_, _%_, _+_}
+use Prim.Native.Nat.{ℕ, _≤_, _<_, _-_, _+_}
 use native.Mathlib.Nat.{le-antisymm}
-use native.Mathlib.Numerals.{add-one}
 use native.Mathlib.Omega.{arith}
 use borrow.Author.Needs.{needs}
 use lib.ListN.{length, getD, take}
+use lib.Seq.{take-all}
 use Rattle.seal.specs.Lanes.{total, weighed}
-use Rattle.seal.proofs.WordSums.{S-next, T-next}
-use Rattle.seal.proofs.TotalLaws.{add-alike}
+use Rattle.seal.proofs.WordSums.{S, T, S-next, T-next}
 use Rattle.seal.proofs.totals_to.Statement.{statement}
 use Rattle.seal.proofs.totals_to.Tie as tie
 
 pub record Inv (l : List ℕ) (end s t i : ℕ) : Type 0 where
-  pub from : 504 ≤ i
-  pub to : i ≤ end
-  pub s-low : s ≤ 0x1FFFFFFFE + 255 * i
-  pub t-low : t ≤ 0x10000000000000 + 0x200020000 * i
-  pub s-is : s % 65535 ≡ total (take i l) % 65535
-  pub t-is : t % 65535 ≡ weighed (take i l) % 65535
+  pub from : end ≤ i
+  pub to : i ≤ 512
+  pub s-is : s ≡ total (take i l)
+  pub t-is : t ≡ weighed (take i l)
 
 abbrev Inv-loop : tie.InvT-loop
 Inv-loop block end s₀ t₀ i₀ s t i = Inv block end s t i
 
 abbrev μ-loop : tie.MeasureT-loop
-μ-loop block end s₀ t₀ i₀ s t i = end - i
+μ-loop block end s₀ t₀ i₀ s t i = i
 
 loop-holds : tie.Need-loop-holds Inv-loop μ-loop
 loop-holds c =
-    let f = c .front .ensures in
-    record { from = omega arith; to = search needs; s-low = omega (arith, f .1 .0); t-low = omega (arith, f .1 .1); s-is = f .0 .0; t-is = f .0 .1 }
+    let st = c .before .before in
+    let k = st .args .block .now in
+    let f = c .block-totals .ensures in
+    let all : take 512 k ≡ k = take-all 512 k (omega (arith, st .pre .0)) in
+    record { from = st .pre .1; to = omega arith; s-is = f .0 ∙ ap total (sym all); t-is = f .1 ∙ ap weighed (sym all) }
 
-more : (l : List ℕ) (end s t i b : ℕ) → Inv l end s t i → i < end → i < length l → end ≤ 512 → b ≡ getD l i 0 → b < 256 → Inv l end (s + b) (t + (s + b)) (i + 1)
-more l end s t i b v h n k e j =
-    let f : (s + b) % 65535 ≡ (total (take i l) + getD l i 0) % 65535 = add-alike 65535 s (total (take i l)) b (getD l i 0) (v .s-is) (ap (_% 65535) e) in
-    record {
-      from = omega (arith, v .from);
-      to = omega arith;
-      s-low = omega (arith, v .s-low);
-      t-low = omega (arith, v .t-low, v .s-low);
-      s-is = f ∙ ap (_% 65535) (sym (S-next l i (i + 1) (add-one i) n));
-      t-is = add-alike 65535 t (weighed (take i l)) (s + b) (total (take i l) + getD l i 0) (v .t-is) f ∙ ap (_% 65535) (sym (T-next l i (i + 1) (add-one i) n));
-    }
+-- a byte taken off
+module _ (l : List ℕ) (end s t i : ℕ) (v : Inv l end s t i) (h : end < i) (n : length l ≡ 512) where
+  last : S l i ≡ S l (i - 1) + getD l (i - 1) 0
+  last = S-next l (i - 1) i (omega arith) (omega (arith, v .to))
+
+  t-last : T l i ≡ T l (i - 1) + S l i
+  t-last = T-next l (i - 1) i (omega arith) (omega (arith, v .to)) ∙ ap (T l (i - 1) +_) (sym last)
+
+  pub s-there : s ≤ t
+  s-there = omega (arith, v .s-is, v .t-is, t-last)
+
+  pub byte-there : (b : ℕ) → b ≡ getD l (i - 1) 0 → b ≤ s
+  byte-there b e = omega (arith, v .s-is, last)
+
+  pub less : (b : ℕ) → b ≡ getD l (i - 1) 0 → Inv l end (s - b) (t - s) (i - 1)
+  less b e = record { from = omega arith; to = omega (arith, v .to); s-is = omega (arith, v .s-is, last); t-is = omega (arith, v .s-is, v .t-is, t-last) }
+
+sub-t : tie.Need-sub-t Inv-loop μ-loop
+sub-t c =
+    let st = c .before .before .before .before in
+    let l = c .before .loop in
+    s-there (st .args .block .now) (st .args .end) (l .s) (l .t) (l .i) (l .inv) (c .loop-test .taken) (st .pre .0)
+
+sub-s : tie.Need-sub-s Inv-loop μ-loop
+sub-s c =
+    let st = c .before .before .before .before .before .before in
+    let l = c .before .before .before .loop in
+    byte-there (st .args .block .now) (st .args .end) (l .s) (l .t) (l .i) (l .inv) (c .before .before .loop-test .taken) (st .pre .0) (c .wide .result) (c .wide .ensures .0)
 
 loop-again : tie.Need-loop-again Inv-loop μ-loop
 loop-again c =
     let st = c .before .before .before .before .before .before in
     let l = c .before .before .before .loop in
-    let h = c .before .before .loop-test .taken in
-    more (st .args .block .now) (st .args .end) (l .s) (l .t) (l .i) (c .wide .result) (l .inv) h (omega (arith, st .pre)) (st .pre .1) (c .wide .ensures .0) (c .wide .ensures .1)
+    less (st .args .block .now) (st .args .end) (l .s) (l .t) (l .i) (l .inv) (c .before .before .loop-test .taken) (st .pre .0) (c .wide .result) (c .wide .ensures .0)
 
 returns : tie.Need-returns Inv-loop μ-loop
 returns c =
     let st = c .before .before .before .before in
     let l = c .before .loop in
-    let e : l .i ≡ st .args .end = le-antisymm (l .inv .to) (c .loop-test .left) in
-    (l .inv .s-is ∙ ap (λ n. total (take n (st .args .block .now)) % 65535) e, l .inv .t-is ∙ ap (λ n. weighed (take n (st .args .block .now)) % 65535) e)
+    let e : l .i ≡ st .args .end = le-antisymm (c .loop-test .left) (l .inv .from) in
+    (l .inv .s-is ∙ ap (S (st .args .block .now)) e, l .inv .t-is ∙ ap (T (st .args .block .now)) e)
 
 pub totals-to-spec : {M : Type 1} → statement M
 totals-to-spec =
@@ -66,10 +82,10 @@ totals-to-spec =
     (λ c κs. search needs)
     loop-holds
     (λ c. search needs)
+    sub-t
+    (λ c. search needs)
     (λ c κs. search needs)
-    (λ c. search needs)
-    (λ c. search needs)
-    (λ c. search needs)
+    sub-s
     (λ c. search needs)
     loop-again
     returns)
