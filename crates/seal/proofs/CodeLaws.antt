@@ -3,13 +3,15 @@ use mathlib.Core.Path.{_≡_, refl, sym, ap, ap₂, _∙_}
 use mathlib.Core.Bool.{Bool, true, false, _&&_, and-true, and-eq-true-iff}
 use mathlib.Core.List.{List, [], _∷_, _++_, append-nil}
 use Prim.Native.Nat.{ℕ, suc, _+_, _-_, _*_, _/_, _%_, _≤_, _<_}
+use native.Mathlib.Nat.{mod-eq-of-lt, add-mul-mod-self-right}
 use native.Mathlib.Omega.{arith}
 use native.Mathlib.Decide.{decLt}
 use borrow.Author.Tests.{eqb-true, eqb-false, eq-eqb, ne-eqb}
 use lib.Dec.{eqb}
 use lib.ListN.{length, getD, take, drop, drop-of-length-le, set, List·getD-eq-default}
 use lib.Seq.{drop-cons, sets-eq, getD-take, length-take-le}
-use Rattle.words.specs.Words.{bytes}
+use Rattle.words.specs.Words.{bytes, wordAt}
+use Rattle.words.proofs.WordLaws.{sumOfBytes, loaded}
 use Rattle.seal.specs.Seal.{blockBytes, modulo255, modulo257, sums, stored, sameBytes, sealRight}
 use Rattle.seal.specs.Lanes.{total, weighed}
 use Rattle.seal.proofs.TotalLaws.{sums-total, sums-weighed}
@@ -68,36 +70,64 @@ module _ (k : List ℕ) (h : length k ≡ blockBytes) where
         let both = and-eq-true-iff _ _ .0 (sym (right-257 small s t (s-low modulo257 (take 508 k)) (t-low modulo257 (take 508 k)) refl refl) ∙ right) in
         (eqb-true _ _ (both .0), eqb-true _ _ (both .1))
 
--- the totals of a body with zeros behind its first three bytes
+-- the four check bytes as one number, and two numbers below 65,536 in one
+check-number : (k : List ℕ) → length k ≡ blockBytes → ((p : ℕ) → getD k p 0 < 256) → (r : ℕ) → r ≡ wordAt k 504 → r / 0x100000000 ≡ getD k 508 0 + getD k 509 0 * 256 + 0x10000 * (getD k 510 0 + getD k 511 0 * 256)
+unfolding sumOfBytes
+check-number k h small r e = omega (arith, e, loaded k 504 (sumOfBytes k 504) (omega (arith, h)) refl, small 504, small 505, small 506, small 507)
+
+both-halves : (x y s t : ℕ) → x < 0x10000 → s < 0x10000 → eqb (x + 0x10000 * y) (s + 0x10000 * t) ≡ (eqb x s && eqb y t)
+both-halves x y s t h l = go (eqb x s) (eqb y t) refl refl
+  where
+    go : (a b : Bool) → eqb x s ≡ a → eqb y t ≡ b → eqb (x + 0x10000 * y) (s + 0x10000 * t) ≡ (a && b)
+    go true true e f = eq-eqb (x + 0x10000 * y) (s + 0x10000 * t) (omega (arith, eqb-true x s e, eqb-true y t f))
+    go true false e f = ne-eqb (x + 0x10000 * y) (s + 0x10000 * t) (λ g. eqb-false y t f (omega arith))
+    go false b e f = ne-eqb (x + 0x10000 * y) (s + 0x10000 * t) (λ g. eqb-false x s e (omega arith))
+
+-- the totals of a body with zeros behind its first two bytes
 total-zeros : (l : List ℕ) → ((j : ℕ) → getD l j 0 ≡ 0) → (total l ≡ 0) × (weighed l ≡ 0)
 unfolding total weighed
 total-zeros [] z = (refl, refl)
 total-zeros (b ∷ l) z = let t = total-zeros l (λ j. z (suc j)) in (omega (arith, z 0, t .0), ap (λ x. suc (length l) * x + weighed l) (z 0) ∙ omega (arith, t .1))
 
-pub three-totals : (l : List ℕ) → length l ≡ 508 → ((p : ℕ) → 3 ≤ p → getD l p 0 ≡ 0) → (total l ≡ getD l 0 0 + getD l 1 0 + getD l 2 0) × (weighed l ≡ 508 * getD l 0 0 + 507 * getD l 1 0 + 506 * getD l 2 0)
+two-totals : (l : List ℕ) → length l ≡ 508 → ((p : ℕ) → 2 ≤ p → getD l p 0 ≡ 0) → (total l ≡ getD l 0 0 + getD l 1 0) × (weighed l ≡ 508 * getD l 0 0 + 507 * getD l 1 0)
 unfolding total weighed
-three-totals [] e z = absurd (omega (arith, e))
-three-totals (a ∷ []) e z = absurd (omega (arith, e))
-three-totals (a ∷ b ∷ []) e z = absurd (omega (arith, e))
-three-totals (a ∷ b ∷ c ∷ l) e z =
-    let t = total-zeros l (λ j. z (suc (suc (suc j))) (omega arith)) in
-    let n : length l ≡ 505 = omega (arith, e) in
+two-totals [] e z = absurd (omega (arith, e))
+two-totals (a ∷ []) e z = absurd (omega (arith, e))
+two-totals (a ∷ b ∷ l) e z =
+    let t = total-zeros l (λ j. z (suc (suc j)) (omega arith)) in
+    let n : length l ≡ 506 = omega (arith, e) in
     (omega (arith, t .0), rw n (omega (arith, t .1)))
 
 -- and of a block's body
-module _ (k : List ℕ) (h : length k ≡ blockBytes) (z : (p : ℕ) → 3 ≤ p → p < 508 → getD k p 0 ≡ 0) where
-  body-zero : (p : ℕ) → 3 ≤ p → getD (take 508 k) p 0 ≡ 0
+module _ (k : List ℕ) (h : length k ≡ blockBytes) (z : (p : ℕ) → 2 ≤ p → p < 508 → getD k p 0 ≡ 0) where
+  body-zero : (p : ℕ) → 2 ≤ p → getD (take 508 k) p 0 ≡ 0
   body-zero p l = go (decLt p 508)
     where
       go : Dec (p < 508) → getD (take 508 k) p 0 ≡ 0
       go (yes u) = getD-take 508 k p 0 u ∙ z p l u
       go (no u) = List·getD-eq-default (take 508 k) 0 {n = p} (omega (arith, length-take-le 508 k (omega arith)))
 
-  pub bare-sums : ((getD k 0 0 + getD k 1 0 + getD k 2 0) % 257 ≡ sums modulo257 (take 508 k) .s) × ((508 * getD k 0 0 + 507 * getD k 1 0 + 506 * getD k 2 0) % 257 ≡ sums modulo257 (take 508 k) .t)
+  bare-sums : ((getD k 0 0 + getD k 1 0) % 257 ≡ sums modulo257 (take 508 k) .s) × ((508 * getD k 0 0 + 507 * getD k 1 0) % 257 ≡ sums modulo257 (take 508 k) .t)
   bare-sums =
-      let t = three-totals (take 508 k) (length-take-le 508 k (omega arith)) body-zero in
-      let at : (p : ℕ) → p < 508 → getD (take 508 k) p 0 ≡ getD k p 0 = λ p u. getD-take 508 k p 0 u in
-      let a = at 0 (omega arith) in
-      let b = at 1 (omega arith) in
-      let c = at 2 (omega arith) in
-      (ap (_% 257) (omega (arith, t .0, a, b, c)) ∙ sym (sums-total modulo257 (take 508 k)), ap (_% 257) (omega (arith, t .1, a, b, c)) ∙ sym (sums-weighed modulo257 (take 508 k)))
+      let t = two-totals (take 508 k) (length-take-le 508 k (omega arith)) body-zero in
+      let a = getD-take 508 k 0 0 (omega arith) in
+      let b = getD-take 508 k 1 0 (omega arith) in
+      (ap (_% 257) (omega (arith, t .0, a, b)) ∙ sym (sums-total modulo257 (take 508 k)), ap (_% 257) (omega (arith, t .1, a, b)) ∙ sym (sums-weighed modulo257 (take 508 k)))
+
+  -- where those two are 2 and the number of an arrow's block
+  module _ (b : ℕ) (few : b ≤ 16) (x : getD k 0 0 ≡ 2) (y : getD k 1 0 ≡ b) where
+    bare-s : 2 + b ≡ sums modulo257 (take 508 k) .s
+    bare-s = let e : 2 + b ≡ (getD k 0 0 + getD k 1 0) % 257 = omega (arith, x, y) in e ∙ bare-sums .0
+
+    bare-t : 245 - 7 * b ≡ sums modulo257 (take 508 k) .t
+    bare-t =
+        let low : 245 - 7 * b < 257 = omega arith in
+        let e : 245 - 7 * b + (3 + 2 * b) * 257 ≡ 508 * getD k 0 0 + 507 * getD k 1 0 = omega (arith, few, x, y) in
+        sym (mod-eq-of-lt low) ∙ sym (add-mul-mod-self-right (245 - 7 * b) (3 + 2 * b) 257) ∙ ap (_% 257) e ∙ bare-sums .1
+
+    -- the check bytes as one number
+    pub bare-right : ((p : ℕ) → getD k p 0 < 256) → (r : ℕ) → r ≡ wordAt k 504 → eqb (r / 0x100000000) (2 + b + 0x10000 * (245 - 7 * b)) ≡ sealRight modulo257 k
+    bare-right small r e =
+        ap (λ (v : ℕ). eqb v (2 + b + 0x10000 * (245 - 7 * b))) (check-number k h small r e)
+        ∙ both-halves (getD k 508 0 + getD k 509 0 * 256) (getD k 510 0 + getD k 511 0 * 256) (2 + b) (245 - 7 * b) (omega (arith, small 508, small 509)) (omega arith)
+        ∙ sym (right-257 k h small (2 + b) (245 - 7 * b) (omega arith) (omega arith) bare-s bare-t)

@@ -210,19 +210,14 @@ pub fn seal_right(form: Modulo, block: &[u8]) -> bool
     }
 }
 
-// The same of a block that has zeros behind its first three bytes: nothing else is read. Inner: it is a block.
-pub fn right_if_bare(block: &[u8]) -> bool
-    requires { ⌜ length (now block) ≡ blockBytes ⌝ }
-    ensures { λ r. ⌜ (((p : ℕ) → 3 ≤ p → p < modulo257 .bodyBytes → getD (now (block .entry)) p 0 ≡ 0) → r ≡ sealRight modulo257 (now (block .entry))) ⌝ }
+// Whether the check bytes are right of a block whose body is 2, b and zeros, an arrow's without a row: nothing else is read, and all four bytes are
+// one number. s is 2 + b; t is 508 times 2 and 507 times b, which leaves 245 less 7 times b. Inner: it is a block, and b is one of a sheet's.
+pub fn right_if_bare(block: &[u8], b: usize) -> bool
+    requires { ⌜ (length (now block) ≡ blockBytes) × (b ≤ 16) ⌝ }
+    ensures { λ r. ⌜ (getD (now (block .entry)) 0 0 ≡ 2 → getD (now (block .entry)) 1 0 ≡ b → ((p : ℕ) → 2 ≤ p → p < modulo257 .bodyBytes → getD (now (block .entry)) p 0 ≡ 0) → r ≡ sealRight modulo257 (now (block .entry))) ⌝ }
 {
-    let x = wide(block[0]);
-    let y = wide(block[1]);
-    let z = wide(block[2]);
-    if pair(block, S) == (x + y + z) % 257 {
-        let w = BODY as u64;
-        return pair(block, T) == (w * x + (w - 1) * y + (w - 2) * z) % 257;
-    }
-    false
+    let n = b as u64;
+    words::load(block, BODY - 4) / 0x100000000 == 2 + n + 0x10000 * (245 - 7 * n)
 }
 
 // Puts sums behind a block's body. Inner: it is a block, and they are sums.

@@ -1,32 +1,57 @@
--- A block with nothing behind its first three bytes: its check bytes by those three alone, and question 4 whatever the nodes.
+-- An arrow's block without a row: its check bytes by its number alone, and questions 2 to 4, whatever the nodes.
 use mathlib.Core.Path.{_≡_, refl, sym, ap, ap₂, _∙_}
-use mathlib.Core.Bool.{Bool, true, false, _&&_, cond, and-false, and-eq-true-iff}
+use mathlib.Core.Bool.{Bool, true, false, not, _&&_, and-false, and-eq-true-iff}
 use mathlib.Core.List.{List}
 use Prim.Native.Nat.{ℕ, zero, suc, _+_, _-_, _*_, _/_, _%_, _≤_, _<_}
 use native.Mathlib.Decide.{decLt}
 use native.Mathlib.Omega.{arith}
-use borrow.Author.Tests.{eqb-true}
+use borrow.Author.Tests.{eqb-true, eqb-false, eq-eqb, ne-eqb, lt-ltb, not-true}
 use lib.Bits.{bitOr}
-use lib.Dec.{eqb, ltb}
-use lib.ListN.{getD}
-use Rattle.logic.specs.Graph.{Nodes, allBelow}
-use Rattle.logic.specs.Limits.{maxNodes, labelCount}
+use lib.Dec.{eqb}
+use lib.ListN.{length, getD}
+use Rattle.answer.specs.Asked.{passed}
+use Rattle.logic.specs.Graph.{Nodes, allBelow, implies}
 use Rattle.logic.proofs.Below.{all-true, all-each}
-use Rattle.words.specs.Words.{setOf, member}
+use Rattle.words.specs.Words.{member, wordAt}
 use Rattle.words.proofs.SetLaws.{member-zero}
-use Rattle.seal.specs.Seal.{modulo257, sealRight}
-use Rattle.seal.specs.Forms.{formOf}
+use Rattle.seal.specs.Seal.{blockBytes, modulo257, sealRight}
 use Rattle.seal.specs.declared.Modulo.{Modulo}
 use Rattle.seal.specs.declared.Modulo.the-variants.{M257, M255}
-use Rattle.sheet.specs.Sheet.{padding, lineCount}
+use Rattle.sheet.specs.Sheet.{blockCount, padding, SheetForm}
 use Rattle.sheet.specs.Forms.{formIn}
-use Rattle.sheet.specs.Questions.{zeroRight}
-use Rattle.sheet.specs.Masks.{wordCount, bareIn, zerosAt, within, zeroBut, lineMask, rowMask, Outside, Edges}
+use Rattle.sheet.specs.Questions.{headRight, free, zeroRight, askBlock}
+use Rattle.sheet.specs.Masks.{wordCount, blankIn, zerosAt, within, zeroBut, Outside, Edges}
+use Rattle.sheet.proofs.Passes.{if-clear, if-free, block-right}
 use Rattle.sheet.proofs.Opening.{byte-ext}
 use Rattle.sheet.proofs.Outside.{all-zero}
-use Rattle.sheet.proofs.Zeros.{word-clear, within-none, masks-first, masks-later}
+use Rattle.sheet.proofs.Zeros.{word-clear}
+use Rattle.sheet.proofs.Heads.{head-number}
+use Rattle.sheet.proofs.Asks.{head-later}
+
+-- bits of the head may be set, in every block
+head-free : (φ : SheetForm) (n : ℕ) (nodes : Nodes) (b p i : ℕ) → p < 3 → free φ n nodes b p i ≡ true
+unfolding free
+head-free φ n nodes zero p i l = rw (lt-ltb p 3 l)
+head-free φ n nodes (suc a) p i l = rw (lt-ltb p 3 l)
+
+-- what is not such a block: an old card's, block 0, one with another head
+module _ (k : List ℕ) (b : ℕ) where
+  pub not-asked : (sums : Modulo) → sums ≡ M255 → blankIn sums b k ≡ false
+  unfolding blankIn
+  not-asked sums e = ap (λ m. blankIn m b k) e
+
+  pub not-block-0 : (sums : Modulo) → b ≡ 0 → blankIn sums b k ≡ false
+  unfolding blankIn
+  not-block-0 M257 e = rw (eq-eqb b 0 e) refl
+  not-block-0 M255 e = refl
+
+  pub not-headed : (sums : Modulo) → (wordAt k 0 ≡ 2 + 0x100 * b → ⊥) → blankIn sums b k ≡ false
+  unfolding blankIn
+  not-headed M257 ne = rw (ne-eqb (wordAt k 0) (2 + 0x100 * b) ne) (and-false (not (eqb b 0)))
+  not-headed M255 ne = refl
 
 module _ (k : List ℕ) (small : (p : ℕ) → getD k p 0 < 256) where
+  -- nothing behind the first three bytes
   module _ (e : zeroBut modulo257 (λ j. 0) k ≡ true) where
     parts : (zerosAt k 3 13 ≡ true) × (allBelow wordCount (λ j. within k 0 j) ≡ true) × (zerosAt k (16 + 8 * wordCount) (padding modulo257 wordCount) ≡ true)
     unfolding zeroBut
@@ -34,9 +59,6 @@ module _ (k : List ℕ) (small : (p : ℕ) → getD k p 0 < 256) where
         let a = and-eq-true-iff (zerosAt k 3 13) _ .0 e in
         let b = and-eq-true-iff (allBelow wordCount (λ j. within k 0 j)) _ .0 (a .1) in
         (a .0, b .0, b .1)
-
-    pub empty-word : (j : ℕ) → j < wordCount → within k 0 j ≡ true
-    empty-word j l = all-each wordCount (λ j. within k 0 j) (parts .1) j l
 
     gap : (at m : ℕ) → zerosAt k at m ≡ true → (p : ℕ) → at ≤ p → p < at + m → getD k p 0 ≡ 0
     unfolding zerosAt
@@ -49,9 +71,10 @@ module _ (k : List ℕ) (small : (p : ℕ) → getD k p 0 < 256) where
         let r : ℕ = p % 8 * 8 + i in
         let at : p ≡ 16 + 8 * ((p - 16) / 8) + r / 8 = omega arith in
         let bit : i ≡ r % 8 = omega arith in
-        ap₂ (λ x y. member (getD k x 0) y) at bit ∙ word-clear k small ((p - 16) / 8) (omega arith) (empty-word ((p - 16) / 8) (omega arith)) r (omega arith) ∙ sym (member-zero i))
+        let empty = all-each wordCount (λ j. within k 0 j) (parts .1) ((p - 16) / 8) (omega arith) in
+        ap₂ (λ x y. member (getD k x 0) y) at bit ∙ word-clear k small ((p - 16) / 8) (omega arith) empty r (omega arith) ∙ sym (member-zero i))
 
-    pub zeros-behind : (p : ℕ) → 3 ≤ p → p < modulo257 .bodyBytes → getD k p 0 ≡ 0
+    zeros-behind : (p : ℕ) → 3 ≤ p → p < modulo257 .bodyBytes → getD k p 0 ≡ 0
     zeros-behind p l u = go (decLt p 16) (decLt p (16 + 8 * wordCount))
       where
         go : Dec (p < 16) → Dec (p < 16 + 8 * wordCount) → getD k p 0 ≡ 0
@@ -59,61 +82,52 @@ module _ (k : List ℕ) (small : (p : ℕ) → getD k p 0 < 256) where
         go (no a) (yes b) = inner p (omega arith) b
         go (no a) (no b) = gap (16 + 8 * wordCount) (padding modulo257 wordCount) (parts .2) p (omega arith) (omega arith)
 
-  -- what the code finds: r of the check bytes, x of the zeros
-  pub bare-is : (r : Bool) → (((p : ℕ) → 3 ≤ p → p < modulo257 .bodyBytes → getD k p 0 ≡ 0) → r ≡ sealRight modulo257 k) → (r && zeroBut modulo257 (λ j. 0) k) ≡ bareIn M257 k
-  unfolding bareIn
-  bare-is r h = go (zeroBut modulo257 (λ j. 0) k) refl
-    where
-      go : (z : Bool) → zeroBut modulo257 (λ j. 0) k ≡ z → (r && z) ≡ (sealRight modulo257 k && z)
-      go true e = ap (_&& true) (h (zeros-behind e))
-      go false e = and-false r ∙ sym (and-false (sealRight modulo257 k))
+    -- question 4 passes, whatever the nodes
+    zeros-right : (held : Bool) (n : ℕ) (nodes : Nodes) (b : ℕ) → zeroRight (formIn M257 held) n nodes b k ≡ true
+    unfolding zeroRight
+    zeros-right held n nodes b = all-true (modulo257 .bodyBytes) _ (λ p l. all-true 8 _ (λ i s. bit p i l (decLt p 3)))
+      where
+        bit : (p i : ℕ) → p < modulo257 .bodyBytes → Dec (p < 3) → implies (member (getD k p 0) i) (free (formIn M257 held) n nodes b p i) ≡ true
+        bit p i l (yes u) = if-free (member (getD k p 0) i) _ (head-free (formIn M257 held) n nodes b p i u)
+        bit p i l (no u) = if-clear _ _ (ap (λ x. member x i) (zeros-behind p (omega arith) l) ∙ member-zero i)
 
+  -- what the code finds: e of the edges, r of the words
   pub zeros-are : (e r : ℕ) → Edges modulo257 k e → Outside k 0 wordCount 0 r → eqb (bitOr e r) 0 ≡ zeroBut modulo257 (λ j. 0) k
   zeros-are e r d o = all-zero k modulo257 (λ j. 0) e r d (record { none = λ z j l. o .none z j (omega arith) l; some = λ h. o .some (λ j a b. h j b) })
 
-  -- of such a block
-  module _ (sums : Modulo) where
-    pub not-asked : sums ≡ M255 → bareIn sums k ≡ false
-    unfolding bareIn
-    not-asked e = ap (λ m. bareIn m k) e
+  module _ (h : length k ≡ blockBytes) (b : ℕ) (inside : b < blockCount) where
+    -- the head of an arrow's block, by its first word
+    module _ (w : wordAt k 0 ≡ 2 + 0x100 * b) where
+      head-bytes : (getD k 0 0 ≡ 2) × (getD k 1 0 ≡ b) × (getD k 2 0 ≡ 0)
+      head-bytes =
+          let s : getD k 0 0 + getD k 1 0 * 0x100 + getD k 2 0 * 0x10000 ≡ 2 + 0x100 * b = sym (head-number k h small (wordAt k 0) refl) ∙ omega (arith, w, inside) in
+          (omega (arith, s, small 0, small 1, small 2), omega (arith, s, small 0, small 1, small 2), omega (arith, s, small 0, small 1, small 2))
 
-    pub bare-257 : sums ≡ M257 → bareIn M257 k ≡ bareIn sums k
-    bare-257 e = ap (λ m. bareIn m k) (sym e)
+      head-is : (φ : SheetForm) → (b ≡ 0 → ⊥) → headRight φ b k ≡ true
+      head-is φ ne =
+          head-later φ k b ne
+          ∙ ap₂ _&&_ (eq-eqb (getD k 0 0) 2 (head-bytes .0)) (ap₂ _&&_ (eq-eqb (getD k 1 0) b (head-bytes .1)) (eq-eqb (getD k 2 0) 0 (head-bytes .2)))
 
-  pub bare-sealed : (sums : Modulo) → bareIn sums k ≡ true → sealRight (formOf sums) k ≡ true
-  unfolding bareIn
-  bare-sealed M257 e = and-eq-true-iff (sealRight modulo257 k) _ .0 e .0
-  bare-sealed M255 e = let z : _≡_ {A = ℕ} 0 1 = cc in absurd (omega arith)
+    -- what the code finds: r of the check bytes, told of an arrow's block without a row
+    pub blank-is : (sums : Modulo) → sums ≡ M257 → (b ≡ 0 → ⊥) → wordAt k 0 ≡ 2 + 0x100 * b → (r : Bool)
+        → (getD k 0 0 ≡ 2 → getD k 1 0 ≡ b → ((p : ℕ) → 2 ≤ p → p < modulo257 .bodyBytes → getD k p 0 ≡ 0) → r ≡ sealRight modulo257 k) → (r && zeroBut modulo257 (λ j. 0) k) ≡ blankIn sums b k
+    unfolding blankIn
+    blank-is sums m ne w r told = go (zeroBut modulo257 (λ j. 0) k) refl ∙ sym (ap (λ s. blankIn s b k) m ∙ rw (ne-eqb b 0 ne, eq-eqb (wordAt k 0) (2 + 0x100 * b) w) refl)
+      where
+        behind : zeroBut modulo257 (λ j. 0) k ≡ true → (p : ℕ) → Dec (p < 3) → 2 ≤ p → p < modulo257 .bodyBytes → getD k p 0 ≡ 0
+        behind e p (yes u) l s = let at : p ≡ 2 = omega arith in ap (λ x. getD k x 0) at ∙ head-bytes w .2
+        behind e p (no u) l s = zeros-behind e p (omega arith) s
 
-  bare-zeros : (sums : Modulo) → bareIn sums k ≡ true → zeroBut (formOf sums) (λ j. 0) k ≡ true
-  unfolding bareIn
-  bare-zeros M257 e = and-eq-true-iff (sealRight modulo257 k) _ .0 e .1
-  bare-zeros M255 e = let z : _≡_ {A = ℕ} 0 1 = cc in absurd (omega arith)
+        go : (z : Bool) → zeroBut modulo257 (λ j. 0) k ≡ z → (r && z) ≡ (sealRight modulo257 k && z)
+        go true e = ap (_&& true) (told (head-bytes w .0) (head-bytes w .1) (λ p l s. behind e p (decLt p 3) l s))
+        go false e = and-false r ∙ sym (and-false (sealRight modulo257 k))
 
-  -- question 4 of it passes, whatever the nodes
-  module _ (e : zeroBut modulo257 (λ j. 0) k ≡ true) (held : Bool) (n : ℕ) (nodes : Nodes) (all : ℕ) (is-all : all ≡ setOf 64 nodes) where
-    by-words : (mask : ℕ → ℕ) → ((j : ℕ) → j < wordCount → within k (mask j) j ≡ true) → zeroBut modulo257 mask k ≡ true
-    unfolding zeroBut
-    by-words mask w = ap₂ _&&_ (parts e .0) (ap₂ _&&_ (all-true wordCount _ w) (parts e .2))
-
-    by-all : (j : ℕ) → j < wordCount → within k all j ≡ true
-    by-all j l = ap (λ (m : ℕ). within k m j) is-all ∙ within-none k small nodes j l (empty-word e j l)
-
-    line : (j : ℕ) → j < wordCount → (c d : Bool) → within k (cond c all (cond d (setOf 64 (λ i. ltb i n)) 0)) j ≡ true
-    line j l true d = by-all j l
-    line j l false true = within-none k small (λ i. ltb i n) j l (empty-word e j l)
-    line j l false false = empty-word e j l
-
-    row : (j : ℕ) → j < wordCount → (c : Bool) → within k (cond c all 0) j ≡ true
-    row j l true = by-all j l
-    row j l false = empty-word e j l
-
-    passes : (b : ℕ) → ((i : ℕ) → maxNodes ≤ i → nodes i ≡ false) → zeroRight (formIn M257 held) n nodes b k ≡ true
-    passes zero few =
-        let φ = formIn M257 held in
-        sym (masks-first φ k small n nodes 0 all is-all refl) ∙ by-words (lineMask φ n all) (λ j l. line j l (ltb j labelCount) (ltb j (lineCount φ)))
-    passes (suc a) few = sym (masks-later (formIn M257 held) k small n nodes (suc a) all is-all (λ z. absurd (omega arith)) few) ∙ by-words (rowMask all) (λ j l. row j l (member all j))
-
-  pub bare-passes : (sums : Modulo) → bareIn sums k ≡ true → (held : Bool) (n : ℕ) (nodes : Nodes) (all : ℕ) → all ≡ setOf 64 nodes → (b : ℕ) → ((i : ℕ) → maxNodes ≤ i → nodes i ≡ false) → zeroRight (formIn sums held) n nodes b k ≡ true
-  bare-passes M257 e held n nodes all is-all b few = passes (bare-zeros M257 e) held n nodes all is-all b few
-  bare-passes M255 e held n nodes all is-all b few = let z : _≡_ {A = ℕ} 0 1 = cc (sym (not-asked M255 refl) ∙ e) in absurd (omega arith)
+    -- such a block passes
+    pub blank-passes : (sums : Modulo) → blankIn sums b k ≡ true → (held : Bool) (n : ℕ) (nodes : Nodes) → askBlock (formIn sums held) n nodes b k ≡ passed tt
+    unfolding blankIn
+    blank-passes M257 e held n nodes =
+        let a = and-eq-true-iff (not (eqb b 0)) _ .0 e in
+        let c = and-eq-true-iff (eqb (wordAt k 0) (2 + 0x100 * b)) _ .0 (a .1) in
+        let d = and-eq-true-iff (sealRight modulo257 k) _ .0 (c .1) in
+        block-right (formIn M257 held) n nodes b k (d .0) (head-is (eqb-true _ _ (c .0)) (formIn M257 held) (eqb-false b 0 (not-true _ (a .0)))) (zeros-right (d .1) held n nodes b)
+    blank-passes M255 e held n nodes = let z : _≡_ {A = ℕ} 0 1 = cc in absurd (omega arith)

@@ -29,10 +29,10 @@ within k mask j = eqb (combined (λ a b. a && not b) (wordAt k (16 + 8 * j)) mas
 unfoldable pub zeroBut : Form → (ℕ → ℕ) → List ℕ → Bool
 zeroBut φ mask k = zerosAt k 3 13 && (allBelow wordCount (λ j. within k (mask j) j) && zerosAt k (16 + 8 * wordCount) (padding φ wordCount))
 
--- Whether a block of today's sums has nothing behind its first three bytes, with the check bytes that go with it; a card's is not asked.
-unfoldable pub bareIn : Modulo → List ℕ → Bool
-bareIn M257 k = sealRight modulo257 k && zeroBut modulo257 (λ j. 0) k
-bareIn M255 k = false
+-- Whether block b is an arrow's with its head, nothing behind it and the check bytes that go with it, which answers 2 to 4. A card's is not asked, nor is block 0.
+unfoldable pub blankIn : Modulo → ℕ → List ℕ → Bool
+blankIn M257 b k = not (eqb b 0) && (eqb (wordAt k 0) (2 + 0x100 * b) && (sealRight modulo257 k && zeroBut modulo257 (λ j. 0) k))
+blankIn M255 b k = false
 
 -- In block 0, labels have nodes in use only; the nodes in use, where it holds them, are below n.
 abbrev pub lineMask : SheetForm → (n all : ℕ) → ℕ → ℕ

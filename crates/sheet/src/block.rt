@@ -8,12 +8,12 @@ ghost use Rattle.logic.specs.Graph.{Nodes};
 ghost use Rattle.logic.specs.Limits.{maxNodes};
 ghost use Rattle.answer.specs.Answers.{asked};
 ghost use Rattle.words.specs.Words.{setOf, member};
-ghost use Rattle.seal.specs.Seal.{blockBytes, sealRight, reseal};
+ghost use Rattle.seal.specs.Seal.{blockBytes, reseal};
 ghost use Rattle.seal.specs.Forms.{formOf};
 ghost use Rattle.sheet.specs.Sheet.{blockCount, present, padding, SheetForm};
 ghost use Rattle.sheet.specs.Forms.{formIn};
 ghost use Rattle.sheet.specs.Questions.{headRight, zeroRight, askBlock};
-ghost use Rattle.sheet.specs.Masks.{wordCount, bareIn, Outside, Edges, Bare, Over, Told, SomeTold, lineMask, rowMask};
+ghost use Rattle.sheet.specs.Masks.{wordCount, blankIn, Outside, Edges, Bare, Over, Told, SomeTold, lineMask, rowMask};
 ghost use Rattle.sheet.specs.Writes.{putRows, blankBlock};
 use super::Sheet;
 use answer::Answer;
@@ -127,23 +127,11 @@ fn rows_over(block: &[u8], n: usize, all: u64) -> u64
     rows | closed | outside(block, n, WORDS, 0)
 }
 
-// Question 4: is all zero that must be zero in block b? One test for all of it, at the end. Inner: n is in range, by question 3 of block 0, and
-// `bare` is what is told of the block.
-fn zero_right(
-    sums: Modulo,
-    held: bool,
-    block: &[u8],
-    b: usize,
-    n: usize,
-    all: u64,
-    bare: bool,
-) -> bool
-    requires { ⌜ (n ≤ maxNodes) × (length (now block) ≡ blockBytes) × (bare ≡ bareIn sums (now block)) ⌝ }
+// Question 4: is all zero that must be zero in block b? One test for all of it, at the end. Inner: n is in range, by question 3 of block 0.
+fn zero_right(sums: Modulo, held: bool, block: &[u8], b: usize, n: usize, all: u64) -> bool
+    requires { ⌜ (n ≤ maxNodes) × (length (now block) ≡ blockBytes) ⌝ }
     ensures { λ r. ⌜ ((nodes : Nodes) → ((i : ℕ) → n ≤ i → nodes i ≡ false) → all ≡ setOf 64 nodes → r ≡ zeroRight (formIn sums held) n nodes b (now (block .entry))) ⌝ }
 {
-    if bare {
-        return true;
-    }
     let ends = edges(sums, block);
     if b == 0 {
         return ends | lines_over(held, block, n, all) == 0;
@@ -151,30 +139,25 @@ fn zero_right(
     ends | rows_over(block, n, all) == 0
 }
 
-// Whether a block has today's sums and nothing behind its first three bytes, which answers 2 and 4. Its check bytes are looked at first: they tell
-// a block that has more. An old card's is not asked.
-fn bare_block(sums: Modulo, block: &[u8]) -> bool
-    requires { ⌜ length (now block) ≡ blockBytes ⌝ }
-    ensures { λ r. ⌜ r ≡ bareIn sums (now (block .entry)) ⌝ }
+// Whether block b is an arrow's without a row, as most are, which answers 2 to 4 without its sums: they follow from b. Its head is looked at first,
+// then its check bytes, which tell a block that has rows. Block 0 is not asked, nor is an old card's. Inner: it is a block of a sheet.
+fn blank_arrow(sums: Modulo, block: &[u8], b: usize) -> bool
+    requires { ⌜ (length (now block) ≡ blockBytes) × (b < blockCount) ⌝ }
+    ensures { λ r. ⌜ r ≡ blankIn sums b (now (block .entry)) ⌝ }
 {
     let Modulo::M257 = sums else {
         return false;
     };
-    if !seal::right_if_bare(block) {
+    if b == 0 {
+        return false;
+    }
+    if words::load(block, 0) != 2 + 0x100 * b as u64 {
+        return false;
+    }
+    if !seal::right_if_bare(block, b) {
         return false;
     }
     edges(Modulo::M257, block) | outside(block, 0, WORDS, 0) == 0
-}
-
-// Question 2: are the check bytes right? Inner: `bare` is what is told of the block.
-fn sums_right(sums: Modulo, block: &[u8], bare: bool) -> bool
-    requires { ⌜ (length (now block) ≡ blockBytes) × (bare ≡ bareIn sums (now block)) ⌝ }
-    ensures { λ r. ⌜ r ≡ sealRight (formOf sums) (now (block .entry)) ⌝ }
-{
-    if bare {
-        return true;
-    }
-    seal::seal_right(sums, block)
 }
 
 // Questions 2 to 4 of block b. Inner: n and `all` are what block 0 tells, and n is in range once it has its head.
@@ -182,14 +165,16 @@ pub fn ask_block(sums: Modulo, held: bool, block: &[u8], b: usize, n: usize, all
     requires { ⌜ (length (now block) ≡ blockBytes) × (headRight (formIn sums held) b (now block) ≡ true → n ≤ maxNodes) × SomeTold (formIn sums held) (now block) b n all × (b < blockCount) ⌝ }
     ensures { λ r. ⌜ ((nodes : Nodes) → Told (formIn sums held) (now (block .entry)) b n all nodes → asked r ≡ askBlock (formIn sums held) n nodes b (now (block .entry))) ⌝ }
 {
-    let bare = bare_block(sums, block);
-    if !sums_right(sums, block, bare) {
+    if blank_arrow(sums, block, b) {
+        return Answer::Done;
+    }
+    if !seal::seal_right(sums, block) {
         return Answer::Refused(Refusal::CheckBytes { place: b });
     }
     if !head_right(block, b, all) {
         return Answer::Refused(Refusal::BlockHead { place: b });
     }
-    if !zero_right(sums, held, block, b, n, all, bare) {
+    if !zero_right(sums, held, block, b, n, all) {
         return Answer::Refused(Refusal::NotZero { place: b });
     }
     Answer::Done
