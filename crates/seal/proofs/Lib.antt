@@ -1,6 +1,6 @@
 pub mod LaneLaws
 pub mod WordSums
-pub mod Quarters
+pub mod Parts
 pub mod TotalLaws
 pub mod SealLaws
 pub mod Noticed

@@ -13,7 +13,7 @@ use Rattle.seal.specs.Seal.{blockBytes, modulo257, Form, sums, stored, s
 use Rattle.seal.specs.Lanes.{pack, oddsAt, pairsAt, laneSum, lanePlaces, total, weighed}
 use Rattle.seal.proofs.TotalLaws.{sums-total, sums-weighed, alike}
 use Rattle.seal.proofs.WordSums.{S, T, eight, placed, S-next, T-next, eight-more}
-use Rattle.seal.proofs.Quarters.{lane-sum, lane-places}
+use Rattle.seal.proofs.Parts.{lane-sum, lane-places}
 
 -- Two lists that differ only in the eight bytes from `at` on: the totals of all bytes up to those eight and j behind them.
 module _ (k r : List ℕ) (at : ℕ) (before : take at r ≡ take at k) (behind : (i : ℕ) → at + 8 ≤ i → getD r i 0 ≡ getD k i 0) (same : length r ≡ length k) where

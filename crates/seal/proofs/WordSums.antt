@@ -62,7 +62,7 @@ weigh : (t t′ pl p w x s s0 t0 v n c : ℕ) → t′ + p ≡ t + 8 * s + 8 * x
     → t′ + (pl + p) + 8 * (v * (w + x)) ≡ t0 + 8 * (suc n * s0) + 8 * (c + x * suc v)
 weigh t t′ pl p w x s s0 t0 v n c e f g = omega arith
 
--- words one behind the other, at `at` 0, `at` 1 and so on: the word i of 16 counts 16 - i times
+-- words one behind the other, at `at` 0, `at` 1 and so on: the word i of 8 counts 8 - i times
 module _ (l : List ℕ) (at : ℕ → ℕ) (move : (i : ℕ) → at (suc i) ≡ at i + 8) where
   abbrev pub word : ℕ → ℕ
   word i = eight l (at i)
@@ -71,7 +71,7 @@ module _ (l : List ℕ) (at : ℕ → ℕ) (move : (i : ℕ) → at (suc i) ≡ 
   places i = placed l (at i)
 
   abbrev pub counted : ℕ → ℕ
-  counted i = eight l (at i) * (16 - i)
+  counted i = eight l (at i) * (8 - i)
 
   pub words-total : (n : ℕ) → at n ≤ length l → S l (at n) ≡ S l (at 0) + upTo word n
   unfolding upTo
@@ -80,15 +80,15 @@ module _ (l : List ℕ) (at : ℕ → ℕ) (move : (i : ℕ) → at (suc i) ≡ 
       let f : at n + 8 ≤ length l = omega (arith, move n) in
       ap (S l) (move n) ∙ omega (arith, eight-more l (at n) f .0, words-total n (omega arith))
 
-  pub words-weighed : (n : ℕ) → n ≤ 16 → at n ≤ length l → T l (at n) + upTo places n + 8 * ((16 - n) * upTo word n) ≡ T l (at 0) + 8 * (n * S l (at 0)) + 8 * upTo counted n
+  pub words-weighed : (n : ℕ) → n ≤ 8 → at n ≤ length l → T l (at n) + upTo places n + 8 * ((8 - n) * upTo word n) ≡ T l (at 0) + 8 * (n * S l (at 0)) + 8 * upTo counted n
   unfolding upTo
   words-weighed zero k h = omega arith
   words-weighed (suc n) k h =
       let f : at n + 8 ≤ length l = omega (arith, move n) in
-      let v : ℕ = 15 - n in
-      let e : 16 - n ≡ suc v = omega arith in
-      let g : 16 - suc n ≡ v = omega arith in
-      let ih : T l (at n) + upTo places n + 8 * ((16 - n) * upTo word n) ≡ T l (at 0) + 8 * (n * S l (at 0)) + 8 * upTo counted n = words-weighed n (omega arith) (omega arith) in
+      let v : ℕ = 7 - n in
+      let e : 8 - n ≡ suc v = omega arith in
+      let g : 8 - suc n ≡ v = omega arith in
+      let ih : T l (at n) + upTo places n + 8 * ((8 - n) * upTo word n) ≡ T l (at 0) + 8 * (n * S l (at 0)) + 8 * upTo counted n = words-weighed n (omega arith) (omega arith) in
       rw (e, g, move n)
       (weigh (T l (at n)) (T l (at n + 8)) (upTo places n) (places n) (upTo word n) (word n) (S l (at n)) (S l (at 0)) (T l (at 0)) v n (upTo counted n)
       (eight-more l (at n) f .1) (words-total n (omega arith)) (rw e at ih))

@@ -16,6 +16,13 @@ pairsAt l at =
     pack (getD l at 0 + getD l (at + 1) 0) (getD l (at + 2) 0 + getD l (at + 3) 0)
     (getD l (at + 4) 0 + getD l (at + 5) 0) (getD l (at + 6) 0 + getD l (at + 7) 0)
 
+-- Of four words, 64 bytes apart: something of them added; and the lanes of their pairs, each as often as words of the four follow it.
+abbrev pub fourAt : (List ℕ → ℕ → ℕ) → List ℕ → ℕ → ℕ
+fourAt f l at = f l at + f l (at + 64) + f l (at + 128) + f l (at + 192)
+
+abbrev pub beforeAt : List ℕ → ℕ → ℕ
+beforeAt l at = 3 * pairsAt l at + 2 * pairsAt l (at + 64) + pairsAt l (at + 128)
+
 -- The lanes of a word added; and what lanes say of the bytes' places in their words, each byte as often as its place says.
 abbrev pub laneSum : ℕ → ℕ
 laneSum x = x % 0x10000 + x / 0x10000 % 0x10000 + x / 0x100000000 % 0x10000 + x / 0x1000000000000

@@ -7,7 +7,7 @@ ghost use lib.ListN.{length, getD, take};
 ghost use Rattle.words.specs.Words.{putWord};
 ghost use Rattle.seal.specs.Seal.{blockBytes, modulo255, modulo257, sums, stored, sealRight, reseal};
 ghost use Rattle.seal.specs.Forms.{formOf};
-ghost use Rattle.seal.specs.Lanes.{oddsAt, pairsAt, laneSum, lanePlaces, total, weighed};
+ghost use Rattle.seal.specs.Lanes.{oddsAt, pairsAt, fourAt, beforeAt, laneSum, lanePlaces, total, weighed};
 
 // A block's bytes, and those of its body: the check bytes fill what is left.
 pub const BLOCK: usize = 512;
@@ -86,47 +86,69 @@ fn places(pairs: u64, odds: u64) -> u64
     lane_sum(odds) + 2 * (second + 2 * third + 3 * fourth)
 }
 
+// Four words side by side, 64 bytes apart, in lanes: all added, each as often as words of the four follow it, and the bytes at odd places.
+struct Four {
+    sum: u64,
+    before: u64,
+    odds: u64,
+}
+
+// Those from `at` on. Inner: they are there.
+fn four_words(block: &[u8], at: usize) -> Four
+    requires { ⌜ at + 200 ≤ length (now block) ⌝ }
+    ensures { λ r. ⌜ (r .sum ≡ fourAt pairsAt (now (block .entry)) at) × (r .before ≡ beforeAt (now (block .entry)) at) × (r .odds ≡ fourAt oddsAt (now (block .entry)) at) ⌝ }
+    ensures { λ r. ⌜ (r .sum ≤ 0x07F807F807F807F8) × (r .before ≤ 0x0BF40BF40BF40BF4) × (r .odds ≤ 0x03FC03FC03FC03FC) ⌝ }
+{
+    let x = lanes(block, at);
+    let y = lanes(block, at + 64);
+    let u = lanes(block, at + 128);
+    let w = lanes(block, at + 192);
+    let two = x.pairs + y.pairs;
+    let three = two + u.pairs;
+    Four {
+        sum: three + w.pairs,
+        before: x.pairs + two + three,
+        odds: x.odds + y.odds + u.odds + w.odds,
+    }
+}
+
 // The plain totals of bytes: of them all, and with each counted as often as bytes follow it, itself counted.
 struct Totals {
     s: u64,
     t: u64,
 }
 
-// Those of a whole block, its check bytes too. Four quarters of 16 words go side by side: their lanes are added as whole words; for t the sum of
-// four words' lanes counts as often as words follow in their quarter, themselves counted, and each quarter's sum once for every byte behind it.
-// A byte's place in its word is taken off at the end. A loop of even length: the compiler takes two words at a time. Inner: it is a block.
+// Those of a whole block, its check bytes too. Its eight parts of 64 bytes go side by side, a word of each at a time. For t the sum of the eight
+// counts as often as words follow in their part, itself counted, and a part's sum once for every word of the parts behind it; a byte's place in
+// its word is taken off at the end. Inner: it is a block.
 fn block_totals(block: &[u8]) -> Totals
     requires { ⌜ length (now block) ≡ blockBytes ⌝ }
     ensures { λ r. ⌜ (r .s ≡ total (now (block .entry))) × (r .t ≡ weighed (now (block .entry))) ⌝ }
 {
-    let mut a = 0;
-    let mut b = 0;
-    let mut c = 0;
-    let mut d = 0;
+    let mut first = 0;
+    let mut second = 0;
+    let mut before = 0;
     let mut odds = 0;
     let mut z = 0;
     let mut j = 0;
-    while j < 16 {
-        let x = lanes(block, 8 * j);
-        let y = lanes(block, 8 * j + 128);
-        let u = lanes(block, 8 * j + 256);
-        let w = lanes(block, 8 * j + 384);
-        a += x.pairs;
-        b += y.pairs;
-        c += u.pairs;
-        d += w.pairs;
-        odds += x.odds + y.odds + u.odds + w.odds;
-        let four = x.pairs + y.pairs + u.pairs + w.pairs;
-        let halves = four + four / 0x100000000;
-        let v = 16 - j as u64;
+    while j < 8 {
+        let x = four_words(block, 8 * j);
+        let y = four_words(block, 8 * j + 256);
+        first += x.sum;
+        second += y.sum;
+        before += x.before + y.before;
+        odds += x.odds + y.odds;
+        let eight = x.sum + y.sum;
+        let halves = eight + eight / 0x100000000;
+        let v = 8 - j as u64;
         z += (halves + halves / 0x10000) % 0x10000 * v;
         j += 1;
     }
-    let all = a + b + c + d;
-    let before = lane_sum(3 * a + 2 * b + c);
+    let all = first + second;
+    let behind = lane_sum(before) + 4 * lane_sum(first);
     Totals {
         s: lane_sum(all),
-        t: 8 * (z + 16 * before) - places(all, odds),
+        t: 8 * (z + 8 * behind) - places(all, odds),
     }
 }
 
