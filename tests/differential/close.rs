@@ -1,7 +1,7 @@
 //! Close and open of the library compared with the reference: answers and all bytes, alone and between calls of enter.
 
-use common::compare::{Lent, Outcome, Tally};
-use common::library::{zamiathen_close, zamiathen_enter, zamiathen_open};
+use common::compare::{self, Lent, Outcome, Tally};
+use common::library::{zamiathen_close, zamiathen_open};
 use common::random::Random;
 use common::terms::{self, Names};
 use common::{damage, graphs, texts};
@@ -336,21 +336,8 @@ fn entered(
     let steps = random.below(4);
     let levels = terms::some_levels(random);
     let edit = terms::edit(random, names, steps, levels).code();
-    let (mut lent, lent_book, lent_edit, mut scratch) =
-        (Lent::of(bytes), Lent::of(book), Lent::of(&edit), Lent::of(&[0; 2000]));
-    let found = unsafe {
-        zamiathen_enter(
-            lent.mut_ptr(),
-            lent.len(),
-            lent_book.ptr(),
-            lent_book.len(),
-            lent_edit.ptr(),
-            lent_edit.len(),
-            scratch.mut_ptr(),
-            scratch.len(),
-        )
-    };
-    let found = Outcome::new(&[found.number, found.place], vec![lent, lent_book, lent_edit]);
+    let (numbers, [lent, lent_book, lent_edit, _]) = compare::enter(bytes, book, &edit, &[0; 2000]);
+    let found = Outcome::new(&numbers, vec![lent, lent_book, lent_edit]);
     let called = clerk.call(&edit, 2000);
     let after = sheet::store(&clerk.graph);
     let wanted = Outcome::of_answer(called.answer, vec![Lent::of(&after), Lent::of(book), Lent::of(&edit)]);

@@ -1,7 +1,7 @@
 //! Enter, carry back and apply of the library, compared with the reference: answers and all bytes of all buffers.
 
-use common::compare::{Lent, Outcome, Tally};
-use common::library::{zamiathen_apply, zamiathen_carry_back, zamiathen_enter};
+use common::compare::{self, Lent, Outcome, Tally};
+use common::library::{zamiathen_apply, zamiathen_carry_back};
 use common::random::Random;
 use common::terms::{self, Names};
 use common::{carried, damage, graphs, limits, texts};
@@ -24,21 +24,8 @@ struct Call<'c> {
 
 impl Call<'_> {
     fn library(&self) -> Outcome {
-        let (mut bytes, book) = (Lent::of(self.sheet), Lent::of(self.book));
-        let (edit, mut scratch) = (Lent::of(self.edit), Lent::of(self.scratch));
-        let found = unsafe {
-            zamiathen_enter(
-                bytes.mut_ptr(),
-                bytes.len(),
-                book.ptr(),
-                book.len(),
-                edit.ptr(),
-                edit.len(),
-                scratch.mut_ptr(),
-                scratch.len(),
-            )
-        };
-        Outcome::new(&[found.number, found.place], vec![bytes, book, edit, scratch])
+        let (numbers, lent) = compare::enter(self.sheet, self.book, self.edit, self.scratch);
+        Outcome::new(&numbers, lent.into())
     }
 
     fn reference(&self) -> Outcome {

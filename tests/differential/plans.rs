@@ -1,8 +1,8 @@
 //! Stores of plans: blank, keep, return and drop of the library compared with the reference, answers and all bytes, alone and
 //! in histories with calls of enter between them.
 
-use common::compare::{Lent, Outcome, Tally};
-use common::library::{zamiathen_drop, zamiathen_enter, zamiathen_keep, zamiathen_return, zamiathen_store_blank};
+use common::compare::{self, Lent, Outcome, Tally};
+use common::library::{zamiathen_drop, zamiathen_keep, zamiathen_return, zamiathen_store_blank};
 use common::random::Random;
 use common::terms::{self, Names};
 use common::{damage, graphs, texts};
@@ -261,22 +261,9 @@ impl History {
         let edit = terms::edit(random, names, steps, levels).code();
         let mut after = self.sheet.clone();
         let answer = calls::enter(&mut after, &book, &edit, &mut [0; CARRIED_BYTES]);
-        let (mut lent, lent_book, lent_edit, mut scratch) =
-            (Lent::of(&self.sheet), Lent::of(&book), Lent::of(&edit), Lent::of(&[0; CARRIED_BYTES]));
-        let found = unsafe {
-            zamiathen_enter(
-                lent.mut_ptr(),
-                lent.len(),
-                lent_book.ptr(),
-                lent_book.len(),
-                lent_edit.ptr(),
-                lent_edit.len(),
-                scratch.mut_ptr(),
-                scratch.len(),
-            )
-        };
-        let found = Outcome::new(&[found.number, found.place], vec![lent]);
-        let wanted = Outcome::of_answer(answer, vec![Lent::of(&after)]);
+        let (numbers, [lent, lent_book, lent_edit, _]) = compare::enter(&self.sheet, &book, &edit, &[0; CARRIED_BYTES]);
+        let found = Outcome::new(&numbers, vec![lent, lent_book, lent_edit]);
+        let wanted = Outcome::of_answer(answer, vec![Lent::of(&after), Lent::of(&book), Lent::of(&edit)]);
         let inputs = [("sheet", &self.sheet[..]), ("book", &book), ("edit", &edit)];
         tally.compare("enter in a history", &found, &wanted, &inputs);
         self.sheet = after;

@@ -1,5 +1,6 @@
 //! The outcome of a call, on both sides, and the count of comparisons.
 
+use crate::library::zamiathen_enter;
 use reference::answer::Answer;
 use std::collections::BTreeMap;
 
@@ -57,6 +58,25 @@ impl Outcome {
     pub fn of_answer(answer: Answer, buffers: Vec<Lent>) -> Outcome {
         Outcome::new(&[answer.number, answer.place], buffers)
     }
+}
+
+/// Enters an edit: the answer's numbers, and sheet, book, edit and scratch as they are left.
+pub fn enter(sheet: &[u8], book: &[u8], edit: &[u8], scratch: &[u8]) -> ([usize; 2], [Lent; 4]) {
+    let (mut sheet, book) = (Lent::of(sheet), Lent::of(book));
+    let (edit, mut scratch) = (Lent::of(edit), Lent::of(scratch));
+    let found = unsafe {
+        zamiathen_enter(
+            sheet.mut_ptr(),
+            sheet.len(),
+            book.ptr(),
+            book.len(),
+            edit.ptr(),
+            edit.len(),
+            scratch.mut_ptr(),
+            scratch.len(),
+        )
+    };
+    ([found.number, found.place], [sheet, book, edit, scratch])
 }
 
 /// How many comparisons agreed, and how often each answer number came.

@@ -15,10 +15,10 @@ use Rattle.seal.proofs.put_word.Statement.{statement}
 use Rattle.seal.proofs.put_word.Tie as tie
 
 -- the weight times the change
-product : (w d : ℕ) → w ≤ 508 → d ≤ 0x3FFFC → w * d ≤ 133167120
-product w d g h = mul-le-mul {n₂ = 508} {m₂ = 0x3FFFC} g h
+product : (w d : ℕ) → w ≤ 512 → d ≤ 0x3FFFC → w * d ≤ 134215680
+product w d g h = mul-le-mul {n₂ = 512} {m₂ = 0x3FFFC} g h
 
-sum-low : (t z : ℕ) → t < 65536 → z ≤ 133167120 → t + z < 0x10000000
+sum-low : (t z : ℕ) → t < 65536 → z ≤ 134215680 → t + z < 0x10000000
 sum-low t z h k = omega arith
 
 rest-low : (x y : ℕ) → x < 0x10000000 → x - y < 4294967296
