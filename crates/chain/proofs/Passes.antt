@@ -12,7 +12,7 @@ use Rattle.answer.specs.Outputs.{askRoom}
 use Rattle.logic.specs.Syntax.{Edit, finish, addLabel, takeLabel, addArrow, takeArrow, choose}
 use Rattle.logic.specs.Carry.{followedBy}
 use Rattle.logic.specs.Limits.{maxNodes, Ranges, EditInRange}
-use Rattle.text.specs.Code.{levels, editCode, editLevels}
+use Rattle.text.specs.Code.{editCode, editLevels}
 use Rattle.text.specs.Reading.{longestText, Limits, limitsBy, textLimits}
 use Rattle.text.specs.Questions.{askEdit}
 use Rattle.text.proofs.Books.{edit-is-spelled, spelled-edit-passes}

@@ -1,12 +1,12 @@
 -- 12s in front of an arrow expression, passed one by one.
-use mathlib.Core.Path.{_≡_, refl, sym, ap, _∙_, subst}
+use mathlib.Core.Path.{_≡_, refl, ap, _∙_}
 use mathlib.Core.Bool.{Bool, true, false, not}
 use mathlib.Core.List.{List}
-use Prim.Native.Nat.{ℕ, _+_, _<_, _≤_}
+use Prim.Native.Nat.{ℕ, _+_}
 use native.Mathlib.Omega.{arith}
-use lib.ListN.{length, getD}
-use Rattle.logic.specs.Syntax.{arrow, Expr, reversed}
-use Rattle.logic.specs.Graph.{Graph, Pairs}
+use lib.ListN.{getD}
+use Rattle.logic.specs.Syntax.{arrow, Expr}
+use Rattle.logic.specs.Graph.{Pairs}
 use Rattle.logic.specs.Meaning.{value}
 use Rattle.logic.specs.Limits.{ranges}
 use Rattle.text.specs.Stands.{Stands}

@@ -1,5 +1,4 @@
 -- After each call of a history sheet and store are bytes.
-use mathlib.Core.Path.{_≡_, sym, ap, _∙_}
 use mathlib.Core.Bool.{Bool, true, false, cond}
 use mathlib.Core.List.{List}
 use Prim.Native.Nat.{ℕ, _+_, _-_, _<_}
@@ -9,8 +8,6 @@ use lib.Dec.{eqb}
 use lib.ListN.{length, getD, take, drop, length-take, List·getD-eq-default}
 use lib.Seq.{getD-take, getD-drop}
 use Rattle.answer.specs.Asked.{Asked, passed, refused, after}
-use Rattle.logic.specs.Syntax.{Edit}
-use Rattle.logic.specs.Graph.{Graph}
 use Rattle.logic.specs.Steps.{update, run}
 use Rattle.logic.specs.Closing.{closeNode, openNode}
 use Rattle.logic.proofs.Inside.{run-n}
@@ -18,10 +15,11 @@ use Rattle.sheet.specs.Sheet.{sheetBytes, graphIn, graphOf, store}
 use Rattle.closing.specs.Questions.{askClose, askOpen, closedSheet, openedSheet}
 use Rattle.demands.specs.Enter.{askEnter, enterSheet}
 use Rattle.demands.specs.Run.{Bytes}
-use Rattle.plans.specs.Store.{Plan, unfilled, filled, Plans, storeOf, plansOf, placeIn, placeStart, filledIn}
+use Rattle.plans.specs.Store.{Plan, unfilled, filled, storeOf, plansOf, placeIn, placeStart, filledIn}
 use Rattle.plans.specs.Questions.{askKeep, askReturn, askDrop}
 use Rattle.plans.specs.Calls.{keptStore, returnedSheet, droppedStore}
-use Rattle.plans.proofs.Small.{FewNodes, store-small, storeOf-small}
+use Rattle.sheet.proofs.Small.{store-small}
+use Rattle.plans.proofs.Small.{FewNodes, storeOf-small}
 use Rattle.history.specs.History.{Event, entering, closing, opening, leaves}
 use Rattle.history.specs.Plans.{Step, making, keeping, returning, dropping, State, left}
 

@@ -1,5 +1,5 @@
 -- Every history with plans under one book, from a sheet that keeps the book.
-use mathlib.Core.Path.{_≡_, refl, sym, ap, _∙_, subst}
+use mathlib.Core.Path.{_≡_, refl}
 use mathlib.Core.List.{List, [], _∷_}
 use Prim.Native.Nat.{ℕ, _-_}
 use native.Mathlib.Omega.{arith}
@@ -21,7 +21,7 @@ use Rattle.plans.proofs.Laws.{place-small, place-sound}
 use Rattle.demands.specs.Run.{Keeps, Bytes}
 use Rattle.demands.specs.Demand3.{RunRight}
 use Rattle.demands.proofs.Passing.{asked-hold}
-use Rattle.history.specs.History.{Event, entering, closing, opening, Run, All}
+use Rattle.history.specs.History.{entering, closing, opening, Run, All}
 use Rattle.history.specs.Plans.{Step, making, keeping, returning, dropping, State, left, sheetsThrough, runsThrough, linesThrough, PlannedRight}
 use Rattle.history.proofs.Steps.{Stores, stores-next}
 use Rattle.history.proofs.Runs.{Begins, opened, added, ended}

@@ -12,7 +12,7 @@ use lib.Seq.{length-take-le, take-take, drop-drop, drop-cons, getD-take, take-at
 use Rattle.answer.specs.Asked.{passed, _>>_, is}
 use Rattle.seal.specs.Seal.{modulo257, sealed, sealRight}
 use Rattle.seal.proofs.SealLaws.{right-sealed}
-use Rattle.log.specs.Log.{isLast, markRight, count, countRight, content, allZero, zerosBehind, fieldsRight, isBegun, askLogBlock, askLogEnd, Recorded, ends, recorded}
+use Rattle.log.specs.Log.{isLast, markRight, count, countRight, content, allZero, zerosBehind, fieldsRight, isBegun, askLogBlock, askLogEnd, Recorded, recorded}
 use Rattle.log.specs.Making.{block, editBlocks, logBlocks, CanHold}
 use Rattle.log.proofs.FieldLaws.{Right, right, count-small}
 use Rattle.log.proofs.TakeLaws.{asks, are}

@@ -2,15 +2,15 @@
 use mathlib.Core.Path.{_≡_, refl, sym, ap, ap₂, _∙_}
 use mathlib.Core.Bool.{Bool, true, false, _&&_, and-false, and-eq-true-iff}
 use mathlib.Core.List.{List, _∷_}
-use Prim.Native.Nat.{ℕ, zero, suc, _+_, _≤_, _<_}
+use Prim.Native.Nat.{ℕ, suc, _+_, _-_, _≤_, _<_}
 use native.Mathlib.Omega.{arith}
 use native.Mathlib.Decide.{decLt}
 use borrow.Author.Tests.{eq-eqb, ne-eqb, eqb-true, lt-ltb, le-ltb, ltb-true}
 use lib.Dec.{eqb, ltb}
 use lib.ListN.{length, getD, take, replicate, set, length-replicate, getD-replicate}
-use lib.Seq.{length-take-le, getD-take, ext-getD, take-set-lt}
+use lib.Seq.{take-set-lt}
 use Rattle.seal.specs.Seal.{blockBytes, modulo257, sealRight, sealed, reseal}
-use Rattle.seal.proofs.SealLaws.{right-sealed, sealed-right, length-sealed, getD-sealed}
+use Rattle.seal.proofs.SealLaws.{two-and-zeros, right-sealed, sealed-right, length-sealed, getD-sealed}
 use Rattle.sheet.specs.Masks.{zerosAt}
 use Rattle.sheet.proofs.Zeros.{same-test}
 use Rattle.plans.specs.Store.{headBlock}
@@ -80,12 +80,9 @@ module _ (k : List ℕ) where
   module _ (h : length k ≡ blockBytes) (right : HeadIs k) where
     -- its body
     head-body : take 508 k ≡ 4 ∷ getD k 1 0 ∷ replicate 506 0
-    head-body = ext-getD 0 (take 508 k) (4 ∷ getD k 1 0 ∷ replicate 506 0) (length-take-le 508 k (omega arith)) (λ i l. getD-take 508 k i 0 (omega (arith, length-take-le 508 k (omega arith))) ∙ at i (omega (arith, length-take-le 508 k (omega arith))))
-      where
-        at : (i : ℕ) → i < 508 → getD k i 0 ≡ getD (4 ∷ getD k 1 0 ∷ replicate 506 0) i 0
-        at zero l = right .four
-        at (suc zero) l = refl
-        at (suc (suc j)) l = let e : suc (suc j) ≡ 2 + j = omega arith in ap (λ p. getD k p 0) e ∙ right .zeros j (omega arith) ∙ sym (getD-replicate 506 j 0 0 (omega arith))
+    head-body =
+        let behind : (p : ℕ) → 2 ≤ p → p < 508 → getD k p 0 ≡ 0 = λ p l u. let e : p ≡ 2 + (p - 2) = omega arith in ap (λ i. getD k i 0) e ∙ right .zeros (p - 2) (omega arith) in
+        two-and-zeros k h behind ∙ ap (λ x. x ∷ getD k 1 0 ∷ replicate 506 0) (right .four)
 
     pub head-is : k ≡ headBlock (getD k 1 0)
     unfolding headBlock

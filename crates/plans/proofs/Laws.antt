@@ -13,7 +13,7 @@ use Rattle.logic.proofs.Below.{all-true}
 use Rattle.words.specs.Words.{setOf, member}
 use Rattle.words.proofs.SetLaws.{setOf-lt, setOf-cong, setOf-member-lt, member-setOf}
 use Rattle.seal.specs.Seal.{blockBytes}
-use Rattle.sheet.specs.Sheet.{sheetBytes, present, store, graphOf}
+use Rattle.sheet.specs.Sheet.{sheetBytes, present, graphOf}
 use Rattle.sheet.specs.Questions.{askSheet, Sound}
 use Rattle.sheet.specs.Masks.{zerosAt}
 use Rattle.sheet.proofs.Blocks.{length-store}

@@ -8,7 +8,7 @@ use native.Mathlib.Decide.{decLt}
 use lib.Dec.{eqb, ltb, lit≤}
 use lib.ListN.{length, getD, take, drop, set, List·getD-eq-default}
 use lib.Seq.{length-take-le, getD-take, getD-set-same, getD-set-other, take-set-lt, drop-set-add}
-use Rattle.answer.specs.Asked.{passed, refused, _>>_}
+use Rattle.answer.specs.Asked.{refused, _>>_}
 use Rattle.words.specs.Words.{member}
 use Rattle.seal.specs.Seal.{blockBytes, modulo257}
 use Rattle.seal.proofs.Noticed.{change-noticed}

@@ -2,7 +2,7 @@
 ghost use mathlib.Core.Path.{_≡_};
 ghost use mathlib.Core.Bool.{true};
 ghost use Prim.Native.Nat.{_+_, _-_, _*_, _<_, _≤_};
-ghost use lib.ListN.{length, getD, replicate};
+ghost use lib.ListN.{length, getD};
 ghost use Rattle.answer.specs.Answers.{asked};
 ghost use Rattle.logic.specs.Steps.{update};
 ghost use Rattle.words.specs.Words.{setOf, member};
@@ -43,17 +43,6 @@ fn zeros(s: &[u8], at: usize, count: usize) -> bool
         j += 1;
     }
     all == 0
-}
-
-// Makes every byte zero.
-fn wipe(s: &mut [u8])
-    ensures { λ _. ⌜ now (s .exit) ≡ replicate (length (now (s .entry))) 0 ⌝ }
-{
-    let mut i = 0;
-    while i < s.len() {
-        s[i] = 0;
-        i += 1;
-    }
 }
 
 // Makes a part of as many bytes the same as another. Inner: they are as many.
@@ -189,7 +178,7 @@ pub fn blank_store(store: &mut [u8]) -> Answer
     if store.len() != BYTES {
         return Answer::Refused(Refusal::StoreBytes { place: 0 });
     }
-    wipe(store);
+    words::wipe(store);
     store[0] = 4;
     seal::seal(&mut store[0..Sheet::BLOCK]);
     Answer::Done
@@ -228,7 +217,7 @@ pub fn drop_plan(store: &mut [u8], name: usize) -> Answer
     let place = name - 1;
     let from = Sheet::BLOCK + Sheet::BYTES * place;
     let to = from + Sheet::BYTES;
-    wipe(&mut store[from..to]);
+    words::wipe(&mut store[from..to]);
     put_name(&mut store[0..Sheet::BLOCK], place, false);
     Answer::Done
 }

@@ -2,17 +2,16 @@
 use mathlib.Core.Path.{_≡_, refl, sym, ap, ap₂, _∙_}
 use mathlib.Core.Bool.{Bool, true, false, _&&_, and-true, and-eq-true-iff}
 use mathlib.Core.List.{List, [], _∷_, _++_, append-nil}
-use Prim.Native.Nat.{ℕ, suc, _+_, _-_, _*_, _/_, _%_, _≤_, _<_}
+use Prim.Native.Nat.{ℕ, zero, suc, _+_, _-_, _*_, _/_, _%_, _≤_, _<_}
 use native.Mathlib.Nat.{mod-eq-of-lt, add-mul-mod-self-right}
 use native.Mathlib.Omega.{arith}
-use native.Mathlib.Decide.{decLt}
 use borrow.Author.Tests.{eqb-true, eqb-false, eq-eqb, ne-eqb}
 use lib.Dec.{eqb}
-use lib.ListN.{length, getD, take, drop, drop-of-length-le, set, List·getD-eq-default}
-use lib.Seq.{drop-cons, sets-eq, getD-take, length-take-le}
+use lib.ListN.{length, getD, take, drop, drop-of-length-le, set, replicate, length-replicate}
+use lib.Seq.{drop-cons, sets-eq}
 use Rattle.words.specs.Words.{bytes, wordAt}
 use Rattle.words.proofs.WordLaws.{sumOfBytes, loaded}
-use Rattle.seal.specs.Seal.{blockBytes, modulo255, modulo257, sums, stored, sameBytes, sealRight}
+use Rattle.seal.specs.Seal.{blockBytes, modulo255, modulo257, sums, stored, sameBytes, sealOf, sealRight}
 use Rattle.seal.specs.Lanes.{total, weighed}
 use Rattle.seal.proofs.TotalLaws.{sums-total, sums-weighed}
 use Rattle.seal.proofs.SealLaws.{s-low, t-low}
@@ -34,16 +33,21 @@ last-four k h =
     ∙ ap (getD k 510 0 ∷_) (drop-cons k 511 0 (omega arith) ∙ ap (getD k 511 0 ∷_) (drop-of-length-le k {i = 512} (omega arith)))))
 
 module _ (k : List ℕ) (h : length k ≡ blockBytes) where
-  pub right-257 : ((p : ℕ) → getD k p 0 < 256) → (s t : ℕ) → s < 257 → t < 257 → s ≡ sums modulo257 (take 508 k) .s → t ≡ sums modulo257 (take 508 k) .t
-      → sealRight modulo257 k ≡ (eqb (getD k 508 0 + getD k 509 0 * 256) s && eqb (getD k 510 0 + getD k 511 0 * 256) t)
-  unfolding sealRight sameBytes stored bytes
-  right-257 small s t l m e f =
+  seal-of : (body : List ℕ) → ((p : ℕ) → getD k p 0 < 256) → (s t : ℕ) → s < 257 → t < 257 → s ≡ sums modulo257 body .s → t ≡ sums modulo257 body .t
+      → sealOf modulo257 body k ≡ (eqb (getD k 508 0 + getD k 509 0 * 256) s && eqb (getD k 510 0 + getD k 511 0 * 256) t)
+  unfolding sealOf sameBytes stored bytes
+  seal-of body small s t l m e f =
       ap₂ sameBytes (last-four k h) (ap₂ (λ x y. stored modulo257 (record { s = x; t = y })) (sym e) (sym f))
       ∙ ap (λ (r : Bool). eqb (getD k 508 0) (s % 256) && (eqb (getD k 509 0) (s / 256 % 256) && r)) (two-bytes (getD k 510 0) (getD k 511 0) t true (small 510) (small 511) (omega arith) ∙ and-true _)
       ∙ two-bytes (getD k 508 0) (getD k 509 0) s _ (small 508) (small 509) (omega arith)
 
+  pub right-257 : ((p : ℕ) → getD k p 0 < 256) → (s t : ℕ) → s < 257 → t < 257 → s ≡ sums modulo257 (take 508 k) .s → t ≡ sums modulo257 (take 508 k) .t
+      → sealRight modulo257 k ≡ (eqb (getD k 508 0 + getD k 509 0 * 256) s && eqb (getD k 510 0 + getD k 511 0 * 256) t)
+  unfolding sealRight
+  right-257 = seal-of (take 508 k)
+
   pub right-255 : (s t : ℕ) → s < 255 → t < 255 → s ≡ sums modulo255 (take 510 k) .s → t ≡ sums modulo255 (take 510 k) .t → sealRight modulo255 k ≡ (eqb (getD k 510 0) s && eqb (getD k 511 0) t)
-  unfolding sealRight sameBytes stored bytes
+  unfolding sealRight sealOf sameBytes stored bytes
   right-255 s t l m e f =
       let a : s % 256 ≡ s = omega arith in
       let b : t % 256 ≡ t = omega arith in
@@ -83,51 +87,34 @@ both-halves x y s t h l = go (eqb x s) (eqb y t) refl refl
     go true false e f = ne-eqb (x + 0x10000 * y) (s + 0x10000 * t) (λ g. eqb-false y t f (omega arith))
     go false b e f = ne-eqb (x + 0x10000 * y) (s + 0x10000 * t) (λ g. eqb-false x s e (omega arith))
 
--- the totals of a body with zeros behind its first two bytes
-total-zeros : (l : List ℕ) → ((j : ℕ) → getD l j 0 ≡ 0) → (total l ≡ 0) × (weighed l ≡ 0)
+-- the sums of 2, the number of an arrow's block and zeros
+total-zeros : (n : ℕ) → (total (replicate n 0) ≡ 0) × (weighed (replicate n 0) ≡ 0)
 unfolding total weighed
-total-zeros [] z = (refl, refl)
-total-zeros (b ∷ l) z = let t = total-zeros l (λ j. z (suc j)) in (omega (arith, z 0, t .0), ap (λ x. suc (length l) * x + weighed l) (z 0) ∙ omega (arith, t .1))
+total-zeros zero = (refl, refl)
+total-zeros (suc n) = let t = total-zeros n in (omega (arith, t .0), omega (arith, t .1))
 
-two-totals : (l : List ℕ) → length l ≡ 508 → ((p : ℕ) → 2 ≤ p → getD l p 0 ≡ 0) → (total l ≡ getD l 0 0 + getD l 1 0) × (weighed l ≡ 508 * getD l 0 0 + 507 * getD l 1 0)
-unfolding total weighed
-two-totals [] e z = absurd (omega (arith, e))
-two-totals (a ∷ []) e z = absurd (omega (arith, e))
-two-totals (a ∷ b ∷ l) e z =
-    let t = total-zeros l (λ j. z (suc (suc j)) (omega arith)) in
-    let n : length l ≡ 506 = omega (arith, e) in
-    (omega (arith, t .0), rw n (omega (arith, t .1)))
+module _ (b : ℕ) (few : b ≤ 16) where
+  abbrev body : List ℕ
+  body = 2 ∷ b ∷ replicate 506 0
 
--- and of a block's body
-module _ (k : List ℕ) (h : length k ≡ blockBytes) (z : (p : ℕ) → 2 ≤ p → p < 508 → getD k p 0 ≡ 0) where
-  body-zero : (p : ℕ) → 2 ≤ p → getD (take 508 k) p 0 ≡ 0
-  body-zero p l = go (decLt p 508)
-    where
-      go : Dec (p < 508) → getD (take 508 k) p 0 ≡ 0
-      go (yes u) = getD-take 508 k p 0 u ∙ z p l u
-      go (no u) = List·getD-eq-default (take 508 k) 0 {n = p} (omega (arith, length-take-le 508 k (omega arith)))
+  bare-s : 2 + b ≡ sums modulo257 body .s
+  unfolding total
+  bare-s =
+      let e : 2 + b ≡ total body % 257 = omega (arith, total-zeros 506 .0) in
+      e ∙ sym (sums-total modulo257 body)
 
-  bare-sums : ((getD k 0 0 + getD k 1 0) % 257 ≡ sums modulo257 (take 508 k) .s) × ((508 * getD k 0 0 + 507 * getD k 1 0) % 257 ≡ sums modulo257 (take 508 k) .t)
-  bare-sums =
-      let t = two-totals (take 508 k) (length-take-le 508 k (omega arith)) body-zero in
-      let a = getD-take 508 k 0 0 (omega arith) in
-      let b = getD-take 508 k 1 0 (omega arith) in
-      (ap (_% 257) (omega (arith, t .0, a, b)) ∙ sym (sums-total modulo257 (take 508 k)), ap (_% 257) (omega (arith, t .1, a, b)) ∙ sym (sums-weighed modulo257 (take 508 k)))
+  bare-t : 245 - 7 * b ≡ sums modulo257 body .t
+  unfolding weighed
+  bare-t =
+      let n : length (replicate {A = ℕ} 506 0) ≡ 506 = length-replicate {A = ℕ} 506 0 in
+      let w : weighed body ≡ 508 * 2 + (507 * b + 0) = ap₂ (λ x y. suc (suc x) * 2 + (suc x * b + y)) n (total-zeros 506 .1) in
+      let low : 245 - 7 * b < 257 = omega arith in
+      let e : 245 - 7 * b + (3 + 2 * b) * 257 ≡ weighed body = omega (arith, few, w) in
+      sym (mod-eq-of-lt low) ∙ sym (add-mul-mod-self-right (245 - 7 * b) (3 + 2 * b) 257) ∙ ap (_% 257) e ∙ sym (sums-weighed modulo257 body)
 
-  -- where those two are 2 and the number of an arrow's block
-  module _ (b : ℕ) (few : b ≤ 16) (x : getD k 0 0 ≡ 2) (y : getD k 1 0 ≡ b) where
-    bare-s : 2 + b ≡ sums modulo257 (take 508 k) .s
-    bare-s = let e : 2 + b ≡ (getD k 0 0 + getD k 1 0) % 257 = omega (arith, x, y) in e ∙ bare-sums .0
-
-    bare-t : 245 - 7 * b ≡ sums modulo257 (take 508 k) .t
-    bare-t =
-        let low : 245 - 7 * b < 257 = omega arith in
-        let e : 245 - 7 * b + (3 + 2 * b) * 257 ≡ 508 * getD k 0 0 + 507 * getD k 1 0 = omega (arith, few, x, y) in
-        sym (mod-eq-of-lt low) ∙ sym (add-mul-mod-self-right (245 - 7 * b) (3 + 2 * b) 257) ∙ ap (_% 257) e ∙ bare-sums .1
-
-    -- the check bytes as one number
-    pub bare-right : ((p : ℕ) → getD k p 0 < 256) → (r : ℕ) → r ≡ wordAt k 504 → eqb (r / 0x100000000) (2 + b + 0x10000 * (245 - 7 * b)) ≡ sealRight modulo257 k
-    bare-right small r e =
-        ap (λ (v : ℕ). eqb v (2 + b + 0x10000 * (245 - 7 * b))) (check-number k h small r e)
-        ∙ both-halves (getD k 508 0 + getD k 509 0 * 256) (getD k 510 0 + getD k 511 0 * 256) (2 + b) (245 - 7 * b) (omega (arith, small 508, small 509)) (omega arith)
-        ∙ sym (right-257 k h small (2 + b) (245 - 7 * b) (omega arith) (omega arith) bare-s bare-t)
+  -- the check bytes as one number
+  pub bare-right : (k : List ℕ) → length k ≡ blockBytes → ((p : ℕ) → getD k p 0 < 256) → (r : ℕ) → r ≡ wordAt k 504 → eqb (r / 0x100000000) (2 + b + 0x10000 * (245 - 7 * b)) ≡ sealOf modulo257 body k
+  bare-right k h small r e =
+      ap (λ (v : ℕ). eqb v (2 + b + 0x10000 * (245 - 7 * b))) (check-number k h small r e)
+      ∙ both-halves (getD k 508 0 + getD k 509 0 * 256) (getD k 510 0 + getD k 511 0 * 256) (2 + b) (245 - 7 * b) (omega (arith, small 508, small 509)) (omega arith)
+      ∙ sym (seal-of k h body small (2 + b) (245 - 7 * b) (omega arith) (omega arith) bare-s bare-t)

@@ -68,6 +68,9 @@ fours x at = x at + x (λ i. at i + 64) + x (λ i. at i + 128) + x (λ i. at i +
 abbrev ahead : ((ℕ → ℕ) → ℕ) → (ℕ → ℕ) → ℕ
 ahead x at = 3 * x at + 2 * x (λ i. at i + 64) + x (λ i. at i + 128)
 
+fours-low : (m : ℕ) (x : (ℕ → ℕ) → ℕ) → ((at : ℕ → ℕ) → x at ≤ m) → (at : ℕ → ℕ) → fours x at ≤ 4 * m
+fours-low m x h at = omega (arith, h at, h (λ i. at i + 64), h (λ i. at i + 128), h (λ i. at i + 192))
+
 pack-add : (a0 a1 a2 a3 b0 b1 b2 b3 : ℕ) → pack a0 a1 a2 a3 + pack b0 b1 b2 b3 ≡ pack (a0 + b0) (a1 + b1) (a2 + b2) (a3 + b3)
 unfolding pack
 pack-add a0 a1 a2 a3 b0 b1 b2 b3 = omega arith
@@ -123,6 +126,9 @@ high i = 8 * i + 256
 abbrev eights : ((ℕ → ℕ) → ℕ) → ℕ
 eights x = fours x low + fours x high
 
+eights-low : (m : ℕ) (x : (ℕ → ℕ) → ℕ) → ((at : ℕ → ℕ) → x at ≤ m) → eights x ≤ 8 * m
+eights-low m x h = omega (arith, fours-low m x h low, fours-low m x h high)
+
 -- word i of each part: their bytes added
 module _ (l : List ℕ) where
   abbrev pub across : ℕ → ℕ
@@ -135,20 +141,14 @@ module _ (l : List ℕ) where
     two : (p q : ℕ) → getD l p 0 + getD l q 0 ≤ 510
     two p q = omega (arith, small p, small q)
 
-    fours-low : (x : (ℕ → ℕ) → ℕ) → ((at : ℕ → ℕ) → x at ≤ 510) → (at : ℕ → ℕ) → fours x at ≤ 2040
-    fours-low x h at = omega (arith, h at, h (λ i. at i + 64), h (λ i. at i + 128), h (λ i. at i + 192))
-
-    lane-low : (x : (ℕ → ℕ) → ℕ) → ((at : ℕ → ℕ) → x at ≤ 510) → eights x ≤ 4080
-    lane-low x h = omega (arith, fours-low x h low, fours-low x h high)
-
     -- as the code adds them
     pub across-is : (i x : ℕ) → x ≡ fourAt pairsAt l (8 * i) + fourAt pairsAt l (8 * i + 256) → (x + x / 0x100000000 + (x + x / 0x100000000) / 0x10000) % 0x10000 ≡ across i
     unfolding pairsAt
     across-is i x e =
-        let low0 = lane-low (λ at. x0 l at i) (λ at. two (at i) (at i + 1)) in
-        let low1 = lane-low (λ at. x1 l at i) (λ at. two (at i + 2) (at i + 3)) in
-        let low2 = lane-low (λ at. x2 l at i) (λ at. two (at i + 4) (at i + 5)) in
-        let low3 = lane-low (λ at. x3 l at i) (λ at. two (at i + 6) (at i + 7)) in
+        let low0 = eights-low 510 (λ at. x0 l at i) (λ at. two (at i) (at i + 1)) in
+        let low1 = eights-low 510 (λ at. x1 l at i) (λ at. two (at i + 2) (at i + 3)) in
+        let low2 = eights-low 510 (λ at. x2 l at i) (λ at. two (at i + 4) (at i + 5)) in
+        let low3 = eights-low 510 (λ at. x3 l at i) (λ at. two (at i + 6) (at i + 7)) in
         four-added (eights (λ at. x0 l at i)) (eights (λ at. x1 l at i)) (eights (λ at. x2 l at i)) (eights (λ at. x3 l at i))
         (omega (arith, low0)) (omega (arith, low1)) (omega (arith, low2)) (omega (arith, low0, low2)) (omega (arith, low0, low1, low2, low3)) x
         (e ∙ ap₂ _+_ (four-packs _ _ _ _ _ _ _ _ _ _ _ _ _ _ _ _) (four-packs _ _ _ _ _ _ _ _ _ _ _ _ _ _ _ _) ∙ pack-add _ _ _ _ _ _ _ _) ∙ omega arith
@@ -208,9 +208,8 @@ module _ (l : List ℕ) (small : (p : ℕ) → getD l p 0 < 256) (long : length 
 
   room : (x : (ℕ → ℕ) → ℕ) → ((at : ℕ → ℕ) → x at ≤ 4080) → Room x
   room x h =
-      let f : (at : ℕ → ℕ) → fours x at ≤ 16320 = λ at. omega (arith, h at, h (λ i. at i + 64), h (λ i. at i + 128), h (λ i. at i + 192)) in
       let g : (at : ℕ → ℕ) → ahead x at ≤ 24480 = λ at. omega (arith, h at, h (λ i. at i + 64), h (λ i. at i + 128)) in
-      record { half = omega (arith, f low); whole = omega (arith, f low, f high); ahead = omega (arith, g low, g high) }
+      record { half = omega (arith, fours-low 4080 x h low); whole = omega (arith, eights-low 4080 x h); ahead = omega (arith, g low, g high) }
 
   room0 : Room (X (x0 l))
   room0 = room (X (x0 l)) (λ at. lows at .0)
@@ -288,8 +287,7 @@ module _ (l : List ℕ) (small : (p : ℕ) → getD l p 0 < 256) (long : length 
 
   all-places : lanePlaces (a + b) odds ≡ eights P
   all-places =
-      let f : (p : ℕ) (at : ℕ → ℕ) → fours (O p) at ≤ 8160 = λ p at. omega (arith, odd-low l at small p 8, odd-low l (λ i. at i + 64) small p 8, odd-low l (λ i. at i + 128) small p 8, odd-low l (λ i. at i + 192) small p 8) in
-      let few : (p : ℕ) → eights (O p) < 65536 = λ p. omega (arith, f p low, f p high) in
+      let few : (p : ℕ) → eights (O p) < 65536 = λ p. omega (arith, eights-low 2040 (O p) (λ at. odd-low l at small p 8)) in
       let o = ap laneSum odds-all ∙ lane-sum _ _ _ (eights (O 7)) (few 1) (few 3) (few 5) in
       ap (λ x. lanePlaces x odds) all-packed ∙ lane-places _ _ _ (eights (X (x3 l))) (room0 .whole) (room1 .whole) (room2 .whole) odds _ o
       ∙ omega (arith, fours-places low, fours-places high)

@@ -2,15 +2,15 @@
 use mathlib.Core.Path.{_≡_, refl, sym, ap, ap₂, _∙_}
 use mathlib.Core.Bool.{Bool, true, _&&_, and-eq-true-iff}
 use mathlib.Core.List.{List, [], _∷_, _++_}
-use Prim.Native.Nat.{ℕ, _+_, _-_, _<_}
+use Prim.Native.Nat.{ℕ, zero, suc, _+_, _-_, _≤_, _<_}
 use native.Mathlib.Nat.{mod-lt, mod-eq-of-lt, lt-of-lt-of-le}
 use native.Mathlib.Omega.{arith}
 use lib.Dec.{T, eqb, eqb-refl, eqb→eq}
-use lib.ListN.{length, getD, take, drop, take-append-drop, length-append, List·getD-append}
-use lib.Seq.{length-take-le, take-at, drop-at}
+use lib.ListN.{length, getD, take, drop, replicate, getD-replicate, take-append-drop, length-append, List·getD-append}
+use lib.Seq.{length-take-le, getD-take, ext-getD, take-at, drop-at}
 use Rattle.words.specs.Words.{bytes, numberOf}
 use Rattle.words.proofs.WordLaws.{length-bytes, numberOf-bytes}
-use Rattle.seal.specs.Seal.{blockBytes, Form, Sums, sums, stored, seal, sealed, sameBytes, sealRight}
+use Rattle.seal.specs.Seal.{blockBytes, modulo257, Form, Sums, sums, stored, seal, sealed, sameBytes, sealOf, sealRight}
 use Rattle.seal.specs.Lanes.{total, weighed}
 use Rattle.seal.proofs.TotalLaws.{sums-total, sums-weighed}
 
@@ -36,7 +36,7 @@ module _ (f : Form) where
 
   -- A block that is right is its body with the body's check bytes, and no other bytes behind that body are right.
   pub right-check : (k : List ℕ) → sealRight f k ≡ true → drop (f .bodyBytes) k ≡ seal f (take (f .bodyBytes) k)
-  unfolding sealRight
+  unfolding sealRight sealOf
   right-check k e = same-is (drop (f .bodyBytes) k) (seal f (take (f .bodyBytes) k)) e
 
   pub right-sealed : (k : List ℕ) → sealRight f k ≡ true → k ≡ sealed f (take (f .bodyBytes) k)
@@ -49,7 +49,7 @@ module _ (f : Form) where
   getD-sealed body p h = List·getD-append body (seal f body) 0 p h
 
   pub sealed-right : (body : List ℕ) → length body ≡ f .bodyBytes → sealRight f (sealed f body) ≡ true
-  unfolding sealRight sealed
+  unfolding sealRight sealOf sealed
   sealed-right body h = ap₂ (λ a b. sameBytes a (seal f b)) (drop-at body (seal f body) (f .bodyBytes) h) (take-at body (seal f body) (f .bodyBytes) h) ∙ same-refl (seal f body)
 
 module _ (f : Form) where
@@ -81,3 +81,12 @@ module _ (f : Form) where
 
   pub t-low : (l : List ℕ) → sums f l .t < f .modulus
   t-low l = rw (sums-weighed f l) (mod-lt (weighed l) (f .nonzero))
+
+-- The body of a block with zeros behind its first two bytes.
+pub two-and-zeros : (k : List ℕ) → length k ≡ blockBytes → ((p : ℕ) → 2 ≤ p → p < modulo257 .bodyBytes → getD k p 0 ≡ 0) → take (modulo257 .bodyBytes) k ≡ getD k 0 0 ∷ getD k 1 0 ∷ replicate 506 0
+two-and-zeros k h z = ext-getD 0 (take 508 k) _ (length-take-le 508 k (omega arith)) (λ i l. let u : i < 508 = omega (arith, length-take-le 508 k (omega arith)) in getD-take 508 k i 0 u ∙ at i u)
+  where
+    at : (i : ℕ) → i < 508 → getD k i 0 ≡ getD (getD k 0 0 ∷ getD k 1 0 ∷ replicate 506 0) i 0
+    at zero l = refl
+    at (suc zero) l = refl
+    at (suc (suc j)) l = z (suc (suc j)) (omega arith) l ∙ sym (getD-replicate 506 j 0 0 (omega arith))

@@ -58,9 +58,12 @@ sameBytes [] (y ∷ ys) = false
 sameBytes (x ∷ xs) [] = false
 sameBytes (x ∷ xs) (y ∷ ys) = eqb x y && sameBytes xs ys
 
--- Whether a block's check bytes are right: they say the reduced sums.
+-- Whether a block's check bytes are those of a body; and whether they are right: they say the reduced sums of its own.
+unfoldable pub sealOf : Form → List ℕ → List ℕ → Bool
+sealOf f body k = sameBytes (drop (f .bodyBytes) k) (seal f body)
+
 unfoldable pub sealRight : Form → List ℕ → Bool
-sealRight f k = sameBytes (drop (f .bodyBytes) k) (seal f (take (f .bodyBytes) k))
+sealRight f k = sealOf f (take (f .bodyBytes) k) k
 
 -- The block with its check bytes made right.
 unfoldable pub reseal : Form → List ℕ → List ℕ

@@ -1,11 +1,11 @@
 // The check bytes of a block, in two forms: item 2's, and document 01's for old cards. Both are taken by words of 8 bytes.
 ghost use mathlib.Core.Path.{_≡_};
 ghost use mathlib.Core.Bool.{true};
-ghost use Prim.Native.Nat.{ℕ, _<_, _≤_, _+_, _*_, _%_};
-ghost use mathlib.Core.List.{_++_};
-ghost use lib.ListN.{length, getD, take};
+ghost use Prim.Native.Nat.{_<_, _≤_, _+_, _*_, _%_};
+ghost use mathlib.Core.List.{_∷_, _++_};
+ghost use lib.ListN.{length, getD, take, replicate};
 ghost use Rattle.words.specs.Words.{putWord};
-ghost use Rattle.seal.specs.Seal.{blockBytes, modulo255, modulo257, sums, stored, sealRight, reseal};
+ghost use Rattle.seal.specs.Seal.{blockBytes, modulo255, modulo257, sums, stored, sealOf, sealRight, reseal};
 ghost use Rattle.seal.specs.Forms.{formOf};
 ghost use Rattle.seal.specs.Lanes.{oddsAt, pairsAt, fourAt, beforeAt, laneSum, lanePlaces, total, weighed};
 
@@ -37,9 +37,9 @@ pub enum Modulo {
 }
 
 // The sums s and t of a body, each below the modulus.
-pub struct Sums {
-    pub s: u64,
-    pub t: u64,
+struct Sums {
+    s: u64,
+    t: u64,
 }
 
 // A byte as a word. Inner: says beside its value that it is below 256.
@@ -232,11 +232,11 @@ pub fn seal_right(form: Modulo, block: &[u8]) -> bool
     }
 }
 
-// Whether the check bytes are right of a block whose body is 2, b and zeros, an arrow's without a row: nothing else is read, and all four bytes are
+// Whether a block's check bytes are those of the body 2, b and zeros, an arrow's without a row: nothing else is read, and all four bytes are
 // one number. s is 2 + b; t is 508 times 2 and 507 times b, which leaves 245 less 7 times b. Inner: it is a block, and b is one of a sheet's.
-pub fn right_if_bare(block: &[u8], b: usize) -> bool
+pub fn bare_seal(block: &[u8], b: usize) -> bool
     requires { ⌜ (length (now block) ≡ blockBytes) × (b ≤ 16) ⌝ }
-    ensures { λ r. ⌜ (getD (now (block .entry)) 0 0 ≡ 2 → getD (now (block .entry)) 1 0 ≡ b → ((p : ℕ) → 2 ≤ p → p < modulo257 .bodyBytes → getD (now (block .entry)) p 0 ≡ 0) → r ≡ sealRight modulo257 (now (block .entry))) ⌝ }
+    ensures { λ r. ⌜ r ≡ sealOf modulo257 (2 ∷ b ∷ replicate 506 0) (now (block .entry)) ⌝ }
 {
     let n = b as u64;
     words::load(block, BODY - 4) / 0x100000000 == 2 + n + 0x10000 * (245 - 7 * n)

@@ -1,22 +1,23 @@
 -- An arrow's block without a row: its check bytes by its number alone, and questions 2 to 4, whatever the nodes.
 use mathlib.Core.Path.{_≡_, refl, sym, ap, ap₂, _∙_}
 use mathlib.Core.Bool.{Bool, true, false, not, _&&_, and-false, and-eq-true-iff}
-use mathlib.Core.List.{List}
+use mathlib.Core.List.{List, _∷_}
 use Prim.Native.Nat.{ℕ, zero, suc, _+_, _-_, _*_, _/_, _%_, _≤_, _<_}
 use native.Mathlib.Decide.{decLt}
 use native.Mathlib.Omega.{arith}
 use borrow.Author.Tests.{eqb-true, eqb-false, eq-eqb, ne-eqb, lt-ltb, not-true}
 use lib.Bits.{bitOr}
 use lib.Dec.{eqb}
-use lib.ListN.{length, getD}
+use lib.ListN.{length, getD, take, replicate}
 use Rattle.answer.specs.Asked.{passed}
 use Rattle.logic.specs.Graph.{Nodes, allBelow, implies}
 use Rattle.logic.proofs.Below.{all-true, all-each}
 use Rattle.words.specs.Words.{member, wordAt}
 use Rattle.words.proofs.SetLaws.{member-zero}
-use Rattle.seal.specs.Seal.{blockBytes, modulo257, sealRight}
+use Rattle.seal.specs.Seal.{blockBytes, modulo257, sealOf, sealRight}
 use Rattle.seal.specs.declared.Modulo.{Modulo}
 use Rattle.seal.specs.declared.Modulo.the-variants.{M257, M255}
+use Rattle.seal.proofs.SealLaws.{two-and-zeros}
 use Rattle.sheet.specs.Sheet.{blockCount, padding, SheetForm}
 use Rattle.sheet.specs.Forms.{formIn}
 use Rattle.sheet.specs.Questions.{headRight, free, zeroRight, askBlock}
@@ -108,19 +109,21 @@ module _ (k : List ℕ) (small : (p : ℕ) → getD k p 0 < 256) where
           head-later φ k b ne
           ∙ ap₂ _&&_ (eq-eqb (getD k 0 0) 2 (head-bytes .0)) (ap₂ _&&_ (eq-eqb (getD k 1 0) b (head-bytes .1)) (eq-eqb (getD k 2 0) 0 (head-bytes .2)))
 
-    -- what the code finds: r of the check bytes, told of an arrow's block without a row
-    pub blank-is : (sums : Modulo) → sums ≡ M257 → (b ≡ 0 → ⊥) → wordAt k 0 ≡ 2 + 0x100 * b → (r : Bool)
-        → (getD k 0 0 ≡ 2 → getD k 1 0 ≡ b → ((p : ℕ) → 2 ≤ p → p < modulo257 .bodyBytes → getD k p 0 ≡ 0) → r ≡ sealRight modulo257 k) → (r && zeroBut modulo257 (λ j. 0) k) ≡ blankIn sums b k
-    unfolding blankIn
-    blank-is sums m ne w r told = go (zeroBut modulo257 (λ j. 0) k) refl ∙ sym (ap (λ s. blankIn s b k) m ∙ rw (ne-eqb b 0 ne, eq-eqb (wordAt k 0) (2 + 0x100 * b) w) refl)
+    -- what the code finds of the check bytes, where it goes on to the words
+    pub blank-is : (sums : Modulo) → sums ≡ M257 → (b ≡ 0 → ⊥) → wordAt k 0 ≡ 2 + 0x100 * b → (sealOf modulo257 (2 ∷ b ∷ replicate 506 0) k && zeroBut modulo257 (λ j. 0) k) ≡ blankIn sums b k
+    unfolding blankIn sealRight
+    blank-is sums m ne w = go (zeroBut modulo257 (λ j. 0) k) refl ∙ sym (ap (λ s. blankIn s b k) m ∙ rw (ne-eqb b 0 ne, eq-eqb (wordAt k 0) (2 + 0x100 * b) w) refl)
       where
         behind : zeroBut modulo257 (λ j. 0) k ≡ true → (p : ℕ) → Dec (p < 3) → 2 ≤ p → p < modulo257 .bodyBytes → getD k p 0 ≡ 0
         behind e p (yes u) l s = let at : p ≡ 2 = omega arith in ap (λ x. getD k x 0) at ∙ head-bytes w .2
         behind e p (no u) l s = zeros-behind e p (omega arith) s
 
-        go : (z : Bool) → zeroBut modulo257 (λ j. 0) k ≡ z → (r && z) ≡ (sealRight modulo257 k && z)
-        go true e = ap (_&& true) (told (head-bytes w .0) (head-bytes w .1) (λ p l s. behind e p (decLt p 3) l s))
-        go false e = and-false r ∙ sym (and-false (sealRight modulo257 k))
+        bare : zeroBut modulo257 (λ j. 0) k ≡ true → take (modulo257 .bodyBytes) k ≡ 2 ∷ b ∷ replicate 506 0
+        bare e = two-and-zeros k h (λ p l s. behind e p (decLt p 3) l s) ∙ ap₂ (λ x y. x ∷ y ∷ replicate 506 0) (head-bytes w .0) (head-bytes w .1)
+
+        go : (z : Bool) → zeroBut modulo257 (λ j. 0) k ≡ z → (sealOf modulo257 (2 ∷ b ∷ replicate 506 0) k && z) ≡ (sealRight modulo257 k && z)
+        go true e = ap (λ body. sealOf modulo257 body k && true) (sym (bare e))
+        go false e = and-false (sealOf modulo257 (2 ∷ b ∷ replicate 506 0) k) ∙ sym (and-false (sealRight modulo257 k))
 
     -- such a block passes
     pub blank-passes : (sums : Modulo) → blankIn sums b k ≡ true → (held : Bool) (n : ℕ) (nodes : Nodes) → askBlock (formIn sums held) n nodes b k ≡ passed tt

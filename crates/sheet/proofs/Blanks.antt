@@ -2,13 +2,13 @@
 use mathlib.Core.Path.{_≡_, refl, sym, ap, ap₂, _∙_}
 use mathlib.Core.Bool.{true, false, and-false}
 use mathlib.Core.List.{List, [], _∷_, _++_, append-assoc, append-nil}
-use Prim.Native.Nat.{ℕ, zero, suc, _+_, _-_, _*_, _≤_, _<_}
+use Prim.Native.Nat.{ℕ, _+_, _-_, _*_, _≤_, _<_}
 use native.Mathlib.Numerals.{add-one}
 use native.Mathlib.Omega.{arith}
 use borrow.Author.Tests.{eq-eqb, ne-eqb, le-leb, lt-leb, lt-ltb}
 use lib.Dec.{ltb}
 use lib.ListN.{length, take, drop, set, replicate, length-append, length-drop}
-use lib.Seq.{take-at, take-suc-set, take-all, length-take-le}
+use lib.Seq.{take-at, take-all, length-take-le}
 use Rattle.answer.specs.Asked.{passed, refused, _>>_, is}
 use Rattle.logic.specs.Limits.{maxNodes, labelCount, arrowCount}
 use Rattle.words.specs.Words.{setOf, bytes, putWord}
@@ -19,17 +19,6 @@ use Rattle.sheet.specs.Questions.{askBlank}
 use Rattle.sheet.specs.Writes.{bareBlock, blankBlock}
 use Rattle.sheet.proofs.Blocks.{labelHead, labelWord, line-label, arrowHead, length-arrowBlock, length-labelBlock, labels-fit, rows-fit}
 use Rattle.sheet.proofs.Writes.{put-raw, seal-raw, chunks-more}
-
-zeros-more : (n : ℕ) → _++_ {A = ℕ} (replicate n 0) (0 ∷ []) ≡ replicate (suc n) 0
-zeros-more zero = refl
-zeros-more (suc n) = ap (0 ∷_) (zeros-more n)
-
--- one byte more wiped, and all
-pub wiped : (l : List ℕ) (i : ℕ) → i < length l → take i l ≡ replicate i 0 → take (i + 1) (set l i 0) ≡ replicate (i + 1) 0
-wiped l i h e = ap (λ x. take x (set l i 0)) (add-one i) ∙ take-suc-set l i 0 h ∙ ap (_++ (0 ∷ [])) e ∙ zeros-more i ∙ ap (λ x. replicate x 0) (sym (add-one i))
-
-pub wiped-all : (l : List ℕ) (i m : ℕ) → length l ≤ i → i ≤ length l → length l ≡ m → take i l ≡ replicate i 0 → l ≡ replicate m 0
-wiped-all l i m h h′ q e = let s : i ≡ m = omega arith in sym (take-all i l h) ∙ e ∙ ap (λ x. replicate x 0) s
 
 pub heads : (l : List ℕ) (m x y z : ℕ) → l ≡ replicate m 0 → m ≡ blockBytes → set (set (set l 0 x) 1 y) 2 z ≡ bareBlock x y z
 unfolding bareBlock

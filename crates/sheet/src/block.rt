@@ -3,7 +3,7 @@ ghost use mathlib.Core.Path.{_≡_};
 ghost use mathlib.Core.Bool.{true, false, cond};
 ghost use Prim.Native.Nat.{ℕ, _%_, _^_, _<_, _≤_};
 ghost use lib.Dec.{ltb};
-ghost use lib.ListN.{length, replicate};
+ghost use lib.ListN.{length};
 ghost use Rattle.logic.specs.Graph.{Nodes};
 ghost use Rattle.logic.specs.Limits.{maxNodes};
 ghost use Rattle.answer.specs.Answers.{asked};
@@ -154,7 +154,7 @@ fn blank_arrow(sums: Modulo, block: &[u8], b: usize) -> bool
     if words::load(block, 0) != 2 + 0x100 * b as u64 {
         return false;
     }
-    if !seal::right_if_bare(block, b) {
+    if !seal::bare_seal(block, b) {
         return false;
     }
     edges(Modulo::M257, block) | outside(block, 0, WORDS, 0) == 0
@@ -193,23 +193,12 @@ pub fn put_words(block: &mut [u8], n: usize, rows: [u64; 64])
     seal::seal(block);
 }
 
-// Makes every byte zero.
-fn wipe(block: &mut [u8])
-    ensures { λ _. ⌜ now (block .exit) ≡ replicate (length (now (block .entry))) 0 ⌝ }
-{
-    let mut i = 0;
-    while i < block.len() {
-        block[i] = 0;
-        i += 1;
-    }
-}
-
 // Makes the block one of three bytes, the word of line 48 and zeros, and seals it.
 pub fn blank_block(block: &mut [u8], x: u8, y: u8, z: u8, used: u64)
     requires { ⌜ length (now block) ≡ blockBytes ⌝ }
     ensures { λ _. ⌜ now (block .exit) ≡ reseal (present .sums) (blankBlock x y z used) ⌝ }
 {
-    wipe(block);
+    words::wipe(block);
     block[0] = x;
     block[1] = y;
     block[2] = z;

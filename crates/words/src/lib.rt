@@ -1,10 +1,10 @@
-// Sets of nodes as u64, a u64 in 8 bytes, and rows and columns of 64 of them exchanged.
+// Sets of nodes as u64, a u64 in 8 bytes, bytes made zero, and rows and columns of 64 words exchanged.
 ghost use mathlib.Core.Path.{_≡_};
 ghost use mathlib.Core.Bool.{true, not, _&&_, _||_, cond};
 ghost use Prim.Native.Nat.{ℕ, _+_, _-_, _*_, _<_, _≤_};
 ghost use lib.Dec.{eqb, ltb};
 ghost use lib.Count.{trailingZeros};
-ghost use lib.ListN.{length, getD};
+ghost use lib.ListN.{length, getD, replicate};
 ghost use Rattle.logic.specs.Graph.{countBelow};
 ghost use Rattle.words.specs.Words.{setOf, member, combined, wordAt, putWord};
 ghost use Rattle.words.specs.Transpose.{Transposed, lowHalf, fromRow, fromColumn, Blocks, LowFrom, Moved, MovedFrom};
@@ -124,6 +124,17 @@ pub fn store(s: &mut [u8], at: usize, x: u64)
     s[at + 5] = (x / 0x100_0000_0000 % 0x100) as u8;
     s[at + 6] = (x / 0x1_0000_0000_0000 % 0x100) as u8;
     s[at + 7] = (x / 0x100_0000_0000_0000 % 0x100) as u8;
+}
+
+// Makes every byte zero.
+pub fn wipe(s: &mut [u8])
+    ensures { λ _. ⌜ now (s .exit) ≡ replicate (length (now (s .entry))) 0 ⌝ }
+{
+    let mut i = 0;
+    while i < s.len() {
+        s[i] = 0;
+        i += 1;
+    }
 }
 
 // A row in the low half of its blocks, from the row x there was and the row y that is s further on. Inner: m is the mask of s.

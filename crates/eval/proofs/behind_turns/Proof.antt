@@ -1,7 +1,5 @@
-use mathlib.Core.Bool.{Bool}
-use Prim.Native.Nat.{ℕ, _-_, _≤_}
+use Prim.Native.Nat.{_-_}
 use native.Mathlib.Omega.{arith}
-use borrow.Author.Needs.{needs}
 use lib.ListN.{length}
 use Rattle.logic.specs.Syntax.{Expr, arrow}
 use Rattle.logic.specs.Limits.{ranges}

@@ -10,8 +10,6 @@ use Rattle.line.specs.Line.{digits}
 use Rattle.pages.proofs.LineLaws.{Blanks, blanks-first, blanks-next, blanks-last}
 use Rattle.pages.proofs.lines.put_head.Statement.{statement}
 use Rattle.pages.proofs.lines.put_head.Tie as tie
-use Rattle.pages.proofs.lines.put_head.Reads as reads
-use Rattle.pages.proofs.lines.put_head.Lts as lts
 
 abbrev Inv-loop : tie.InvT-loop
 Inv-loop line₀ letter x j₀ line j = (j ≤ 60) × Blanks letter x j line

@@ -10,8 +10,6 @@ use Rattle.line.proofs.LineLaws.{digits-length}
 use Rattle.pages.proofs.LineLaws.{Squares, squares-first, squares-next, squares-last}
 use Rattle.pages.proofs.lines.put_line.Statement.{statement}
 use Rattle.pages.proofs.lines.put_line.Tie as tie
-use Rattle.pages.proofs.lines.put_line.Reads as reads
-use Rattle.pages.proofs.lines.put_line.Lts as lts
 
 abbrev Inv-loop : tie.InvT-loop
 Inv-loop line₀ n x row j₀ line j = (j ≤ 60) × Squares n x row j line

@@ -11,8 +11,6 @@ use Rattle.pages.proofs.LineLaws.{setLine-word}
 use Rattle.pages.proofs.PageLaws.{Grown, grown-first, grown-length, grown-part, grown-next, grown-last}
 use Rattle.pages.proofs.print.put_label_lines.Statement.{statement}
 use Rattle.pages.proofs.print.put_label_lines.Tie as tie
-use Rattle.pages.proofs.print.put_label_lines.Reads as reads
-use Rattle.pages.proofs.print.put_label_lines.Lts as lts
 
 abbrev Inv-loop : tie.InvT-loop
 Inv-loop sheet n out₀ k₀ out k = (k ≤ labelPageLines) × Grown out₀ n (lineOf (graphOf sheet)) k out

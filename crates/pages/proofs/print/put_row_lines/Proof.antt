@@ -11,8 +11,6 @@ use Rattle.pages.proofs.LineLaws.{setLine-word}
 use Rattle.pages.proofs.PageLaws.{Grown, grown-first, grown-length, grown-part, grown-next, grown-last}
 use Rattle.pages.proofs.print.put_row_lines.Statement.{statement}
 use Rattle.pages.proofs.print.put_row_lines.Tie as tie
-use Rattle.pages.proofs.print.put_row_lines.Reads as reads
-use Rattle.pages.proofs.print.put_row_lines.Lts as lts
 
 abbrev Inv-loop : tie.InvT-loop
 Inv-loop sheet n a out₀ i₀ out i = (i ≤ n) × Grown out₀ n (graphOf sheet .joined (a .0)) i out

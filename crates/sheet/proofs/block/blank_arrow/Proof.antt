@@ -31,19 +31,19 @@ returns-4 c =
     let st = c .before .before .before .before .before .before .before .before in
     let k = st .args .block .now in
     let small : (p : ℕ) → getD k p 0 < 256 = λ p. omega (arith, c .before .before .before .before .before .before .before .shared-slice-known .given p) in
-    let r = c .before .right-if-bare in
-    ap (_&& zeroBut modulo257 (λ j. 0) k) (sym (not-true (r .result) (c .if3 .taken)))
-    ∙ blank-is k small (st .pre .0) (st .args .b) (st .pre .1) (st .args .sums) (c .before .before .before .before .before .enum-told .given .1) (c .before .before .before .before .if1 .left) (sym (c .before .before .before .load .ensures) ∙ c .before .before .if2 .left) (r .result) (r .ensures)
+    let r = c .before .bare-seal in
+    ap (_&& zeroBut modulo257 (λ j. 0) k) (sym (not-true (r .result) (c .if3 .taken)) ∙ r .ensures)
+    ∙ blank-is k small (st .pre .0) (st .args .b) (st .pre .1) (st .args .sums) (c .before .before .before .before .before .enum-told .given .1) (c .before .before .before .before .if1 .left) (sym (c .before .before .before .load .ensures) ∙ c .before .before .if2 .left)
 
 returns-5 : tie.Need-returns-5
 returns-5 c =
     let st = c .before .before .before .before .before .before .before .before .before .before in
     let k = st .args .block .now in
     let small : (p : ℕ) → getD k p 0 < 256 = λ p. omega (arith, c .before .before .before .before .before .before .before .before .before .shared-slice-known .given p) in
-    let r = c .before .before .before .right-if-bare in
+    let r = c .before .before .before .bare-seal in
     zeros-are k small (c .before .edges .result) (c .outside .result) (c .before .edges .ensures) (c .outside .ensures)
-    ∙ ap (_&& zeroBut modulo257 (λ j. 0) k) (sym (not-false (r .result) (c .before .before .if3 .left)))
-    ∙ blank-is k small (st .pre .0) (st .args .b) (st .pre .1) (st .args .sums) (c .before .before .before .before .before .before .before .enum-told .given .1) (c .before .before .before .before .before .before .if1 .left) (sym (c .before .before .before .before .before .load .ensures) ∙ c .before .before .before .before .if2 .left) (r .result) (r .ensures)
+    ∙ ap (_&& zeroBut modulo257 (λ j. 0) k) (sym (not-false (r .result) (c .before .before .if3 .left)) ∙ r .ensures)
+    ∙ blank-is k small (st .pre .0) (st .args .b) (st .pre .1) (st .args .sums) (c .before .before .before .before .before .before .before .enum-told .given .1) (c .before .before .before .before .before .before .if1 .left) (sym (c .before .before .before .before .before .load .ensures) ∙ c .before .before .before .before .if2 .left)
 
 pub blank-arrow-spec : {M : Type 1} → statement M
 blank-arrow-spec =

@@ -3,9 +3,9 @@ use Prim.Native.Nat.{_-_, _≤_}
 use native.Mathlib.Omega.{arith}
 use borrow.Author.Needs.{needs}
 use lib.ListN.{length, take, replicate, length-set}
-use Rattle.sheet.proofs.Blanks.{wiped, wiped-all}
-use Rattle.plans.proofs.wipe.Statement.{statement}
-use Rattle.plans.proofs.wipe.Tie as tie
+use Rattle.words.proofs.WipeLaws.{wiped, wiped-all}
+use Rattle.words.proofs.wipe.Statement.{statement}
+use Rattle.words.proofs.wipe.Tie as tie
 
 abbrev Inv-loop : tie.InvT-loop
 Inv-loop s₀ i₀ s i = (i ≤ length s) × (length s ≡ length s₀) × (take i s ≡ replicate i 0)
