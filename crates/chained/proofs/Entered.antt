@@ -17,15 +17,12 @@ use Rattle.judge.specs.Questions.{askSheetAndBook, askRules}
 use Rattle.apply.specs.Apply.{afterSteps, appliedSheet}
 use Rattle.demands.specs.Enter.{StepsAndCarried, askBefore41, askEnter, enterAnswer, enterSheet}
 use Rattle.demands.specs.Run.{Hold, Keeps, Bytes}
-use Rattle.demands.proofs.Passing.{bind-passed, then-passed, outcome-passed, hold-asked, asked-hold, hold-carried, carried-hold}
+use Rattle.demands.proofs.Passing.{passed-same, bind-passed, then-passed, outcome-passed, hold-asked, asked-hold, hold-carried, carried-hold}
 use Rattle.demands.proofs.Runs.{keeps}
+use Rattle.demands.proofs.After.{after-within, after-n, after-graph}
 use Rattle.chain.proofs.Passes.{Joins}
 use Rattle.chained.proofs.Reading.{ReadFor, from-both, from-joined}
-use Rattle.chained.proofs.Sheets.{few, two-leave, after-within, after-n, after-graph, after-both}
-
--- questions that pass teach one thing
-passed-same : {A : Type 0} {a b : A} → passed a ≡ passed b → a ≡ b
-passed-same h = cc
+use Rattle.chained.proofs.Sheets.{few, two-leave, after-both}
 
 module _ (sheet book edit : List ℕ) where
   -- What is known once 1 to 33 have passed, however the room is asked.

@@ -21,44 +21,14 @@ use Rattle.text.specs.Questions.{askEdit}
 use Rattle.apply.specs.Apply.{afterSteps, askApply, appliedSheet}
 use Rattle.demands.specs.Run.{Bytes}
 use Rattle.demands.proofs.Passing.{then-passed, outcome-passed}
-use Rattle.demands.proofs.Runs.{steps-within}
+use Rattle.demands.proofs.After.{applied-is, applies, applied-read, after-sound, after-graph, after-n}
 use Rattle.chain.proofs.Passes.{Joins}
 use Rattle.chained.specs.Chained.{Applies}
 use Rattle.chained.proofs.Reading.{ReadFor, from-both, from-joined}
 
--- An edit that is carried out: its questions, and what it leaves.
-pub applied-is : (sheet edit : List ℕ) (Z : Edit) → askApply sheet edit ≡ passed Z → appliedSheet sheet edit ≡ afterSteps Z sheet
-unfolding appliedSheet after
-applied-is sheet edit Z e = ap (λ x. after x (λ Y. afterSteps Y sheet) sheet) e
-
-pub applies : (sheet edit : List ℕ) (Z : Edit) → Sound sheet → askEdit (textLimits (graphOf sheet .n)) edit ≡ passed Z → askApply sheet edit ≡ passed Z
-unfolding askApply _>>_
-applies sheet edit Z s e = rw (s, e)
-
-pub applied-read : (sheet edit : List ℕ) (Z : Edit) → askApply sheet edit ≡ passed Z → Sound sheet × (askEdit (textLimits (graphOf sheet .n)) edit ≡ passed Z)
-unfolding askApply
-applied-read sheet edit Z e = let (u, s, f) = then-passed (askSheet sheet) (askEdit (textLimits (graphOf sheet .n)) edit) Z e in (s, f)
-
--- A sound sheet, and an edit P read for its n: the sheet that P leaves is sound, stores the graph that P's steps leave, and has the same n.
-module _ (sheet : List ℕ) (bytes : Bytes sheet) (sound : Sound sheet) (p : List ℕ) (P : Edit) (p-read : askEdit (textLimits (graphOf sheet .n)) p ≡ passed P) where
-  abbrev pub graphAfter : Graph
-  graphAfter = run P (graphOf sheet)
-
-  pub after-within : Within graphAfter
-  after-within = steps-within (graphOf sheet) p P (opening present sheet bytes sound .within) p-read
-
-  pub after-sound : Sound (afterSteps P sheet)
-  after-sound = stored-passes graphAfter after-within
-
-  pub after-graph : graphOf (afterSteps P sheet) ≡ graphAfter
-  after-graph = read-back graphAfter after-within
-
-  pub after-n : graphOf (afterSteps P sheet) .n ≡ graphOf sheet .n
-  after-n = ap (λ g. g .n) after-graph ∙ run-n P (graphOf sheet)
-
-  -- What Q's steps leave then is what the joined steps leave.
-  pub after-both : (Q : Edit) → afterSteps Q (afterSteps P sheet) ≡ afterSteps (followedBy P Q) sheet
-  after-both Q = ap (λ g. store (run Q g)) after-graph ∙ ap store (sym (run-followedBy P Q (graphOf sheet)))
+-- What Q's steps leave after P's is what the joined steps leave.
+pub after-both : (sheet : List ℕ) → Bytes sheet → Sound sheet → (p : List ℕ) (P : Edit) → askEdit (textLimits (graphOf sheet .n)) p ≡ passed P → (Q : Edit) → afterSteps Q (afterSteps P sheet) ≡ afterSteps (followedBy P Q) sheet
+after-both sheet bytes sound p P p-read Q = ap (λ g. store (run Q g)) (after-graph sheet bytes sound p P p-read) ∙ ap store (sym (run-followedBy P Q (graphOf sheet)))
 
 module _ {p q joined : List ℕ} (j : Joins p q joined) (sheet : List ℕ) (bytes : Bytes sheet) where
   pub few : Sound sheet → graphOf sheet .n ≤ maxNodes

@@ -1,6 +1,7 @@
 pub mod Passing
 pub mod OneCall
 pub mod Runs
+pub mod After
 pub mod Demand3
 pub mod Judged
 pub mod Numbers

@@ -15,6 +15,10 @@ use Rattle.logic.proofs.Theorem.{carried}
 use Rattle.judge.specs.Questions.{askRules}
 use Rattle.demands.specs.Run.{Hold}
 
+-- Questions that pass teach one thing.
+pub passed-same : {A : Type 0} {a b : A} → passed a ≡ passed b → a ≡ b
+passed-same h = cc
+
 -- All of two lists of questions have passed when each has.
 pub bind-passed : {A B : Type 0} (q : Asked A) (f : A → Asked B) (b : B) → (q >>= f) ≡ passed b → (a : A) × (q ≡ passed a) × (f a ≡ passed b)
 unfolding _>>=_

@@ -33,7 +33,7 @@ true-passed (passed u) t = refl
 true-passed (refused q p) t = absurd t
 
 -- What passes of all edits passes of each.
-each-fits : (rules : List (Expr rule)) (Zs : List Edit) → askFits rules Zs ≡ passed tt → (i : ℕ) → i < length Zs → askCarried (carriedBook (getD Zs i finish) rules) ≡ passed tt
+pub each-fits : (rules : List (Expr rule)) (Zs : List Edit) → askFits rules Zs ≡ passed tt → (i : ℕ) → i < length Zs → askCarried (carriedBook (getD Zs i finish) rules) ≡ passed tt
 unfolding askFits _>>_
 each-fits rules [] e i l = absurd (omega arith)
 each-fits rules (Z ∷ Zs) e i l = go (askCarried (carriedBook Z rules)) refl e i l (λ h j k. each-fits rules Zs h j k)

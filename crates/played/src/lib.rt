@@ -1,0 +1,1 @@
+// The moves of a game by enter and apply: definitions and theorems only.
