@@ -12,8 +12,7 @@ use borrow.Author.Tests.{eq-eqb, ne-eqb}
 use Rattle.laws.specs.Laws.{Made, made, unfit}
 use Rattle.shorter.specs.Raised.{width, behindAt, againAt, secondBytes, contraryAt, rightOf, rightAt, withByte, movedDown, stepOn, stepLength, stepLeaves}
 use Rattle.shorter.proofs.Spans.{behind-in, again-in}
-use Rattle.shorter.proofs.Sides.{contrary-none, contrary-other, contrary-found, right-4, right-5, right-again, right-next}
-use Rattle.shorter.proofs.Fitting.{found}
+use Rattle.shorter.proofs.Sides.{contrary-none, contrary-other, contrary-found, right-4, right-5, right-again, right-next, found}
 
 -- The right side lies in the text, behind the step's place.
 pub record Bounds (t : List ℕ) (at from : ℕ) : Type 0 where

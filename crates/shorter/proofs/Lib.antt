@@ -1,10 +1,13 @@
 pub mod Spans
 pub mod Sides
+pub mod Leaving
 pub mod Terms
 pub mod Texts
+pub mod Standing
+pub mod Tops
+pub mod Twice
 pub mod Lefts
 pub mod Fitting
-pub mod Leaving
 pub mod Comparing
 pub mod Leading
 pub mod Checking

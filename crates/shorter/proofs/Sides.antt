@@ -1,9 +1,10 @@
--- The right side of a law, in each case of the code; and bytes moved down.
+-- The right side of a law, in each case of the code, and what is known where it is found; and bytes moved down.
 use mathlib.Core.Path.{_≡_, refl, sym, ap, ap₂, _∙_}
 use mathlib.Core.Bool.{Bool, true, false, _&&_, cond}
 use mathlib.Core.List.{List, _++_}
 use Prim.Native.Nat.{ℕ, _+_, _-_, _≤_, _<_}
 use native.Mathlib.Numerals.{add-one}
+use native.Mathlib.Decide.{decLt, ℕ-discrete}
 use native.Mathlib.Omega.{arith}
 use lib.Dec.{leb, eqb}
 use lib.ListN.{length, getD, set, take, drop, length-drop}
@@ -80,6 +81,26 @@ module _ (t : List ℕ) (at law : ℕ) where
 
           pub side-both : getD t (at + 1) 0 ≡ getD secondBytes law 0 → rightOf t at law ≡ rightAt t at law
           side-both e = sym (side-is true true true false true (le-leb (at + 3) (length t) room) (le-leb law 8 known) (eq-eqb _ _ first) (ne-eqb _ _ fixed) (eq-eqb _ _ e))
+
+-- What is known where the right side is found.
+pub record Found (t : List ℕ) (at n : ℕ) : Type 0 where
+  pub known : n < 9
+  pub room : at + 3 ≤ length t
+  pub first-is : getD t at 0 ≡ getD firstBytes n 0
+  pub second-is : (getD secondBytes n 0 ≡ 0 → ⊥) → getD t (at + 1) 0 ≡ getD secondBytes n 0
+  pub same : rightOf t at n ≡ rightAt t at n
+  pub rest : rightOf t at n ≡ 0 → ⊥
+
+pub found : (t : List ℕ) (at n : ℕ) → (rightAt t at n ≡ 0 → ⊥) → Found t at n
+found t at n h = go (decLt (length t) (at + 3)) (decLt 8 n) (ℕ-discrete (getD t at 0) (getD firstBytes n 0)) (ℕ-discrete (getD secondBytes n 0) 0) (ℕ-discrete (getD t (at + 1) 0) (getD secondBytes n 0))
+  where
+    go : Dec (length t < at + 3) → Dec (8 < n) → Dec (getD t at 0 ≡ getD firstBytes n 0) → Dec (getD secondBytes n 0 ≡ 0) → Dec (getD t (at + 1) 0 ≡ getD secondBytes n 0) → Found t at n
+    go (yes a) b c d e = absurd (h (sym (side-short t at n a)))
+    go (no a) (yes b) c d e = absurd (h (sym (side-unknown t at n (omega arith) b)))
+    go (no a) (no b) (no c) d e = absurd (h (sym (side-first t at n (omega arith) (omega arith) c)))
+    go (no a) (no b) (yes c) (yes d) e = record { known = omega arith; room = omega arith; first-is = c; second-is = λ q. absurd (q d); same = side-any t at n (omega arith) (omega arith) c d; rest = λ z. h (sym (side-any t at n (omega arith) (omega arith) c d) ∙ z) }
+    go (no a) (no b) (yes c) (no d) (no e) = absurd (h (sym (side-second t at n (omega arith) (omega arith) c d e)))
+    go (no a) (no b) (yes c) (no d) (yes e) = record { known = omega arith; room = omega arith; first-is = c; second-is = λ q. e; same = side-both t at n (omega arith) (omega arith) c d e; rest = λ z. h (sym (side-both t at n (omega arith) (omega arith) c d e) ∙ z) }
 
 -- Bytes moved down, some of them so far.
 pub record Moving (t : List ℕ) (at from i : ℕ) (t′ : List ℕ) : Type 0 where

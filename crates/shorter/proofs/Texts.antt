@@ -1,15 +1,13 @@
 -- The raised text of a term: its parts, where it ends, its bytes lowered again.
-use mathlib.Core.Path.{_≡_, refl, sym, ap, ap₂, _∙_, subst}
+use mathlib.Core.Path.{_≡_, refl, sym, ap, ap₂, _∙_}
 use mathlib.Core.Bool.{Bool, true, _&&_, cond}
 use mathlib.Core.List.{List, [], _∷_, _++_, map, append-assoc, append-nil}
-use Prim.Native.Nat.{ℕ, zero, suc, _+_, _-_, _%_, _≤_, _<_}
+use Prim.Native.Nat.{ℕ, zero, suc, _+_, _-_, _%_, _<_}
 use native.Mathlib.Nat.{add-zero}
 use native.Mathlib.Numerals.{add-one}
 use native.Mathlib.Omega.{arith}
-use native.Mathlib.Decide.{decLt}
 use lib.Dec.{T, leb, ltb→lt, leb→le}
-use lib.ListN.{length, getD, length-append, List·getD-append}
-use lib.Seq.{getD-append-add}
+use lib.ListN.{length, length-append}
 use borrow.Author.Tests.{ne-eqb}
 use Rattle.logic.specs.Syntax.{Sort, Expr}
 use Rattle.logic.specs.Limits.{maxNodes, ranges, InRange}
@@ -18,24 +16,18 @@ use Rattle.laws.specs.Place.{Unary, complement·, reversed·, nodeIn·, pairIn�
 use Rattle.laws.proofs.Codes.{code-build1, code-build2, code-put}
 use Rattle.laws.proofs.Limits.{range-one, range-two}
 use Rattle.shorter.specs.Raised.{numbersOf, operandsOf, nextNumbers, raisedByte, raised, lowered, nextWanted, width}
-use Rattle.shorter.proofs.Spans.{raised-length}
 use Rattle.shorter.proofs.Terms.{Nullary, all·, none·, label·, nominal·, arrowKind·, pair·, build0, each-term, Head, head-0, head-1, head-2}
 
 abbrev pub textOf : {s : Sort} → Expr s → List ℕ
 textOf e = raised 0 (code e)
 
 -- Numbers raised.
-abbrev marks : List ℕ → List ℕ
+abbrev pub marks : List ℕ → List ℕ
 marks ns = map (λ x. x % 128 + 128) ns
 
-length-marks : (ns : List ℕ) → length (marks ns) ≡ length ns
+pub length-marks : (ns : List ℕ) → length (marks ns) ≡ length ns
 length-marks [] = refl
 length-marks (x ∷ ns) = ap suc (length-marks ns)
-
-marks-high : (ns : List ℕ) (i : ℕ) → i < length ns → 128 ≤ getD (marks ns) i 0
-marks-high [] i h = absurd (omega arith)
-marks-high (x ∷ ns) zero h = omega arith
-marks-high (x ∷ ns) (suc i) h = marks-high ns i (omega arith)
 
 raised-numbers : (n : ℕ) (ns z : List ℕ) → length ns ≡ n → raised n (ns ++ z) ≡ marks ns ++ raised 0 z
 unfolding raised raisedByte nextNumbers
@@ -109,23 +101,33 @@ text-one b x = ap (raised 0) (code-build1 b x) ∙ raised-head (head-1 b) (code 
 pub text-two : {u v t : Sort} (b : Binary u v t) (x : Expr u) (y : Expr v) → textOf (build2 b x y) ≡ front (head-2 b) ++ (textOf x ++ textOf y)
 text-two b x y = ap (raised 0) (code-build2 b x y) ∙ raised-head (head-2 b) (code x ++ code y) ∙ ap (front (head-2 b) ++_) (splits x (code y))
 
+-- The same with a text behind.
+pub text-one-then : {u t : Sort} (b : Unary u t) (x : Expr u) (z : List ℕ) → textOf (build1 b x) ++ z ≡ front (head-1 b) ++ (textOf x ++ z)
+text-one-then b x z = ap (_++ z) (text-one b x) ∙ append-assoc (front (head-1 b)) (textOf x) z
+
+pub text-two-then : {u v t : Sort} (b : Binary u v t) (x : Expr u) (y : Expr v) (z : List ℕ) → textOf (build2 b x y) ++ z ≡ front (head-2 b) ++ (textOf x ++ (textOf y ++ z))
+text-two-then b x y z = ap (_++ z) (text-two b x y) ∙ append-assoc (front (head-2 b)) (textOf x ++ textOf y) z ∙ ap (front (head-2 b) ++_) (append-assoc (textOf x) (textOf y) z)
+
 -- Where a term's text ends.
+abbrev Ends : {s : Sort} → Expr s → Type 0
+Ends e = (w : ℕ) (z : List ℕ) → width 0 (suc w) (textOf e ++ z) ≡ length (code e) + width 0 w z
+
 pub width-text : {s : Sort} (e : Expr s) (w : ℕ) (z : List ℕ) → width 0 (suc w) (textOf e ++ z) ≡ length (code e) + width 0 w z
-width-text e = each-term (λ s e. (w : ℕ) (z : List ℕ) → width 0 (suc w) (textOf e ++ z) ≡ length (code e) + width 0 w z) leaf one two e
+width-text e = each-term (λ s e. Ends e) leaf one two e
   where
-    leaf : (s : Sort) (b : Nullary s) (w : ℕ) (z : List ℕ) → width 0 (suc w) (textOf (build0 b) ++ z) ≡ length (code (build0 b)) + width 0 w z
+    leaf : (s : Sort) (b : Nullary s) → Ends (build0 b)
     leaf s b w z = ap (λ l. width 0 (suc w) (l ++ z)) (text-leaf b) ∙ width-head (head-0 b) w z ∙ ap (λ v. length (code (build0 b)) + width 0 v z) (add-zero w)
 
-    one : (u t : Sort) (b : Unary u t) (x : Expr u) → ((w : ℕ) (z : List ℕ) → width 0 (suc w) (textOf x ++ z) ≡ length (code x) + width 0 w z) → (w : ℕ) (z : List ℕ) → width 0 (suc w) (textOf (build1 b x) ++ z) ≡ length (code (build1 b x)) + width 0 w z
+    one : (u t : Sort) (b : Unary u t) (x : Expr u) → Ends x → Ends (build1 b x)
     one u t b x f w z =
-        ap (λ l. width 0 (suc w) l) (ap (_++ z) (text-one b x) ∙ append-assoc (front (head-1 b)) (textOf x) z)
+        ap (width 0 (suc w)) (text-one-then b x z)
         ∙ width-head (head-1 b) w (textOf x ++ z)
         ∙ ap (λ v. length (head1 b) + width 0 v (textOf x ++ z)) (add-one w)
         ∙ omega (arith, f w z, ap length (code-build1 b x), length-append (head1 b) (code x))
 
-    two : (u v t : Sort) (b : Binary u v t) (x : Expr u) (y : Expr v) → ((w : ℕ) (z : List ℕ) → width 0 (suc w) (textOf x ++ z) ≡ length (code x) + width 0 w z) → ((w : ℕ) (z : List ℕ) → width 0 (suc w) (textOf y ++ z) ≡ length (code y) + width 0 w z) → (w : ℕ) (z : List ℕ) → width 0 (suc w) (textOf (build2 b x y) ++ z) ≡ length (code (build2 b x y)) + width 0 w z
+    two : (u v t : Sort) (b : Binary u v t) (x : Expr u) (y : Expr v) → Ends x → Ends y → Ends (build2 b x y)
     two u v t b x y f g w z =
-        ap (λ l. width 0 (suc w) l) (ap (_++ z) (text-two b x y) ∙ append-assoc (front (head-2 b)) (textOf x ++ textOf y) z ∙ ap (front (head-2 b) ++_) (append-assoc (textOf x) (textOf y) z))
+        ap (width 0 (suc w)) (text-two-then b x y z)
         ∙ width-head (head-2 b) w (textOf x ++ (textOf y ++ z))
         ∙ ap (λ v. length (head2 b) + width 0 v (textOf x ++ (textOf y ++ z))) (let e : w + 2 ≡ suc (suc w) = omega arith in e)
         ∙ omega (arith, f (suc w) (textOf y ++ z), g w z, ap length (code-build2 b x y), length-append (head2 b) (code x ++ code y), length-append (code x) (code y))
@@ -186,107 +188,26 @@ lower-2 subArrows· x y r = refl
 lower-2 both· x y r = refl
 lower-2 either· x y r = refl
 
+abbrev Lowers : {s : Sort} → Expr s → Type 0
+Lowers e = InRange (ranges maxNodes) e → lowered (textOf e) ≡ code e
+
 pub lowered-text : {s : Sort} (e : Expr s) → InRange (ranges maxNodes) e → lowered (textOf e) ≡ code e
-lowered-text e = each-term (λ s e. InRange (ranges maxNodes) e → lowered (textOf e) ≡ code e) leaf one two e
+lowered-text e = each-term (λ s e. Lowers e) leaf one two e
   where
-    leaf : (s : Sort) (b : Nullary s) → InRange (ranges maxNodes) (build0 b) → lowered (textOf (build0 b)) ≡ code (build0 b)
+    leaf : (s : Sort) (b : Nullary s) → Lowers (build0 b)
     leaf s b r = ap lowered (text-leaf b) ∙ lower-0 b r
 
-    one : (u t : Sort) (b : Unary u t) (x : Expr u) → (InRange (ranges maxNodes) x → lowered (textOf x) ≡ code x) → InRange (ranges maxNodes) (build1 b x) → lowered (textOf (build1 b x)) ≡ code (build1 b x)
+    one : (u t : Sort) (b : Unary u t) (x : Expr u) → Lowers x → Lowers (build1 b x)
     one u t b x f r =
         ap lowered (text-one b x)
         ∙ lowered-append (front (head-1 b)) (textOf x)
         ∙ ap₂ _++_ (lower-1 b x r) (f (range-one (ranges maxNodes) b x r))
         ∙ sym (code-build1 b x)
 
-    two : (u v t : Sort) (b : Binary u v t) (x : Expr u) (y : Expr v) → (InRange (ranges maxNodes) x → lowered (textOf x) ≡ code x) → (InRange (ranges maxNodes) y → lowered (textOf y) ≡ code y) → InRange (ranges maxNodes) (build2 b x y) → lowered (textOf (build2 b x y)) ≡ code (build2 b x y)
+    two : (u v t : Sort) (b : Binary u v t) (x : Expr u) (y : Expr v) → Lowers x → Lowers y → Lowers (build2 b x y)
     two u v t b x y f g r =
         let q = range-two (ranges maxNodes) b x y r in
         ap lowered (text-two b x y)
         ∙ lowered-append (front (head-2 b)) (textOf x ++ textOf y)
         ∙ ap₂ _++_ (lower-2 b x y r) (lowered-append (textOf x) (textOf y) ∙ ap₂ _++_ (f (q .0)) (g (q .1)))
         ∙ sym (code-build2 b x y)
-
--- A term that stands in another, its first code at an offset.
-pub record StandsIn {t : Sort} (e : Expr t) (at : ℕ) : Type 0 where
-  pub sort : Sort
-  pub place : Context sort t
-  pub what : Expr sort
-  pub from : e ≡ put place what
-  pub offset : at ≡ length (before place)
-
-stands-root : {t : Sort} (e : Expr t) (at : ℕ) → at ≡ 0 → StandsIn e at
-unfolding put before
-stands-root {t} e at z = record { sort = t; place = here; what = e; from = refl; offset = z }
-
--- no number is below 128
-head-place : {h : List ℕ} {k : ℕ} (H : Head h k) (z : List ℕ) (at : ℕ) → at < length h → getD (front H ++ z) at 0 < 128 → at ≡ 0
-head-place H z zero l b = refl
-head-place H z (suc i) l b =
-    let m : i < length (H .numbers) = omega (arith, ap length (H .is)) in
-    absurd (omega (arith, marks-high (H .numbers) i m, ap (λ n. n) (List·getD-append (marks (H .numbers)) z 0 i (omega (arith, length-marks (H .numbers))))))
-
-past-head : {h : List ℕ} {k : ℕ} (H : Head h k) (z : List ℕ) (at : ℕ) → length h ≤ at → getD (front H ++ z) at 0 ≡ getD z (at - length h) 0
-past-head {h} H z at l =
-    let e : at ≡ length (front H) + (at - length h) = omega (arith, front-length H) in
-    ap (λ n. getD (front H ++ z) n 0) e ∙ getD-append-add (front H) z (at - length h) 0
-
--- "The offset must be that of the code": where a byte is below 128, a term begins.
-pub place-at : {t : Sort} (e : Expr t) (at : ℕ) → at < length (code e) → getD (textOf e) at 0 < 128 → StandsIn e at
-unfolding put before
-place-at e = each-term (λ s e. (at : ℕ) → at < length (code e) → getD (textOf e) at 0 < 128 → StandsIn e at) leaf one two e
-  where
-    leaf : (s : Sort) (b : Nullary s) (at : ℕ) → at < length (code (build0 b)) → getD (textOf (build0 b)) at 0 < 128 → StandsIn (build0 b) at
-    leaf s b at l q = stands-root (build0 b) at (head-place (head-0 b) [] at l (subst (λ t. getD t at 0 < 128) (text-leaf b ∙ sym (append-nil (front (head-0 b)))) q))
-
-    one : (u t : Sort) (b : Unary u t) (x : Expr u) → ((at : ℕ) → at < length (code x) → getD (textOf x) at 0 < 128 → StandsIn x at) → (at : ℕ) → at < length (code (build1 b x)) → getD (textOf (build1 b x)) at 0 < 128 → StandsIn (build1 b x) at
-    one u t b x f at l q = go (decLt at (length (head1 b))) (subst (λ t. getD t at 0 < 128) (text-one b x) q)
-      where
-        go : Dec (at < length (head1 b)) → getD (front (head-1 b) ++ textOf x) at 0 < 128 → StandsIn (build1 b x) at
-        go (yes h) q = stands-root (build1 b x) at (head-place (head-1 b) (textOf x) at h q)
-        go (no h) q =
-            let m : length (head1 b) ≤ at = omega arith in
-            let s = f (at - length (head1 b)) (omega (arith, ap length (code-build1 b x), length-append (head1 b) (code x))) (subst (λ n. n < 128) (past-head (head-1 b) (textOf x) at m) q) in
-            record {
-              sort = s .sort;
-              place = only b (s .place);
-              what = s .what;
-              from = ap (build1 b) (s .from);
-              offset = let o : at - length (head1 b) ≡ length (before (s .place)) = s .offset in omega (arith, length-append (head1 b) (before (s .place)));
-            }
-
-    two : (u v t : Sort) (b : Binary u v t) (x : Expr u) (y : Expr v) → ((at : ℕ) → at < length (code x) → getD (textOf x) at 0 < 128 → StandsIn x at) → ((at : ℕ) → at < length (code y) → getD (textOf y) at 0 < 128 → StandsIn y at) → (at : ℕ) → at < length (code (build2 b x y)) → getD (textOf (build2 b x y)) at 0 < 128 → StandsIn (build2 b x y) at
-    two u v t b x y f g at l q = go (decLt at (length (head2 b))) (decLt (at - length (head2 b)) (length (code x))) (subst (λ t. getD t at 0 < 128) (text-two b x y) q)
-      where
-        h : ℕ
-        h = length (head2 b)
-
-        n : ℕ
-        n = length (code x)
-
-        sizes : at < h + (n + length (code y))
-        sizes = omega (arith, ap length (code-build2 b x y), length-append (head2 b) (code x ++ code y), length-append (code x) (code y))
-
-        go : Dec (at < h) → Dec (at - h < n) → getD (front (head-2 b) ++ (textOf x ++ textOf y)) at 0 < 128 → StandsIn (build2 b x y) at
-        go (yes k) d q = stands-root (build2 b x y) at (head-place (head-2 b) (textOf x ++ textOf y) at k q)
-        go (no k) (yes d) q =
-            let m : h ≤ at = omega arith in
-            let s = f (at - h) d (subst (λ z. z < 128) (past-head (head-2 b) (textOf x ++ textOf y) at m ∙ List·getD-append (textOf x) (textOf y) 0 (at - h) (omega (arith, raised-length 0 (code x)))) q) in
-            record {
-              sort = s .sort;
-              place = first b (s .place) y;
-              what = s .what;
-              from = ap (λ z. build2 b z y) (s .from);
-              offset = let o : at - h ≡ length (before (s .place)) = s .offset in omega (arith, length-append (head2 b) (before (s .place)));
-            }
-        go (no k) (no d) q =
-            let m : h ≤ at = omega arith in
-            let e : at - h ≡ length (textOf x) + (at - h - n) = omega (arith, raised-length 0 (code x)) in
-            let s = g (at - h - n) (omega (arith, sizes)) (subst (λ z. z < 128) (past-head (head-2 b) (textOf x ++ textOf y) at m ∙ ap (λ i. getD (textOf x ++ textOf y) i 0) e ∙ getD-append-add (textOf x) (textOf y) (at - h - n) 0) q) in
-            record {
-              sort = s .sort;
-              place = second b x (s .place);
-              what = s .what;
-              from = ap (build2 b x) (s .from);
-              offset = let o : at - h - n ≡ length (before (s .place)) = s .offset in omega (arith, length-append (head2 b) (code x ++ before (s .place)), length-append (code x) (before (s .place)));
-            }
