@@ -61,8 +61,8 @@ fn arrow_step(sheet: &mut [u8], n: usize, all: u64, edit: &[u8], at: usize) -> u
     let mut new = [0u64; 64];
     let next = eval::eval_arrow(sheet, n, all, edit, at + 2, &mut new);
     let mut rows = [0u64; 64];
-    rows::arrow_rows(sheet, n, a, &mut rows);
-    rows::combine_rows(arrow_code(c), n, &mut rows, &new);
+    rows::relations::arrow_rows(sheet, n, a, &mut rows);
+    rows::relations::combine_rows(arrow_code(c), n, &mut rows, &new);
     Sheet::put_rows(sheet, a, rows);
     next
 }

@@ -72,7 +72,7 @@ fn touched(sheet: &[u8], n: usize, a: Arrow, node: usize) -> bool
     if Sheet::row_word(sheet, a, Node(node as u8)) != 0 {
         return true;
     }
-    words::member(rows::kind_all_ends(sheet, n, a), node)
+    words::member(rows::over_kinds::kind_all_ends(sheet, n, a), node)
 }
 
 // Whether an arrow of any kind does.

@@ -69,7 +69,7 @@ fn arrow_kind(sheet: &[u8], n: usize, all: u64, text: &[u8], at: usize, out: &mu
     requires { ⌜ Opened (now sheet) n all × SomeStands (ranges n) (now text) at arrow × (getD (now text) at 0 ≤ 0x11) × (now out ≡ replicate 64 0) ⌝ }
     ensures { λ r. ⌜ ((e : Expr arrow) → Stands (ranges n) (now (text .entry)) at e → IsRelation (now (sheet .entry)) n at e (now (out .exit)) r) × (length (now (out .exit)) ≡ 64) ⌝ }
 {
-    rows::arrow_rows(sheet, n, Arrow(text[at + 1]), out);
+    rows::relations::arrow_rows(sheet, n, Arrow(text[at + 1]), out);
     at + 2
 }
 
@@ -78,7 +78,7 @@ fn one_pair(sheet: &[u8], n: usize, all: u64, text: &[u8], at: usize, out: &mut 
     requires { ⌜ Opened (now sheet) n all × SomeStands (ranges n) (now text) at arrow × (0x16 < getD (now text) at 0) × (now out ≡ replicate 64 0) ⌝ }
     ensures { λ r. ⌜ ((e : Expr arrow) → Stands (ranges n) (now (text .entry)) at e → IsRelation (now (sheet .entry)) n at e (now (out .exit)) r) × (length (now (out .exit)) ≡ 64) ⌝ }
 {
-    rows::pair_rows(all, Node(text[at + 1]), Node(text[at + 2]), out);
+    rows::relations::pair_rows(all, Node(text[at + 1]), Node(text[at + 2]), out);
     at + 3
 }
 
@@ -87,7 +87,7 @@ fn join_kind(c: u8, sheet: &[u8], n: usize, text: &[u8], at: usize, out: &mut [u
     requires { ⌜ Sound (now sheet) × (n ≡ graphOf (now sheet) .n) × (n ≤ maxNodes) × SomeStands (ranges n) (now text) at arrow × (getD (now text) at 0 ≤ 0x11) × (length (now out) ≡ 64) ⌝ }
     ensures { λ r. ⌜ ((e : Expr arrow) → Stands (ranges n) (now (text .entry)) at e → IsJoined (now (sheet .entry)) n at c e (now (out .entry)) (now (out .exit)) r) × (length (now (out .exit)) ≡ 64) ⌝ }
 {
-    rows::combine_kind(c, sheet, n, Arrow(text[at + 1]), out);
+    rows::relations::combine_kind(c, sheet, n, Arrow(text[at + 1]), out);
     at + 2
 }
 
@@ -104,7 +104,7 @@ fn join_pair(
     requires { ⌜ Opened (now sheet) n all × SomeStands (ranges n) (now text) at arrow × (0x16 < getD (now text) at 0) × (c ≡ 0x14 → ⊥) × (length (now out) ≡ 64) ⌝ }
     ensures { λ r. ⌜ ((e : Expr arrow) → Stands (ranges n) (now (text .entry)) at e → IsJoined (now (sheet .entry)) n at c e (now (out .entry)) (now (out .exit)) r) × (length (now (out .exit)) ≡ 64) ⌝ }
 {
-    rows::combine_pair(c, all, Node(text[at + 1]), Node(text[at + 2]), out);
+    rows::relations::combine_pair(c, all, Node(text[at + 1]), Node(text[at + 2]), out);
     at + 3
 }
 
@@ -175,10 +175,10 @@ fn node_within(sheet: &[u8], n: usize, all: u64, within: u64, text: &[u8], at: u
         let m = text[at + k - 1];
         let t = behind_turns(n, text, at + k);
         let p = t.next;
-        if rows::straight(text[p], c, m, t.turned) {
+        if rows::over_kinds::straight(text[p], c, m, t.turned) {
             let e = node_within(sheet, n, all, all, text, p + 2);
             NodeSet {
-                set: rows::quantified_kind(
+                set: rows::over_kinds::quantified_kind(
                     c,
                     m,
                     sheet,
@@ -196,7 +196,7 @@ fn node_within(sheet: &[u8], n: usize, all: u64, within: u64, text: &[u8], at: u
             let second = eval_arrow(sheet, n, all, text, p, &mut rows);
             let e = node_within(sheet, n, all, all, text, second);
             NodeSet {
-                set: rows::quantified(c, m, n, all, within, t.turned, &mut rows, e.set),
+                set: rows::over_rows::quantified(c, m, n, all, within, t.turned, &mut rows, e.set),
                 next: e.next,
             }
         }
@@ -220,7 +220,7 @@ pub fn eval_arrow(
         arrow_kind(sheet, n, all, text, at, out)
     } else if c <= 0x12 {
         let next = eval_arrow(sheet, n, all, text, at + 1, out);
-        rows::reverse_rows(n, out);
+        rows::relations::reverse_rows(n, out);
         next
     } else if c <= 0x15 {
         let second = eval_arrow(sheet, n, all, text, at + 1, out);
@@ -228,7 +228,7 @@ pub fn eval_arrow(
     } else if c <= 0x16 {
         let second = eval_arrow(sheet, n, all, text, at + 1, out);
         let e = node_within(sheet, n, all, all, text, second);
-        rows::end_rows(n, out, e.set);
+        rows::relations::end_rows(n, out, e.set);
         e.next
     } else {
         one_pair(sheet, n, all, text, at, out)
@@ -256,7 +256,7 @@ fn join_arrow(
     } else {
         let mut other = [0u64; 64];
         let next = eval_arrow(sheet, n, all, text, at, &mut other);
-        rows::combine_rows(c, n, out, &other);
+        rows::relations::combine_rows(c, n, out, &other);
         next
     }
 }
@@ -292,7 +292,7 @@ fn sub_arrows(sheet: &[u8], n: usize, all: u64, text: &[u8], at: usize) -> Truth
     let mut other = [0u64; 64];
     let next = eval_arrow(sheet, n, all, text, second, &mut other);
     Truth {
-        holds: rows::rows_in(n, &rows, &other),
+        holds: rows::relations::rows_in(n, &rows, &other),
         next,
     }
 }
@@ -318,7 +318,7 @@ fn pair_in(sheet: &[u8], n: usize, all: u64, text: &[u8], at: usize) -> Truth
     let mut rows = [0u64; 64];
     let next = eval_arrow(sheet, n, all, text, at + 3, &mut rows);
     Truth {
-        holds: rows::pair_in(&rows, Node(text[at + 1]), Node(text[at + 2])),
+        holds: rows::relations::pair_in(&rows, Node(text[at + 1]), Node(text[at + 2])),
         next,
     }
 }

@@ -28,12 +28,12 @@ use Rattle.eval.proofs.join_pair.Reads as join-pair-reads
 use Rattle.eval.proofs.leaf_node.Reads as leaf-node-reads
 use Rattle.eval.proofs.one_pair.Reads as one-pair-reads
 use Rattle.eval.proofs.one_row.Reads as one-row-reads
-use Rattle.rows.proofs.quantified_kind.Reads as quantified-kind-reads
-use Rattle.rows.proofs.straight.Reads as straight-reads
-use Rattle.rows.proofs.combine_rows.Reads as combine-rows-reads
-use Rattle.rows.proofs.end_rows.Reads as end-rows-reads
-use Rattle.rows.proofs.quantified.Reads as quantified-reads
-use Rattle.rows.proofs.reverse_rows.Reads as reverse-rows-reads
+use Rattle.rows.proofs.over_kinds.quantified_kind.Reads as quantified-kind-reads
+use Rattle.rows.proofs.over_kinds.straight.Reads as straight-reads
+use Rattle.rows.proofs.relations.combine_rows.Reads as combine-rows-reads
+use Rattle.rows.proofs.relations.end_rows.Reads as end-rows-reads
+use Rattle.rows.proofs.over_rows.quantified.Reads as quantified-reads
+use Rattle.rows.proofs.relations.reverse_rows.Reads as reverse-rows-reads
 use Rattle.words.proofs.minus.Reads as minus-reads
 use Rattle.eval.proofs.+eval_arrow+join_arrow+node_within.{statement}
 use Rattle.eval.proofs.+eval_arrow+join_arrow+node_within.Tie.{close}

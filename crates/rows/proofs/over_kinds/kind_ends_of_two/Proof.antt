@@ -1,0 +1,38 @@
+use mathlib.Core.Path.{sym, ap, _∙_}
+use Prim.Native.Nat.{ℕ, _^_, _<_}
+use native.Mathlib.Omega.{arith}
+use borrow.Author.Needs.{needs}
+use Rattle.sheet.specs.Sheet.{graphOf}
+use Rattle.words.specs.Words.{setOf}
+use Rattle.words.proofs.MemberLaws.{member-small}
+use Rattle.rows.proofs.Walks.{Inside, inside-less, Counted, counted-none, counted-one, counted-two, counted-end}
+use Rattle.rows.proofs.over_kinds.kind_ends_of_two.Statement.{statement}
+use Rattle.rows.proofs.over_kinds.kind_ends_of_two.Tie as tie
+
+abbrev Inv-loop : tie.InvT-loop
+Inv-loop sheet n a e one₀ two₀ left₀ one two left = (left < 2 ^ n) × Inside left e × Counted 1 n e left (graphOf sheet .joined (a .0)) one × Counted 2 n e left (graphOf sheet .joined (a .0)) two
+
+abbrev μ-loop : tie.MeasureT-loop
+μ-loop sheet n a e one₀ two₀ left₀ one two left = left
+
+pub kind-ends-of-two-spec : {M : Type 1} → statement M
+kind-ends-of-two-spec = tie.close (tie.spec Inv-loop μ-loop
+    (λ c. let s = c .before in (search needs, λ k h. h, counted-none (s .args .n) (s .args .e) (graphOf (s .args .sheet .now) .joined (s .args .a .0)) 1 (omega arith), counted-none (s .args .n) (s .args .e) (graphOf (s .args .sheet .now) .joined (s .args .a .0)) 2 (omega arith)))
+    (λ c κs. c .loop-test .taken)
+    (λ c. omega (arith, c .first .ensures .1))
+    (λ c κs. let s = c .before .before .before .before in let i = member-small _ _ _ (c .before .before .loop .inv .0) (c .first .ensures .0) in (s .pre .0 .sound, s .pre .0 .kind, omega (arith, s .pre .0 .count, i)))
+    (λ c κs. search needs) (λ c κs. search needs) (λ c κs. search needs)
+    (λ c κs. c .before .before .before .before .before .loop-test .taken)
+    (λ c. c .but-first .ensures .1)
+    (λ c.
+    let s = c .before .before .before .before .before .before .before .before .before in
+    let l = c .before .before .before .before .before .before .before .loop in
+    let m = c .before .before .before .before .before .first .ensures .0 in
+    let i = member-small _ _ _ (l .inv .0) m in
+    let r = c .before .before .before .before .row-word .ensures ∙ ap (λ (k : ℕ). setOf k (graphOf (s .args .sheet .now) .joined (s .args .a .0) (c .before .before .before .before .before .first .result))) (sym (s .pre .0 .count)) in (
+      omega (arith, c .but-first .ensures .1, l .inv .0),
+      inside-less _ _ _ _ (c .but-first .ensures .0 _ (c .before .before .before .before .before .first .ensures .2)) (l .inv .1),
+      counted-one _ _ (graphOf (s .args .sheet .now) .joined (s .args .a .0)) _ _ _ _ _ (omega (arith, s .pre .0 .few)) i (c .but-first .ensures .0 _ (c .before .before .before .before .before .first .ensures .2)) (l .inv .1) m r (l .inv .2) _ (c .before .either2 .ensures),
+      counted-two _ _ (graphOf (s .args .sheet .now) .joined (s .args .a .0)) _ _ _ _ _ (omega (arith, s .pre .0 .few)) i (c .but-first .ensures .0 _ (c .before .before .before .before .before .first .ensures .2)) (l .inv .1) m r (l .inv .2) _ _ _ (l .inv .3) (c .before .before .before .both .ensures) (c .before .before .either .ensures),
+    ))
+    (λ c. let s = c .before .before .before in counted-end _ _ (graphOf (s .args .sheet .now) .joined (s .args .a .0)) 2 _ _ (omega (arith, c .loop-test .left)) (c .before .loop .inv .3)))
