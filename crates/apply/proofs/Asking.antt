@@ -1,6 +1,6 @@
 -- Apply's answer and sheet, from the answers about sheet and edit.
 use mathlib.Core.Path.{_≡_, sym, ap, _∙_, subst}
-use mathlib.Core.List.{List, [], append-nil}
+use mathlib.Core.List.{List}
 use Prim.Native.Nat.{ℕ}
 use Rattle.answer.specs.declared.Refusal.{Refusal}
 use Rattle.answer.specs.declared.Answer.{Answer}
@@ -9,14 +9,13 @@ use Rattle.answer.specs.Asked.{Asked, passed, refused, _>>_, after, outcome}
 use Rattle.answer.specs.Answers.{asked, refusalNumber, refusalPlace}
 use Rattle.answer.proofs.AnswerLaws.{Learned, learned, not-learned}
 use Rattle.logic.specs.Syntax.{Edit}
-use Rattle.logic.specs.Limits.{ranges, EditInRange}
+use Rattle.logic.specs.Limits.{ranges}
 use Rattle.sheet.specs.Sheet.{graphOf}
 use Rattle.sheet.specs.Questions.{askSheet, Sound}
-use Rattle.text.specs.Code.{editCode}
 use Rattle.text.specs.Reading.{textLimits}
 use Rattle.text.specs.Questions.{askEdit}
 use Rattle.text.specs.Stands.{EditStands, SomeEditStands}
-use Rattle.text.proofs.Books.{edit-is-spelled}
+use Rattle.text.proofs.Books.{read-edit-stands}
 use Rattle.apply.specs.Apply.{afterSteps, askApply, appliedSheet}
 use Rattle.apply.specs.Made.{Made}
 
@@ -54,9 +53,7 @@ module _ (sheet edit : List ℕ) where
     Stands Z = EditStands (ranges (graphOf sheet .n)) edit 0 Z
 
     stands : (q : Learned (askEdit (textLimits n) edit)) → Stands (q .what)
-    stands q =
-        let w = edit-is-spelled (textLimits n) edit (q .what) (q .is) in
-        record { rest = []; here = w .text-is ∙ sym (append-nil (editCode (q .what))); range = subst (λ (m : ℕ). EditInRange (ranges m) (q .what)) count (w .within .numbers-fit) }
+    stands q = subst (λ (m : ℕ). EditStands (ranges m) edit 0 (q .what)) count (read-edit-stands (textLimits n) (q .is))
 
     module _ (b : Answer) (s : asked b ≡ outcome (askEdit (textLimits n) edit)) (e : b ≡ Done) where
       pub edit-stands : SomeEditStands (ranges (graphOf sheet .n)) edit 0

@@ -1,6 +1,6 @@
 -- What the questions of a book and an edit say of their texts, and carry back by its questions.
 use mathlib.Core.Path.{_≡_, refl, sym, ap, _∙_}
-use mathlib.Core.List.{List, [], append-nil}
+use mathlib.Core.List.{List}
 use Prim.Native.Nat.{ℕ, _≤_}
 use lib.ListN.{length}
 use Rattle.answer.specs.Asked.{Asked, passed, refused, _>>=_, _>>_, after, outcome}
@@ -17,7 +17,7 @@ use Rattle.logic.specs.Limits.{maxNodes}
 use Rattle.text.specs.Code.{bookCode}
 use Rattle.text.specs.Reading.{longestText, textLimits}
 use Rattle.text.specs.Questions.{askBook, askEdit}
-use Rattle.text.proofs.Books.{edit-is-spelled}
+use Rattle.text.proofs.Books.{edit-is-spelled, read-edit-stands}
 use Rattle.ends.specs.Edits.{EditAt, SomeEdit}
 use Rattle.ends.specs.Books.{BookIs, SomeBook}
 use Rattle.ends.proofs.Rules.{book-passed}
@@ -27,7 +27,7 @@ use Rattle.carry.specs.Into.{Into}
 -- an edit that has passed, whatever n
 module _ (n : ℕ) {t : List ℕ} where
   pub edit-passed : {Z : Edit} → askEdit (textLimits n) t ≡ passed Z → EditAt t 0 Z × (length t ≤ longestText)
-  edit-passed {Z} h = let s = edit-is-spelled (textLimits n) t Z h in (record { limits = textLimits n .numbers; place = record { rest = []; here = s .text-is ∙ sym (append-nil _); range = s .within .numbers-fit } }, s .short)
+  edit-passed {Z} h = let s = edit-is-spelled (textLimits n) t Z h in (record { limits = textLimits n .numbers; place = read-edit-stands (textLimits n) h }, s .short)
 
 -- the bytes learned once the size has passed
 length-of : (q : Asked (Unit {0})) (bytes : List ℕ) → (q >> passed (length bytes)) ≡ ((q >> passed bytes) >>= (λ b. passed (length b)))

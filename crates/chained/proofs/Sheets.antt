@@ -3,24 +3,20 @@ use mathlib.Core.Path.{_≡_, sym, _∙_, ap, subst}
 use mathlib.Core.Logic.{_↔_}
 use mathlib.Core.List.{List}
 use Prim.Native.Nat.{ℕ, _≤_}
-use Rattle.answer.specs.Asked.{passed, _>>_, after, outcome}
+use Rattle.answer.specs.Asked.{passed, _>>_, outcome}
 use Rattle.logic.specs.Syntax.{Edit}
-use Rattle.logic.specs.Graph.{Graph}
 use Rattle.logic.specs.Steps.{run}
 use Rattle.logic.specs.Carry.{followedBy}
-use Rattle.logic.specs.Limits.{maxNodes, Within}
+use Rattle.logic.specs.Limits.{maxNodes}
 use Rattle.logic.proofs.Theorem.{run-followedBy}
-use Rattle.logic.proofs.Inside.{run-n}
 use Rattle.sheet.specs.Sheet.{present, store, graphOf}
-use Rattle.sheet.specs.Questions.{askSheet, Sound}
+use Rattle.sheet.specs.Questions.{Sound}
 use Rattle.sheet.proofs.Opening.{opening}
-use Rattle.sheet.proofs.Passes.{stored-passes}
-use Rattle.sheet.proofs.ReadBack.{read-back}
 use Rattle.text.specs.Reading.{textLimits}
 use Rattle.text.specs.Questions.{askEdit}
 use Rattle.apply.specs.Apply.{afterSteps, askApply, appliedSheet}
 use Rattle.demands.specs.Run.{Bytes}
-use Rattle.demands.proofs.Passing.{then-passed, outcome-passed}
+use Rattle.demands.proofs.Passing.{outcome-passed}
 use Rattle.demands.proofs.After.{applied-is, applies, applied-read, after-sound, after-graph, after-n}
 use Rattle.chain.proofs.Passes.{Joins}
 use Rattle.chained.specs.Chained.{Applies}

@@ -1,7 +1,7 @@
 -- What closing and opening answer and leave, by where they stop.
 use mathlib.Core.Path.{_≡_, refl, sym, ap, _∙_}
 use mathlib.Core.Bool.{Bool, true, false, _&&_, cond}
-use mathlib.Core.List.{List, [], append-nil}
+use mathlib.Core.List.{List}
 use Prim.Native.Nat.{ℕ, _≤_, _<_}
 use native.Mathlib.Omega.{arith}
 use lib.Dec.{ltb}
@@ -23,10 +23,9 @@ use Rattle.words.proofs.SetLaws.{member-setOf}
 use Rattle.sheet.specs.Sheet.{present, store, graphOf}
 use Rattle.sheet.specs.Questions.{askSheet, Sound}
 use Rattle.sheet.proofs.Opening.{opening}
-use Rattle.text.specs.Code.{bookCode}
 use Rattle.text.specs.Reading.{textLimits}
 use Rattle.text.specs.Questions.{askBook}
-use Rattle.text.proofs.Books.{rules-in-range, book-is-spelled}
+use Rattle.judge.proofs.Rules.{read-book-stands}
 use Rattle.judge.specs.Questions.{askSheetAndBook, askRules}
 use Rattle.judge.specs.Judging.{RulesStand}
 use Rattle.closing.specs.Questions.{askNode, askClose, askOpen, closedSheet, openedSheet}
@@ -74,17 +73,6 @@ module _ (sheet book : List ℕ) (node : ℕ) where
     pub below : node < graphOf sheet .n
     pub stand : RulesStand (ranges (graphOf sheet .n)) book 0 (length book) rules
 
-  stand-of : (rules : List (Expr rule)) → askBook (textLimits (graphOf sheet .n)) book ≡ passed rules → RulesStand (ranges (graphOf sheet .n)) book 0 (length book) rules
-  stand-of rules e =
-      let l = textLimits (graphOf sheet .n) in
-      let s = book-is-spelled l book rules e .spells in
-      record {
-        rest = [];
-        here = s .text-is ∙ sym (append-nil (bookCode rules));
-        ends = omega (arith, ap length (s .text-is));
-        range = rules-in-range l rules (s .rules);
-      }
-
   pub found : Learned (askNode sheet book node) → Ready
   unfolding askNode askSheetAndBook _>>=_ _>>_ is
   found q = go (askSheet sheet) refl (askBook (textLimits (graphOf sheet .n)) book) refl (ltb node (graphOf sheet .n)) refl (q .is)
@@ -93,7 +81,7 @@ module _ (sheet book : List ℕ) (node : ℕ) where
           → ((x >> y) >>= (λ rules. is z 7 0 >> passed rules)) ≡ passed (q .what) → Ready
       go (passed u) ex (passed rs) ey true ez h =
           let same : rs ≡ q .what = cc in
-          record { rules = q .what; is-read = q .is; sound = ex; below = ltb-true node (graphOf sheet .n) ez; stand = stand-of (q .what) (ey ∙ ap passed same) }
+          record { rules = q .what; is-read = q .is; sound = ex; below = ltb-true node (graphOf sheet .n) ez; stand = read-book-stands (textLimits (graphOf sheet .n)) (ey ∙ ap passed same) }
       go (passed u) ex (passed rs) ey false ez h = let z : _≡_ {A = ℕ} 0 1 = cc in absurd (omega arith)
       go (passed u) ex (refused m p) ey b ez h = let z : _≡_ {A = ℕ} 0 1 = cc in absurd (omega arith)
       go (refused m p) ex y ey b ez h = let z : _≡_ {A = ℕ} 0 1 = cc in absurd (omega arith)

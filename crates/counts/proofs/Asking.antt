@@ -1,11 +1,10 @@
 -- The questions of counting, in order, by what the checks of book and edit answer and which names the texts have.
 use mathlib.Core.Path.{_≡_, refl, sym, ap, ap₂, _∙_}
 use mathlib.Core.Bool.{Bool, true, false, _&&_, and-false}
-use mathlib.Core.List.{List, [], append-nil}
+use mathlib.Core.List.{List}
 use Prim.Native.Nat.{ℕ, _≤_, _<_}
 use native.Mathlib.Omega.{arith}
 use lib.Dec.{leb}
-use lib.ListN.{length}
 use borrow.Author.Tests.{le-leb, lt-leb, leb-true}
 use Rattle.answer.specs.Asked.{Asked, passed, refused, _>>=_, _>>_, is, after, outcome}
 use Rattle.answer.specs.Answers.{asked, refusalNumber, refusalPlace}
@@ -14,10 +13,10 @@ use Rattle.answer.specs.declared.Answer.{Answer}
 use Rattle.answer.specs.declared.Answer.the-variants.{Done, Refused}
 use Rattle.answer.proofs.AnswerLaws.{Learned, learned, not-learned}
 use Rattle.logic.specs.Syntax.{Expr, rule, Edit}
-use Rattle.text.specs.Code.{editCode, bookCode}
 use Rattle.text.specs.Reading.{textLimits}
 use Rattle.text.specs.Questions.{askBook, askEdit}
-use Rattle.text.proofs.Books.{rules-in-range, book-is-spelled, edit-is-spelled}
+use Rattle.text.proofs.Books.{rules-in-range, book-is-spelled, edit-is-spelled, read-edit-stands}
+use Rattle.judge.proofs.Rules.{read-book-stands}
 use Rattle.counts.specs.declared.Four.{Four}
 use Rattle.counts.specs.Small.{fourCounts}
 use Rattle.counts.specs.Names.{rulesOnlyFirst, editOnlyFirst}
@@ -111,18 +110,7 @@ module _ (n : ℕ) (book edit : List ℕ) where
 
   stand-of : (rules : List (Expr rule)) (Z : Edit) → askBook (textLimits n) book ≡ passed rules → askEdit (textLimits n) edit ≡ passed Z → editOnlyFirst Z ≡ true → TextsStand n book edit rules Z
   stand-of rules Z p q o =
-      let s = book-is-spelled (textLimits n) book rules p .spells in
-      let w = edit-is-spelled (textLimits n) edit Z q in
-      record {
-        rules-stand = record {
-          rest = [];
-          here = s .text-is ∙ sym (append-nil (bookCode rules));
-          ends = omega (arith, ap length (s .text-is));
-          range = rules-in-range (textLimits n) rules (s .rules);
-        };
-        edit-stands = record { rest = []; here = w .text-is ∙ sym (append-nil (editCode Z)); range = w .within .numbers-fit };
-        first = o;
-      }
+      record { rules-stand = read-book-stands (textLimits n) p; edit-stands = read-edit-stands (textLimits n) q; first = o }
 
   pub found : passed tt ≡ outcome (askCount n book edit) → Ready
   unfolding askCount _>>=_ _>>_ is

@@ -6,9 +6,8 @@ use mathlib.Core.List.{List, [], _∷_, _++_, append-assoc, append-nil}
 use Prim.Native.Nat.{ℕ, _+_, _*_, _%_, _≤_, _<_}
 use native.Mathlib.Numerals.{add-one}
 use native.Mathlib.Omega.{arith}
-use native.Mathlib.Decide.{decLt}
 use lib.Dec.{eqb, ltb}
-use lib.ListN.{length, getD, drop, drop-of-length-le, List·getD-eq-default}
+use lib.ListN.{length, getD, drop, drop-of-length-le}
 use lib.Seq.{drop-cons}
 use borrow.Author.Tests.{lt-ltb}
 use Rattle.logic.specs.Syntax.{Sort, Expr, rule, Edit, finish, addLabel, takeLabel, addArrow, takeArrow, choose}
@@ -18,6 +17,7 @@ use Rattle.text.specs.Stands.{RulesInRange}
 use Rattle.tree.specs.Tree.{Tree, name, leaf, one, two, treeCode, tree}
 use Rattle.tree.proofs.Trees.{code-tree}
 use Rattle.ends.specs.Shapes.{shapes, shapeOf, Head, Formed}
+use Rattle.ends.proofs.Pending.{code-low}
 use Rattle.ends.proofs.Formed.{formed-tree}
 use Rattle.ends.proofs.Steps.{four}
 use Rattle.counts.specs.Names.{onlyFirst, rulesOnlyFirst, editOnlyFirst}
@@ -39,14 +39,6 @@ module _ (text : List ℕ) (due p : ℕ) (reached : walk 0 text ≡ walk due (dr
   pub reached-end : length text ≤ p → true ≡ walk 0 text
   unfolding walk
   reached-end l = sym (reached ∙ ap (walk due) (drop-of-length-le text l))
-
-code-low : (c : ℕ) → 0 < shapeOf c → c < 40
-unfolding shapes
-code-low c l = go (decLt c 40)
-  where
-    go : Dec (c < 40) → c < 40
-    go (yes h) = h
-    go (no h) = let g : 40 ≤ c = omega arith in absurd (omega (arith, l, List·getD-eq-default shapes 0 g))
 
 shape-is : (c s : ℕ) → shapeOf c ≡ s → 0 < s → codeShape c ≡ s
 unfolding codeShape

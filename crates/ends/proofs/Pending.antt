@@ -72,7 +72,7 @@ shaped (leaf h) f s e = record { head = omega (arith, e, f .short); on = omega (
 shaped (one h x) f s e = record { head = omega (arith, e, f .0 .short); on = omega (arith, e, f .0 .pos, f .0 .short); parts = omega (arith, e, f .0 .short) }
 shaped (two h x y) f s e = record { head = omega (arith, e, f .0 .short); on = omega (arith, e, f .0 .pos, f .0 .short); parts = omega (arith, e, f .0 .short) }
 
-code-low : (c : ℕ) → 0 < shapeOf c % 4 → c < 40
+pub code-low : (c : ℕ) → 0 < shapeOf c → c < 40
 unfolding shapes
 code-low c l = go (decLt c 40)
   where
@@ -81,7 +81,7 @@ code-low c l = go (decLt c 40)
     go (no h) = let g : 40 ≤ c = omega arith in absurd (omega (arith, l, List·getD-eq-default shapes 0 g))
 
 pub code-at : (text : List ℕ) (at : ℕ) (t : Tree) → At text at t → getD text at 0 < 40
-code-at text at t h = code-low (getD text at 0) (shaped t (h .formed) (shapeOf (getD text at 0)) (tag-at text at t h) .on)
+code-at text at t h = code-low (getD text at 0) (omega (arith, shaped t (h .formed) (shapeOf (getD text at 0)) (tag-at text at t h) .on))
 
 -- so many trees are wanted at p
 pub record Pending (text : List ℕ) (p wanted : ℕ) (parts : List Tree) : Type 0 where

@@ -1,6 +1,6 @@
 -- Where entering stops, and what sheet and scratch then hold.
 use mathlib.Core.Path.{_≡_, refl, sym, _∙_, ap, subst}
-use mathlib.Core.List.{List, [], append-nil}
+use mathlib.Core.List.{List}
 use Prim.Native.Nat.{ℕ}
 use lib.ListN.{length}
 use Rattle.answer.specs.Asked.{Asked, passed, refused, _>>=_, _>>_, after, outcome}
@@ -10,13 +10,13 @@ use Rattle.answer.specs.declared.Answer.{Answer}
 use Rattle.answer.specs.declared.Answer.the-variants.{Done, Refused}
 use Rattle.logic.specs.Syntax.{Expr, rule, Edit}
 use Rattle.logic.specs.Carry.{carriedBook}
-use Rattle.logic.specs.Limits.{ranges, EditInRange}
+use Rattle.logic.specs.Limits.{ranges}
 use Rattle.sheet.specs.Sheet.{graphOf}
 use Rattle.sheet.specs.Questions.{askSheet, Sound}
 use Rattle.text.specs.Reading.{textLimits}
 use Rattle.text.specs.Questions.{askBook, askEdit}
-use Rattle.text.specs.Stands.{RulesInRange}
-use Rattle.text.proofs.Books.{rules-in-range, book-is-spelled, edit-is-spelled}
+use Rattle.text.specs.Stands.{RulesInRange, EditStands}
+use Rattle.text.proofs.Books.{rules-in-range, book-is-spelled, read-edit-stands}
 use Rattle.judge.specs.Questions.{askRules, askSheetAndBook}
 use Rattle.single.specs.Scratch.{askScratch, writings}
 use Rattle.single.specs.Singly.{BothRead, Singly}
@@ -77,12 +77,11 @@ module _ (s b e scratch : List ℕ) where
         pub both-read : BothRead (ranges (graphOf s .n)) b e rules Z
         both-read =
             let h = book-is-spelled (textLimits n) b rules book in
-            let z = edit-is-spelled (textLimits n) e Z steps in
             record {
               is = h .spells .text-is;
               range = subst (λ m. RulesInRange (ranges m) rules) n-is (rules-in-range (textLimits n) rules (h .spells .rules));
               few = h .spells .few;
-              stands = record { rest = []; here = z .text-is ∙ sym (append-nil _); range = subst (λ m. EditInRange (ranges m) Z) n-is (z .within .numbers-fit) };
+              stands = subst (λ m. EditStands (ranges m) e 0 Z) n-is (read-edit-stands (textLimits n) steps);
             }
 
         module _ (a : Answer) (scratch′ : List ℕ) (j : Singly (graphOf s) (carriedBook Z rules) a scratch scratch′) where

@@ -1,8 +1,7 @@
 -- Judge's questions, in order, by what the checks of sheet and book answer.
-use mathlib.Core.Path.{_≡_, sym, ap, _∙_}
-use mathlib.Core.List.{List, [], append-nil}
+use mathlib.Core.Path.{_≡_, sym, ap, _∙_, subst}
+use mathlib.Core.List.{List}
 use Prim.Native.Nat.{ℕ}
-use native.Mathlib.Omega.{arith}
 use lib.ListN.{length}
 use Rattle.answer.specs.declared.Refusal.{Refusal}
 use Rattle.answer.specs.declared.Answer.{Answer}
@@ -14,12 +13,11 @@ use Rattle.logic.specs.Syntax.{Expr, rule}
 use Rattle.logic.specs.Limits.{ranges}
 use Rattle.sheet.specs.Sheet.{graphOf}
 use Rattle.sheet.specs.Questions.{askSheet}
-use Rattle.text.specs.Code.{bookCode}
 use Rattle.text.specs.Reading.{textLimits}
 use Rattle.text.specs.Questions.{askBook}
-use Rattle.text.proofs.Books.{rules-in-range, book-is-spelled}
 use Rattle.judge.specs.Questions.{askRules, askSheetAndBook, askJudge}
 use Rattle.judge.specs.Judging.{Part, noPart, brokenPart, judgedPart, RulesStand}
+use Rattle.judge.proofs.Rules.{read-book-stands}
 
 module _ (sheet book : List ℕ) where
   -- What judge says: the answer and the part.
@@ -54,14 +52,7 @@ module _ (sheet book : List ℕ) where
       rules-read = learned (askBook (textLimits n) book) (sym (ap asked e) ∙ h)
 
       pub rules-stand : RulesStand (ranges (graphOf sheet .n)) book 0 (length book) (rules-read .what)
-      rules-stand =
-          let s = book-is-spelled (textLimits n) book (rules-read .what) (rules-read .is) .spells in
-          rw (← count) (record {
-            rest = [];
-            here = s .text-is ∙ sym (append-nil (bookCode (rules-read .what)));
-            ends = omega (arith, ap length (s .text-is));
-            range = rules-in-range (textLimits n) (rules-read .what) (s .rules);
-          })
+      rules-stand = subst (λ m. RulesStand (ranges m) book 0 (length book) (rules-read .what)) count (read-book-stands (textLimits n) (rules-read .is))
 
       pub judged : (x : Asked (Unit {0})) (p : Part) → x ≡ askRules (graphOf sheet) (rules-read .what) 0 → p ≡ brokenPart (graphOf sheet) (rules-read .what) 0 → Says x p
       unfolding askJudge judgedPart _>>=_ after

@@ -1,7 +1,7 @@
 -- The loop over the rules of a text: what is judged so far and what is left.
 use mathlib.Core.Path.{_≡_, refl, sym, ap, _∙_, subst}
 use mathlib.Core.Bool.{Bool, true, false}
-use mathlib.Core.List.{List, [], _∷_, _++_, append-assoc}
+use mathlib.Core.List.{List, [], _∷_, _++_, append-assoc, append-nil}
 use Prim.Native.Nat.{ℕ, _+_, _-_, _≤_, _<_}
 use native.Mathlib.Numerals.{add-one}
 use native.Mathlib.Omega.{arith}
@@ -16,7 +16,10 @@ use Rattle.sheet.specs.Sheet.{present, graphOf}
 use Rattle.sheet.specs.Questions.{Sound}
 use Rattle.sheet.proofs.Opening.{opening}
 use Rattle.text.specs.Code.{code, bookCode}
+use Rattle.text.specs.Reading.{Limits}
+use Rattle.text.specs.Questions.{askBook}
 use Rattle.text.specs.Stands.{Stands, RulesInRange}
+use Rattle.text.proofs.Books.{rules-in-range, book-is-spelled}
 use Rattle.eval.specs.Evaluated.{Opened, IsTruth}
 use Rattle.eval.proofs.Places.{filled}
 use Rattle.text.proofs.Standing.{behind, within}
@@ -26,6 +29,12 @@ use Rattle.judge.specs.Judging.{RulesStand, noPart, brokenPart}
 -- What the evaluators ask of the sheet.
 pub opened : (sheet : List ℕ) (n all : ℕ) → ((p : ℕ) → getD sheet p 0 < 256) → Sound sheet → n ≡ graphOf sheet .n → n ≤ maxNodes → all ≡ setOf (graphOf sheet .n) (isNode (graphOf sheet)) → Opened sheet n all
 opened sheet n all b s e f a = record { sound = s; count = e; few = f; nodes = a ∙ ap (λ (m : ℕ). setOf m (isNode (graphOf sheet))) (sym e); within = opening present sheet b s .within }
+
+-- The rules of a book that was read stand in it.
+pub read-book-stands : (l : Limits) {t : List ℕ} {rules : List (Expr rule)} → askBook l t ≡ passed rules → RulesStand (l .numbers) t 0 (length t) rules
+read-book-stands l {t} {rules} h =
+    let s = book-is-spelled l t rules h .spells in
+    record { rest = []; here = s .text-is ∙ sym (append-nil (bookCode rules)); ends = omega (arith, ap length (s .text-is)); range = rules-in-range l rules (s .rules) }
 
 -- The ranges by the count that was read from the sheet.
 pub for-count : (n m : ℕ) (text : List ℕ) (at end : ℕ) (rules : List (Expr rule)) → n ≡ m → RulesStand (ranges m) text at end rules → RulesStand (ranges n) text at end rules

@@ -1,8 +1,7 @@
 -- What the calls answer and leave, by where they stop.
-use mathlib.Core.Path.{_≡_, refl, sym, ap, _∙_}
-use mathlib.Core.List.{List, [], append-nil}
+use mathlib.Core.Path.{_≡_, refl, sym, ap, _∙_, subst}
+use mathlib.Core.List.{List}
 use Prim.Native.Nat.{ℕ, _-_}
-use native.Mathlib.Omega.{arith}
 use borrow.Author.Tests.{eq-eqb, ne-eqb}
 use lib.ListN.{length}
 use Rattle.answer.specs.Asked.{Asked, passed, refused, _>>=_, _>>_, is, after, outcome}
@@ -18,8 +17,7 @@ use Rattle.sheet.specs.Sheet.{graphOf}
 use Rattle.sheet.specs.Questions.{askSheet, Sound}
 use Rattle.text.specs.Reading.{textLimits}
 use Rattle.text.specs.Questions.{askBook}
-use Rattle.text.specs.Code.{bookCode}
-use Rattle.text.proofs.Books.{rules-in-range, book-is-spelled}
+use Rattle.judge.proofs.Rules.{read-book-stands}
 use Rattle.judge.specs.Questions.{askRules}
 use Rattle.judge.specs.Judging.{RulesStand}
 use Rattle.plans.specs.Store.{storeBytes, noPlans, unfilled, filled, storeOf, plansOf, placeIn}
@@ -106,14 +104,7 @@ module _ (kept book : List ℕ) (n : ℕ) (count : n ≡ graphOf kept .n) (b : A
     rules-read = learned (askBook (textLimits n) book) (sym (ap asked e) ∙ s)
 
     pub rules-stand : RulesStand (ranges (graphOf kept .n)) book 0 (length book) (rules-read .what)
-    rules-stand =
-        let s = book-is-spelled (textLimits n) book (rules-read .what) (rules-read .is) .spells in
-        rw (← count) (record {
-          rest = [];
-          here = s .text-is ∙ sym (append-nil (bookCode (rules-read .what)));
-          ends = omega (arith, ap length (s .text-is));
-          range = rules-in-range (textLimits n) (rules-read .what) (s .rules);
-        })
+    rules-stand = subst (λ m. RulesStand (ranges m) book 0 (length book) (rules-read .what)) count (read-book-stands (textLimits n) (rules-read .is))
 
     pub judged : (x : Asked (Unit {0})) → x ≡ askRules (graphOf kept) (rules-read .what) 0 → x ≡ askKept kept book
     unfolding _>>=_

@@ -1,7 +1,7 @@
 -- The call, once its questions are answered: the game that the search is asked for, and its outcome in numbers.
 use mathlib.Core.Path.{_≡_, sym, ap, _∙_, subst}
 use mathlib.Core.Bool.{Bool, true, false}
-use mathlib.Core.List.{List, [], _∷_, append-nil}
+use mathlib.Core.List.{List, [], _∷_}
 use Prim.Native.Nat.{ℕ, zero, suc, _+_, _-_, _≤_}
 use native.Mathlib.Omega.{arith}
 use lib.ListN.{length, take, drop, length-drop}
@@ -15,11 +15,9 @@ use Rattle.answer.proofs.AnswerLaws.{Learned, learned, not-learned}
 use Rattle.logic.specs.Syntax.{Edit}
 use Rattle.logic.specs.Limits.{Ranges, ranges}
 use Rattle.sheet.specs.Sheet.{graphOf}
-use Rattle.text.specs.Code.{bookCode, editCode}
+use Rattle.text.specs.Code.{editCode}
 use Rattle.text.specs.Reading.{textLimits}
-use Rattle.text.specs.Questions.{askBook}
-use Rattle.text.proofs.Books.{rules-in-range, book-is-spelled}
-use Rattle.judge.specs.Judging.{RulesStand}
+use Rattle.judge.proofs.Rules.{read-book-stands}
 use Rattle.game.specs.Game.{Game, editsOf, Outcome, answer}
 use Rattle.game.specs.Search.{sideOf, chosen}
 use Rattle.game.proofs.Chosen.{chosen-answer}
@@ -37,11 +35,6 @@ unfolding EditsStand
 first-stand r text zero at Zs s = tt
 first-stand r text (suc m) at [] s = tt
 first-stand r text (suc m) at (Z ∷ Zs) s = (s .0, s .1, first-stand r text m (at + length (editCode Z)) Zs (s .2))
-
-book-stands : (n : ℕ) (book : List ℕ) (B : Learned (askBook (textLimits n) book)) → RulesStand (ranges n) book 0 (length book) (B .what)
-book-stands n book B =
-    let s = book-is-spelled (textLimits n) book (B .what) (B .is) .spells in
-    record { rest = []; here = s .text-is ∙ sym (append-nil (bookCode (B .what))); ends = omega (arith, ap length (s .text-is)); range = rules-in-range (textLimits n) (B .what) (s .rules) }
 
 module _ (sheet book goal edits lengths : List ℕ) (d moves : ℕ) where
   abbrev Played : Asked Outcome
@@ -92,7 +85,7 @@ module _ (sheet book goal edits lengths : List ℕ) (d moves : ℕ) where
             let t = edits-stand (graphOf sheet .n) edits lengths Zs (known .edits-read .is) in
             subst (GameStands (graphOf sheet .n) book goal edits lists) (known .is)
             (record {
-              rules = book-stands (graphOf sheet .n) book (known .book-read);
+              rules = read-book-stands (textLimits (graphOf sheet .n)) (known .book-read .is);
               aim = goal-stands (textLimits (graphOf sheet .n)) goal (known .goal-read .what) (known .goal-read .is);
               stand = λ (ours : Bool). elim ours as (λ b. EditsStand (ranges (graphOf sheet .n)) edits (startOf lists b) (editsOf (gameOf sheet book goal edits lengths d moves (known .book-read .what) (known .goal-read .what) Zs) (sideOf b))) [
                 | true ↦ first-stand (ranges (graphOf sheet .n)) edits d 0 Zs (t .stand)

@@ -8,9 +8,8 @@ use borrow.Author.Tests.{le-leb}
 use lib.Dec.{T, leb}
 use lib.ListN.{length, getD, take, drop, length-drop}
 use lib.Seq.{getD-take, getD-drop, length-take-le}
-use Rattle.answer.specs.Asked.{Asked, passed, _>>=_, _>>_, is, outcome}
+use Rattle.answer.specs.Asked.{passed, _>>=_, _>>_, is, outcome}
 use Rattle.logic.specs.Syntax.{Expr, rule, Edit, finish}
-use Rattle.logic.specs.Graph.{Graph}
 use Rattle.logic.specs.Steps.{run}
 use Rattle.logic.specs.Carry.{carriedBook}
 use Rattle.logic.proofs.Inside.{run-n}
@@ -20,14 +19,14 @@ use Rattle.text.specs.Reading.{Limits, textLimits, longestCarried, deepestCarri
 use Rattle.text.specs.Code.{bookCode, bookLevels}
 use Rattle.text.specs.Questions.{askBook, askEdit}
 use Rattle.single.specs.Scratch.{longestRule, askScratch}
-use Rattle.apply.specs.Apply.{afterSteps, askApply, appliedSheet}
-use Rattle.demands.specs.Enter.{enterAnswer, enterSheet}
-use Rattle.demands.specs.Run.{Hold, Bytes, Given}
+use Rattle.apply.specs.Apply.{afterSteps, askApply}
+use Rattle.demands.specs.Enter.{enterAnswer}
+use Rattle.demands.specs.Run.{Given}
 use Rattle.demands.proofs.Passing.{passed-same, bind-passed, then-passed, hold-asked, asked-hold}
 use Rattle.demands.proofs.After.{applied-is, applies, after-sound, after-graph, after-n}
 use Rattle.demands.proofs.Demand3.{demand-3}
-use Rattle.game.specs.Game.{Side, dispatcher, disruption, Game, editsOf, edit, leaves, canMake}
-use Rattle.play.specs.Questions.{cut, askEdits, askCarried, askGame}
+use Rattle.game.specs.Game.{Side, dispatcher, disruption, Game, editsOf, leaves, canMake}
+use Rattle.play.specs.Questions.{cut, askEdits, askCarried}
 use Rattle.play.proofs.Edits.{edits-stand}
 use Rattle.play.proofs.Asking.{Passed, all-passed, enough, gameOf}
 use Rattle.play.proofs.Right.{each-fits, made-entered}

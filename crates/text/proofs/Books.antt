@@ -10,7 +10,7 @@ use Rattle.answer.specs.Asked.{Asked, passed, refused, _>>=_, _>>_, is}
 use Rattle.logic.specs.Syntax.{Expr, rule, Edit}
 use Rattle.text.specs.Code.{code, editCode, bookCode}
 use Rattle.text.specs.Reading.{mostRules, Limits, expr, edit, Fault, Read, got, fault, follow, readAs}
-use Rattle.text.specs.Stands.{RulesInRange}
+use Rattle.text.specs.Stands.{RulesInRange, EditStands}
 use Rattle.text.specs.Questions.{faultNumber, first, whole, alone, readRules, askBook, askFirst, askRule, askEdit}
 use Rattle.text.proofs.Converse.{Allowed, Written, Wrote, wrote}
 use Rattle.text.proofs.ReadBack.{reads}
@@ -139,6 +139,10 @@ module _ (l : Limits) where
       let q = is-then (leb (length t) (l .longest)) 21 0 (whole (readAs l edit t 0)) Z h in
       let s = subst (Whole t) (q .then) (whole-is t (readAs l edit t 0) (wrote l edit 1 t 0)) in
       record { text-is = s .0; short = leb→le (length t) (l .longest) (q .so); within = s .1 }
+
+  -- It stands at the start of its text.
+  pub read-edit-stands : {t : List ℕ} {Z : Edit} → askEdit l t ≡ passed Z → EditStands (l .numbers) t 0 Z
+  read-edit-stands {t} {Z} h = let s = edit-is-spelled t Z h in record { rest = []; here = s .text-is ∙ sym (append-nil (editCode Z)); range = s .within .numbers-fit }
 
   pub spelled-edit-passes : (t : List ℕ) (Z : Edit) → SpellsEdit l t Z → askEdit l t ≡ passed Z
   unfolding askEdit whole
