@@ -15,7 +15,8 @@ use Rattle.text.specs.Code.{code}
 use Rattle.laws.specs.Laws.{Made, made, unfit, Step, Fits, Chain}
 use Rattle.laws.specs.Checking.{mapMade, makeStep}
 use Rattle.laws.specs.Asking.{stepOf, stepsOf, askSteps, askSame, askChain, Accepted}
-use Rattle.laws.proofs.Sound.{OfMade, chain-sound}
+use Rattle.laws.proofs.Sound.{chain-sound}
+use Rattle.laws.proofs.Numbered.{made-injective, unfit-not-made}
 use Rattle.laws.proofs.Exact.{step-exact}
 
 -- what is so of what is learned when all has passed
@@ -45,17 +46,17 @@ steps-led (a ∷ b ∷ n ∷ t) i K = go (makeStep n K (a + 256 * b)) refl (λ M
 -- and a chain is made.
 chain-made : (t : List ℕ) (i : ℕ) (K L : Expr rule) (xs : List Step) → stepsOf t ≡ made xs → Chain xs K L → askSteps t i K ≡ passed L
 unfolding askSteps stepsOf Chain mapMade
-chain-made [] i K L xs e c = ap passed (subst (λ ys. Chain ys K L) (sym (subst (OfMade (λ ys. _≡_ {A = List Step} [] ys)) e refl)) c)
-chain-made (a ∷ []) i K L xs e c = absurd (subst (OfMade {A = List Step} (λ z. ⊥)) e tt)
-chain-made (a ∷ b ∷ []) i K L xs e c = absurd (subst (OfMade {A = List Step} (λ z. ⊥)) e tt)
+chain-made [] i K L xs e c = ap passed (subst (λ ys. Chain ys K L) (sym (made-injective [] xs e)) c)
+chain-made (a ∷ []) i K L xs e c = absurd (unfit-not-made xs e)
+chain-made (a ∷ b ∷ []) i K L xs e c = absurd (unfit-not-made xs e)
 chain-made (a ∷ b ∷ n ∷ t) i K L xs e c = go (stepsOf t) refl (λ M ys. chain-made t (suc i) M L ys) e
   where
     led : (ys : List Step) → stepsOf t ≡ made ys → ((M : Expr rule) (ys : List Step) → stepsOf t ≡ made ys → Chain ys M L → askSteps t (suc i) M ≡ passed L) → Chain (stepOf a b n ∷ ys) K L → elim (makeStep n K (a + 256 * b)) as (λ m. Asked (Expr rule)) [ made M ↦ askSteps t (suc i) M | unfit ↦ refused 59 i ] ≡ passed L
     led ys d rest (M, f, k) = ap (λ m. elim m as (λ m. Asked (Expr rule)) [ made M ↦ askSteps t (suc i) M | unfit ↦ refused 59 i ]) (step-exact (stepOf a b n) K M .1 f) ∙ rest M ys d k
 
     go : (m : Made (List Step)) → stepsOf t ≡ m → ((M : Expr rule) (ys : List Step) → stepsOf t ≡ made ys → Chain ys M L → askSteps t (suc i) M ≡ passed L) → mapMade (stepOf a b n ∷_) m ≡ made xs → elim (makeStep n K (a + 256 * b)) as (λ m. Asked (Expr rule)) [ made M ↦ askSteps t (suc i) M | unfit ↦ refused 59 i ] ≡ passed L
-    go (made ys) d rest e = led ys d rest (subst (λ zs. Chain zs K L) (sym (subst (OfMade (λ zs. _≡_ {A = List Step} (stepOf a b n ∷ ys) zs)) e refl)) c)
-    go unfit d rest e = absurd (subst (OfMade {A = List Step} (λ z. ⊥)) e tt)
+    go (made ys) d rest e = led ys d rest (subst (λ zs. Chain zs K L) (sym (made-injective (stepOf a b n ∷ ys) xs e)) c)
+    go unfit d rest e = absurd (unfit-not-made xs e)
 
 -- Nothing differs exactly when the texts are equal.
 same-text : (xs ys : List ℕ) (p : ℕ) → WhenPassed (λ u. xs ≡ ys) (askSame xs ys p)

@@ -1,10 +1,14 @@
--- The code of a term with x at a place: what stands before, the code of x, what stands behind. So the offset of the place is that of x's code.
+-- The code of a term with x at a place: what stands before, the code of x, what stands behind. So the offset of the place is that of x's code,
+-- and within the whole, for every code has bytes.
 use mathlib.Core.Path.{_≡_, refl, sym, _∙_, ap}
 use mathlib.Core.List.{_++_, append-assoc, append-nil}
-use Prim.Native.Nat.{_+_}
+use Prim.Native.Nat.{_+_, _≤_, _<_}
+use native.Mathlib.Omega.{arith}
+use lib.ListN.{length, length-append}
 use Rattle.logic.specs.Syntax.{Sort, Expr}
 use Rattle.text.specs.Code.{code}
 use Rattle.laws.specs.Place.{Unary, complement·, reversed·, nodeIn·, pairIn·, notRule·, Binary, and·, or·, some·, every·, atLeast·, atMost·, union·, common·, minus·, endingIn·, subNodes·, subArrows·, both·, either·, build1, build2, head1, head2, Context, here, only, first, second, put, before, behind}
+use Rattle.laws.proofs.Terms.{Nullary, all·, none·, label·, nominal·, arrowKind·, pair·, build0, each-term}
 
 pub code-build1 : {u t : Sort} (b : Unary u t) (x : Expr u) → code (build1 b x) ≡ head1 b ++ code x
 unfolding code build1 head1
@@ -45,3 +49,47 @@ code-put (second b y c) x =
     ∙ ap (λ z. head2 b ++ (code y ++ z)) (code-put c x)
     ∙ ap (head2 b ++_) (sym (append-assoc (code y) (before c) (code x ++ behind c)))
     ∙ sym (append-assoc (head2 b) (code y ++ before c) (code x ++ behind c))
+
+-- A code has bytes, and some before its first operand.
+pub head1-some : {u t : Sort} (b : Unary u t) → 1 ≤ length (head1 b)
+unfolding head1
+head1-some complement· = omega arith
+head1-some reversed· = omega arith
+head1-some (nodeIn· m) = omega arith
+head1-some (pairIn· i j) = omega arith
+head1-some notRule· = omega arith
+
+pub head2-some : {u v t : Sort} (b : Binary u v t) → 1 ≤ length (head2 b)
+unfolding head2
+head2-some and· = omega arith
+head2-some or· = omega arith
+head2-some some· = omega arith
+head2-some every· = omega arith
+head2-some (atLeast· m) = omega arith
+head2-some (atMost· m) = omega arith
+head2-some union· = omega arith
+head2-some common· = omega arith
+head2-some minus· = omega arith
+head2-some endingIn· = omega arith
+head2-some subNodes· = omega arith
+head2-some subArrows· = omega arith
+head2-some both· = omega arith
+head2-some either· = omega arith
+
+pub code-some : {s : Sort} (e : Expr s) → 1 ≤ length (code e)
+unfolding code build0
+code-some e = each-term (λ s e. 1 ≤ length (code e)) (λ s b. leaf b)
+    (λ u t b x h. omega (arith, ap length (code-build1 b x), length-append (head1 b) (code x), head1-some b))
+    (λ u v t b x y h k. omega (arith, ap length (code-build2 b x y), length-append (head2 b) (code x ++ code y), head2-some b))
+    e
+  where
+    leaf : {s : Sort} (b : Nullary s) → 1 ≤ length (code (build0 b))
+    leaf all· = omega arith
+    leaf none· = omega arith
+    leaf (label· k) = omega arith
+    leaf (nominal· i) = omega arith
+    leaf (arrowKind· a) = omega arith
+    leaf (pair· i j) = omega arith
+
+pub place-in : {s t : Sort} (c : Context s t) (x : Expr s) → length (before c) < length (code (put c x))
+place-in c x = omega (arith, ap length (code-put c x), length-append (before c) (code x ++ behind c), length-append (code x) (behind c), code-some x)

@@ -1,6 +1,10 @@
+pub mod Terms
 pub mod Codes
+pub mod Numbered
 pub mod Sound
 pub mod Same
+pub mod Stands
+pub mod Steps
 pub mod Exact
 pub mod Limits
 pub mod Examples

@@ -11,7 +11,7 @@ use Rattle.text.specs.Code.{code, levels}
 use Rattle.laws.specs.Place.{Unary, complement·, reversed·, nodeIn·, pairIn·, notRule·, Binary, and·, or·, some·, every·, atLeast·, atMost·, union·, common·, minus·, endingIn·, subNodes·, subArrows·, both·, either·, build1, build2, Context, here, only, first, second, put, before, behind}
 use Rattle.laws.specs.Laws.{Law, laws, Step, Fits}
 use Rattle.laws.proofs.Codes.{code-put}
-use Rattle.laws.proofs.Sound.{_&_, Each, OfMade, of-numbered}
+use Rattle.laws.proofs.Numbered.{_&_, Each, by-number}
 
 -- The bytes: what stands before and behind stays.
 pub bytes-before : (x : Step) {t : Sort} (e e′ : Expr t) (f : Fits x e e′) → code e ≡ before (f .place) ++ (code (f .law .left (f .variable)) ++ behind (f .place))
@@ -40,7 +40,7 @@ step-shorter x e e′ f =
       length-append (before (f .place)) (code (f .law .right (f .variable)) ++ behind (f .place)),
       length-append (code (f .law .left (f .variable))) (behind (f .place)),
       length-append (code (f .law .right (f .variable))) (behind (f .place)),
-      subst (OfMade Shorter) (f .number-right) (of-numbered Shorter (x .law) (laws (f .sort)) (laws-shorter (f .sort))) (f .variable),
+      by-number (λ n. Shorter) (laws-shorter (f .sort)) (f .number-right) (f .variable),
     )
 
 -- And no deeper.
@@ -87,74 +87,52 @@ laws-no-deeper rule = (λ x. omega arith) & (λ x. omega arith) & tt
 
 pub step-no-deeper : (x : Step) {t : Sort} (e e′ : Expr t) → Fits x e e′ → levels e′ ≤ levels e
 step-no-deeper x e e′ f =
-    let h : levels (put (f .place) (f .law .right (f .variable))) ≤ levels (put (f .place) (f .law .left (f .variable))) = levels-put (f .place) (f .law .right (f .variable)) (f .law .left (f .variable)) (subst (OfMade NoDeeper) (f .number-right) (of-numbered NoDeeper (x .law) (laws (f .sort)) (laws-no-deeper (f .sort))) (f .variable)) in
+    let h : levels (put (f .place) (f .law .right (f .variable))) ≤ levels (put (f .place) (f .law .left (f .variable))) = levels-put (f .place) (f .law .right (f .variable)) (f .law .left (f .variable)) (by-number (λ n. NoDeeper) (laws-no-deeper (f .sort)) (f .number-right) (f .variable)) in
     rw (f .from, f .to) h
 
 -- And its numbers are in range.
 module _ (r : Ranges) where
-  pub range-one : {u t : Sort} (b : Unary u t) (x : Expr u) → InRange r (build1 b x) → InRange r x
+  -- A term in range has operands in range, and is in range with any others that are.
+  exchange-one : {u t : Sort} (b : Unary u t) (x : Expr u) → InRange r (build1 b x) → InRange r x × ((y : Expr u) → InRange r y → InRange r (build1 b y))
   unfolding InRange build1
-  range-one complement· x q = q
-  range-one reversed· x q = q
-  range-one (nodeIn· m) x q = q .1
-  range-one (pairIn· i j) x q = q .2
-  range-one notRule· x q = q
+  exchange-one complement· x q = (q, λ y p. p)
+  exchange-one reversed· x q = (q, λ y p. p)
+  exchange-one (nodeIn· m) x q = (q .1, λ y p. (q .0, p))
+  exchange-one (pairIn· i j) x q = (q .2, λ y p. (q .0, q .1, p))
+  exchange-one notRule· x q = (q, λ y p. p)
 
-  range-one-put : {u t : Sort} (b : Unary u t) (x y : Expr u) → InRange r (build1 b x) → InRange r y → InRange r (build1 b y)
-  unfolding InRange build1
-  range-one-put complement· x y q p = p
-  range-one-put reversed· x y q p = p
-  range-one-put (nodeIn· m) x y q p = (q .0, p)
-  range-one-put (pairIn· i j) x y q p = (q .0, q .1, p)
-  range-one-put notRule· x y q p = p
+  exchange-two : {u v t : Sort} (b : Binary u v t) (x : Expr u) (y : Expr v) → InRange r (build2 b x y) → (InRange r x × InRange r y) × ((z : Expr u) (w : Expr v) → InRange r z → InRange r w → InRange r (build2 b z w))
+  unfolding InRange build2
+  exchange-two and· x y q = (q, λ z w k l. (k, l))
+  exchange-two or· x y q = (q, λ z w k l. (k, l))
+  exchange-two some· x y q = (q, λ z w k l. (k, l))
+  exchange-two every· x y q = (q, λ z w k l. (k, l))
+  exchange-two (atLeast· m) x y q = ((q .1, q .2), λ z w k l. (q .0, k, l))
+  exchange-two (atMost· m) x y q = ((q .1, q .2), λ z w k l. (q .0, k, l))
+  exchange-two union· x y q = (q, λ z w k l. (k, l))
+  exchange-two common· x y q = (q, λ z w k l. (k, l))
+  exchange-two minus· x y q = (q, λ z w k l. (k, l))
+  exchange-two endingIn· x y q = (q, λ z w k l. (k, l))
+  exchange-two subNodes· x y q = (q, λ z w k l. (k, l))
+  exchange-two subArrows· x y q = (q, λ z w k l. (k, l))
+  exchange-two both· x y q = (q, λ z w k l. (k, l))
+  exchange-two either· x y q = (q, λ z w k l. (k, l))
+
+  pub range-one : {u t : Sort} (b : Unary u t) (x : Expr u) → InRange r (build1 b x) → InRange r x
+  range-one b x q = exchange-one b x q .0
 
   pub range-two : {u v t : Sort} (b : Binary u v t) (x : Expr u) (y : Expr v) → InRange r (build2 b x y) → InRange r x × InRange r y
-  unfolding InRange build2
-  range-two and· x y q = (q .0, q .1)
-  range-two or· x y q = (q .0, q .1)
-  range-two some· x y q = (q .0, q .1)
-  range-two every· x y q = (q .0, q .1)
-  range-two (atLeast· m) x y q = (q .1, q .2)
-  range-two (atMost· m) x y q = (q .1, q .2)
-  range-two union· x y q = (q .0, q .1)
-  range-two common· x y q = (q .0, q .1)
-  range-two minus· x y q = (q .0, q .1)
-  range-two endingIn· x y q = (q .0, q .1)
-  range-two subNodes· x y q = (q .0, q .1)
-  range-two subArrows· x y q = (q .0, q .1)
-  range-two both· x y q = (q .0, q .1)
-  range-two either· x y q = (q .0, q .1)
+  range-two b x y q = exchange-two b x y q .0
 
-  range-two-put : {u v t : Sort} (b : Binary u v t) (x x′ : Expr u) (y y′ : Expr v) → InRange r (build2 b x y) → InRange r x′ → InRange r y′ → InRange r (build2 b x′ y′)
-  unfolding InRange build2
-  range-two-put and· x x′ y y′ q p s = (p, s)
-  range-two-put or· x x′ y y′ q p s = (p, s)
-  range-two-put some· x x′ y y′ q p s = (p, s)
-  range-two-put every· x x′ y y′ q p s = (p, s)
-  range-two-put (atLeast· m) x x′ y y′ q p s = (q .0, p, s)
-  range-two-put (atMost· m) x x′ y y′ q p s = (q .0, p, s)
-  range-two-put union· x x′ y y′ q p s = (p, s)
-  range-two-put common· x x′ y y′ q p s = (p, s)
-  range-two-put minus· x x′ y y′ q p s = (p, s)
-  range-two-put endingIn· x x′ y y′ q p s = (p, s)
-  range-two-put subNodes· x x′ y y′ q p s = (p, s)
-  range-two-put subArrows· x x′ y y′ q p s = (p, s)
-  range-two-put both· x x′ y y′ q p s = (p, s)
-  range-two-put either· x x′ y y′ q p s = (p, s)
+  exchange-at : {s t : Sort} (c : Context s t) (x : Expr s) → InRange r (put c x) → InRange r x × ((y : Expr s) → InRange r y → InRange r (put c y))
+  unfolding put
+  exchange-at here x q = (q, λ y p. p)
+  exchange-at (only u c) x q = let (k, more) = exchange-one u (put c x) q in let (l, deeper) = exchange-at c x k in (l, λ y p. more (put c y) (deeper y p))
+  exchange-at (first b c z) x q = let ((k, m), more) = exchange-two b (put c x) z q in let (l, deeper) = exchange-at c x k in (l, λ y p. more (put c y) z (deeper y p) m)
+  exchange-at (second b z c) x q = let ((m, k), more) = exchange-two b z (put c x) q in let (l, deeper) = exchange-at c x k in (l, λ y p. more z (put c y) m (deeper y p))
 
   pub range-at : {s t : Sort} (c : Context s t) (x : Expr s) → InRange r (put c x) → InRange r x
-  unfolding put
-  range-at here x q = q
-  range-at (only u c) x q = range-at c x (range-one u (put c x) q)
-  range-at (first b c z) x q = range-at c x (range-two b (put c x) z q .0)
-  range-at (second b z c) x q = range-at c x (range-two b z (put c x) q .1)
-
-  range-put : {s t : Sort} (c : Context s t) (x y : Expr s) → InRange r (put c x) → InRange r y → InRange r (put c y)
-  unfolding put
-  range-put here x y q p = p
-  range-put (only u c) x y q p = range-one-put u (put c x) (put c y) q (range-put c x y (range-one u (put c x) q) p)
-  range-put (first b c z) x y q p = range-two-put b (put c x) (put c y) z z q (range-put c x y (range-two b (put c x) z q .0) p) (range-two b (put c x) z q .1)
-  range-put (second b z c) x y q p = range-two-put b z z (put c x) (put c y) q (range-two b z (put c x) q .0) (range-put c x y (range-two b z (put c x) q .1) p)
+  range-at c x q = exchange-at c x q .0
 
   abbrev InRangeToo : {s : Sort} → Law s → Type 0
   InRangeToo {s} l = (x : Expr s) → InRange r (l .left x) → InRange r (l .right x)
@@ -167,5 +145,5 @@ module _ (r : Ranges) where
 
   pub step-in-range : (x : Step) {t : Sort} (e e′ : Expr t) → Fits x e e′ → InRange r e → InRange r e′
   step-in-range x e e′ f q =
-      let p : InRange r (put (f .place) (f .law .left (f .variable))) = subst (InRange r) (f .from) q in
-      subst (InRange r) (sym (f .to)) (range-put (f .place) (f .law .left (f .variable)) (f .law .right (f .variable)) p (subst (OfMade InRangeToo) (f .number-right) (of-numbered InRangeToo (x .law) (laws (f .sort)) (laws-in-range (f .sort))) (f .variable) (range-at (f .place) (f .law .left (f .variable)) p)))
+      let (p, put-in) = exchange-at (f .place) (f .law .left (f .variable)) (subst (InRange r) (f .from) q) in
+      subst (InRange r) (sym (f .to)) (put-in (f .law .right (f .variable)) (by-number (λ n. InRangeToo) (laws-in-range (f .sort)) (f .number-right) (f .variable) p))

@@ -1,16 +1,16 @@
 -- Each law is sound on every graph within the limits, with any set of nodes in use; so is a step, and a chain.
-use mathlib.Core.Path.{_≡_, refl, sym, _∙_, ap, fun-ext, subst}
-use mathlib.Core.Bool.{Bool, true, false, not, _&&_, _||_}
+use mathlib.Core.Path.{_≡_, refl, sym, _∙_, ap, fun-ext}
+use mathlib.Core.Bool.{Bool, true, false, not, _&&_, _||_, and-self, or-self, Bool·not-not}
 use mathlib.Core.List.{List, [], _∷_}
-use Prim.Native.Nat.{ℕ}
-use lib.Dec.{leb, eqb}
+use lib.Dec.{leb}
 use Rattle.logic.specs.Syntax.{Sort, node, arrow, rule, Expr}
 use Rattle.logic.specs.Graph.{Graph, isNode, anyBelow, allBelow, countBelow, implies}
 use Rattle.logic.specs.Meaning.{value}
 use Rattle.logic.specs.Limits.{Within}
 use Rattle.logic.proofs.Inside.{value-in}
 use Rattle.laws.specs.Place.{Unary, complement·, reversed·, nodeIn·, pairIn·, notRule·, Binary, and·, or·, some·, every·, atLeast·, atMost·, union·, common·, minus·, endingIn·, subNodes·, subArrows·, both·, either·, build1, build2, Context, here, only, first, second, put}
-use Rattle.laws.specs.Laws.{Law, laws, Made, made, unfit, numbered, Step, Fits, Chain}
+use Rattle.laws.specs.Laws.{Law, laws, Step, Fits, Chain}
+use Rattle.laws.proofs.Numbered.{_&_, Each, by-number}
 
 -- A term's value goes by its operands' values.
 module _ (g : Graph) where
@@ -46,28 +46,6 @@ module _ (g : Graph) where
   value-put (first b c z) x y p = value-build2 b (put c x) (put c y) z z (value-put c x y p) refl
   value-put (second b z c) x y p = value-build2 b z z (put c x) (put c y) refl (value-put c x y p)
 
-infixr 5 _&_
-abbrev pub _&_ : {A B : Type 0} → A → B → A × B
-a & b = (a, b)
-
--- What holds of each law of a list holds of a law in it.
-unfoldable pub Each : {s : Sort} → (Law s → Type 0) → List (Law s) → Type 0
-Each P [] = Unit {0}
-Each P (l ∷ ls) = P l × Each P ls
-
-abbrev pub OfMade : {A : Type 0} → (A → Type 0) → Made A → Type 0
-OfMade P (made a) = P a
-OfMade P unfit = Unit {0}
-
-pub of-numbered : {s : Sort} (P : Law s → Type 0) (n : ℕ) (ls : List (Law s)) → Each P ls → OfMade P (numbered n ls)
-unfolding Each numbered
-of-numbered P n [] e = tt
-of-numbered P n (l ∷ ls) e = go (eqb n (l .number)) (of-numbered P n ls (e .1))
-  where
-    go : (b : Bool) → OfMade P (numbered n ls) → OfMade P (elim b [ true ↦ made l | false ↦ numbered n ls ])
-    go true r = e .0
-    go false r = r
-
 -- Each law, on every graph within the limits.
 abbrev pub LawSound : (g : Graph) {s : Sort} → Law s → Type 0
 LawSound g {s} l = (x : Expr s) → value g (l .left x) ≡ value g (l .right x)
@@ -76,8 +54,8 @@ pub laws-sound : (g : Graph) → Within g → (s : Sort) → Each (LawSound g) (
 unfolding Each laws value
 laws-sound g w node =
     (λ E. fun-ext (λ i. twice (isNode g i) (value g E i) (value-in g w E i)))
-    & (λ E. fun-ext (λ i. and-same (value g E i)))
-    & (λ E. fun-ext (λ i. or-same (value g E i)))
+    & (λ E. fun-ext (λ i. and-self (value g E i)))
+    & (λ E. fun-ext (λ i. or-self (value g E i)))
     & (λ E. fun-ext (λ i. contrary (isNode g i) (value g E i)))
     & (λ E. fun-ext (λ i. all-or (isNode g i) (value g E i) (value-in g w E i)))
     & (λ E. fun-ext (λ i. all-and (isNode g i) (value g E i) (value-in g w E i)))
@@ -87,14 +65,6 @@ laws-sound g w node =
     twice true true h = refl
     twice true false h = refl
     twice false v h = sym (h refl)
-
-    and-same : (v : Bool) → (v && v) ≡ v
-    and-same true = refl
-    and-same false = refl
-
-    or-same : (v : Bool) → (v || v) ≡ v
-    or-same true = refl
-    or-same false = refl
 
     contrary : (b v : Bool) → (v && (b && not v)) ≡ false
     contrary true true = refl
@@ -109,21 +79,13 @@ laws-sound g w node =
     all-and true v h = refl
     all-and false v h = sym (h refl)
 laws-sound g w arrow = tt
-laws-sound g w rule = (λ K. twice (value g K)) & (λ K. same (value g K)) & tt
-  where
-    twice : (v : Bool) → not (not v) ≡ v
-    twice true = refl
-    twice false = refl
-
-    same : (v : Bool) → (v || v) ≡ v
-    same true = refl
-    same false = refl
+laws-sound g w rule = (λ K. Bool·not-not (value g K)) & (λ K. or-self (value g K)) & tt
 
 -- A fitting step, and a chain of them, keep the value.
 pub step-sound : (g : Graph) → Within g → (x : Step) {t : Sort} (e e′ : Expr t) → Fits x e e′ → value g e ≡ value g e′
 step-sound g w x e e′ f =
     ap (value g) (f .from)
-    ∙ value-put g (f .place) (f .law .left (f .variable)) (f .law .right (f .variable)) (subst (OfMade (LawSound g)) (f .number-right) (of-numbered (LawSound g) (x .law) (laws (f .sort)) (laws-sound g w (f .sort))) (f .variable))
+    ∙ value-put g (f .place) (f .law .left (f .variable)) (f .law .right (f .variable)) (by-number (λ n. LawSound g) (laws-sound g w (f .sort)) (f .number-right) (f .variable))
     ∙ ap (value g) (sym (f .to))
 
 -- "Accepted means that both texts have the same truth on every sheet whose node numbers fit"

@@ -1,14 +1,13 @@
 -- Where the right side is found, a law's left side stands: so a step on the text is the step on the term.
 use mathlib.Core.Path.{_≡_, refl, sym, ap, ap₂, _∙_, subst}
-use mathlib.Core.Bool.{Bool, true, false, cond}
+use mathlib.Core.Bool.{cond}
 use mathlib.Core.List.{List, [], _∷_, _++_}
 use Prim.Native.Nat.{ℕ, _<_}
 use native.Mathlib.Nat.{add-zero}
 use native.Mathlib.Decide.{ℕ-discrete}
 use native.Mathlib.Omega.{arith}
-use lib.Dec.{eqb}
 use lib.ListN.{length, getD, take, drop}
-use borrow.Author.Tests.{eqb-true, eq-eqb}
+use borrow.Author.Tests.{eq-eqb}
 use Rattle.logic.specs.Syntax.{Sort, node, arrow, rule, Expr, complement, and, or, notRule}
 use Rattle.logic.specs.Limits.{maxNodes, ranges, InRange}
 use Rattle.text.specs.Code.{code}
@@ -16,15 +15,16 @@ use Rattle.text.proofs.Items.{each-below}
 use Rattle.laws.specs.Place.{Unary, complement·, notRule·, Binary, and·, or·, either·, build1, build2, put, before, behind}
 use Rattle.laws.specs.Laws.{Law, laws, Made, made, unfit, numbered}
 use Rattle.laws.specs.Checking.{mapMade, makeStep}
-use Rattle.laws.proofs.Sound.{_&_, Each, OfMade}
+use Rattle.laws.proofs.Numbered.{_&_, Each, by-number, unfit-not-made}
 use Rattle.laws.proofs.Limits.{range-two, range-at}
-use Rattle.laws.proofs.Exact.{fits-made, made-fits, FitsAt}
+use Rattle.laws.proofs.Stands.{StandsIn}
+use Rattle.laws.proofs.Exact.{fits-made, FitsAt, step-exact}
 use Rattle.shorter.specs.Raised.{raised, firstBytes, secondBytes, rightAt, withByte, stepOn}
 use Rattle.shorter.proofs.Spans.{raised-length}
 use Rattle.shorter.proofs.Sides.{right-4, right-again, Found, found}
-use Rattle.shorter.proofs.Terms.{head-1, head-2}
+use Rattle.shorter.proofs.Heads.{head-1, head-2}
 use Rattle.shorter.proofs.Texts.{textOf, front, text-one-then, text-two-then, text-put}
-use Rattle.shorter.proofs.Standing.{StandsIn, place-at}
+use Rattle.shorter.proofs.Standing.{place-at}
 use Rattle.shorter.proofs.Tops.{Begun, begun-by}
 use Rattle.shorter.proofs.Twice.{top-at, same-again, contrary-of}
 use Rattle.shorter.proofs.Lefts.{Makes, Plain, laws-make}
@@ -89,16 +89,6 @@ first-low : (n : ℕ) → n < 9 → getD firstBytes n 0 < 128
 unfolding firstBytes
 first-low = each-below (λ n. getD firstBytes n 0 < 128) 9 (((((((((tt, omega arith), omega arith), omega arith), omega arith), omega arith), omega arith), omega arith), omega arith), omega arith)
 
--- What holds of each law of a table and its number holds of the law with a number.
-by-number : {s : Sort} (P : ℕ → Law s → Type 0) (n : ℕ) (ls : List (Law s)) → Each (λ l. P (l .number) l) ls → OfMade (P n) (numbered n ls)
-unfolding Each numbered
-by-number P n [] e = tt
-by-number P n (l ∷ ls) e = go (eqb n (l .number)) refl (by-number P n ls (e .1))
-  where
-    go : (b : Bool) → eqb n (l .number) ≡ b → OfMade (P n) (numbered n ls) → OfMade (P n) (elim b [ true ↦ made l | false ↦ numbered n ls ])
-    go true q r = subst (λ k. P k l) (sym (eqb-true n (l .number) q)) (e .0)
-    go false q r = r
-
 -- A STEP ON THE TEXT is the step on the term.
 pub step-text : (n : ℕ) (K : Expr rule) (at : ℕ) → InRange (ranges maxNodes) K → mapMade textOf (makeStep n K at) ≡ stepOn (textOf K) at n
 unfolding mapMade stepOn
@@ -106,7 +96,7 @@ step-text n K at r = go (makeStep n K at) refl
   where
     fitted : (M : Expr rule) → FitsAt n K at M → made (textOf M) ≡ stepOn (textOf K) at n
     fitted M f =
-        let makes : Makes n (f .law) = subst (OfMade (Makes n)) (f .number-right) (by-number Makes n (laws (f .sort)) (laws-make (f .sort))) in
+        let makes : Makes n (f .law) = by-number Makes (laws-make (f .sort)) (f .number-right) in
         let B : List ℕ = raised 0 (before (f .place)) in
         let D : List ℕ = raised 0 (behind (f .place)) in
         let place-is : length B ≡ at = raised-length 0 (before (f .place)) ∙ sym (f .offset-right) in
@@ -129,9 +119,9 @@ step-text n K at r = go (makeStep n K at) refl
             let g : Found (B ++ (textOf (s .what) ++ D)) (length B) n = subst (λ p. Found (B ++ (textOf (s .what) ++ D)) p n) place-is (subst (λ t. Found t at n) text-is f) in
             let b : Begun (s .sort) (getD firstBytes n 0) (s .what) = first-begun (s .what) B D g in
             let (l, q) = law-of (s .sort) n (f .known) (s .what) b in
-            let (v, e) = subst (OfMade (Left n)) q (by-number Left n (laws (s .sort)) (laws-left (s .sort))) (s .what) B D (range-at (ranges maxNodes) (s .place) (s .what) (subst (InRange (ranges maxNodes)) (s .from) r)) g b in
+            let (v, e) = by-number Left (laws-left (s .sort)) q (s .what) B D (range-at (ranges maxNodes) (s .place) (s .what) (subst (InRange (ranges maxNodes)) (s .from) r)) g b in
             let m : makeStep n K at ≡ made (put (s .place) (l .right v)) = ap₂ (makeStep n) (s .from ∙ ap (put (s .place)) e) (s .offset) ∙ fits-made n (s .place) l q v in
-            subst (OfMade {A = Expr rule} (λ z. ⊥)) (sym u ∙ m) tt
+            unfit-not-made (put (s .place) (l .right v)) (sym u ∙ m)
 
         decide : Dec (rightAt (textOf K) at n ≡ 0) → rightAt (textOf K) at n ≡ 0
         decide (yes z) = z
@@ -140,5 +130,5 @@ step-text n K at r = go (makeStep n K at) refl
             absurd (made-somewhere f (place-at K at (omega (arith, f .room, raised-length 0 (code K))) (omega (arith, f .first-is, first-low n (f .known)))))
 
     go : (m : Made (Expr rule)) → makeStep n K at ≡ m → mapMade textOf m ≡ stepOn (textOf K) at n
-    go (made M) e = fitted M (subst (OfMade (FitsAt n K at)) e (made-fits n K at))
+    go (made M) e = fitted M (step-exact (record { offset = at; law = n }) K M .0 e)
     go unfit e = sym (ap (λ b. cond b unfit (made (take at (textOf K) ++ drop (rightAt (textOf K) at n) (withByte (textOf K) (rightAt (textOf K) at n) n)))) (eq-eqb (rightAt (textOf K) at n) 0 (nowhere e)))

@@ -15,9 +15,8 @@ use Rattle.text.specs.Reading.{longestCarried}
 use Rattle.laws.specs.Laws as table
 use Rattle.laws.specs.Checking.{mapMade, makeStep}
 use Rattle.laws.specs.Asking.{askSteps}
-use Rattle.laws.proofs.Sound.{OfMade}
 use Rattle.laws.proofs.Limits.{step-in-range}
-use Rattle.laws.proofs.Exact.{made-fits, FitsAt}
+use Rattle.laws.proofs.Exact.{step-exact}
 use Rattle.shorter.specs.Raised.{stepLength, stepLeaves}
 use Rattle.shorter.specs.Steps.{RuleIs, SomeRuleIs, Led}
 use Rattle.shorter.proofs.Texts.{textOf}
@@ -48,7 +47,7 @@ module _ (K : Expr rule) (r : InRange (ranges maxNodes) K) (at law : ℕ) where
         then = M;
         made-is = e;
         text-is = o .0;
-        range = step-in-range (ranges maxNodes) (record { offset = at; law = law }) K M (subst (OfMade (FitsAt law K at)) e (made-fits law K at)) r;
+        range = let x : table.Step = record { offset = at; law = law } in step-in-range (ranges maxNodes) x K M (step-exact x K M .0 e) r;
         shorter = o .2;
       }
       go table.unfit e o = absurd (some o)

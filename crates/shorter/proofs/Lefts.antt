@@ -11,10 +11,11 @@ use borrow.Author.Tests.{ne-eqb}
 use Rattle.logic.specs.Syntax.{Sort, node, arrow, rule, Expr, all, complement, notRule}
 use Rattle.laws.specs.Place.{complement·, notRule·, and·, or·, either·, build1, build2}
 use Rattle.laws.specs.Laws.{Law, laws, made, unfit}
-use Rattle.laws.proofs.Sound.{_&_, Each}
+use Rattle.laws.proofs.Terms.{all·, none·, build0}
+use Rattle.laws.proofs.Numbered.{_&_, Each}
 use Rattle.shorter.specs.Raised.{behindAt, againAt, firstBytes, secondBytes, contraryAt, rightAt, withByte, stepOn}
 use Rattle.shorter.proofs.Sides.{contrary-found, right-4, right-5, right-again, right-next, side-any, side-both}
-use Rattle.shorter.proofs.Terms.{head-1, head-2, build0, head-0, all·, none·}
+use Rattle.shorter.proofs.Heads.{head-0, head-1, head-2}
 use Rattle.shorter.proofs.Texts.{textOf, text-leaf, text-one-then, text-two-then}
 use Rattle.shorter.proofs.Tops.{text-some}
 use Rattle.shorter.proofs.Twice.{behind-term, byte-behind, again-there}

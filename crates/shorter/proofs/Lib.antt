@@ -1,7 +1,7 @@
 pub mod Spans
 pub mod Sides
 pub mod Leaving
-pub mod Terms
+pub mod Heads
 pub mod Texts
 pub mod Standing
 pub mod Tops

@@ -8,23 +8,13 @@ use lib.ListN.{length, getD, length-append, List·getD-append}
 use lib.Seq.{getD-append-add}
 use Rattle.logic.specs.Syntax.{Sort, Expr}
 use Rattle.text.specs.Code.{code}
-use Rattle.laws.specs.Place.{Unary, Binary, build1, build2, head1, head2, Context, here, only, first, second, put, before}
+use Rattle.laws.specs.Place.{Unary, Binary, build1, build2, head1, head2}
+use Rattle.laws.proofs.Terms.{Nullary, build0, each-term}
 use Rattle.laws.proofs.Codes.{code-build1, code-build2}
+use Rattle.laws.proofs.Stands.{StandsIn, stands-root, stands-only, stands-first, stands-second}
 use Rattle.shorter.proofs.Spans.{raised-length}
-use Rattle.shorter.proofs.Terms.{Nullary, build0, each-term, Head, head-0, head-1, head-2}
+use Rattle.shorter.proofs.Heads.{Head, head-0, head-1, head-2}
 use Rattle.shorter.proofs.Texts.{textOf, marks, length-marks, front, front-length, text-leaf, text-one, text-two}
-
--- A term that stands in another, its first code at an offset.
-pub record StandsIn {t : Sort} (e : Expr t) (at : ℕ) : Type 0 where
-  pub sort : Sort
-  pub place : Context sort t
-  pub what : Expr sort
-  pub from : e ≡ put place what
-  pub offset : at ≡ length (before place)
-
-stands-root : {t : Sort} (e : Expr t) (at : ℕ) → at ≡ 0 → StandsIn e at
-unfolding put before
-stands-root {t} e at z = record { sort = t; place = here; what = e; from = refl; offset = z }
 
 -- no number is below 128
 marks-high : (ns : List ℕ) (i : ℕ) → i < length ns → 128 ≤ getD (marks ns) i 0
@@ -48,7 +38,6 @@ abbrev Placed : {s : Sort} → Expr s → Type 0
 Placed e = (at : ℕ) → at < length (code e) → getD (textOf e) at 0 < 128 → StandsIn e at
 
 pub place-at : {t : Sort} (e : Expr t) (at : ℕ) → at < length (code e) → getD (textOf e) at 0 < 128 → StandsIn e at
-unfolding put before
 place-at e = each-term (λ s e. Placed e) leaf one two e
   where
     leaf : (s : Sort) (b : Nullary s) → Placed (build0 b)
@@ -61,14 +50,7 @@ place-at e = each-term (λ s e. Placed e) leaf one two e
         go (yes h) q = stands-root (build1 b x) at (head-place (head-1 b) (textOf x) at h q)
         go (no h) q =
             let m : length (head1 b) ≤ at = omega arith in
-            let s = f (at - length (head1 b)) (omega (arith, ap length (code-build1 b x), length-append (head1 b) (code x))) (subst (λ n. n < 128) (past-head (head-1 b) (textOf x) at m) q) in
-            record {
-              sort = s .sort;
-              place = only b (s .place);
-              what = s .what;
-              from = ap (build1 b) (s .from);
-              offset = let o : at - length (head1 b) ≡ length (before (s .place)) = s .offset in omega (arith, length-append (head1 b) (before (s .place)));
-            }
+            stands-only b x (at - length (head1 b)) at (omega arith) (f (at - length (head1 b)) (omega (arith, ap length (code-build1 b x), length-append (head1 b) (code x))) (subst (λ n. n < 128) (past-head (head-1 b) (textOf x) at m) q))
 
     two : (u v t : Sort) (b : Binary u v t) (x : Expr u) (y : Expr v) → Placed x → Placed y → Placed (build2 b x y)
     two u v t b x y f g at l q = go (decLt at (length (head2 b))) (decLt (at - length (head2 b)) (length (code x))) (subst (λ t. getD t at 0 < 128) (text-two b x y) q)
@@ -86,22 +68,8 @@ place-at e = each-term (λ s e. Placed e) leaf one two e
         go (yes k) d q = stands-root (build2 b x y) at (head-place (head-2 b) (textOf x ++ textOf y) at k q)
         go (no k) (yes d) q =
             let m : h ≤ at = omega arith in
-            let s = f (at - h) d (subst (λ z. z < 128) (past-head (head-2 b) (textOf x ++ textOf y) at m ∙ List·getD-append (textOf x) (textOf y) 0 (at - h) (omega (arith, raised-length 0 (code x)))) q) in
-            record {
-              sort = s .sort;
-              place = first b (s .place) y;
-              what = s .what;
-              from = ap (λ z. build2 b z y) (s .from);
-              offset = let o : at - h ≡ length (before (s .place)) = s .offset in omega (arith, length-append (head2 b) (before (s .place)));
-            }
+            stands-first b x y (at - h) at (omega arith) (f (at - h) d (subst (λ z. z < 128) (past-head (head-2 b) (textOf x ++ textOf y) at m ∙ List·getD-append (textOf x) (textOf y) 0 (at - h) (omega (arith, raised-length 0 (code x)))) q))
         go (no k) (no d) q =
             let m : h ≤ at = omega arith in
             let e : at - h ≡ length (textOf x) + (at - h - n) = omega (arith, raised-length 0 (code x)) in
-            let s = g (at - h - n) (omega (arith, sizes)) (subst (λ z. z < 128) (past-head (head-2 b) (textOf x ++ textOf y) at m ∙ ap (λ i. getD (textOf x ++ textOf y) i 0) e ∙ getD-append-add (textOf x) (textOf y) (at - h - n) 0) q) in
-            record {
-              sort = s .sort;
-              place = second b x (s .place);
-              what = s .what;
-              from = ap (build2 b x) (s .from);
-              offset = let o : at - h - n ≡ length (before (s .place)) = s .offset in omega (arith, length-append (head2 b) (code x ++ before (s .place)), length-append (code x) (before (s .place)));
-            }
+            stands-second b x y (at - h - n) at (omega arith) (g (at - h - n) (omega (arith, sizes)) (subst (λ z. z < 128) (past-head (head-2 b) (textOf x ++ textOf y) at m ∙ ap (λ i. getD (textOf x ++ textOf y) i 0) e ∙ getD-append-add (textOf x) (textOf y) (at - h - n) 0) q))

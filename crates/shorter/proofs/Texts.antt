@@ -13,10 +13,11 @@ use Rattle.logic.specs.Syntax.{Sort, Expr}
 use Rattle.logic.specs.Limits.{maxNodes, ranges, InRange}
 use Rattle.text.specs.Code.{code}
 use Rattle.laws.specs.Place.{Unary, complement·, reversed·, nodeIn·, pairIn·, notRule·, Binary, and·, or·, some·, every·, atLeast·, atMost·, union·, common·, minus·, endingIn·, subNodes·, subArrows·, both·, either·, build1, build2, head1, head2, Context, here, only, first, second, put, before, behind}
+use Rattle.laws.proofs.Terms.{Nullary, all·, none·, label·, nominal·, arrowKind·, pair·, build0, each-term}
 use Rattle.laws.proofs.Codes.{code-build1, code-build2, code-put}
 use Rattle.laws.proofs.Limits.{range-one, range-two}
 use Rattle.shorter.specs.Raised.{numbersOf, operandsOf, nextNumbers, raisedByte, raised, lowered, nextWanted, width}
-use Rattle.shorter.proofs.Terms.{Nullary, all·, none·, label·, nominal·, arrowKind·, pair·, build0, each-term, Head, head-0, head-1, head-2}
+use Rattle.shorter.proofs.Heads.{Head, head-0, head-1, head-2}
 
 abbrev pub textOf : {s : Sort} → Expr s → List ℕ
 textOf e = raised 0 (code e)

@@ -7,7 +7,7 @@ use lib.Dec.{eqb}
 use lib.ListN.{length, getD}
 use Rattle.logic.specs.Syntax.{Sort, node, arrow, rule, Expr, all, none, label, nominal, complement, and, or, some, every, atLeast, atMost, arrowKind, reversed, union, common, minus, endingIn, pair, subNodes, subArrows, nodeIn, pairIn, both, either, notRule}
 use Rattle.text.specs.Code.{code}
-use Rattle.laws.proofs.Exact.{code-some}
+use Rattle.laws.proofs.Codes.{code-some}
 use Rattle.shorter.specs.Raised.{raisedByte, raised}
 use Rattle.shorter.proofs.Spans.{raised-length}
 use Rattle.shorter.proofs.Texts.{textOf}

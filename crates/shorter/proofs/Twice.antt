@@ -19,7 +19,7 @@ use Rattle.laws.specs.Place.{complement·, build1}
 use Rattle.shorter.specs.Raised.{lowered, width, behindAt, againAt, contraryAt}
 use Rattle.shorter.proofs.Spans.{raised-length, again-found, AgainIn, again-in}
 use Rattle.shorter.proofs.Sides.{contrary-none, contrary-other}
-use Rattle.shorter.proofs.Terms.{head-1}
+use Rattle.shorter.proofs.Heads.{head-1}
 use Rattle.shorter.proofs.Texts.{textOf, text-one-then, width-text, lowered-append, lowered-text}
 use Rattle.shorter.proofs.Tops.{top, text-some, begun-by}
 
