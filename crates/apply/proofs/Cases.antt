@@ -17,7 +17,7 @@ use Rattle.text.specs.Code.{code, editCode}
 use Rattle.text.specs.Stands.{Stands, EditStands}
 use Rattle.ends.specs.Edits.{behindStep}
 use Rattle.text.proofs.Standing.{byte-at, behind}
-use Rattle.ends.proofs.Steps.{editTag, tag-edit, edit-inside, as-finish}
+use Rattle.ends.proofs.Steps.{editTag, tag-edit, edit-inside, from, as-finish}
 use Rattle.apply.specs.Made.{labelOperation, arrowCode}
 
 -- What a step with the code c does to a label, and to an arrow.
@@ -51,10 +51,6 @@ pub record IsChoose (r : Ranges) (text : List ℕ) (at : ℕ) (Z : Edit) : Type 
   pub next : (p : ℕ) → p ≡ at + 1 + length (code K) + length (editCode P) + length (editCode Q) → EditStands r text p (behindStep Z)
   pub long : length (editCode Z) ≡ 1 + length (code K) + length (editCode P) + length (editCode Q) + length (editCode (behindStep Z))
   pub runs : (g : Graph) → run Z g ≡ run (behindStep Z) (cond (value g K) (run P g) (run Q g))
-
--- what stands behind a part, at that place
-from : (text : List ℕ) (at : ℕ) (h l : List ℕ) → drop at text ≡ h ++ l → (p : ℕ) → p ≡ at + length h → drop p text ≡ l
-from text at h l e p q = ap (λ (x : ℕ). drop x text) q ∙ behind text at h l e
 
 module _ (r : Ranges) (text : List ℕ) (at : ℕ) where
   abbrev Here : Edit → Type 0

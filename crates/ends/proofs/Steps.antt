@@ -85,7 +85,7 @@ pub edit-inside : (text : List ℕ) (at : ℕ) (Z : Edit) → EditAt text at Z �
 edit-inside text at Z h = omega (arith, edit-long text at Z h, code-pos Z)
 
 -- what stands behind a part, at that place
-from : (text : List ℕ) (at : ℕ) (h l : List ℕ) → drop at text ≡ h ++ l → (p : ℕ) → p ≡ at + length h → drop p text ≡ l
+pub from : (text : List ℕ) (at : ℕ) (h l : List ℕ) → drop at text ≡ h ++ l → (p : ℕ) → p ≡ at + length h → drop p text ≡ l
 from text at h l e p q = ap (λ (x : ℕ). drop x text) q ∙ behind text at h l e
 
 -- 31 to 34
