@@ -11,9 +11,8 @@ use Rattle.logic.specs.Limits.{Within, maxNodes, arrowCount}
 use Rattle.seal.specs.Seal.{blockBytes, reseal}
 use Rattle.sheet.specs.Sheet.{present, sheetBytes, blockCount, lineCount, labelBlock, arrowBlock, store, graphOf}
 use Rattle.sheet.specs.Questions.{blockOf, Sound}
-use Rattle.sheet.proofs.Blocks.{length-store, length-labelBlock}
-use Rattle.sheet.proofs.Passes.{first-block, later-block}
-use Rattle.sheet.proofs.Converted.{blocks-ext}
+use Rattle.sheet.proofs.Blocks.{length-store, length-labelBlock, first-block, later-block}
+use Rattle.sheet.proofs.Parts.{blocks-ext}
 use Rattle.sheet.proofs.Opening.{opening}
 use Rattle.join.specs.Joined.{joinedGraph, nodesTotal}
 use Rattle.join.specs.Writes.{putBeside}

@@ -15,7 +15,8 @@ use Rattle.words.specs.Words.{setOf}
 use Rattle.sheet.specs.Sheet.{present, store, graphOf, block, labelBlock, arrowBlock, blockCount}
 use Rattle.sheet.specs.Questions.{blockOf, askSheet, Sound}
 use Rattle.sheet.proofs.Opening.{opening}
-use Rattle.sheet.proofs.Passes.{stored-passes, first-block, later-block}
+use Rattle.sheet.proofs.Blocks.{first-block, later-block}
+use Rattle.sheet.proofs.Passes.{stored-passes}
 use Rattle.sheet.proofs.ReadBack.{read-back}
 use Rattle.pages.specs.Typed.{Block, arrows, labels, askPage, marked, typed, askType, typedSheet}
 use Rattle.pages.specs.Prints.{pageOf}

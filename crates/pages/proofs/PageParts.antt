@@ -7,7 +7,7 @@ use lib.ListN.{length, take, drop, take-append-drop, drop-of-length-le}
 use lib.Seq.{take-at, drop-append-add, drop-drop}
 use Rattle.logic.specs.Graph.{Graph, Nodes}
 use Rattle.sheet.specs.Sheet.{chunks, lineOf}
-use Rattle.sheet.proofs.Passes.{take-chunk}
+use Rattle.sheet.proofs.Blocks.{take-chunk}
 use Rattle.pages.specs.Page.{headLine, setLine, rowLines, arrowPage, labelPageLines, labelLines, labelPage}
 use Rattle.pages.specs.Typed.{pageLine, Block, arrows, labels, linesOf}
 use Rattle.pages.specs.Prints.{pageOf}

@@ -9,9 +9,8 @@ use lib.ListN.{length, getD, take, drop, length-append, length-drop, take-append
 use lib.Seq.{length-take-le, getD-take, getD-drop, ext-getD, take-at, drop-at, drop-drop, drop-append-add, getD-append-add}
 use Rattle.seal.specs.Seal.{blockBytes}
 use Rattle.sheet.specs.Sheet.{sheetBytes, chunks}
-use Rattle.sheet.proofs.Blocks.{length-chunks}
+use Rattle.sheet.proofs.Blocks.{length-chunks, take-chunk}
 use Rattle.sheet.proofs.Writes.{chunks-same}
-use Rattle.sheet.proofs.Passes.{take-chunk}
 use Rattle.plans.specs.Store.{planCount, storeBytes, placeStart, placeIn}
 
 module _ (t : List ℕ) (n : length t ≡ storeBytes) where

@@ -7,7 +7,6 @@ use native.Mathlib.Omega.{arith}
 use borrow.Author.Tests.{eq-eqb, ne-eqb, lt-ltb, le-leb, ltb-true}
 use lib.Dec.{eqb, ltb}
 use lib.ListN.{length, getD}
-use lib.Seq.{getD-take}
 use Rattle.answer.specs.declared.Refusal.{Refusal}
 use Rattle.answer.specs.declared.Answer.{Answer}
 use Rattle.answer.specs.declared.Answer.the-variants.{Done, Refused}
@@ -20,13 +19,14 @@ use Rattle.logic.proofs.Below.{any-found, any-one}
 use Rattle.words.specs.Words.{setOf, member, combined, wordAt}
 use Rattle.words.proofs.SetLaws.{setOf-cong, setOf-empty, member-setOf}
 use Rattle.words.proofs.WordLaws.{member-wordAt}
-use Rattle.seal.specs.Seal.{sealRight, blockBytes}
+use Rattle.seal.specs.Seal.{sealRight}
 use Rattle.sheet.specs.Sheet.{SheetForm, sheetBytes, blockCount, bitIn, usedIn, graphIn}
 use Rattle.sheet.specs.Questions.{blockOf, nodeCountRight, headRight, zeroRight, askBlock, askBlocks, askSheetIn}
 use Rattle.sheet.specs.Masks.{Told}
-use Rattle.sheet.proofs.Noticed.{byte-2, nodes-0}
+use Rattle.sheet.proofs.Parts.{byte-2, nodes-0}
 use Rattle.sheet.proofs.Zeros.{same-test}
-use Rattle.sheet.proofs.Opening.{first-head, block-ok}
+use Rattle.sheet.proofs.Heads.{first-head}
+use Rattle.sheet.proofs.Opening.{block-ok}
 
 -- 3, of block 0 and of a later block
 pub head-first : (φ : SheetForm) (k : List ℕ) (b : ℕ) → b ≡ 0 → headRight φ b k ≡ (eqb (getD k 0 0) 1 && (eqb (getD k 1 0) 0 && (nodeCountRight (getD k 2 0) && anyBelow (getD k 2 0) (usedIn φ k))))
@@ -88,7 +88,7 @@ told-of φ t n all q w b k e =
       below = λ i l. no-node (graphIn φ t) i (subst (λ (m : ℕ). m ≤ i) (q ∙ n-told φ t) l);
       first = λ z. let f : k ≡ blockOf t 0 = e ∙ ap (blockOf t) z in (
         q ∙ sym (byte-2 t) ∙ ap (λ c. getD c 2 0) (sym f),
-        λ i. ap (λ (v : Nodes). v i) (nodes-0 φ t) ∙ ap (λ (c : List ℕ). ltb i (getD c 2 0) && usedIn φ c i) (sym f),
+        λ i. ap (λ (v : Nodes). v i) (nodes-0 t φ) ∙ ap (λ (c : List ℕ). ltb i (getD c 2 0) && usedIn φ c i) (sym f),
       );
     }
 
@@ -139,7 +139,7 @@ module _ (φ : SheetForm) where
 
       -- n is in range once block 0 has its head
       pub few : (b : ℕ) → (0 < b → n ≤ maxNodes) → headRight φ b (blockOf t b) ≡ true → n ≤ maxNodes
-      few zero h e = let l : getD (blockOf t 0) 2 0 ≤ maxNodes = first-head φ (blockOf t 0) e .few in omega (arith, n-is, getD-take blockBytes t 2 0 (omega arith))
+      few zero h e = let l : getD (blockOf t 0) 2 0 ≤ maxNodes = first-head φ (blockOf t 0) e .few in omega (arith, n-is, byte-2 t)
       few (suc b) h e = h (omega arith)
 
       pub few-after : (b : ℕ) (a : Answer) → (0 < b → n ≤ maxNodes) → asked a ≡ askBlock φ n nodes b (blockOf t b) → a ≡ Done → n ≤ maxNodes

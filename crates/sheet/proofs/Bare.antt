@@ -2,17 +2,17 @@
 use mathlib.Core.Path.{_≡_, refl, sym, ap, ap₂, _∙_}
 use mathlib.Core.Bool.{Bool, true, false, not, _&&_, and-false, and-eq-true-iff}
 use mathlib.Core.List.{List, _∷_}
-use Prim.Native.Nat.{ℕ, zero, suc, _+_, _-_, _*_, _/_, _%_, _≤_, _<_}
+use Prim.Native.Nat.{ℕ, _+_, _-_, _*_, _/_, _%_, _≤_, _<_}
 use native.Mathlib.Decide.{decLt}
 use native.Mathlib.Omega.{arith}
-use borrow.Author.Tests.{eqb-true, eqb-false, eq-eqb, ne-eqb, lt-ltb, not-true}
+use borrow.Author.Tests.{eqb-true, eqb-false, eq-eqb, ne-eqb, not-true}
 use lib.Bits.{bitOr}
 use lib.Dec.{eqb}
 use lib.ListN.{length, getD, take, replicate}
 use Rattle.answer.specs.Asked.{passed}
-use Rattle.logic.specs.Graph.{Nodes, allBelow, implies}
-use Rattle.logic.proofs.Below.{all-true, all-each}
-use Rattle.words.specs.Words.{member, wordAt}
+use Rattle.logic.specs.Graph.{Nodes, allBelow}
+use Rattle.logic.proofs.Below.{all-each}
+use Rattle.words.specs.Words.{wordAt}
 use Rattle.words.proofs.SetLaws.{member-zero}
 use Rattle.seal.specs.Seal.{blockBytes, modulo257, sealOf, sealRight}
 use Rattle.seal.specs.declared.Modulo.{Modulo}
@@ -20,20 +20,14 @@ use Rattle.seal.specs.declared.Modulo.the-variants.{M257, M255}
 use Rattle.seal.proofs.SealLaws.{two-and-zeros}
 use Rattle.sheet.specs.Sheet.{blockCount, padding, SheetForm}
 use Rattle.sheet.specs.Forms.{formIn}
-use Rattle.sheet.specs.Questions.{headRight, free, zeroRight, askBlock}
+use Rattle.sheet.specs.Questions.{headRight, zeroRight, askBlock}
 use Rattle.sheet.specs.Masks.{wordCount, blankIn, zerosAt, within, zeroBut, Outside, Edges}
-use Rattle.sheet.proofs.Passes.{if-clear, if-free, block-right}
-use Rattle.sheet.proofs.Opening.{byte-ext}
+use Rattle.sheet.proofs.Passes.{block-right}
+use Rattle.sheet.proofs.Free.{byte-ext, bit-of-word, zeros-right}
 use Rattle.sheet.proofs.Outside.{all-zero}
-use Rattle.sheet.proofs.Zeros.{word-clear}
+use Rattle.sheet.proofs.Zeros.{zero-at, but-parts, word-clear}
 use Rattle.sheet.proofs.Heads.{head-number}
 use Rattle.sheet.proofs.Asks.{head-later}
-
--- bits of the head may be set, in every block
-head-free : (φ : SheetForm) (n : ℕ) (nodes : Nodes) (b p i : ℕ) → p < 3 → free φ n nodes b p i ≡ true
-unfolding free
-head-free φ n nodes zero p i l = rw (lt-ltb p 3 l)
-head-free φ n nodes (suc a) p i l = rw (lt-ltb p 3 l)
 
 -- what is not such a block: an old card's, block 0, one with another head
 module _ (k : List ℕ) (b : ℕ) where
@@ -55,42 +49,24 @@ module _ (k : List ℕ) (small : (p : ℕ) → getD k p 0 < 256) where
   -- nothing behind the first three bytes
   module _ (e : zeroBut modulo257 (λ j. 0) k ≡ true) where
     parts : (zerosAt k 3 13 ≡ true) × (allBelow wordCount (λ j. within k 0 j) ≡ true) × (zerosAt k (16 + 8 * wordCount) (padding modulo257 wordCount) ≡ true)
-    unfolding zeroBut
-    parts =
-        let a = and-eq-true-iff (zerosAt k 3 13) _ .0 e in
-        let b = and-eq-true-iff (allBelow wordCount (λ j. within k 0 j)) _ .0 (a .1) in
-        (a .0, b .0, b .1)
-
-    gap : (at m : ℕ) → zerosAt k at m ≡ true → (p : ℕ) → at ≤ p → p < at + m → getD k p 0 ≡ 0
-    unfolding zerosAt
-    gap at m z p l u =
-        let s : at + (p - at) ≡ p = omega arith in
-        ap (λ x. getD k x 0) (sym s) ∙ eqb-true _ _ (all-each m (λ j. eqb (getD k (at + j) 0) 0) z (p - at) (omega arith))
+    parts = but-parts modulo257 (λ j. 0) k e
 
     inner : (p : ℕ) → 16 ≤ p → p < 16 + 8 * wordCount → getD k p 0 ≡ 0
     inner p l u = byte-ext (getD k p 0) 0 (small p) (omega arith) (λ i s.
-        let r : ℕ = p % 8 * 8 + i in
-        let at : p ≡ 16 + 8 * ((p - 16) / 8) + r / 8 = omega arith in
-        let bit : i ≡ r % 8 = omega arith in
         let empty = all-each wordCount (λ j. within k 0 j) (parts .1) ((p - 16) / 8) (omega arith) in
-        ap₂ (λ x y. member (getD k x 0) y) at bit ∙ word-clear k small ((p - 16) / 8) (omega arith) empty r (omega arith) ∙ sym (member-zero i))
+        bit-of-word k p i l s ∙ word-clear k small ((p - 16) / 8) (omega arith) empty (p % 8 * 8 + i) (omega arith) ∙ sym (member-zero i))
 
     zeros-behind : (p : ℕ) → 3 ≤ p → p < modulo257 .bodyBytes → getD k p 0 ≡ 0
     zeros-behind p l u = go (decLt p 16) (decLt p (16 + 8 * wordCount))
       where
         go : Dec (p < 16) → Dec (p < 16 + 8 * wordCount) → getD k p 0 ≡ 0
-        go (yes a) b = gap 3 13 (parts .0) p l (omega arith)
+        go (yes a) b = zero-at k 3 13 (parts .0) p l (omega arith)
         go (no a) (yes b) = inner p (omega arith) b
-        go (no a) (no b) = gap (16 + 8 * wordCount) (padding modulo257 wordCount) (parts .2) p (omega arith) (omega arith)
+        go (no a) (no b) = zero-at k (16 + 8 * wordCount) (padding modulo257 wordCount) (parts .2) p (omega arith) (omega arith)
 
     -- question 4 passes, whatever the nodes
-    zeros-right : (held : Bool) (n : ℕ) (nodes : Nodes) (b : ℕ) → zeroRight (formIn M257 held) n nodes b k ≡ true
-    unfolding zeroRight
-    zeros-right held n nodes b = all-true (modulo257 .bodyBytes) _ (λ p l. all-true 8 _ (λ i s. bit p i l (decLt p 3)))
-      where
-        bit : (p i : ℕ) → p < modulo257 .bodyBytes → Dec (p < 3) → implies (member (getD k p 0) i) (free (formIn M257 held) n nodes b p i) ≡ true
-        bit p i l (yes u) = if-free (member (getD k p 0) i) _ (head-free (formIn M257 held) n nodes b p i u)
-        bit p i l (no u) = if-clear _ _ (ap (λ x. member x i) (zeros-behind p (omega arith) l) ∙ member-zero i)
+    passes-4 : (held : Bool) (n : ℕ) (nodes : Nodes) (b : ℕ) → zeroRight (formIn M257 held) n nodes b k ≡ true
+    passes-4 held n nodes b = zeros-right (formIn M257 held) n nodes b k 0 (λ p l u w. zeros-behind p l u) (λ p i l u s. absurd (omega arith))
 
   -- what the code finds: e of the edges, r of the words
   pub zeros-are : (e r : ℕ) → Edges modulo257 k e → Outside k 0 wordCount 0 r → eqb (bitOr e r) 0 ≡ zeroBut modulo257 (λ j. 0) k
@@ -132,5 +108,5 @@ module _ (k : List ℕ) (small : (p : ℕ) → getD k p 0 < 256) where
         let a = and-eq-true-iff (not (eqb b 0)) _ .0 e in
         let c = and-eq-true-iff (eqb (wordAt k 0) (2 + 0x100 * b)) _ .0 (a .1) in
         let d = and-eq-true-iff (sealRight modulo257 k) _ .0 (c .1) in
-        block-right (formIn M257 held) n nodes b k (d .0) (head-is (eqb-true _ _ (c .0)) (formIn M257 held) (eqb-false b 0 (not-true _ (a .0)))) (zeros-right (d .1) held n nodes b)
+        block-right (formIn M257 held) n nodes b k (d .0) (head-is (eqb-true _ _ (c .0)) (formIn M257 held) (eqb-false b 0 (not-true _ (a .0)))) (passes-4 (d .1) held n nodes b)
     blank-passes M255 e held n nodes = let z : _≡_ {A = ℕ} 0 1 = cc in absurd (omega arith)

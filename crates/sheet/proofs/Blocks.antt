@@ -1,4 +1,4 @@
--- The bytes of a stored block: where its head, its words and its zeros stand.
+-- The bytes of a stored block: where its head, its words and its zeros stand; and the blocks of a stored sheet.
 use mathlib.Core.Path.{_≡_, refl, sym, _∙_, ap, ap₂}
 use mathlib.Core.Bool.{Bool, true, false, cond}
 use mathlib.Core.List.{List, [], _∷_, _++_}
@@ -6,8 +6,8 @@ use Prim.Native.Nat.{ℕ, zero, suc, _+_, _-_, _*_, _/_, _%_, _^_, _≤_, _<_}
 use native.Mathlib.Nat.{mul-zero, zero-add, mul-suc}
 use native.Mathlib.Omega.{arith}
 use borrow.Author.Tests.{lt-ltb, le-ltb}
-use lib.ListN.{getD, length, replicate, length-append, length-replicate, getD-replicate, List·getD-append}
-use lib.Seq.{getD-append-add}
+use lib.ListN.{getD, length, take, drop, replicate, length-append, length-replicate, getD-replicate, List·getD-append}
+use lib.Seq.{getD-append-add, getD-take, getD-drop, take-at, drop-append-add}
 use Rattle.logic.specs.Graph.{Graph}
 use Rattle.logic.specs.Limits.{maxNodes, labelCount, arrowCount}
 use Rattle.words.specs.Words.{setOf, member, bytes}
@@ -17,6 +17,8 @@ use Rattle.words.proofs.WordLaws.{length-bytes, getD-bytes}
 use Rattle.seal.specs.Seal.{blockBytes, Form}
 use Rattle.seal.proofs.SealLaws.{length-sealed, getD-sealed}
 use Rattle.sheet.specs.Sheet.{sheetBytes, chunks, block, SheetForm, lineOf, lineCount, labelBlock, arrowBlock, storeIn, padding}
+use Rattle.sheet.specs.Questions.{blockOf}
+use Rattle.sheet.proofs.Parts.{block-byte, byte-2}
 
 module _ (w : ℕ) (f : ℕ → List ℕ) (len : (i : ℕ) → length (f i) ≡ w) where
   pub length-chunks : (m i : ℕ) → length (chunks m i f) ≡ w * m
@@ -24,16 +26,17 @@ module _ (w : ℕ) (f : ℕ → List ℕ) (len : (i : ℕ) → length (f i) ≡ 
   length-chunks zero i = sym (mul-zero w)
   length-chunks (suc m) i = length-append (f i) (chunks m (suc i) f) ∙ omega (arith, len i, length-chunks m (suc i), mul-suc w m)
 
-  getD-chunks : (m i k off : ℕ) → k < m → off < w → getD (chunks m i f) (w * k + off) 0 ≡ getD (f (i + k)) off 0
+  pub take-chunk : (m i k : ℕ) → k < m → take w (drop (w * k) (chunks m i f)) ≡ f (i + k)
   unfolding chunks
-  getD-chunks zero i k off h l = absurd (omega arith)
-  getD-chunks (suc m) i zero off h l =
-      ap (λ p. getD (f i ++ chunks m (suc i) f) p 0) (omega (arith, mul-zero w))
-      ∙ List·getD-append (f i) (chunks m (suc i) f) 0 off (omega (arith, len i)) ∙ ap (λ x. getD (f x) off 0) (omega arith)
-  getD-chunks (suc m) i (suc k) off h l =
-      ap (λ p. getD (f i ++ chunks m (suc i) f) p 0) (omega (arith, mul-suc w k, len i))
-      ∙ getD-append-add (f i) (chunks m (suc i) f) (w * k + off) 0
-      ∙ getD-chunks m (suc i) k off (omega arith) l ∙ ap (λ x. getD (f x) off 0) (omega arith)
+  take-chunk zero i k h = absurd (omega arith)
+  take-chunk (suc m) i zero h = ap (λ p. take w (drop p (f i ++ chunks m (suc i) f))) (mul-zero w) ∙ take-at (f i) (chunks m (suc i) f) w (len i) ∙ ap f (omega arith)
+  take-chunk (suc m) i (suc k) h =
+      let e : w * suc k ≡ length (f i) + w * k = omega (arith, mul-suc w k, len i) in
+      ap (λ p. take w (drop p (f i ++ chunks m (suc i) f))) e
+      ∙ ap (take w) (drop-append-add (f i) (chunks m (suc i) f) (w * k)) ∙ take-chunk m (suc i) k (omega arith) ∙ ap f (omega arith)
+
+  getD-chunks : (m i k off : ℕ) → k < m → off < w → getD (chunks m i f) (w * k + off) 0 ≡ getD (f (i + k)) off 0
+  getD-chunks m i k off h l = sym (getD-take w (drop (w * k) (chunks m i f)) off 0 l ∙ getD-drop (w * k) (chunks m i f) off 0) ∙ ap (λ x. getD x off 0) (take-chunk m i k h)
 
 -- words one behind the other, and a block's body
 abbrev pub wordsOf : ℕ → (ℕ → ℕ) → List ℕ
@@ -161,21 +164,34 @@ module _ (φ : SheetForm) where
   unfolding storeIn
   length-store g = length-append (labelBlock φ g) _ ∙ omega (arith, length-labelBlock g, length-chunks blockBytes (arrowBlock φ g) (length-arrowBlock g) arrowCount 0)
 
+  -- the blocks of the stored sheet
+  pub first-block : (g : Graph) → blockOf (storeIn φ g) 0 ≡ labelBlock φ g
+  unfolding storeIn
+  first-block g = take-at (labelBlock φ g) (chunks arrowCount 0 (arrowBlock φ g)) blockBytes (length-labelBlock g)
+
+  pub later-block : (g : Graph) (a : ℕ) → a < arrowCount → blockOf (storeIn φ g) (suc a) ≡ arrowBlock φ g a
+  unfolding storeIn
+  later-block g a h =
+      let e : blockBytes * suc a ≡ length (labelBlock φ g) + blockBytes * a = omega (arith, length-labelBlock g) in
+      ap (λ p. take blockBytes (drop p (labelBlock φ g ++ chunks arrowCount 0 (arrowBlock φ g)))) e
+      ∙ ap (take blockBytes) (drop-append-add (labelBlock φ g) (chunks arrowCount 0 (arrowBlock φ g)) (blockBytes * a))
+      ∙ take-chunk blockBytes (arrowBlock φ g) (length-arrowBlock g) arrowCount 0 a h ∙ ap (arrowBlock φ g) (zero-add a)
+
   pub n-is : (g : Graph) → getD (storeIn φ g) 2 0 ≡ g .n
-  unfolding storeIn labelBlock
-  n-is g = List·getD-append (labelBlock φ g) (chunks arrowCount 0 (arrowBlock φ g)) 0 2 (omega (arith, length-labelBlock g)) ∙ head-at (φ .sums) (labelHead g) (lineCount φ) (labelWord g) refl labels-fit 2 (omega arith)
+  unfolding labelBlock
+  n-is g = sym (byte-2 (storeIn φ g)) ∙ ap (λ k. getD k 2 0) (first-block g) ∙ head-at (φ .sums) (labelHead g) (lineCount φ) (labelWord g) refl labels-fit 2 (omega arith)
 
   -- byte j of line k, and of row i of arrow a
   pub label-byte : (g : Graph) (k j : ℕ) → k < lineCount φ → j < 8 → getD (storeIn φ g) (16 + 8 * k + j) 0 ≡ byteOf (labelWord g k) j
-  unfolding storeIn labelBlock
+  unfolding labelBlock
   label-byte g k j h l =
-      List·getD-append (labelBlock φ g) (chunks arrowCount 0 (arrowBlock φ g)) 0 (16 + 8 * k + j) (omega (arith, length-labelBlock g, few-lines))
-      ∙ ap (λ p. getD (labelBlock φ g) p 0) (omega arith) ∙ word-byte (φ .sums) (labelHead g) (lineCount φ) (labelWord g) refl labels-fit k j h l
+      let at : 16 + 8 * k + j ≡ blockBytes * 0 + (16 + (8 * k + j)) = omega arith in
+      ap (λ p. getD (storeIn φ g) p 0) at ∙ sym (block-byte (storeIn φ g) 0 (16 + (8 * k + j)) (omega (arith, few-lines)))
+      ∙ ap (λ b. getD b (16 + (8 * k + j)) 0) (first-block g) ∙ word-byte (φ .sums) (labelHead g) (lineCount φ) (labelWord g) refl labels-fit k j h l
 
   pub arrow-byte : (g : Graph) (a i j : ℕ) → a < arrowCount → i < maxNodes → j < 8 → getD (storeIn φ g) (blockBytes * (a + 1) + (16 + 8 * i) + j) 0 ≡ byteOf (rowWord g a i) j
-  unfolding storeIn arrowBlock
+  unfolding arrowBlock
   arrow-byte g a i j h h′ l =
-      ap (λ p. getD (storeIn φ g) p 0) (omega (arith, length-labelBlock g))
-      ∙ getD-append-add (labelBlock φ g) (chunks arrowCount 0 (arrowBlock φ g)) (blockBytes * a + (16 + (8 * i + j))) 0
-      ∙ getD-chunks blockBytes (arrowBlock φ g) (length-arrowBlock g) arrowCount 0 a (16 + (8 * i + j)) h (omega arith)
-      ∙ ap (λ b. getD (arrowBlock φ g b) (16 + (8 * i + j)) 0) (zero-add a) ∙ word-byte (φ .sums) (arrowHead a) maxNodes (rowWord g a) refl rows-fit i j h′ l
+      let at : blockBytes * (a + 1) + (16 + 8 * i) + j ≡ blockBytes * suc a + (16 + (8 * i + j)) = omega arith in
+      ap (λ p. getD (storeIn φ g) p 0) at ∙ sym (block-byte (storeIn φ g) (suc a) (16 + (8 * i + j)) (omega arith))
+      ∙ ap (λ b. getD b (16 + (8 * i + j)) 0) (later-block g a h) ∙ word-byte (φ .sums) (arrowHead a) maxNodes (rowWord g a) refl rows-fit i j h′ l

@@ -2,12 +2,12 @@
 use mathlib.Core.Path.{_≡_, refl, sym, ap, ap₂, _∙_, subst}
 use mathlib.Core.Bool.{true, cond}
 use mathlib.Core.List.{List, _++_, append-assoc, append-nil}
-use Prim.Native.Nat.{ℕ, zero, suc, _+_, _-_, _*_, _/_, _%_, _≤_, _<_}
+use Prim.Native.Nat.{ℕ, zero, suc, _+_, _-_, _*_, _≤_, _<_}
 use native.Mathlib.Omega.{arith}
 use lib.Dec.{ltb, lit≤}
 use borrow.Author.Tests.{lt-ltb, le-ltb}
 use lib.ListN.{length, getD, take, drop, replicate, replicate-append-replicate, length-drop, length-append, drop-of-length-le}
-use lib.Seq.{take-at, drop-at, drop-append-add, ext-getD, take-add, drop-drop, take-all, length-take-le}
+use lib.Seq.{take-at, drop-at, drop-append-add, take-add, drop-drop, take-all, length-take-le}
 use Rattle.answer.specs.Asked.{Asked, refused, after}
 use Rattle.logic.specs.Graph.{Graph}
 use Rattle.logic.specs.Limits.{maxNodes, labelCount, arrowCount}
@@ -16,7 +16,7 @@ use Rattle.seal.specs.Seal.{blockBytes, Form, seal, sealed, reseal}
 use Rattle.sheet.specs.Sheet.{present, former, sheetBytes, blockCount, padding, block, labelBlock, arrowBlock, storeIn, store, graphIn, graphOf}
 use Rattle.sheet.specs.Questions.{blockOf, askSheetIn, SoundIn, Sound}
 use Rattle.sheet.specs.Converted.{askConvert, converted}
-use Rattle.sheet.proofs.Blocks.{wordsOf, bodyOf, labels-fit, rows-fit, labelHead, labelWord, arrowHead, rowWord}
+use Rattle.sheet.proofs.Blocks.{wordsOf, bodyOf, labels-fit, rows-fit, labelHead, labelWord, arrowHead, rowWord, first-block, later-block}
 use Rattle.sheet.proofs.Writes.{chunks-same, chunks-more, put-raw, seal-raw}
 use Rattle.seal.specs.declared.Modulo.{Modulo}
 use Rattle.seal.specs.declared.Modulo.the-variants.{M257, M255}
@@ -25,8 +25,7 @@ use Rattle.words.proofs.WordLaws.{length-putWord}
 use Rattle.sheet.proofs.Blanks.{all-used}
 use Rattle.sheet.proofs.Loads.{sound-length, sound-n}
 use Rattle.sheet.proofs.Opening.{opening}
-use Rattle.sheet.proofs.Noticed.{block-byte}
-use Rattle.sheet.proofs.Passes.{stored-passes, first-block, later-block}
+use Rattle.sheet.proofs.Passes.{stored-passes}
 use Rattle.sheet.proofs.ReadBack.{read-back}
 
 more-zeros : (n m d : ℕ) → n ≡ m + d → replicate {A = ℕ} n 0 ≡ replicate m 0 ++ replicate d 0
@@ -174,16 +173,6 @@ module _ (f : Form) (card : List ℕ) (small : (p : ℕ) → getD card p 0 < 256
 pub body-fits : (m : Modulo) → present .sums .bodyBytes ≤ formOf m .bodyBytes
 body-fits M257 = lit≤ tt
 body-fits M255 = lit≤ tt
-
--- sheets with the same blocks are the same
-pub blocks-ext : (u v : List ℕ) → length u ≡ sheetBytes → length v ≡ sheetBytes → ((b : ℕ) → b < blockCount → blockOf u b ≡ blockOf v b) → u ≡ v
-blocks-ext u v m n e =
-    ext-getD 0 u v (m ∙ sym n) (λ p l.
-    let at : p ≡ blockBytes * (p / blockBytes) + p % blockBytes = omega arith in
-    let b : p / blockBytes < blockCount = omega (arith, m) in
-    ap (λ i. getD u i 0) at ∙ sym (block-byte u m (p / blockBytes) b (p % blockBytes) (omega arith))
-    ∙ ap (λ k. getD k (p % blockBytes) 0) (e (p / blockBytes) b)
-    ∙ block-byte v n (p / blockBytes) b (p % blockBytes) (omega arith) ∙ ap (λ i. getD v i 0) (sym at))
 
 -- A card that does not is left as it is.
 pub refused-stays : (f : Form) (card : List ℕ) (number place : ℕ) → askConvert f card ≡ refused number place → converted f card ≡ card

@@ -5,28 +5,17 @@ use mathlib.Core.List.{List}
 use Prim.Native.Nat.{ℕ, _+_, _-_, _/_, _%_, _^_, _<_}
 use native.Mathlib.Decide.{decLt}
 use native.Mathlib.Omega.{arith}
-use borrow.Author.Tests.{eq-eqb, eqb-true}
 use lib.Bits.{bitOr}
-use lib.Dec.{eqb}
 use lib.ListN.{length, getD}
-use Rattle.logic.proofs.Below.{all-true, all-each}
 use Rattle.words.specs.Words.{wordAt}
 use Rattle.words.proofs.ZeroLaws.{high-zero, zero-high, low-zero, zero-low}
 use Rattle.seal.specs.Seal.{blockBytes, Form}
 use Rattle.sheet.specs.Sheet.{padding}
 use Rattle.sheet.specs.Masks.{wordCount, zerosAt, Edges}
 use Rattle.sheet.proofs.Outside.{or-zero, zero-or}
+use Rattle.sheet.proofs.Zeros.{zeros-are, zero-at}
 
 module _ (φ : Form) (k : List ℕ) (h : length k ≡ blockBytes) (small : (p : ℕ) → getD k p 0 < 256) where
-  -- bytes from `at` on that are all zero, and one of them
-  zeros-are : (at m : ℕ) → ((j : ℕ) → j < m → getD k (at + j) 0 ≡ 0) → zerosAt k at m ≡ true
-  unfolding zerosAt
-  zeros-are at m z = all-true m _ (λ j l. eq-eqb _ _ (z j l))
-
-  zero-at : (at m : ℕ) → zerosAt k at m ≡ true → (j : ℕ) → j < m → getD k (at + j) 0 ≡ 0
-  unfolding zerosAt
-  zero-at at m e j l = eqb-true _ _ (all-each m (λ j. eqb (getD k (at + j) 0) 0) e j l)
-
   -- bytes 3 to 15 are the last five of the first word and the second word
   front-zero : wordAt k 0 / 0x1000000 ≡ 0 → wordAt k 8 ≡ 0 → (j : ℕ) → j < 13 → getD k (3 + j) 0 ≡ 0
   front-zero a b j l = go (decLt j 5)
@@ -47,19 +36,15 @@ module _ (φ : Form) (k : List ℕ) (h : length k ≡ blockBytes) (small : (p : 
         none = λ z.
             let p = or-zero _ _ (sym e ∙ z) in
             let q = or-zero _ _ (p .0) in
-            (zeros-are 3 13 (front-zero (q .0) (q .1)), zeros-are 504 (padding φ wordCount) (λ j l. low-zero k small 504 (omega arith) (padding φ wordCount) (p .1) j l (omega (arith, φ .whole))));
-        some = λ f g. e ∙ zero-or _ _ (zero-or _ _ (first f) (second f)) (zero-low k small 504 (omega arith) (padding φ wordCount) (omega (arith, φ .whole)) (zero-at 504 (padding φ wordCount) g));
+            (zeros-are k 3 13 (front-zero (q .0) (q .1)), zeros-are k 504 (padding φ wordCount) (λ j l. low-zero k small 504 (omega arith) (padding φ wordCount) (p .1) j l (omega (arith, φ .whole))));
+        some = λ f g. e ∙ zero-or _ _ (zero-or _ _ (first f) (second f)) (zero-low k small 504 (omega arith) (padding φ wordCount) (omega (arith, φ .whole)) (λ j l. zero-at k 504 (padding φ wordCount) g (504 + j) (omega arith) (omega arith)));
       }
     where
       first : zerosAt k 3 13 ≡ true → wordAt k 0 / 0x1000000 ≡ 0
       first f =
-          zero-high k small 0 (omega arith) 3 (λ j l u.
-          let i : 0 + j ≡ 3 + (j - 3) = omega arith in
-          ap (λ x. getD k x 0) i ∙ zero-at 3 13 f (j - 3) (omega arith))
+          zero-high k small 0 (omega arith) 3 (λ j l u. zero-at k 3 13 f (0 + j) (omega arith) (omega arith))
 
       second : zerosAt k 3 13 ≡ true → wordAt k 8 ≡ 0
       second f =
           let w : wordAt k 8 / 256 ^ 0 ≡ wordAt k 8 = omega arith in
-          sym w ∙ zero-high k small 8 (omega arith) 0 (λ j l u.
-          let i : 8 + j ≡ 3 + (5 + j) = omega arith in
-          ap (λ x. getD k x 0) i ∙ zero-at 3 13 f (5 + j) (omega arith))
+          sym w ∙ zero-high k small 8 (omega arith) 0 (λ j l u. zero-at k 3 13 f (8 + j) (omega arith) (omega arith))

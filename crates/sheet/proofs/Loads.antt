@@ -5,11 +5,9 @@ use mathlib.Core.List.{List}
 use Prim.Native.Nat.{ℕ, _+_, _*_, _^_, _≤_, _<_}
 use native.Mathlib.Nat.{lt-of-lt-of-le}
 use native.Mathlib.Omega.{arith}
-use borrow.Author.Tests.{eqb-true, lt-ltb}
-use lib.Dec.{eqb}
+use borrow.Author.Tests.{lt-ltb}
 use lib.ListN.{length, getD, take}
 use lib.Pow.{pow-mono}
-use Rattle.answer.specs.Asked.{passed, is}
 use Rattle.logic.specs.Graph.{Graph, Nodes, isNode}
 use Rattle.logic.proofs.Inside.{some-n}
 use Rattle.logic.specs.Limits.{Within, maxNodes, labelCount, arrowCount}
@@ -17,26 +15,21 @@ use Rattle.words.specs.Words.{setOf, wordAt}
 use Rattle.words.proofs.SetLaws.{setOf-lt, setOf-cong}
 use Rattle.words.proofs.WordLaws.{wordAt-of}
 use Rattle.seal.specs.Seal.{sealRight, blockBytes}
-use Rattle.sheet.specs.Sheet.{SheetForm, lineOf, lineCount, sheetBytes, storeIn, graphIn, blockCount}
-use Rattle.sheet.specs.Questions.{blockOf, askBlock, askBlocks, askSheetIn, SoundIn}
+use Rattle.sheet.specs.Sheet.{SheetForm, lineOf, lineCount, sheetBytes, storeIn, graphIn}
+use Rattle.sheet.specs.Questions.{blockOf, SoundIn}
 use Rattle.sheet.proofs.Blocks.{labelWord, line-label, label-lines, few-lines, rowWord, label-byte, arrow-byte, length-store}
-use Rattle.sheet.proofs.Opening.{is-yes, both-yes, block-ok, opening}
+use Rattle.sheet.proofs.Opening.{block-ok, sound-parts, opening}
 
 small : (n : ℕ) (v : Nodes) → n ≤ maxNodes → setOf n v < 2 ^ 64
 small n v h = let m : n ≤ 64 = omega arith in lt-of-lt-of-le (setOf-lt n v) (pow-mono m)
 
 module _ (φ : SheetForm) where
   pub sound-length : (t : List ℕ) → SoundIn φ t → length t ≡ sheetBytes
-  unfolding askSheetIn
-  sound-length t e = eqb-true (length t) sheetBytes (is-yes _ 1 0 (both-yes (is (eqb (length t) sheetBytes) 1 0) (askBlocks φ t blockCount 0) e .0))
+  sound-length t e = sound-parts φ t e .0
 
   -- its first block is sealed
   pub sound-seal : (t : List ℕ) → SoundIn φ t → sealRight (φ .sums) (take blockBytes t) ≡ true
-  unfolding askSheetIn askBlocks
-  sound-seal t e =
-      let blocks : askBlocks φ t blockCount 0 ≡ passed tt = both-yes _ _ e .1 in
-      let first : askBlock φ (getD t 2 0) (isNode (graphIn φ t)) 0 (blockOf t 0) ≡ passed tt = both-yes _ (askBlocks φ t arrowCount 1) blocks .0 in
-      block-ok φ (getD t 2 0) (isNode (graphIn φ t)) 0 (blockOf t 0) first .check
+  sound-seal t e = block-ok φ (getD t 2 0) (isNode (graphIn φ t)) 0 (blockOf t 0) (sound-parts φ t e .1 0 (omega arith)) .check
 
   stored-line : (g : Graph) (k : ℕ) → g .n ≤ maxNodes → k < lineCount φ → wordAt (storeIn φ g) (16 + 8 * k) ≡ labelWord g k
   stored-line g k s h = wordAt-of (storeIn φ g) (16 + 8 * k) (labelWord g k) (omega (arith, length-store φ g, few-lines φ)) (small (g .n) (lineOf g k) s) (λ j l. label-byte φ g k j h l)

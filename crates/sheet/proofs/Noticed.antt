@@ -1,54 +1,26 @@
 -- What the questions notice of a sound sheet: every byte changed, and every two unequal neighbours of a block's body exchanged, with 2 and the block.
-use mathlib.Core.Path.{_≡_, sym, ap, ap₂, _∙_, fun-ext}
-use mathlib.Core.Bool.{Bool, true, false, _&&_, cond}
+use mathlib.Core.Path.{_≡_, sym, ap, ap₂, _∙_}
+use mathlib.Core.Bool.{true, false, _&&_}
 use mathlib.Core.List.{List}
-use mathlib.Core.Logic.{_⊎_, ⊎-elim}
+use mathlib.Core.Logic.{⊎-elim}
 use Prim.Native.Nat.{ℕ, zero, suc, _+_, _-_, _*_, _/_, _%_, _≤_, _<_}
 use native.Mathlib.Nat.{le-refl, eq-or-lt-of-le}
-use native.Mathlib.Decide.{decLt}
 use native.Mathlib.Omega.{arith}
-use borrow.Author.Tests.{eqb-true, eq-eqb, le-ltb}
-use lib.Dec.{eqb, ltb, lit≤}
-use lib.ListN.{length, getD, take, drop, set, length-set, length-drop, List·getD-eq-default}
-use lib.Seq.{getD-take, getD-drop, take-set-lt, take-set-le, drop-set-add, length-take-le}
+use borrow.Author.Tests.{eq-eqb}
+use lib.Dec.{ltb, lit≤}
+use lib.ListN.{length, getD, take, drop, set, length-set}
+use lib.Seq.{take-set-lt, take-set-le, drop-set-add}
 use Rattle.answer.specs.Asked.{Asked, passed, refused, _>>_, is}
 use Rattle.logic.specs.Graph.{Nodes, isNode}
-use Rattle.logic.specs.Limits.{labelCount}
-use Rattle.words.specs.Words.{member}
 use Rattle.seal.specs.Seal.{blockBytes, sealRight, exchanged}
 use Rattle.seal.proofs.Noticed.{change-noticed, exchange-noticed}
-use Rattle.sheet.specs.Sheet.{SheetForm, present, sheetBytes, blockCount, bitIn, usedIn, graphIn}
+use Rattle.sheet.specs.Sheet.{SheetForm, present, sheetBytes, blockCount, usedIn, graphIn}
 use Rattle.sheet.specs.Questions.{blockOf, headRight, zeroRight, askBlock, askBlocks, askSheetIn, askSheet, SoundIn, Sound}
 use Rattle.sheet.specs.Noticed.{AsksSheetFirst}
-use Rattle.sheet.proofs.Opening.{is-yes, both-yes, block-ok}
-
--- block 0 tells n and the nodes in use
-pub byte-2 : (v : List ℕ) → getD (blockOf v 0) 2 0 ≡ getD v 2 0
-byte-2 v = getD-take blockBytes (drop (blockBytes * 0) v) 2 0 (omega arith)
-
-bit-0 : (v : List ℕ) (i : ℕ) → bitIn v (16 + 8 * labelCount) i ≡ bitIn (blockOf v 0) (16 + 8 * labelCount) i
-bit-0 v i = go (decLt i 64)
-  where
-    go : Dec (i < 64) → bitIn v (16 + 8 * labelCount) i ≡ bitIn (blockOf v 0) (16 + 8 * labelCount) i
-    go (yes l) = ap (λ x. ltb i 64 && member x (i % 8)) (sym (getD-take blockBytes (drop (blockBytes * 0) v) (16 + 8 * labelCount + i / 8) 0 (omega arith)))
-    go (no l) = let e : ltb i 64 ≡ false = le-ltb i 64 (omega arith) in ap (_&& member (getD v (16 + 8 * labelCount + i / 8) 0) (i % 8)) e ∙ sym (ap (_&& member (getD (blockOf v 0) (16 + 8 * labelCount + i / 8) 0) (i % 8)) e)
-
-pub nodes-0 : (f : SheetForm) (v : List ℕ) → isNode (graphIn f v) ≡ (λ i. ltb i (getD (blockOf v 0) 2 0) && usedIn f (blockOf v 0) i)
-unfolding isNode graphIn
-nodes-0 f v = fun-ext (λ i. ap₂ (λ m c. ltb i m && c) (sym (byte-2 v)) (go i (f .holdsUse)))
-  where
-    go : (i : ℕ) (c : Bool) → cond c (bitIn v (16 + 8 * labelCount)) (λ j. ltb j (getD v 2 0)) i ≡ cond c (bitIn (blockOf v 0) (16 + 8 * labelCount)) (λ j. ltb j (getD (blockOf v 0) 2 0)) i
-    go i true = bit-0 v i
-    go i false = ap (ltb i) (sym (byte-2 v))
+use Rattle.sheet.proofs.Opening.{block-ok, sound-parts}
+use Rattle.sheet.proofs.Parts.{length-block, block-byte, block-small, byte-2, nodes-0}
 
 module _ (f : SheetForm) where
-  pub blocks-passed : (t : List ℕ) (m b : ℕ) → askBlocks f t m b ≡ passed tt → (j : ℕ) → b ≤ j → j < b + m → askBlock f (getD t 2 0) (isNode (graphIn f t)) j (blockOf t j) ≡ passed tt
-  unfolding askBlocks
-  blocks-passed t zero b e j h k = absurd (omega arith)
-  blocks-passed t (suc m) b e j h k =
-      let both = both-yes (askBlock f (getD t 2 0) (isNode (graphIn f t)) b (blockOf t b)) (askBlocks f t m (suc b)) e in
-      ⊎-elim (λ g. ap (λ i. askBlock f (getD t 2 0) (isNode (graphIn f t)) i (blockOf t i)) (sym g) ∙ both .0) (λ g. blocks-passed t m (suc b) (both .1) j g (omega arith)) (eq-or-lt-of-le h)
-
   -- the first block that is refused
   first-refused : (t : List ℕ) (m i b q : ℕ) → i ≤ b → b < i + m → ((j : ℕ) → i ≤ j → j < b → askBlock f (getD t 2 0) (isNode (graphIn f t)) j (blockOf t j) ≡ passed tt)
       → askBlock f (getD t 2 0) (isNode (graphIn f t)) b (blockOf t b) ≡ refused q b → askBlocks f t m i ≡ refused q b
@@ -60,17 +32,11 @@ module _ (f : SheetForm) where
       (λ g. ap (λ a. a >> askBlocks f t m (suc i)) (before i (le-refl i) g) ∙ first-refused t m (suc i) b q g (omega arith) (λ j l u. before j (omega arith) u) e)
       (eq-or-lt-of-le h)
 
-  sound-parts : (t : List ℕ) → SoundIn f t → (length t ≡ sheetBytes) × (askBlocks f t blockCount 0 ≡ passed tt)
-  unfolding askSheetIn
-  sound-parts t e =
-      let both = both-yes (is (eqb (length t) sheetBytes) 1 0) (askBlocks f t blockCount 0) e in
-      (eqb-true (length t) sheetBytes (is-yes (eqb (length t) sheetBytes) 1 0 (both .0)), both .1)
-
   -- A sheet of which the blocks before block b are those of a sound sheet and block b has not the right check bytes.
   pub damaged : (t u : List ℕ) (b : ℕ) → SoundIn f t → b < blockCount → length u ≡ length t → ((j : ℕ) → j < b → blockOf u j ≡ blockOf t j) → sealRight (f .sums) (blockOf u b) ≡ false → askSheetIn f u ≡ refused 2 b
   unfolding askSheetIn askBlock is _>>_
   damaged t u b sound h n same broken =
-      let parts = sound-parts t sound in
+      let parts = sound-parts f t sound in
       ap (λ a. is a 1 0 >> askBlocks f u blockCount 0) (eq-eqb (length u) sheetBytes (n ∙ parts .0))
       ∙ first-refused u blockCount 0 b 2 (omega arith) (omega arith) before (ap (λ a. is a 2 b >> (is (headRight f b (blockOf u b)) 3 b >> is (zeroRight f (getD u 2 0) (isNode (graphIn f u)) b (blockOf u b)) 4 b)) broken)
     where
@@ -78,14 +44,11 @@ module _ (f : SheetForm) where
       before j l k =
           let first : blockOf u 0 ≡ blockOf t 0 = same 0 (omega arith) in
           ap₂ (λ c d. askBlock f c (isNode (graphIn f u)) j d) (sym (byte-2 u) ∙ ap (λ c. getD c 2 0) first ∙ byte-2 t) (same j k)
-          ∙ ap (λ (v : Nodes). askBlock f (getD t 2 0) v j (blockOf t j)) (nodes-0 f u ∙ ap (λ (c : List ℕ). λ i. ltb i (getD c 2 0) && usedIn f c i) first ∙ sym (nodes-0 f t))
-          ∙ blocks-passed t blockCount 0 (sound-parts t sound .1) j l (omega arith)
+          ∙ ap (λ (v : Nodes). askBlock f (getD t 2 0) v j (blockOf t j)) (nodes-0 u f ∙ ap (λ (c : List ℕ). λ i. ltb i (getD c 2 0) && usedIn f c i) first ∙ sym (nodes-0 t f))
+          ∙ sound-parts f t sound .1 j (omega arith)
 
 -- one block of a sheet, and the blocks before it, after a byte of it is changed
-module _ (t : List ℕ) (n : length t ≡ sheetBytes) (b : ℕ) (h : b < blockCount) where
-  pub length-block : length (blockOf t b) ≡ blockBytes
-  length-block = length-take-le blockBytes (drop (blockBytes * b) t) (omega (arith, length-drop (blockBytes * b) t))
-
+module _ (t : List ℕ) (b : ℕ) where
   pub block-set : (q x : ℕ) → q < blockBytes → blockOf (set t (blockBytes * b + q) x) b ≡ set (blockOf t b) q x
   block-set q x l = ap (take blockBytes) (drop-set-add (blockBytes * b) t q x) ∙ take-set-lt blockBytes (drop (blockBytes * b) t) q x l
 
@@ -95,29 +58,19 @@ module _ (t : List ℕ) (n : length t ≡ sheetBytes) (b : ℕ) (h : b < blockCo
       ap (λ p. take blockBytes (drop (blockBytes * j) (set t p x))) e ∙ ap (take blockBytes) (drop-set-add (blockBytes * j) t (blockBytes * (b - j) + q) x)
       ∙ take-set-le blockBytes (drop (blockBytes * j) t) (blockBytes * (b - j) + q) x (omega arith)
 
-  pub block-byte : (q : ℕ) → q < blockBytes → getD (blockOf t b) q 0 ≡ getD t (blockBytes * b + q) 0
-  block-byte q l = getD-take blockBytes (drop (blockBytes * b) t) q 0 l ∙ getD-drop (blockBytes * b) t q 0
-
-  pub block-small : ((p : ℕ) → getD t p 0 < 256) → (q : ℕ) → getD (blockOf t b) q 0 < 256
-  block-small small q = go (decLt q blockBytes)
-    where
-      go : Dec (q < blockBytes) → getD (blockOf t b) q 0 < 256
-      go (yes l) = omega (arith, block-byte q l, small (blockBytes * b + q))
-      go (no l) = omega (arith, List·getD-eq-default (blockOf t b) 0 {n = q} (omega (arith, length-block)))
-
 -- Of every sound sheet whose form has a modulus above 255:
 module _ (f : SheetForm) (above : 256 ≤ f .sums .modulus) (t : List ℕ) (small : (p : ℕ) → getD t p 0 < 256) (sound : SoundIn f t) where
   n : length t ≡ sheetBytes
   n = sound-parts f t sound .0
 
   block-right : (b : ℕ) → b < blockCount → sealRight (f .sums) (blockOf t b) ≡ true
-  block-right b h = block-ok f (getD t 2 0) (isNode (graphIn f t)) b (blockOf t b) (blocks-passed f t blockCount 0 (sound-parts f t sound .1) b (omega arith) (omega arith)) .check
+  block-right b h = block-ok f (getD t 2 0) (isNode (graphIn f t)) b (blockOf t b) (sound-parts f t sound .1 b h) .check
 
   change-at : (b q x : ℕ) → b < blockCount → q < blockBytes → x < 256 → (x ≡ getD t (blockBytes * b + q) 0 → ⊥) → askSheetIn f (set t (blockBytes * b + q) x) ≡ refused 2 b
   change-at b q x h l k other =
-      damaged f t (set t (blockBytes * b + q) x) b sound h (length-set t (blockBytes * b + q) x) (λ j m. before-set t n b h q x j m)
-      (ap (sealRight (f .sums)) (block-set t n b h q x l)
-      ∙ change-noticed (f .sums) above (blockOf t b) (length-block t n b h) (block-small t n b h small) (block-right b h) q x l k (λ e. other (e ∙ block-byte t n b h q l)))
+      damaged f t (set t (blockBytes * b + q) x) b sound h (length-set t (blockBytes * b + q) x) (λ j m. before-set t b q x j m)
+      (ap (sealRight (f .sums)) (block-set t b q x l)
+      ∙ change-noticed (f .sums) above (blockOf t b) (length-block t n b h) (block-small t small b) (block-right b h) q x l k (λ e. other (e ∙ block-byte t b q l)))
 
   exchange-at : (b q : ℕ) → b < blockCount → suc q < f .sums .bodyBytes → (getD t (blockBytes * b + q) 0 ≡ getD t (blockBytes * b + suc q) 0 → ⊥) → askSheetIn f (exchanged t (blockBytes * b + q)) ≡ refused 2 b
   unfolding exchanged
@@ -128,14 +81,13 @@ module _ (f : SheetForm) (above : 256 ≤ f .sums .modulus) (t : List ℕ) (smal
       let x : ℕ = getD t (blockBytes * b + q) 0 in
       let y : ℕ = getD t (blockBytes * b + suc q) 0 in
       let u : List ℕ = set t (blockBytes * b + q) y in
-      let nu : length u ≡ sheetBytes = length-set t (blockBytes * b + q) y ∙ n in
-      let ex = block-byte t n b h q l1 in
-      let ey = block-byte t n b h (suc q) l2 in
+      let ex = block-byte t b q l1 in
+      let ey = block-byte t b (suc q) l2 in
       ap (λ i. askSheetIn f (set (set t (blockBytes * b + q) (getD t i 0)) i x)) e
       ∙ damaged f t (set u (blockBytes * b + suc q) x) b sound h (length-set u (blockBytes * b + suc q) x ∙ length-set t (blockBytes * b + q) y)
-      (λ j m. before-set u nu b h (suc q) x j m ∙ before-set t n b h q y j m)
-      (ap (sealRight (f .sums)) (block-set u nu b h (suc q) x l2 ∙ ap (λ k. set k (suc q) x) (block-set t n b h q y l1) ∙ ap₂ (λ v w. set (set (blockOf t b) q v) (suc q) w) (sym ey) (sym ex))
-      ∙ exchange-noticed (f .sums) above (blockOf t b) (length-block t n b h) (block-small t n b h small) (block-right b h) q l (λ g. other (sym ex ∙ g ∙ ey)))
+      (λ j m. before-set u b (suc q) x j m ∙ before-set t b q y j m)
+      (ap (sealRight (f .sums)) (block-set u b (suc q) x l2 ∙ ap (λ k. set k (suc q) x) (block-set t b q y l1) ∙ ap₂ (λ v w. set (set (blockOf t b) q v) (suc q) w) (sym ey) (sym ex))
+      ∙ exchange-noticed (f .sums) above (blockOf t b) (length-block t n b h) (block-small t small b) (block-right b h) q l (λ g. other (sym ex ∙ g ∙ ey)))
 
   -- every byte changed,
   pub sheet-change : (p x : ℕ) → p < sheetBytes → x < 256 → (x ≡ getD t p 0 → ⊥) → askSheetIn f (set t p x) ≡ refused 2 (p / blockBytes)

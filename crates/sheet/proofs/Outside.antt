@@ -2,7 +2,7 @@
 use mathlib.Core.Path.{_≡_, refl, sym, ap, ap₂, _∙_}
 use mathlib.Core.Bool.{Bool, true, false, not, _&&_, cond, and-eq-true-iff, and-true, and-false}
 use mathlib.Core.List.{List}
-use mathlib.Core.Logic.{_⊎_, ⊎-elim}
+use mathlib.Core.Logic.{⊎-elim}
 use Prim.Native.Nat.{ℕ, _+_, _*_, _≤_, _<_}
 use native.Mathlib.Nat.{eq-or-lt-of-le}
 use native.Mathlib.Omega.{arith}
@@ -11,15 +11,15 @@ use borrow.Author.Tests.{eq-eqb, eqb-true, lt-ltb, le-ltb, ltb-true}
 use lib.Bits.{bitOr, or-add-and, and-le-l, and-le-r}
 use lib.Dec.{eqb, ltb}
 use lib.ListN.{getD}
-use Rattle.logic.specs.Graph.{Nodes, allBelow}
+use Rattle.logic.specs.Graph.{Nodes}
 use Rattle.logic.specs.Limits.{maxNodes, labelCount}
 use Rattle.logic.proofs.Below.{all-true, all-each}
 use Rattle.words.specs.Words.{setOf, member, combined, wordAt}
 use Rattle.words.proofs.SetLaws.{member-zero, member-setOf, member-beyond}
-use Rattle.sheet.specs.Masks.{wordCount, zerosAt, within, zeroBut, lineMask, rowMask, Outside, Edges, Bare, Over}
-use Rattle.sheet.specs.Sheet.{padding, SheetForm, lineCount}
+use Rattle.sheet.specs.Masks.{wordCount, within, zeroBut, lineMask, rowMask, Outside, Edges, Bare, Over}
+use Rattle.sheet.specs.Sheet.{SheetForm, lineCount}
 use Rattle.seal.specs.Seal.{Form}
-use Rattle.sheet.proofs.Zeros.{same-test, within-none}
+use Rattle.sheet.proofs.Zeros.{same-test, but-parts, within-none}
 use Rattle.sheet.proofs.Blocks.{few-lines}
 
 pub or-zero : (a b : ℕ) → bitOr a b ≡ 0 → (a ≡ 0) × (b ≡ 0)
@@ -151,17 +151,16 @@ module _ (k : List ℕ) where
   unfolding zeroBut
   all-zero φ mask e r d o = same-test _ _ yes-side no-side
     where
-      yes-side : eqb (bitOr e r) 0 ≡ true → (zerosAt k 3 13 && (allBelow wordCount (λ j. within k (mask j) j) && zerosAt k 504 (padding φ wordCount))) ≡ true
+      yes-side : eqb (bitOr e r) 0 ≡ true → zeroBut φ mask k ≡ true
       yes-side z =
           let p = or-zero e r (eqb-true _ _ z) in
           let q = d .none (p .0) in
           ap₂ _&&_ (q .0) (ap₂ _&&_ (all-true wordCount _ (o .none (p .1))) (q .1))
 
-      no-side : (zerosAt k 3 13 && (allBelow wordCount (λ j. within k (mask j) j) && zerosAt k 504 (padding φ wordCount))) ≡ true → eqb (bitOr e r) 0 ≡ true
+      no-side : zeroBut φ mask k ≡ true → eqb (bitOr e r) 0 ≡ true
       no-side z =
-          let p = and-eq-true-iff (zerosAt k 3 13) (allBelow wordCount (λ j. within k (mask j) j) && zerosAt k 504 (padding φ wordCount)) .0 z in
-          let q = and-eq-true-iff (allBelow wordCount (λ j. within k (mask j) j)) (zerosAt k 504 (padding φ wordCount)) .0 (p .1) in
-          eq-eqb _ _ (zero-or e r (d .some (p .0) (q .1)) (o .some (all-each wordCount (λ j. within k (mask j) j) (q .0))))
+          let (f, w, b) = but-parts φ mask k z in
+          eq-eqb _ _ (zero-or e r (d .some f b) (o .some (all-each wordCount (λ j. within k (mask j) j) w)))
 
 -- the nodes below n that are not in use
 module _ (n all closed : ℕ) (few : n ≤ maxNodes) (below : ℕ) (b : below ≡ setOf 64 (λ i. ltb i n)) (c : closed ≡ combined (λ x y. x && not y) below all) where

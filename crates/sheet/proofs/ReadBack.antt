@@ -1,11 +1,11 @@
 -- The sheet that stores a graph reads back as that graph.
 use mathlib.Core.Path.{_≡_, refl, sym, _∙_, ap, subst, fun-ext}
-use mathlib.Core.Bool.{Bool, true, false, not, _&&_, cond}
+use mathlib.Core.Bool.{Bool, true, false, _&&_, cond}
 use mathlib.Core.List.{List}
-use Prim.Native.Nat.{ℕ, _+_, _*_, _/_, _%_, _≤_, _<_}
+use Prim.Native.Nat.{ℕ, _+_, _*_, _/_, _%_, _<_}
 use native.Mathlib.Omega.{arith}
 use native.Mathlib.Decide.{decLt}
-use lib.Dec.{T, ltb, ltb→lt, nltb→le}
+use lib.Dec.{ltb}
 use lib.ListN.{getD}
 use borrow.Author.Tests.{lt-ltb}
 use Rattle.logic.specs.Graph.{Graph, Nodes, isNode}
@@ -16,14 +16,7 @@ use Rattle.words.proofs.SetLaws.{member-setOf, member-beyond}
 use Rattle.seal.specs.Seal.{blockBytes}
 use Rattle.sheet.specs.Sheet.{SheetForm, present, lineOf, lineCount, storeIn, store, bitIn, usedIn, graphIn, graphOf, Storable}
 use Rattle.sheet.proofs.Blocks.{byteOf, bit-of-byte, line-label, label-lines, n-is, label-byte, arrow-byte}
-
--- where a test fails, the set it guards has nothing
-guarded : (i m : ℕ) (b c : Bool) → (i < m → b ≡ c) → (m ≤ i → c ≡ false) → (ltb i m && b) ≡ c
-guarded i m b c h l = go (ltb i m) (ltb→lt i m) (nltb→le i m)
-  where
-    go : (d : Bool) → (T d → i < m) → (T (not d) → m ≤ i) → (d && b) ≡ c
-    go true p q = h (p tt)
-    go false p q = sym (l (q tt))
+use Rattle.sheet.proofs.Free.{guarded}
 
 module _ (φ : SheetForm) where
   module _ (g : Graph) (w : Within g) where

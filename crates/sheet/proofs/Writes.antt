@@ -138,6 +138,14 @@ module _ (φ : SheetForm) where
   unfolding arrowBlock block sealed
   arrow-raw g a = refl
 
+  -- block 0 made another's
+  first-written : (make : List ℕ → List ℕ) (g : Graph) (v : ℕ → Nodes) (u : Nodes) → make (labelBlock φ g) ≡ labelBlock φ (withLines g v u) → (t : List ℕ) → t ≡ storeIn φ g → make (take blockBytes t) ++ drop blockBytes t ≡ storeIn φ (withLines g v u)
+  unfolding storeIn arrowBlock
+  first-written make g v u m t e =
+      ap₂ (λ y z. make y ++ z)
+      (ap (take blockBytes) e ∙ take-at (labelBlock φ g) (chunks arrowCount 0 (arrowBlock φ g)) blockBytes (length-labelBlock φ g)) (ap (drop blockBytes) e ∙ drop-at (labelBlock φ g) (chunks arrowCount 0 (arrowBlock φ g)) blockBytes (length-labelBlock φ g))
+      ∙ ap (_++ chunks arrowCount 0 (arrowBlock φ g)) m
+
   -- block 0 with line k replaced, and sealed
   module _ (g : Graph) (v : ℕ → Nodes) (u : Nodes) (k x : ℕ) (h : k < lineCount φ) (q : x ≡ labelWord (withLines g v u) k) (same : (j : ℕ) → j < lineCount φ → j ≢ k → lineOf g j ≡ lineOf (withLines g v u) j) where
     line-put : reseal (φ .sums) (putWord (labelBlock φ g) (16 + 8 * k) x) ≡ labelBlock φ (withLines g v u)
@@ -149,11 +157,7 @@ module _ (φ : SheetForm) where
         ∙ seal-raw (φ .sums) (labelHead g) refl (lineCount φ) _ (labelWord (withLines g v u)) (labels-fit φ)
 
     line-written : (t : List ℕ) → t ≡ storeIn φ g → reseal (φ .sums) (putWord (take blockBytes t) (16 + 8 * k) x) ++ drop blockBytes t ≡ storeIn φ (withLines g v u)
-    unfolding storeIn arrowBlock
-    line-written t e =
-        ap₂ (λ y z. reseal (φ .sums) (putWord y (16 + 8 * k) x) ++ z)
-        (ap (take blockBytes) e ∙ take-at (labelBlock φ g) (chunks arrowCount 0 (arrowBlock φ g)) blockBytes (length-labelBlock φ g)) (ap (drop blockBytes) e ∙ drop-at (labelBlock φ g) (chunks arrowCount 0 (arrowBlock φ g)) blockBytes (length-labelBlock φ g))
-        ∙ ap (_++ chunks arrowCount 0 (arrowBlock φ g)) line-put
+    line-written = first-written (λ y. reseal (φ .sums) (putWord y (16 + 8 * k) x)) g v u line-put
 
   -- Labels: in the sheet that stores g, word k of block 0 replaced, and the block sealed.
   pub relabelled : (g : Graph) (v : Nodes) (k x : ℕ) (t : List ℕ) → k < labelCount → t ≡ storeIn φ g → x ≡ setOf (g .n) v → reseal (φ .sums) (putWord (take blockBytes t) (16 + 8 * k) x) ++ drop blockBytes t ≡ storeIn φ (relabel g k v)
@@ -181,11 +185,7 @@ module _ (φ : SheetForm) where
         (λ k l. new k l ∙ ap (setOf (g .n)) (sym (line-label (relabelAll g v) k l))) (λ k l u. ap (setOf (g .n)) (line-use g k l ∙ sym (line-use (relabelAll g v) k l)))
 
     pub all-relabelled : (t : List ℕ) → t ≡ storeIn φ g → reseal (φ .sums) (putRows labelCount rows (take blockBytes t)) ++ drop blockBytes t ≡ storeIn φ (relabelAll g v)
-    unfolding storeIn arrowBlock
-    all-relabelled t e =
-        ap₂ (λ y z. reseal (φ .sums) (putRows labelCount rows y) ++ z)
-        (ap (take blockBytes) e ∙ take-at (labelBlock φ g) (chunks arrowCount 0 (arrowBlock φ g)) blockBytes (length-labelBlock φ g)) (ap (drop blockBytes) e ∙ drop-at (labelBlock φ g) (chunks arrowCount 0 (arrowBlock φ g)) blockBytes (length-labelBlock φ g))
-        ∙ ap (_++ chunks arrowCount 0 (arrowBlock φ g)) labels-put
+    all-relabelled = first-written (λ y. reseal (φ .sums) (putRows labelCount rows y)) g v (g .inUse) labels-put
 
   module _ (g : Graph) (w : Within g) (v : Pairs) (inside : PairsIn g v) (a : ℕ) (rows : List ℕ) (r : Rows (g .n) v rows) where
     arrow-put : reseal (φ .sums) (putRows (g .n) rows (arrowBlock φ g a)) ≡ arrowBlock φ (rejoin g a v) a

@@ -13,13 +13,13 @@ use Rattle.logic.specs.Graph.{Nodes, allBelow, implies}
 use Rattle.logic.specs.Limits.{maxNodes, labelCount}
 use Rattle.logic.proofs.Below.{all-cong, all-true, all-each, none-outside}
 use Rattle.words.specs.Words.{setOf, member, wordAt}
-use Rattle.words.proofs.SetLaws.{setOf-empty, setOf-none, member-zero, member-setOf}
+use Rattle.words.proofs.SetLaws.{setOf-empty, setOf-none, member-setOf}
 use Rattle.words.proofs.WordLaws.{member-wordAt}
+use Rattle.seal.specs.Seal.{Form}
 use Rattle.sheet.specs.Questions.{free, zeroRight}
 use Rattle.sheet.specs.Masks.{wordCount, zerosAt, within, zeroBut, lineMask, rowMask}
 use Rattle.sheet.specs.Sheet.{padding, SheetForm, lineCount}
-use Rattle.sheet.proofs.Passes.{if-clear, if-free}
-use Rattle.sheet.proofs.Opening.{clear, byte-ext, label-gap, arrow-gap}
+use Rattle.sheet.proofs.Free.{if-clear, clear, bit-of-word, label-gap, arrow-gap, bit-free, byte-clear, zeros-right}
 use Rattle.sheet.proofs.Blocks.{label-lines, few-lines}
 
 -- two tests that pass together are the same
@@ -27,6 +27,27 @@ pub same-test : (a b : Bool) → (a ≡ true → b ≡ true) → (b ≡ true →
 same-test true b f g = sym (f refl)
 same-test false true f g = g refl
 same-test false false f g = refl
+
+-- bytes from `at` on that are all zero
+module _ (k : List ℕ) (at m : ℕ) where
+  pub zeros-are : ((j : ℕ) → j < m → getD k (at + j) 0 ≡ 0) → zerosAt k at m ≡ true
+  unfolding zerosAt
+  zeros-are z = all-true m _ (λ j l. eq-eqb _ _ (z j l))
+
+  pub zero-at : zerosAt k at m ≡ true → (p : ℕ) → at ≤ p → p < at + m → getD k p 0 ≡ 0
+  unfolding zerosAt
+  zero-at e p l u =
+      let s : at + (p - at) ≡ p = omega arith in
+      ap (λ x. getD k x 0) (sym s) ∙ eqb-true _ _ (all-each m (λ j. eqb (getD k (at + j) 0) 0) e (p - at) (omega arith))
+
+-- the three tests of a block by its masks
+pub but-parts : (φ : Form) (mask : ℕ → ℕ) (k : List ℕ) → zeroBut φ mask k ≡ true
+    → (zerosAt k 3 13 ≡ true) × (allBelow wordCount (λ j. within k (mask j) j) ≡ true) × (zerosAt k (16 + 8 * wordCount) (padding φ wordCount) ≡ true)
+unfolding zeroBut
+but-parts φ mask k e =
+    let a = and-eq-true-iff (zerosAt k 3 13) _ .0 e in
+    let b = and-eq-true-iff (allBelow wordCount (λ j. within k (mask j) j)) _ .0 (a .1) in
+    (a .0, b .0, b .1)
 
 -- a word within its mask, bit for bit
 module _ (k : List ℕ) (bytes : (p : ℕ) → getD k p 0 < 256) (node : Nodes) (j : ℕ) (h : j < wordCount) where
@@ -59,21 +80,16 @@ within-none k bytes node j h e = bits-within k bytes node j h (λ r l. if-clear 
 module _ (φ : SheetForm) where
   -- a block whose bits are free where their masks have them
   module _ (k : List ℕ) (bytes : (p : ℕ) → getD k p 0 < 256) (n : ℕ) (nodes : Nodes) (b : ℕ) (masks : ℕ → Nodes)
-      (head : (p i : ℕ) → p < 3 → free φ n nodes b p i ≡ true)
       (gap : (p i : ℕ) → 3 ≤ p → (p < 16) ⊎ (16 + 8 * wordCount ≤ p) → free φ n nodes b p i ≡ false)
       (inner : (p i : ℕ) → 16 ≤ p → p < 16 + 8 * wordCount → free φ n nodes b p i ≡ masks ((p - 16) / 8) (p % 8 * 8 + i)) where
     module _ (e : zeroRight φ n nodes b k ≡ true) where
-      bit-free : (p i : ℕ) → p < φ .sums .bodyBytes → i < 8 → implies (member (getD k p 0) i) (free φ n nodes b p i) ≡ true
-      unfolding zeroRight
-      bit-free p i l s = all-each 8 (λ i. implies (member (getD k p 0) i) (free φ n nodes b p i)) (all-each (φ .sums .bodyBytes) (λ p. allBelow 8 (λ i. implies (member (getD k p 0) i) (free φ n nodes b p i))) e p l) i s
-
-      gap-zero : (p : ℕ) → 3 ≤ p → p < φ .sums .bodyBytes → (p < 16) ⊎ (16 + 8 * wordCount ≤ p) → eqb (getD k p 0) 0 ≡ true
-      gap-zero p l u w = eq-eqb _ _ (byte-ext (getD k p 0) 0 (bytes p) (omega arith) (λ i s. clear (member (getD k p 0) i) (free φ n nodes b p i) (gap p i l w) (bit-free p i u s) ∙ sym (member-zero i)))
+      gap-zero : (p : ℕ) → 3 ≤ p → p < φ .sums .bodyBytes → (p < 16) ⊎ (16 + 8 * wordCount ≤ p) → getD k p 0 ≡ 0
+      gap-zero p l u w = byte-clear φ n nodes b k e p u (bytes p) (λ i. gap p i l w)
 
       word-right : (j : ℕ) → j < wordCount → within k (setOf 64 (masks j)) j ≡ true
       word-right j l = bits-within k bytes (masks j) j (omega arith) (λ r h.
           ap (implies (member (getD k (16 + 8 * j + r / 8) 0) (r % 8))) (sym (inner (16 + 8 * j + r / 8) (r % 8) (omega arith) (omega arith) ∙ ap₂ masks (at-row j r h) (at-node j r h)))
-          ∙ bit-free (16 + 8 * j + r / 8) (r % 8) (omega arith) (omega arith))
+          ∙ bit-free φ n nodes b k e (16 + 8 * j + r / 8) (r % 8) (omega arith) (omega arith))
         where
           at-row : (j r : ℕ) → r < 64 → (16 + 8 * j + r / 8 - 16) / 8 ≡ j
           at-row j r h = omega arith
@@ -82,43 +98,27 @@ module _ (φ : SheetForm) where
           at-node j r h = omega arith
 
       asks : zeroBut (φ .sums) (λ j. setOf 64 (masks j)) k ≡ true
-      unfolding zeroBut zerosAt
+      unfolding zeroBut
       asks =
-          ap₂ _&&_ (all-true 13 _ (λ j l. gap-zero (3 + j) (omega arith) (omega arith) (inl (omega arith))))
-          (ap₂ _&&_ (all-true wordCount _ word-right) (all-true (padding (φ .sums) wordCount) _ (λ j l. gap-zero (16 + 8 * wordCount + j) (omega arith) (omega arith) (inr (omega arith)))))
+          ap₂ _&&_ (zeros-are k 3 13 (λ j l. gap-zero (3 + j) (omega arith) (omega arith) (inl (omega arith))))
+          (ap₂ _&&_ (all-true wordCount _ word-right) (zeros-are k (16 + 8 * wordCount) (padding (φ .sums) wordCount) (λ j l. gap-zero (16 + 8 * wordCount + j) (omega arith) (omega arith) (inr (omega arith)))))
 
     module _ (e : zeroBut (φ .sums) (λ j. setOf 64 (masks j)) k ≡ true) where
-      front : (zerosAt k 3 13 ≡ true) × ((allBelow wordCount (λ j. within k (setOf 64 (masks j)) j) && zerosAt k (16 + 8 * wordCount) (padding (φ .sums) wordCount)) ≡ true)
-      unfolding zeroBut
-      front = and-eq-true-iff (zerosAt k 3 13) _ .0 e
-
-      behind : (allBelow wordCount (λ j. within k (setOf 64 (masks j)) j) ≡ true) × (zerosAt k (16 + 8 * wordCount) (padding (φ .sums) wordCount) ≡ true)
-      behind = and-eq-true-iff (allBelow wordCount (λ j. within k (setOf 64 (masks j)) j)) _ .0 (front .1)
-
-      zero-bit : (at c : ℕ) → zerosAt k at c ≡ true → (p i : ℕ) → at ≤ p → p < at + c → member (getD k p 0) i ≡ false
-      unfolding zerosAt
-      zero-bit at c z p i l u =
-          let s : at + (p - at) ≡ p = omega arith in
-          ap (λ x. member (getD k x 0) i) (sym s) ∙ ap (λ x. member x i) (eqb-true _ _ (all-each c (λ j. eqb (getD k (at + j) 0) 0) z (p - at) (omega arith))) ∙ member-zero i
+      parts : (zerosAt k 3 13 ≡ true) × (allBelow wordCount (λ j. within k (setOf 64 (masks j)) j) ≡ true) × (zerosAt k (16 + 8 * wordCount) (padding (φ .sums) wordCount) ≡ true)
+      parts = but-parts (φ .sums) (λ j. setOf 64 (masks j)) k e
 
       word-bits : (p i : ℕ) → 16 ≤ p → p < 16 + 8 * wordCount → i < 8 → implies (member (getD k p 0) i) (free φ n nodes b p i) ≡ true
       word-bits p i l u s =
           let r : ℕ = p % 8 * 8 + i in
-          let at : p ≡ 16 + 8 * ((p - 16) / 8) + r / 8 = omega arith in
-          let bit : i ≡ r % 8 = omega arith in
           ap (implies (member (getD k p 0) i)) (inner p i l u)
-          ∙ ap₂ (λ x y. implies (member (getD k x 0) y) (masks ((p - 16) / 8) r)) at bit
-          ∙ within-bits k bytes (masks ((p - 16) / 8)) ((p - 16) / 8) (omega arith) (all-each wordCount (λ j. within k (setOf 64 (masks j)) j) (behind .0) ((p - 16) / 8) (omega arith)) r (omega arith)
-
-      bit-right : (p i : ℕ) → p < φ .sums .bodyBytes → i < 8 → Dec (p < 3) → Dec (p < 16) → Dec (p < 16 + 8 * wordCount) → implies (member (getD k p 0) i) (free φ n nodes b p i) ≡ true
-      bit-right p i l s (yes x) d g = if-free (member (getD k p 0) i) _ (head p i x)
-      bit-right p i l s (no x) (yes d) g = if-clear _ _ (zero-bit 3 13 (front .0) p i (omega arith) (omega arith))
-      bit-right p i l s (no x) (no d) (yes g) = word-bits p i (omega arith) g s
-      bit-right p i l s (no x) (no d) (no g) = if-clear _ _ (zero-bit (16 + 8 * wordCount) (padding (φ .sums) wordCount) (behind .1) p i (omega arith) (omega arith))
+          ∙ ap (λ x. implies x (masks ((p - 16) / 8) r)) (bit-of-word k p i l s)
+          ∙ within-bits k bytes (masks ((p - 16) / 8)) ((p - 16) / 8) (omega arith) (all-each wordCount (λ j. within k (setOf 64 (masks j)) j) (parts .1) ((p - 16) / 8) (omega arith)) r (omega arith)
 
       answered : zeroRight φ n nodes b k ≡ true
-      unfolding zeroRight
-      answered = all-true (φ .sums .bodyBytes) _ (λ p l. all-true 8 _ (λ i s. bit-right p i l s (decLt p 3) (decLt p 16) (decLt p (16 + 8 * wordCount))))
+      answered =
+          zeros-right φ n nodes b k wordCount
+          (λ p l u w. ⊎-elim (λ a. zero-at k 3 13 (parts .0) p l (omega arith)) (λ a. zero-at k (16 + 8 * wordCount) (padding (φ .sums) wordCount) (parts .2) p a (omega arith)) w)
+          word-bits
 
     by-masks : zeroBut (φ .sums) (λ j. setOf 64 (masks j)) k ≡ zeroRight φ n nodes b k
     by-masks = same-test _ _ answered asks
@@ -137,7 +137,7 @@ module _ (φ : SheetForm) where
     unfolding free
     masks-first e =
         by-mask (lineMask φ n all) lineMasks (λ j l. masks j (ltb j labelCount) (ltb j (lineCount φ)))
-        ∙ by-masks k bytes n nodes 0 lineMasks (λ p i h. rw (lt-ltb p 3 h)) (λ p i l w. label-gap φ n nodes p i l (⊎-elim (λ u. inl u) (λ u. inr (omega (arith, few-lines φ))) w))
+        ∙ by-masks k bytes n nodes 0 lineMasks (λ p i l w. label-gap φ n nodes p i l (⊎-elim (λ u. inl u) (λ u. inr (omega (arith, few-lines φ))) w))
         (λ p i l u. inner p i l (decLt p (16 + 8 * labelCount)) (decLt p (16 + 8 * lineCount φ)))
         ∙ ap (λ x. zeroRight φ n nodes x k) (sym e)
       where
@@ -167,5 +167,5 @@ module _ (φ : SheetForm) where
         go : (b : ℕ) → (b ≡ 0 → ⊥) → zeroBut (φ .sums) (λ j. setOf 64 (λ i. nodes j && nodes i)) k ≡ zeroRight φ n nodes b k
         go zero e = absurd (e refl)
         go (suc a) e =
-            by-masks k bytes n nodes (suc a) (λ j i. nodes j && nodes i) (λ p i h. rw (lt-ltb p 3 h)) (λ p i l w. arrow-gap φ n nodes a p i l (⊎-elim (λ u. inl u) (λ u. inr (omega arith)) w))
+            by-masks k bytes n nodes (suc a) (λ j i. nodes j && nodes i) (λ p i l w. arrow-gap φ n nodes a p i l (⊎-elim (λ u. inl u) (λ u. inr (omega arith)) w))
             (λ p i l u. inner a p i l (decLt p (16 + 8 * maxNodes)))

@@ -16,7 +16,8 @@ use Rattle.sheet.specs.Sheet.{present, former, blockCount, sheetBytes, s
 use Rattle.sheet.specs.Questions.{blockOf, SoundIn}
 use Rattle.sheet.proofs.Blocks.{length-store}
 use Rattle.sheet.proofs.Loads.{sound-length}
-use Rattle.sheet.proofs.Converted.{made-length, made-more, made-all, begun-length, each-made, card-few, blocks-ext, body-fits, converted-is, refused-stays}
+use Rattle.sheet.proofs.Parts.{blocks-ext}
+use Rattle.sheet.proofs.Converted.{made-length, made-more, made-all, begun-length, each-made, card-few, body-fits, converted-is, refused-stays}
 use Rattle.sheet.proofs.Sheet.convert.Statement.{statement}
 use Rattle.sheet.proofs.Sheet.convert.Tie as tie
 
