@@ -1,5 +1,7 @@
 pub mod Places
-pub mod NodeCases
+pub mod InUse
 pub mod ArrowCases
+pub mod NodeCases
+pub mod QuantifierSets
 pub mod RuleCases
 pub mod Turns

@@ -18,15 +18,14 @@ pub turned-none : (n : ℕ) (text : List ℕ) (at : ℕ) (e : Expr arrow) → St
 turned-none n text at e h = record { R = e; stands = h; means = λ g. refl; on = omega arith; ends = refl }
 
 pub turned-more : (n : ℕ) (text : List ℕ) (at : ℕ) (e : Expr arrow) (b : Bool) (p : ℕ) → IsTurned n text at e b p → getD text p 0 ≡ 0x12 → IsTurned n text at e (not b) (p + 1)
-unfolding value
 turned-more n text at e b p t c =
     let q = as-reversed n text p (t .R) (t .stands) (omega (arith, c)) (omega (arith, c)) in
     record {
-      R = q .R;
-      stands = q .parts .first;
-      means = λ g. t .means g ∙ ap (λ (f : Expr arrow). turn b (value g f)) (q .is) ∙ go b (value g (q .R));
+      R = q .A;
+      stands = q .first;
+      means = λ g. t .means g ∙ ap (turn b) (q .means g) ∙ go b (value g (q .A));
       on = omega (arith, t .on);
-      ends = omega (arith, t .ends, q .parts .size);
+      ends = omega (arith, t .ends, q .size);
     }
   where
     go : (b : Bool) (v : Pairs) → turn b (λ i j. v j i) ≡ turn (not b) v

@@ -1,7 +1,7 @@
 use mathlib.Core.Path.{sym, ap, _∙_}
 use native.Mathlib.Omega.{arith}
 use lib.ListN.{length}
-use Rattle.eval.proofs.ArrowCases.{IsKind, as-kind, kind-relation}
+use Rattle.eval.proofs.ArrowCases.{IsKind, as-kind, leaf-relation}
 use Rattle.eval.proofs.arrow_kind.Statement.{statement}
 use Rattle.eval.proofs.arrow_kind.Tie as tie
 
@@ -12,7 +12,7 @@ pub arrow-kind-spec : {M : Type 1} → statement M
 arrow-kind-spec = tie.close (tie.spec
     (λ c. omega (arith, kind (c .before .before .before) .inside))
     (λ c. omega (arith, kind (c .before .before .before .before) .inside))
-    (λ c κs. let s = c .before .before .before .before .before in (s .pre .0 .sound, s .pre .0 .count, s .pre .0 .few, omega (arith, kind s .range, kind s .reads), ap length (s .pre .3)))
+    (λ c κs. let s = c .before .before .before .before .before in (s .pre .0 .sound, s .pre .0 .count, s .pre .0 .few, kind s .range, ap length (s .pre .3)))
     (λ c. omega (arith, kind (c .before .before .before .before .before .before .before .before) .inside))
     (λ c. c .before .before .arrow-rows .ensures .1 ∙ sym (ap length (c .before .before .before .before .before .before .before .before .pre .3)))
-    (λ c. (λ e h. kind-relation _ _ _ _ e _ (as-kind _ _ _ e h (c .before .before .before .before .before .before .before .before .pre .2)) (c .before .before .arrow-rows .ensures .0), c .before .before .arrow-rows .ensures .1)))
+    (λ c. (λ e h. leaf-relation _ _ _ _ e _ (as-kind _ _ _ e h (c .before .before .before .before .before .before .before .before .pre .2)) (c .before .before .arrow-rows .ensures .0), c .before .before .arrow-rows .ensures .1)))

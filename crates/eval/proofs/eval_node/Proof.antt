@@ -1,4 +1,4 @@
-use Rattle.eval.proofs.NodeCases.{all-used, is-whole}
+use Rattle.eval.proofs.InUse.{all-used, is-whole}
 use Rattle.eval.proofs.eval_node.Statement.{statement}
 use Rattle.eval.proofs.eval_node.Tie as tie
 

@@ -1,6 +1,6 @@
 use mathlib.Core.Path.{sym, _∙_}
 use native.Mathlib.Omega.{arith}
-use Rattle.eval.proofs.ArrowCases.{IsKind, as-kind, kind-joined}
+use Rattle.eval.proofs.ArrowCases.{IsKind, as-kind, leaf-joined}
 use Rattle.eval.proofs.join_kind.Statement.{statement}
 use Rattle.eval.proofs.join_kind.Tie as tie
 
@@ -11,7 +11,7 @@ pub join-kind-spec : {M : Type 1} → statement M
 join-kind-spec = tie.close (tie.spec
     (λ c. omega (arith, kind (c .before .before .before) .inside))
     (λ c. omega (arith, kind (c .before .before .before .before) .inside))
-    (λ c κs. let s = c .before .before .before .before .before in (s .pre .0, s .pre .1, s .pre .2, omega (arith, kind s .range, kind s .reads), s .pre .5))
+    (λ c κs. let s = c .before .before .before .before .before in (s .pre .0, s .pre .1, s .pre .2, kind s .range, s .pre .5))
     (λ c. omega (arith, kind (c .before .before .before .before .before .before .before .before) .inside))
     (λ c. c .before .before .combine-kind .ensures .1 ∙ sym (c .before .before .before .before .before .before .before .before .pre .5))
-    (λ c. (λ e h. kind-joined _ _ _ _ _ e _ _ (as-kind _ _ _ e h (c .before .before .before .before .before .before .before .before .pre .4)) (c .before .before .combine-kind .ensures .0), c .before .before .combine-kind .ensures .1)))
+    (λ c. (λ e h. leaf-joined _ _ _ _ _ e _ _ (as-kind _ _ _ e h (c .before .before .before .before .before .before .before .before .pre .4)) (c .before .before .combine-kind .ensures .0), c .before .before .combine-kind .ensures .1)))

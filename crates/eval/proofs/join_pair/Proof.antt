@@ -1,6 +1,6 @@
 use mathlib.Core.Path.{sym, _∙_}
 use native.Mathlib.Omega.{arith}
-use Rattle.eval.proofs.ArrowCases.{IsPair, as-pair, pair-joined}
+use Rattle.eval.proofs.ArrowCases.{IsPair, as-pair, leaf-joined}
 use Rattle.eval.proofs.join_pair.Statement.{statement}
 use Rattle.eval.proofs.join_pair.Tie as tie
 
@@ -13,7 +13,7 @@ join-pair-spec = tie.close (tie.spec
     (λ c. omega (arith, pair (c .before .before .before .before) .inside))
     (λ c. omega (arith, pair (c .before .before .before .before) .inside))
     (λ c. omega (arith, pair (c .before .before .before .before .before) .inside))
-    (λ c κs. let s = c .before .before .before .before .before .before in (s .pre .3, omega (arith, s .pre .0 .few, pair s .range-i, pair s .reads-i), omega (arith, s .pre .0 .few, pair s .range-j, pair s .reads-j), s .pre .4))
+    (λ c κs. let s = c .before .before .before .before .before .before in (s .pre .3, omega (arith, s .pre .0 .few, pair s .range .0), omega (arith, s .pre .0 .few, pair s .range .1), s .pre .4))
     (λ c. omega (arith, pair (c .before .before .before .before .before .before .before .before .before) .inside))
     (λ c. c .before .before .combine-pair .ensures .1 ∙ sym (c .before .before .before .before .before .before .before .before .before .pre .4))
-    (λ c. let s = c .before .before .before .before .before .before .before .before .before in (λ e h. pair-joined _ _ _ _ _ e _ _ (as-pair _ _ _ e h (s .pre .2)) (λ v p. c .before .before .combine-pair .ensures .0 _ _ v (omega (arith, s .pre .0 .few)) (s .pre .0 .nodes) p), c .before .before .combine-pair .ensures .1)))
+    (λ c. let s = c .before .before .before .before .before .before .before .before .before in (λ e h. leaf-joined _ _ _ _ _ e _ _ (as-pair _ _ _ e h (s .pre .2)) (λ v p. c .before .before .combine-pair .ensures .0 _ _ v (omega (arith, s .pre .0 .few)) (s .pre .0 .nodes) p), c .before .before .combine-pair .ensures .1)))

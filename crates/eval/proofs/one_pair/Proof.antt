@@ -1,7 +1,7 @@
 use mathlib.Core.Path.{sym, ap, _∙_}
 use native.Mathlib.Omega.{arith}
 use lib.ListN.{length}
-use Rattle.eval.proofs.ArrowCases.{IsPair, as-pair, pair-relation}
+use Rattle.eval.proofs.ArrowCases.{IsPair, as-pair, leaf-relation}
 use Rattle.eval.proofs.one_pair.Statement.{statement}
 use Rattle.eval.proofs.one_pair.Tie as tie
 
@@ -14,7 +14,7 @@ one-pair-spec = tie.close (tie.spec
     (λ c. omega (arith, pair (c .before .before .before .before) .inside))
     (λ c. omega (arith, pair (c .before .before .before .before) .inside))
     (λ c. omega (arith, pair (c .before .before .before .before .before) .inside))
-    (λ c κs. let s = c .before .before .before .before .before .before in (omega (arith, s .pre .0 .few, pair s .range-i, pair s .reads-i), omega (arith, s .pre .0 .few, pair s .range-j, pair s .reads-j), s .pre .3))
+    (λ c κs. let s = c .before .before .before .before .before .before in (omega (arith, s .pre .0 .few, pair s .range .0), omega (arith, s .pre .0 .few, pair s .range .1), s .pre .3))
     (λ c. omega (arith, pair (c .before .before .before .before .before .before .before .before .before) .inside))
     (λ c. c .before .before .pair-rows .ensures .1 ∙ sym (ap length (c .before .before .before .before .before .before .before .before .before .pre .3)))
-    (λ c. let s = c .before .before .before .before .before .before .before .before .before in (λ e h. pair-relation _ _ _ _ e _ (as-pair _ _ _ e h (s .pre .2)) (c .before .before .pair-rows .ensures .0 _ _ (omega (arith, s .pre .0 .few)) (s .pre .0 .nodes)), c .before .before .pair-rows .ensures .1)))
+    (λ c. let s = c .before .before .before .before .before .before .before .before .before in (λ e h. leaf-relation _ _ _ _ e _ (as-pair _ _ _ e h (s .pre .2)) (c .before .before .pair-rows .ensures .0 _ _ (omega (arith, s .pre .0 .few)) (s .pre .0 .nodes)), c .before .before .pair-rows .ensures .1)))

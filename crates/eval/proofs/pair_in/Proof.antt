@@ -10,13 +10,13 @@ case s = as-pair-in _ _ _ (s .pre .1 .what) (s .pre .1 .stands) (s .pre .2) (s .
 
 pub pair-in-spec : {M : Type 1} → statement M
 pair-in-spec = tie.close (tie.spec
-    (λ c. omega (arith, case (c .before .before) .parts .inside))
+    (λ c. omega (arith, case (c .before .before) .inside))
     (λ c. search needs)
-    (λ c κs. let s = c .before .before .before in (s .pre .0, record { what = case s .R; stands = case s .parts .first }, refl))
+    (λ c κs. let s = c .before .before .before in (s .pre .0, record { what = case s .A; stands = case s .first }, refl))
     (λ c. search needs)
-    (λ c. omega (arith, case (c .before .before .before .before .before .before) .parts .inside))
-    (λ c. omega (arith, case (c .before .before .before .before .before .before .before) .parts .inside))
-    (λ c. omega (arith, case (c .before .before .before .before .before .before .before) .parts .inside))
-    (λ c. omega (arith, case (c .before .before .before .before .before .before .before .before) .parts .inside))
-    (λ c κs. let s = c .before .before .before .before .before .before .before .before in (omega (arith, s .pre .0 .few, case s .range-i, case s .reads-i), omega (arith, s .pre .0 .few, case s .range-j, case s .reads-j), c .before .before .before .before .eval-arrow .ensures .1))
+    (λ c. omega (arith, case (c .before .before .before .before .before .before) .inside))
+    (λ c. omega (arith, case (c .before .before .before .before .before .before .before) .inside))
+    (λ c. omega (arith, case (c .before .before .before .before .before .before .before) .inside))
+    (λ c. omega (arith, case (c .before .before .before .before .before .before .before .before) .inside))
+    (λ c κs. let s = c .before .before .before .before .before .before .before .before in (omega (arith, s .pre .0 .few, case s .range .0), omega (arith, s .pre .0 .few, case s .range .1), c .before .before .before .before .eval-arrow .ensures .1))
     (λ c e h. let s = c .before .before .before .before .before .before .before .before .before in pair-in-truth _ _ _ _ _ (s .pre .0) e _ (as-pair-in _ _ _ e h (s .pre .2) (s .pre .3)) _ _ (c .before .before .before .before .before .eval-arrow .ensures .0) (c .pair-in .ensures)))
