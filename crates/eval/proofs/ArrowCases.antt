@@ -1,5 +1,5 @@
 -- The cases of an arrow expression by its code byte, and the relation that each means.
-use mathlib.Core.Path.{_≡_, refl, sym, ap, ap₂, _∙_, subst}
+use mathlib.Core.Path.{_≡_, refl, sym, ap, ap₂, subst}
 use mathlib.Core.Bool.{cond, _&&_}
 use mathlib.Core.List.{List, []}
 use Prim.Native.Nat.{ℕ, _+_, _≤_, _<_}
@@ -16,7 +16,7 @@ use Rattle.text.specs.Code.{code}
 use Rattle.text.specs.Stands.{Stands}
 use Rattle.rows.specs.Operations.{arrowOperation}
 use Rattle.eval.specs.Evaluated.{IsSet, IsRelation, IsJoined}
-use Rattle.eval.proofs.Places.{first-number, second-number, codeByte, code-at, below, above, Leaf, One, Two, leaf-at, one-at, two-at}
+use Rattle.eval.proofs.Places.{first-number, second-number, codeByte, by-byte, below, above, Leaf, One, Two, leaf-at, one-at, two-at}
 
 module _ (n : ℕ) (text : List ℕ) (at : ℕ) where
   -- 11
@@ -61,7 +61,7 @@ module _ (n : ℕ) (text : List ℕ) (at : ℕ) where
 
   -- With a numeral for c, Shown c is one case; else the bounds on c choose it (below, above).
   shown : (e : Expr arrow) → Stands (ranges n) text at e → (c : ℕ) → getD text at 0 ≡ c → Shown c e
-  shown e h c q = subst (λ (c : ℕ). Shown c e) (sym (code-at _ text at e h) ∙ q) (cases e h)
+  shown e h = by-byte _ text at e h Shown (cases e h)
 
   module _ (e : Expr arrow) (h : Stands (ranges n) text at e) where
     pub as-kind : getD text at 0 ≤ 0x11 → IsKind e

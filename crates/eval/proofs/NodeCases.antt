@@ -18,7 +18,7 @@ use Rattle.text.specs.Code.{code}
 use Rattle.text.specs.Stands.{Stands}
 use Rattle.rows.specs.Operations.{quantified, quantifiedNodes}
 use Rattle.eval.specs.Evaluated.{Opened, Used, IsSetWithin}
-use Rattle.eval.proofs.Places.{first-number, codeByte, code-at, below, above, Leaf, One, Two, leaf-at, one-at, two-at}
+use Rattle.eval.proofs.Places.{first-number, codeByte, by-byte, below, above, Leaf, One, Two, leaf-at, one-at, two-at}
 use Rattle.eval.proofs.InUse.{in-use, combined-used}
 
 module _ (n : ℕ) (text : List ℕ) (at : ℕ) where
@@ -86,7 +86,7 @@ module _ (n : ℕ) (text : List ℕ) (at : ℕ) where
 
   -- With a numeral for c, Shown c is one case; else the bounds on c choose it (below, above).
   shown : (e : Expr node) → Stands (ranges n) text at e → (c : ℕ) → getD text at 0 ≡ c → Shown c e
-  shown e h c q = subst (λ (c : ℕ). Shown c e) (sym (code-at _ text at e h) ∙ q) (cases e h)
+  shown e h = by-byte _ text at e h Shown (cases e h)
 
   module _ (e : Expr node) (h : Stands (ranges n) text at e) where
     pub as-all : getD text at 0 ≤ 0x01 → IsAll e

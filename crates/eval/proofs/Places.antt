@@ -1,5 +1,5 @@
 -- What stands in a text at the place of an expression: its code, its numbers, its operands.
-use mathlib.Core.Path.{_≡_, refl, ap, _∙_, subst}
+use mathlib.Core.Path.{_≡_, refl, sym, ap, _∙_, subst}
 use mathlib.Core.Bool.{Bool, cond}
 use mathlib.Core.List.{List, [], _∷_, _++_, append-assoc}
 use Prim.Native.Nat.{ℕ, _+_, _≤_, _<_}
@@ -88,6 +88,10 @@ filled e = omega (arith, ap length (begins e .is))
 module _ (r : Ranges) (text : List ℕ) (at : ℕ) {s : Sort} (e : Expr s) (h : Stands r text at e) where
   pub code-at : getD text at 0 ≡ codeByte e
   code-at = byte-at text at (codeByte e) (begins e .tail ++ h .rest) (h .here ∙ ap (_++ h .rest) (begins e .is))
+
+  -- What is so of a term by its code is so by the byte read.
+  pub by-byte : (P : ℕ → Expr s → Type 0) → P (codeByte e) e → (c : ℕ) → getD text at 0 ≡ c → P c e
+  by-byte P x c q = subst (λ (c : ℕ). P c e) (sym code-at ∙ q) x
 
   pub inside-at : at + length (code e) ≤ length text
   inside-at = omega (arith, within text at (code e) (h .rest) (h .here), filled e)

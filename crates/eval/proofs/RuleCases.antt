@@ -1,5 +1,5 @@
 -- The cases of a rule by its code byte, and when each holds.
-use mathlib.Core.Path.{_≡_, refl, sym, ap, ap₂, _∙_, subst}
+use mathlib.Core.Path.{_≡_, refl, sym, ap, ap₂, _∙_}
 use mathlib.Core.Bool.{Bool, true, false, not, _&&_, _||_, cond, and-true}
 use mathlib.Core.List.{List, [], _∷_}
 use Prim.Native.Nat.{ℕ, _+_, _≤_, _<_}
@@ -20,7 +20,7 @@ use Rattle.text.specs.Code.{code}
 use Rattle.text.specs.Stands.{Stands}
 use Rattle.eval.specs.Evaluated.{Opened, IsSetWithin, IsRelation, IsTruth, ruleOperation, decided}
 use Rattle.eval.proofs.InUse.{only-nodes, part-whole}
-use Rattle.eval.proofs.Places.{first-number, second-number, codeByte, code-at, below, above, One, Two, one-at, two-at}
+use Rattle.eval.proofs.Places.{first-number, second-number, codeByte, by-byte, below, above, One, Two, one-at, two-at}
 
 module _ (n : ℕ) (text : List ℕ) (at : ℕ) where
   -- 21
@@ -71,7 +71,7 @@ module _ (n : ℕ) (text : List ℕ) (at : ℕ) where
 
   -- With a numeral for c, Shown c is one case; else the bounds on c choose it (below, above).
   shown : (e : Expr rule) → Stands (ranges n) text at e → (c : ℕ) → getD text at 0 ≡ c → Shown c e
-  shown e h c q = subst (λ (c : ℕ). Shown c e) (sym (code-at _ text at e h) ∙ q) (cases e h)
+  shown e h = by-byte _ text at e h Shown (cases e h)
 
   module _ (e : Expr rule) (h : Stands (ranges n) text at e) where
     pub as-sub-nodes : getD text at 0 ≤ 0x21 → IsSubNodes e

@@ -34,7 +34,7 @@ fn fill(buf: &mut [u8]) -> bool {
     read_up_to(buf) == buf.len()
 }
 
-// Reads a two-byte length and as many bytes, to the start of a buffer that has room for every such length.
+// Reads a two-byte length and as many bytes, to the start of the buffer. Inner: it has room for every such length.
 pub fn read_text(buf: &mut [u8]) -> Got
     requires { ⌜ textBytes ≤ length (now buf) ⌝ }
     ensures { λ r. ⌜ gotLength r ≤ length (now (buf .exit)) ⌝ }
@@ -51,7 +51,7 @@ pub fn read_text(buf: &mut [u8]) -> Got
     }
 }
 
-// Reads a sheet and a book, as every program does first.
+// Reads a sheet and a book, as every program does first. Inner: the book's buffer has room for every length of a text.
 pub fn read_sheet_and_book(sheet: &mut [u8], book: &mut [u8]) -> Got
     requires { ⌜ textBytes ≤ length (now book) ⌝ }
     ensures { λ r. ⌜ gotLength r ≤ length (now (book .exit)) ⌝ }

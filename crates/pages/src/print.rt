@@ -51,7 +51,7 @@ fn line_word(sheet: &[u8], k: usize) -> u64
     Sheet::all_nodes(sheet)
 }
 
-// A line for each label likewise, and one for the nodes in use.
+// A line for each label likewise, and one for the nodes in use. Inner: as for rows.
 fn put_label_lines(sheet: &[u8], n: usize, out: &mut [u8])
     requires { ⌜ Sound (now sheet) × (n ≡ graphOf (now sheet) .n) × (n ≤ maxNodes) × (lineBytes * labelPageLines ≤ length (now out)) ⌝ }
     ensures { λ _. ⌜ now (out .exit) ≡ writtenAtStart (labelLines (graphOf (now (sheet .entry)))) (now (out .entry)) ⌝ }
