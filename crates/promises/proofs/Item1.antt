@@ -1,0 +1,1 @@
+-- Item 1 of document 02 is kept.

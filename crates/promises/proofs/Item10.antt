@@ -1,0 +1,1 @@
+-- Item 10 of document 02 is kept.

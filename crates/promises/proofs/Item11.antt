@@ -1,0 +1,1 @@
+-- Item 11 of document 02 is kept.

@@ -1,0 +1,1 @@
+-- Item 12 of document 02 is kept.

@@ -1,0 +1,1 @@
+-- Item 13 of document 02 is kept.

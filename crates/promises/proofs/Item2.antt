@@ -1,0 +1,1 @@
+-- Item 2 of document 02 is kept.

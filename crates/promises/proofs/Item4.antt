@@ -1,0 +1,1 @@
+-- Item 4 of document 02 is kept.

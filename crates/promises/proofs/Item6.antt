@@ -1,0 +1,1 @@
+-- Item 6 of document 02 is kept.

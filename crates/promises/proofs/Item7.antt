@@ -1,0 +1,1 @@
+-- Item 7 of document 02 is kept.

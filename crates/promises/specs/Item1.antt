@@ -1,0 +1,1 @@
+-- Item 1 of document 02: the squared sheet on paper. proofs/Item1 proves it.

@@ -1,0 +1,1 @@
+-- Item 10 of document 02: a shorter scratch. proofs/Item10 proves it.

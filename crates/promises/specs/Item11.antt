@@ -1,0 +1,1 @@
+-- Item 11 of document 02: shorter conditions from a partner's tool. proofs/Item11 proves it.

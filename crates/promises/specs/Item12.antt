@@ -1,0 +1,1 @@
+-- Item 12 of document 02: how many small sheets survive. proofs/Item12 proves it.

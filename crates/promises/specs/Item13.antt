@@ -1,0 +1,1 @@
+-- Item 13 of document 02: dispatcher against disruption. proofs/Item13 proves it.

@@ -1,0 +1,1 @@
+-- Item 2 of document 02: check bytes that miss 00 against FF. proofs/Item2 proves it.

@@ -1,0 +1,1 @@
+-- Item 4 of document 02: run last week's edits again. proofs/Item4 proves it.

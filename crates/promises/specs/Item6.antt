@@ -1,0 +1,1 @@
+-- Item 6 of document 02: closed platforms. proofs/Item6 proves it.

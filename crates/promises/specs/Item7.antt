@@ -1,0 +1,1 @@
+-- Item 7 of document 02: plans to come back to. proofs/Item7 proves it.

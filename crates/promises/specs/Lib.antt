@@ -1,0 +1,9 @@
+pub mod Item1
+pub mod Item2
+pub mod Item4
+pub mod Item6
+pub mod Item7
+pub mod Item10
+pub mod Item11
+pub mod Item12
+pub mod Item13

@@ -1,0 +1,1 @@
+// What the papers promise, sentence by sentence: definitions and theorems only.
