@@ -118,11 +118,11 @@ static void print_text(const struct text *text) {
 }
 
 static int has_label(const uint8_t *bytes, size_t k, size_t i) {
-    return (int)zamiathen_label_bit(bytes, ZAMIATHEN_SHEET_BYTES, (uint8_t)k, (uint8_t)i).bit;
+    return (int)zamiathen_label_bit(bytes, ZAMIATHEN_SHEET_BYTES, k, i).bit;
 }
 
 static int has_arrow(const uint8_t *bytes, size_t a, size_t i, size_t j) {
-    return (int)zamiathen_arrow_bit(bytes, ZAMIATHEN_SHEET_BYTES, (uint8_t)a, (uint8_t)i, (uint8_t)j).bit;
+    return (int)zamiathen_arrow_bit(bytes, ZAMIATHEN_SHEET_BYTES, a, i, j).bit;
 }
 
 static void print_changed_labels(void) {

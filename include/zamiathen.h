@@ -217,11 +217,11 @@ zamiathen_answer zamiathen_join_sheets(uint8_t *first, size_t first_length, cons
 
 /* Has a node this label? The bit is 1 if so. Answers 0, 1 to 4, or 7 unless the label is below 48 and the node below n.
  * A closed node has none. Writes nothing. Each call asks the whole sheet. */
-zamiathen_bit zamiathen_label_bit(const uint8_t *sheet, size_t sheet_length, uint8_t label, uint8_t node);
+zamiathen_bit zamiathen_label_bit(const uint8_t *sheet, size_t sheet_length, size_t label, size_t node);
 
 /* Does an arrow of this kind go from one node to the other? The bit is 1 if so. Answers 0, 1 to 4, or 7 unless the
  * arrow is below 16 and both nodes are below n. Writes nothing. Each call asks the whole sheet. */
-zamiathen_bit zamiathen_arrow_bit(const uint8_t *sheet, size_t sheet_length, uint8_t arrow, uint8_t from, uint8_t to);
+zamiathen_bit zamiathen_arrow_bit(const uint8_t *sheet, size_t sheet_length, size_t arrow, size_t from, size_t to);
 
 /*
  * Pages

@@ -307,22 +307,22 @@ static void blanks(void) {
     }
 }
 
-static zamiathen_bit label_bit(uint8_t label, uint8_t node) {
+static zamiathen_bit label_bit(size_t label, size_t node) {
     return zamiathen_label_bit(sheet, whole, label, node);
 }
 
-static zamiathen_bit arrow_bit(uint8_t arrow, uint8_t from, uint8_t to) {
+static zamiathen_bit arrow_bit(size_t arrow, size_t from, size_t to) {
     return zamiathen_arrow_bit(sheet, whole, arrow, from, to);
 }
 
 /* All bits of T, and numbers that T does not have. */
 static void bits(void) {
     start();
-    for (uint8_t i = 0; i < 3; i++) {
-        for (uint8_t k = 0; k < ZAMIATHEN_LABELS; k++)
+    for (size_t i = 0; i < 3; i++) {
+        for (size_t k = 0; k < ZAMIATHEN_LABELS; k++)
             bit_read("label bit", label_bit(k, i), ZAMIATHEN_DONE, 0, k == 0 ? i < 2 : k == 1 && i == 2);
-        for (uint8_t j = 0; j < 3; j++)
-            for (uint8_t a = 0; a < ZAMIATHEN_ARROWS; a++)
+        for (size_t j = 0; j < 3; j++)
+            for (size_t a = 0; a < ZAMIATHEN_ARROWS; a++)
                 bit_read("arrow bit", arrow_bit(a, i, j), ZAMIATHEN_DONE, 0, a == 0 && i < 2 && j == 2);
     }
     bit_read("label 48", label_bit(ZAMIATHEN_LABELS, 0), ZAMIATHEN_OUT_OF_RANGE, 0, 0);
@@ -330,6 +330,11 @@ static void bits(void) {
     bit_read("arrow 16", arrow_bit(ZAMIATHEN_ARROWS, 0, 2), ZAMIATHEN_OUT_OF_RANGE, 0, 0);
     bit_read("arrow from node 3", arrow_bit(0, 3, 2), ZAMIATHEN_OUT_OF_RANGE, 0, 0);
     bit_read("arrow to node 255", arrow_bit(0, 0, 255), ZAMIATHEN_OUT_OF_RANGE, 0, 0);
+    bit_read("label 256", label_bit(256, 0), ZAMIATHEN_OUT_OF_RANGE, 0, 0);
+    bit_read("label bit of node 256", label_bit(0, 256), ZAMIATHEN_OUT_OF_RANGE, 0, 0);
+    bit_read("arrow 256", arrow_bit(256, 0, 2), ZAMIATHEN_OUT_OF_RANGE, 0, 0);
+    bit_read("arrow from node 256", arrow_bit(0, 256, 2), ZAMIATHEN_OUT_OF_RANGE, 0, 0);
+    bit_read("arrow to the last number", arrow_bit(0, 0, SIZE_MAX), ZAMIATHEN_OUT_OF_RANGE, 0, 0);
     left_alone("bit reads");
 }
 

@@ -57,20 +57,20 @@ fn bit_outcome(asked: Asked<bool>, bytes: &[u8]) -> Outcome {
     Outcome::new(&[answer.number, answer.place, usize::from(asked.unwrap_or(false))], vec![Lent::of(bytes)])
 }
 
-fn label_bit(tally: &mut Tally, bytes: &[u8], label: u8, node: u8) {
+fn label_bit(tally: &mut Tally, bytes: &[u8], label: usize, node: usize) {
     let lent = Lent::of(bytes);
     let found = unsafe { zamiathen_label_bit(lent.ptr(), lent.len(), label, node) };
     let found = Outcome::new(&[found.number, found.place, found.bit], vec![lent]);
     let wanted = bit_outcome(sheet::label_bit(bytes, label, node), bytes);
-    tally.compare("label bit", &found, &wanted, &[("sheet", bytes), ("label, node", &[label, node])]);
+    tally.compare("label bit", &found, &wanted, &[("sheet", bytes), ("label", &label.to_le_bytes()), ("node", &node.to_le_bytes())]);
 }
 
-fn arrow_bit(tally: &mut Tally, bytes: &[u8], arrow: u8, from: u8, to: u8) {
+fn arrow_bit(tally: &mut Tally, bytes: &[u8], arrow: usize, from: usize, to: usize) {
     let lent = Lent::of(bytes);
     let found = unsafe { zamiathen_arrow_bit(lent.ptr(), lent.len(), arrow, from, to) };
     let found = Outcome::new(&[found.number, found.place, found.bit], vec![lent]);
     let wanted = bit_outcome(sheet::arrow_bit(bytes, arrow, from, to), bytes);
-    tally.compare("arrow bit", &found, &wanted, &[("sheet", bytes), ("arrow, from, to", &[arrow, from, to])]);
+    tally.compare("arrow bit", &found, &wanted, &[("sheet", bytes), ("arrow", &arrow.to_le_bytes()), ("from", &from.to_le_bytes()), ("to", &to.to_le_bytes())]);
 }
 
 fn fixed_sheet() -> Vec<u8> {
@@ -235,14 +235,21 @@ fn blanks(tally: &mut Tally) {
     }
 }
 
-/// Reads in range and just outside it.
+/// A number below `count` or just outside; now and then any byte, a number whose low byte is in range, or the largest.
+fn number(random: &mut Random, count: usize) -> usize {
+    match random.below(24) {
+        0 => usize::from(random.byte()),
+        1 => random.below(count + 1) + (256 << random.below(56)),
+        2 => usize::MAX - random.below(3),
+        _ => random.below(count + 1),
+    }
+}
+
+/// Reads in range and outside it.
 fn bit_reads(tally: &mut Tally, random: &mut Random, bytes: &[u8], n: usize) {
-    let node = |random: &mut Random| if random.one_in(12) { random.byte() } else { random.below(n + 1) as u8 };
-    let label = if random.one_in(12) { random.byte() } else { random.below(49) as u8 };
-    let arrow = if random.one_in(12) { random.byte() } else { random.below(17) as u8 };
-    let (i, j) = (node(random), node(random));
-    label_bit(tally, bytes, label, i);
-    arrow_bit(tally, bytes, arrow, i, j);
+    let (i, j) = (number(random, n), number(random, n));
+    label_bit(tally, bytes, number(random, 48), i);
+    arrow_bit(tally, bytes, number(random, 16), i, j);
 }
 
 /// All bits of one sheet.

@@ -224,23 +224,21 @@ pub fn blank(buffer: &mut [u8], n: usize) -> Answer {
 }
 
 /// Read one label bit.
-pub fn label_bit(sheet: &[u8], label: u8, node: u8) -> Asked<bool> {
+pub fn label_bit(sheet: &[u8], label: usize, node: usize) -> Asked<bool> {
     let n = ask(sheet)?;
-    let (k, i) = (usize::from(label), usize::from(node));
-    if k >= LABELS || i >= n {
+    if label >= LABELS || node >= n {
         return refuse(7, 0);
     }
-    Ok(bit_at(sheet, label_place(k), i))
+    Ok(bit_at(sheet, label_place(label), node))
 }
 
 /// Read one arrow bit.
-pub fn arrow_bit(sheet: &[u8], arrow: u8, from: u8, to: u8) -> Asked<bool> {
+pub fn arrow_bit(sheet: &[u8], arrow: usize, from: usize, to: usize) -> Asked<bool> {
     let n = ask(sheet)?;
-    let (a, i, j) = (usize::from(arrow), usize::from(from), usize::from(to));
-    if a >= ARROWS || i >= n || j >= n {
+    if arrow >= ARROWS || from >= n || to >= n {
         return refuse(7, 0);
     }
-    Ok(bit_at(sheet, row_place(a, i), j))
+    Ok(bit_at(sheet, row_place(arrow, from), to))
 }
 
 /// The questions 1 to 4 as an answer.

@@ -1,5 +1,6 @@
 // Blank sheets, the questions of a sheet, old cards, two sheets joined, and bit reads.
 ghost use mathlib.Core.Path.{_≡_};
+ghost use Prim.Native.Nat.{min};
 ghost use lib.ListN.{length};
 ghost use Rattle.answer.specs.Asked.{after};
 ghost use Rattle.seal.specs.Seal.{modulo257, modulo255};
@@ -84,16 +85,28 @@ fn bit_numbers(read: BitRead) -> BitNumbers
     }
 }
 
-#[no_mangle]
-pub extern "C" fn zamiathen_label_bit(sheet: &[u8], label: u8, node: u8) -> BitNumbers
-    ensures { λ r. ⌜ r ≡ bitNumbers (askLabelBit (now (sheet .entry)) label node) ⌝ }
+// The byte of a number; 255, which no label, arrow or node has, for every number above.
+fn byte(x: usize) -> u8
+    ensures { λ r. ⌜ r ≡ min x 255 ⌝ }
 {
-    bit_numbers(Sheet::label_bit(sheet, Label(label), Node(node)))
+    if x < 255 { x as u8 } else { 255 }
 }
 
 #[no_mangle]
-pub extern "C" fn zamiathen_arrow_bit(sheet: &[u8], arrow: u8, from: u8, to: u8) -> BitNumbers
+pub extern "C" fn zamiathen_label_bit(sheet: &[u8], label: usize, node: usize) -> BitNumbers
+    ensures { λ r. ⌜ r ≡ bitNumbers (askLabelBit (now (sheet .entry)) label node) ⌝ }
+{
+    bit_numbers(Sheet::label_bit(sheet, Label(byte(label)), Node(byte(node))))
+}
+
+#[no_mangle]
+pub extern "C" fn zamiathen_arrow_bit(
+    sheet: &[u8],
+    arrow: usize,
+    from: usize,
+    to: usize,
+) -> BitNumbers
     ensures { λ r. ⌜ r ≡ bitNumbers (askArrowBit (now (sheet .entry)) arrow from to) ⌝ }
 {
-    bit_numbers(Sheet::arrow_bit(sheet, Arrow(arrow), Node(from), Node(to)))
+    bit_numbers(Sheet::arrow_bit(sheet, Arrow(byte(arrow)), Node(byte(from)), Node(byte(to))))
 }

@@ -49,8 +49,8 @@ extern "C" {
     pub fn zamiathen_check(sheet: *const u8, sheet_length: usize) -> CAnswer;
     pub fn zamiathen_convert_255(card: *mut u8, card_length: usize) -> CAnswer;
     pub fn zamiathen_convert_257(card: *mut u8, card_length: usize) -> CAnswer;
-    pub fn zamiathen_label_bit(sheet: *const u8, sheet_length: usize, label: u8, node: u8) -> CBit;
-    pub fn zamiathen_arrow_bit(sheet: *const u8, sheet_length: usize, arrow: u8, from: u8, to: u8) -> CBit;
+    pub fn zamiathen_label_bit(sheet: *const u8, sheet_length: usize, label: usize, node: usize) -> CBit;
+    pub fn zamiathen_arrow_bit(sheet: *const u8, sheet_length: usize, arrow: usize, from: usize, to: usize) -> CBit;
     pub fn zamiathen_print_arrow(
         sheet: *const u8,
         sheet_length: usize,
