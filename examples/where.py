@@ -3,6 +3,7 @@
 
     python3 examples/where.py examples/station/book.hex 41 00002
 """
+import os
 import re
 import sys
 
@@ -36,11 +37,16 @@ IN_A_LOG = {
 }
 WITHOUT_PLACE = {
     0: "done",
-    1: f"the sheet has not {layout.SHEET} bytes",
+    1: f"the sheet is not {layout.SHEET} bytes long",
     5: "a blank sheet cannot have so many nodes, or none",
     7: "the sheet has no label, arrow or node of this number",
     31: "the carried book would pass 16384 bytes",
     32: "the carried book would pass 255 levels",
+    55: "the store's length, its head, a sheet kept in it or an unfilled place is wrong",
+    56: "the name is not from 1 to 7",
+    57: "nothing is kept under the name",
+    61: "n of the small sheets is not from 1 to 3, or another label or arrow than 0 is named",
+    62: "a list of edits, their lengths or the number of moves is outside its range",
     99: "the program's input ended early",
 }
 
@@ -104,6 +110,10 @@ def explained(file, number, place):
         if not layout.NODES < place <= 2 * layout.NODES:
             fault(file, f"58 is answered for more than {layout.NODES} nodes and at most {2 * layout.NODES}, not for {place}")
         return [f"the two sheets have {place} nodes together, and a sheet has {layout.NODES} at most"]
+    if number == 59:
+        return [f"step {place} of the shortened rule, counted from 0, is cut, has an unknown law, or does not fit"]
+    if number == 60:
+        return [f"the steps make another text than the one sent: the first difference is at byte {place}, counted from 0"]
     if number in IN_A_LOG:
         if place > layout.LOG_BLOCKS:
             fault(file, f"no block {place} of a log is read")
@@ -127,4 +137,9 @@ def main(arguments):
     print(f"{number:02} {place:05}: {meaning}", *lines, sep="\n")
 
 
-main(sys.argv[1:])
+try:
+    main(sys.argv[1:])
+    sys.stdout.flush()
+except BrokenPipeError:
+    # whoever reads the lines has seen enough
+    os.dup2(os.open(os.devnull, os.O_WRONLY), sys.stdout.fileno())

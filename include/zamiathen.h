@@ -32,12 +32,11 @@
 extern "C" {
 #endif
 
-/* The version. The first number moves when the form of sheets or an answer of a call changes, the second when a call is
- * added: a card written under another first number may be answered otherwise (one written under 1 is converted by
- * zamiathen_convert_255, one written under 2 or 3 by zamiathen_convert_257; one written under 4 has today's form). As one
- * number: 1000 * first + second. */
-#define ZAMIATHEN_VERSION_FIRST 5
-#define ZAMIATHEN_VERSION_SECOND 3
+/* The version. The first number moves when the form of sheets, an answer of a call or a declaration changes, the second
+ * when a call is added. Sheets written under 4 and 5 have today's form; a card written under 1 is converted by
+ * zamiathen_convert_255, one written under 2 or 3 by zamiathen_convert_257. As one number: 1000 * first + second. */
+#define ZAMIATHEN_VERSION_FIRST 6
+#define ZAMIATHEN_VERSION_SECOND 0
 #define ZAMIATHEN_VERSION (1000 * ZAMIATHEN_VERSION_FIRST + ZAMIATHEN_VERSION_SECOND)
 
 /* Sizes. */
@@ -61,13 +60,14 @@ extern "C" {
 #define ZAMIATHEN_MAX_EDITS 4  /* of a side of a game */
 #define ZAMIATHEN_MAX_MOVES 6  /* of a game */
 
-/* Answer numbers. A call answers the number of the first question, in this order, whose answer is no; but 5 and 62 are
- * asked before 1. */
+/* Answer numbers. Each call below names its questions in the order in which it asks them, and answers the number of the
+ * first whose answer is no. A sheet is asked 1, then 2, 3 and 4 of block 0, then of block 1, and so on. A book or an edit
+ * is asked its length, and then the other questions from left to right. */
 enum zamiathen_number {
     ZAMIATHEN_DONE = 0, /* place 0 */
 
     /* The sheet. Place: 0 for the length, else the block, 0 to 16. */
-    ZAMIATHEN_SHEET_LENGTH = 1, /* it has not 8,704 bytes */
+    ZAMIATHEN_SHEET_LENGTH = 1, /* it is not 8,704 bytes long */
     ZAMIATHEN_SHEET_SUMS = 2,   /* the check bytes of a block are wrong */
     ZAMIATHEN_SHEET_HEAD = 3,   /* bytes 0 to 2 of a block are wrong, n is not from 1 to 60, or no node below n is in use */
     ZAMIATHEN_SHEET_ZEROS = 4,  /* a byte or bit of a block that must be zero is not */
@@ -90,7 +90,7 @@ enum zamiathen_number {
     ZAMIATHEN_EDIT_CODE = 23,   /* not a code of the sort wanted */
     ZAMIATHEN_EDIT_LEVEL = 24,  /* deeper than level 32 */
     ZAMIATHEN_EDIT_NUMBER = 25, /* a label, arrow or node number or a count out of range */
-    ZAMIATHEN_EDIT_MORE = 26,   /* bytes behind the edit; place: the first of them */
+    ZAMIATHEN_EDIT_MORE = 26,   /* bytes after the edit; place: the first of them */
 
     /* The carried book. */
     ZAMIATHEN_CARRIED_LENGTH = 31, /* it would pass 16,384 bytes; place 0 */
@@ -109,22 +109,22 @@ enum zamiathen_number {
     ZAMIATHEN_LOG_SUMS = 52,  /* the check bytes of a whole block are wrong */
     ZAMIATHEN_LOG_BLOCK = 53, /* its fields are wrong, its number is above 65,534, it is cut short, or the log ends inside an edit */
 
-    /* The node to be closed. Asked after the book and the node's range, and before 41. Place: the node. */
+    /* The node to be closed. Place: the node. */
     ZAMIATHEN_NODE_TAKEN = 54, /* it has a label, an arrow from it or an arrow to it, or is the only one in use */
 
-    /* The store. Asked after the sheet and before the book. Place 0. */
+    /* The store. Place 0. */
     ZAMIATHEN_STORE = 55,         /* its length, its head, a sheet that is kept or a place that is unfilled is wrong */
     ZAMIATHEN_PLAN_NAME = 56,     /* the name is not from 1 to 7 */
     ZAMIATHEN_PLAN_UNFILLED = 57, /* nothing is kept under the name */
 
-    /* Two sheets to be joined. Asked after both sheets. Place: how many nodes they have together. */
+    /* Two sheets to be joined. Place: how many nodes they have together. */
     ZAMIATHEN_NODES_TOTAL = 58, /* more than 60 */
 
     /* A shortened rule. */
     ZAMIATHEN_STEP = 59, /* a step is cut, its law unknown, or it does not fit; place: the step, from 0 */
     ZAMIATHEN_SENT = 60, /* the text that the steps make is not the one sent; place: the first differing byte, or the shorter length */
 
-    /* The small sheets to be counted. Place 0. n is asked before the book, names after the edit. */
+    /* The small sheets to be counted. Place 0. */
     ZAMIATHEN_SMALL_SHEETS = 61, /* n is not from 1 to 3, or another label or arrow than 0 is named */
 
     /* The game. Asked before the sheet. Place 0. */
@@ -188,39 +188,39 @@ typedef struct {
  */
 
 /* Makes the sheet's buffer a sound sheet of n nodes, all in use, without labels and arrows. Its bytes before do not matter.
- * Answers 0, 5 or 1. Every answer but done leaves the buffer as it was. */
+ * Asks 5, then 1. Every answer but done leaves the buffer as it was. */
 zamiathen_answer zamiathen_blank(uint8_t *sheet, size_t sheet_length, size_t n);
 
-/* Is the sheet sound? Answers 0, or the first of 1 to 4, with its place: for whoever loads sheets, without a book to
- * judge. Every call that reads a sheet asks the same before all else. Writes nothing. */
+/* Is the sheet sound? Asks 1 to 4: for whoever loads sheets, without a book to judge. Every other call that is lent a
+ * sheet asks the same of it first, but for zamiathen_play, which asks 62 before. Writes nothing. */
 zamiathen_answer zamiathen_check(const uint8_t *sheet, size_t sheet_length);
 
 /* Makes a card that was written under version 1 a sheet, in the card's own buffer: n, labels and arrows stay, all n nodes
- * are in use, and the check bytes become those of a sheet. Answers 0 or 1 to 4, asked of the old form: sums modulo 255
+ * are in use, and the check bytes become those of a sheet. Asks 1 to 4 of the old form: sums modulo 255
  * over bytes 0 to 509 of a block, s at 510 and t at 511 in one byte each, zeros up to byte 509, in block 0 from byte 400
  * on. Every answer but done leaves the card as it was. A card is converted once: a sheet that is lent as a card is asked
  * by the old form, too. */
 zamiathen_answer zamiathen_convert_255(uint8_t *card, size_t card_length);
 
-/* The same for a card that was written under version 2 or 3: its sums are those of a sheet, and bytes 400 to 507 of its
- * block 0 are zero. A sound sheet that is lent as such a card is answered 4, place 0, and stays. */
+/* The same for a card that was written under version 2 or 3. Asks 1 to 4 of that form: its sums are those of a sheet, and
+ * bytes 400 to 507 of its block 0 are zero. A sound sheet that is lent as such a card is answered 4, place 0, and stays. */
 zamiathen_answer zamiathen_convert_257(uint8_t *card, size_t card_length);
 
 /* Joins two sheets into one, in the first's buffer: the second's nodes follow the first's, node i of the second as node
  * n + i with the first's n; labels, arrows and nodes in use likewise, and no arrow goes from the one's nodes to the
- * other's. Answers 0, 1 to 4 of the first sheet, then 1 to 4 of the second, then 58. (Which sheet a 1 to 4 is of,
+ * other's. Asks 1 to 4 of the first sheet, 1 to 4 of the second, then 58. (Which sheet a 1 to 4 is of,
  * zamiathen_check tells.) Only done changes the first sheet, its check bytes too; the second is never written. To join a
  * sheet with itself lend a copy as the second. No book is judged: a rule of 21, 22 and 25 in which 04 and 17 do not appear
  * holds on the joined sheet exactly when it holds on both; of any other zamiathen_judge is asked. */
 zamiathen_answer zamiathen_join_sheets(uint8_t *first, size_t first_length, const uint8_t *second,
                                        size_t second_length);
 
-/* Has a node this label? The bit is 1 if so. Answers 0, 1 to 4, or 7 unless the label is below 48 and the node below n.
- * A closed node has none. Writes nothing. Each call asks the whole sheet. */
+/* Does a node have this label? The bit is 1 if so. Asks 1 to 4, then 7: is the label below 48 and the node below n? Any
+ * number may be asked, 256 and more too. A closed node has no label. Writes nothing. Each call asks the whole sheet. */
 zamiathen_bit zamiathen_label_bit(const uint8_t *sheet, size_t sheet_length, size_t label, size_t node);
 
-/* Does an arrow of this kind go from one node to the other? The bit is 1 if so. Answers 0, 1 to 4, or 7 unless the
- * arrow is below 16 and both nodes are below n. Writes nothing. Each call asks the whole sheet. */
+/* Does an arrow of this kind go from one node to the other? The bit is 1 if so. Asks 1 to 4, then 7: is
+ * the arrow below 16, and are both nodes below n? Writes nothing. Each call asks the whole sheet. */
 zamiathen_bit zamiathen_arrow_bit(const uint8_t *sheet, size_t sheet_length, size_t arrow, size_t from, size_t to);
 
 /*
@@ -232,18 +232,18 @@ zamiathen_bit zamiathen_arrow_bit(const uint8_t *sheet, size_t sheet_length, siz
  * blanks; then 48 such lines, one for each label, # for a node that has it; last line 48, # for a node in use.
  */
 
-/* Prints the page of an arrow kind, 64 * (n + 1) bytes. Answers 0 with its length, 1 to 4, 7 unless the arrow is below 16,
- * or 33. Done writes the page at the start of the output and leaves the rest of it; every other answer leaves the output
+/* Prints the page of an arrow kind, 64 * (n + 1) bytes, and answers its length. Asks 1 to 4, then 7: is the arrow below
+ * 16? Then 33. Done writes the page at the start of the output and leaves the rest of it; every other answer leaves the output
  * as it was. */
 zamiathen_length zamiathen_print_arrow(const uint8_t *sheet, size_t sheet_length, size_t arrow, uint8_t *output,
                                        size_t output_length);
 
-/* Prints the label page, 64 * 50 bytes. Answers 0 with its length, 1 to 4 or 33, and writes likewise. */
+/* Prints the label page, 64 * 50 bytes, and answers its length. Asks 1 to 4, then 33. Writes as the call above. */
 zamiathen_length zamiathen_print_labels(const uint8_t *sheet, size_t sheet_length, uint8_t *output,
                                         size_t output_length);
 
 /* Types a page back into a sheet of its n, in place of the block that its head names: the arrows of that kind, or all
- * labels. Answers 0, 1 to 4 or 51: a mark at a closed node is 51 with its line, and so is a line 48 (place 49) that is not
+ * labels. Asks 1 to 4, then 51: a mark at a closed node is 51 with its line, and so is a line 48 (place 49) that is not
  * the sheet's own, for typing closes and opens no node. Only done changes the sheet, its check bytes too; every other
  * block is as it was. */
 zamiathen_answer zamiathen_type_page(uint8_t *sheet, size_t sheet_length, const uint8_t *page, size_t page_length);
@@ -253,8 +253,7 @@ zamiathen_answer zamiathen_type_page(uint8_t *sheet, size_t sheet_length, const 
  */
 
 /* Where does the first rule of a text end? After done it is text[0] to text[length - 1]. Node numbers up to 59 are in
- * range. Answers 0 or 11 to 15: 11 is asked of the whole text, 12 to 15 of the first rule, and what stands behind it is
- * not looked at. An empty text has no first rule: 12. Writes nothing. */
+ * range. Asks 11 of the whole text, then 12 to 15 of the first rule; what stands after it is not looked at. An empty text has no first rule: 12. Writes nothing. */
 zamiathen_length zamiathen_first_rule(const uint8_t *text, size_t text_length);
 
 /* Where a rule of a book starts, the rules counted from 0. A 41 gives the number of the broken rule, and its bytes go
@@ -263,14 +262,14 @@ zamiathen_length zamiathen_first_rule(const uint8_t *text, size_t text_length);
  * cannot be read with node numbers below n. Writes nothing. */
 size_t zamiathen_rule_start(const uint8_t *book, size_t book_length, size_t n, size_t rule);
 
-/* Does each rule of the book hold on the sheet? Answers 0, 1 to 4, 11 to 16 or 41. Writes nothing. */
+/* Does each rule of the book hold on the sheet? Asks 1 to 4, 11 to 16, then 41. Writes nothing. */
 zamiathen_judged zamiathen_judge(const uint8_t *sheet, size_t sheet_length, const uint8_t *book, size_t book_length);
 
 /* Rewrites a stored book, in which a count may be any byte, into one whose counts are in range: from the inside out an
  * 0A with the count 0 becomes 01, one with a count above 60 becomes 02, an 0B with a count of 60 or more becomes 01, each
  * with its operands, and all other bytes stay as they stand. Each rule holds as before on every sheet that the stored
  * book's node numbers fit. The rewritten book is no longer than the stored one, and a book whose counts are in range is
- * left as it is. Node numbers up to 59 are in range. Answers 0 with the length, 11 to 16 or 33. Done writes the rewritten
+ * left as it is. Node numbers up to 59 are in range. Asks 11 to 16, then 33, and answers the length. Done writes the rewritten
  * book at the start of the output and leaves the rest of it; every other answer leaves the output as it was. */
 zamiathen_length zamiathen_rewrite(const uint8_t *book, size_t book_length, uint8_t *output, size_t output_length);
 
@@ -278,9 +277,9 @@ zamiathen_length zamiathen_rewrite(const uint8_t *book, size_t book_length, uint
  * an offset into the rule's text as it then is, low byte first, and a law: 1 05 05 E to E; 2 06 E E to E; 3 07 E E to E;
  * 4 06 E 05 E to 02; 5 07 01 E to 01; 6 06 01 E to E; 7 27 27 K to K; 8 26 K K to K. The offset is that of the code
  * where the left side begins, and E E means the same bytes twice. Done means that both texts have the same truth on
- * every sheet whose node numbers fit, and every chain of fitting steps that ends in the text sent is done. Answers 0, 11
- * to 16 for the carried rule, one rule of at most 16,384 bytes and 255 levels with node numbers up to 59 (16 for a byte
- * behind it, 12 for an empty text), then 59 for the first step that does not fit, then 60. Writes nothing. */
+ * every sheet whose node numbers fit, and every chain of fitting steps that ends in the text sent is done. Asks 11 to 16
+ * of the carried rule, one rule of at most 16,384 bytes and 255 levels with node numbers up to 59 (16 for a byte after
+ * it, 12 for an empty text), then 59 of each step, then 60. Writes nothing. */
 zamiathen_answer zamiathen_check_steps(const uint8_t *rule, size_t rule_length, const uint8_t *steps,
                                        size_t steps_length, const uint8_t *sent, size_t sent_length);
 
@@ -289,8 +288,8 @@ zamiathen_answer zamiathen_check_steps(const uint8_t *rule, size_t rule_length, 
  */
 
 /* Joins two edits into one that makes the steps of the first and then those of the second: the bytes of p without its
- * last, which is its end, then those of q. Answers 0 with the length of the joined edit, 21 to 26 of p, then of q, with
- * node numbers up to 59 in range, then 21, place 0, when the joined edit has more than 4,096 bytes, then 33. (Which of the
+ * last, which is its end, then those of q. Answers the length of the joined edit. Asks 21 to 26 of p, then of q, with
+ * node numbers up to 59 in range, then 21 of the joined edit (place 0, more than 4,096 bytes), then 33. (Which of the
  * edits a refusal means: joined with an edit of the one byte 0x30, each is asked alone.) Done writes the joined edit at
  * the start of the output and leaves the rest of it; every other answer leaves the output as it was.
  * The joined edit passes 21 to 26 on a sheet exactly when both edits do, and zamiathen_apply leaves the same sheet with it
@@ -301,28 +300,28 @@ zamiathen_answer zamiathen_check_steps(const uint8_t *rule, size_t rule_length, 
 zamiathen_length zamiathen_join_edits(const uint8_t *p, size_t p_length, const uint8_t *q, size_t q_length,
                                       uint8_t *output, size_t output_length);
 
-/* Carries out an edit without a book: makes its steps on the sheet, one after the other. Answers 0, 1 to 4 or 21 to 26.
+/* Carries out an edit without a book: makes its steps on the sheet, one after the other. Asks 1 to 4, then 21 to 26.
  * Only done changes the sheet, its check bytes too. */
 zamiathen_answer zamiathen_apply(uint8_t *sheet, size_t sheet_length, const uint8_t *edit, size_t edit_length);
 
 /* Carries a book back through an edit: the conditions on a sheet before the edit for the book to hold after it.
- * Node numbers up to 59 are in range. Answers 0, 11 to 16, 21 to 26 or 31 to 33. Done writes the carried book at the
+ * Node numbers up to 59 are in range. Asks 11 to 16, 21 to 26, then 31 to 33. Done writes the carried book at the
  * start of the output and leaves the rest of it; every other answer leaves the output as it was. The length that is
  * answered, or the place of a 33, is that of the whole carried book; zamiathen_enter needs less (below). */
 zamiathen_length zamiathen_carry_back(const uint8_t *book, size_t book_length, const uint8_t *edit,
                                       size_t edit_length, uint8_t *output, size_t output_length);
 
 /* Enters an edit, whole or not at all: done if each rule of the book holds on the sheet that the edit's steps leave.
- * Answers 0, 1 to 4, 11 to 16, 21 to 26, 31 to 33 or 41. Only done changes the sheet, its check bytes too.
+ * Asks 1 to 4, 11 to 16, 21 to 26, 31 to 33, then 41. Only done changes the sheet, its check bytes too.
  *
  * The rules are carried back and judged one by one, each written at the start of the scratch over the one before, up to
  * the first that is broken. Done and 41 leave in the scratch what these writings leave: after 41 the broken rule, carried
- * back, stands at its start, after done the last rule, and behind it what is left of longer rules before it, and then
+ * back, stands at its start, after done the last rule, and after it what is left of longer rules before it, and then
  * what the scratch held before the call. Every other answer, and every answer for an empty book, leaves the scratch as it
  * was.
  *
  * 33 is answered, before any rule is judged, when the scratch is shorter than the longest single carried rule of the
- * book, also where that one stands behind a broken one; its place is that rule's length. ZAMIATHEN_CARRIED_BYTES suffice
+ * book, also where that one comes after a broken one; its place is that rule's length. ZAMIATHEN_CARRIED_BYTES suffice
  * for every book and edit, and no fewer do: a book of one rule may be carried to just that length. A caller with a
  * shorter scratch gets the answers, and the sheet, that it would get with those, wherever it does not get 33. 31 and 32
  * measure the whole carried book, whatever the scratch. */
@@ -333,16 +332,16 @@ zamiathen_answer zamiathen_enter(uint8_t *sheet, size_t sheet_length, const uint
  * Closing and opening
  */
 
-/* Closes a node that has no labels and no arrows, if each rule of the book holds on the sheet without it. Answers 0, 1 to
- * 4, 11 to 16, 7 unless the node is below n, 54 or 41, asked in this order; a node that is closed already is done,
- * unjudged, and nothing changes. Only done changes the sheet: the nodes in use, and the check bytes of block 0. A sheet
+/* Closes a node that has no labels and no arrows, if each rule of the book holds on the sheet without it. Asks 1 to 4, 11
+ * to 16, 7 (is the node below n?), 54, then 41; but a node that is closed already is done after 7, unjudged, and no byte
+ * changes. Only done changes the sheet: the nodes in use, and the check bytes of block 0. A sheet
  * that keeps the book still keeps it, so that calls of zamiathen_enter may follow. */
 zamiathen_answer zamiathen_close(uint8_t *sheet, size_t sheet_length, const uint8_t *book, size_t book_length,
                                  size_t node);
 
-/* Opens a closed node, which then has no labels and no arrows, if each rule of the book holds on the sheet with it. Answers
- * 0, 1 to 4, 11 to 16, 7 or 41, asked in this order; a node that is in use already is done, unjudged, and nothing changes.
- * Writes likewise. Opening a node that was closed gives the sheet from before back, byte for byte. */
+/* Opens a closed node, which then has no labels and no arrows, if each rule of the book holds on the sheet with it. Asks
+ * 1 to 4, 11 to 16, 7, then 41; but a node that is in use already is done after 7, unjudged, and no byte changes. Only
+ * done changes the sheet, as above. Opening a node that was closed gives the sheet from before back, byte for byte. */
 zamiathen_answer zamiathen_open(uint8_t *sheet, size_t sheet_length, const uint8_t *book, size_t book_length,
                                 size_t node);
 
@@ -356,23 +355,22 @@ zamiathen_answer zamiathen_open(uint8_t *sheet, size_t sheet_length, const uint8
  * a sound store has changed, each call that is lent the store answers 55, once the sheet that it is lent has passed.
  */
 
-/* Makes the store's buffer a store with no name filled. Its bytes before do not matter. Answers 0, or 55 unless it has
- * 61,440 bytes. Every answer but done leaves the buffer as it was. */
+/* Makes the store's buffer a store with no name filled. Its bytes before do not matter. Asks 55 of the length
+ * alone: 61,440 bytes. Every answer but done leaves the buffer as it was. */
 zamiathen_answer zamiathen_store_blank(uint8_t *store, size_t store_length);
 
-/* Keeps the sheet under a name; what was kept under it is replaced. Answers 0, 1 to 4, 55 or 56, asked in this order;
- * no book is judged. Only done changes the store: the place of that name, and the head. */
+/* Keeps the sheet under a name; what was kept under it is replaced. Asks 1 to 4, 55, then 56; no book is
+ * judged. Only done changes the store: the place of that name, and the head. */
 zamiathen_answer zamiathen_keep(const uint8_t *sheet, size_t sheet_length, uint8_t *store, size_t store_length,
                                 size_t name);
 
-/* Makes the sheet the one that is kept under a name, if each rule of the book holds on it. Answers 0, 1 to 4 of the sheet
- * that is lent, 55, 56, 57, 11 to 16 of the book by the kept sheet's n, or 41 of the book on the kept sheet, asked in
- * this order. Only done changes the sheet; the store is read only. The sheet then keeps the book, so that calls of
+/* Makes the sheet the one that is kept under a name, if each rule of the book holds on it. Asks 1 to 4 of the sheet that is
+ * lent, 55, 56, 57, 11 to 16 of the book by the kept sheet's n, then 41 of the book on the kept sheet. Only done changes the sheet; the store is read only. The sheet then keeps the book, so that calls of
  * zamiathen_enter may follow. */
 zamiathen_answer zamiathen_return(uint8_t *sheet, size_t sheet_length, const uint8_t *store, size_t store_length,
                                   size_t name, const uint8_t *book, size_t book_length);
 
-/* Drops what is kept under a name: its place is all zero then. Answers 0, 55, 56 or 57, asked in this order. Only done
+/* Drops what is kept under a name: its place is all zero then. Asks 55, 56, then 57. Only done
  * changes the store. */
 zamiathen_answer zamiathen_drop(uint8_t *store, size_t store_length, size_t name);
 
@@ -384,8 +382,7 @@ zamiathen_answer zamiathen_drop(uint8_t *store, size_t store_length, size_t name
  * arrow but 0, how many keep the book before the edit and after it, only before, only after, or neither. The four total
  * 4, 64 or 4,096; the two that are kept after the edit are the sheets on which each rule of the book carried back holds
  * before it. Book and edit may name label 0 and arrow 0 only, in steps that are made and in those that are not, and nodes
- * below n. Answers 0 with the counts, 61 unless n is from 1 to 3, 11 to 16, 21 to 26, or 61 for the names, asked in this
- * order; 31 and 32 are not asked. Needs no sheet and writes nothing. At n = 3 a book and an edit of a few lines take a
+ * below n. Asks 61 (is n from 1 to 3?), 11 to 16, 21 to 26, then 61 again, of the names; 31 and 32 are not asked. Needs no sheet and writes nothing. At n = 3 a book and an edit of a few lines take a
  * millisecond or two, the longest up to a second. */
 zamiathen_counts zamiathen_count(size_t n, const uint8_t *book, size_t book_length, const uint8_t *edit,
                                  size_t edit_length);

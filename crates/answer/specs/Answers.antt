@@ -1,5 +1,5 @@
--- Document 01's number and place of each answer. A contract that gives an `Answer` cites `asked`. A bit read and carry back have answers of
--- their own, which hold a bit or a length: their contracts cite `bitAsked` and `carriedAsked`, with the same numbers and places for refusals.
+-- The papers' number and place of each answer. A contract that gives an `Answer` cites `asked`. A bit read, and a call that writes an output, have answers of
+-- their own, which hold a bit or a length: their contracts cite `bitAsked` and `writtenAsked`, with the same numbers and places for refusals.
 use Prim.Native.Nat.{ℕ}
 use Rattle.answer.specs.declared.Refusal.{Refusal}
 use Rattle.answer.specs.declared.Refusal.the-variants.{SheetLength, CheckBytes, BlockHead, NotZero, NodeCount, BitRange, BookLength, BookEnds, BookCode, BookLevel, BookNumber, BookRules, EditLength, EditEnds, EditCode, EditLevel, EditNumber, EditExtra, CarriedLength, CarriedLevels, OutputLength, RuleBroken, PageLine, LogSums, LogBlock, NodeTaken, StoreBytes, PlanName, PlanUnfilled, NodesTotal, LawStep, TextSent, SmallSheets, GameRange}

@@ -22,7 +22,7 @@ pub enum Refusal {
     BookEnds { place: usize },
     // 13: no code of the sort wanted; the place of this and the next two is that byte
     BookCode { place: usize },
-    // 14: a code below level 32
+    // 14: a code deeper than level 32
     BookLevel { place: usize },
     // 15: a number out of range
     BookNumber { place: usize },

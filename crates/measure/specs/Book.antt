@@ -21,7 +21,7 @@ pub record BookAdded (rules : List (Expr rule)) (number : ℕ) (l : List ℕ) : 
   pub number-is : number ≡ length rules
   pub holds : Holds l (measures rules)
 
--- the length and the levels of a carried book, cut at 16,385
+-- the length and the levels of a carried book, cut as all numbers here are
 pub record BookSized (Z : Edit) (rules : List (Expr rule)) (len tall : ℕ) : Type 0 where
   pub len-is : len ≡ capped (length (bookCode (carriedBook Z rules)))
   pub tall-is : tall ≡ capped (bookLevels (carriedBook Z rules))

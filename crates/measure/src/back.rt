@@ -4,7 +4,7 @@ ghost use mathlib.Core.Bool.{cond};
 ghost use Prim.Native.Nat.{ℕ, _≤_};
 ghost use lib.Dec.{eqb};
 ghost use lib.ListN.{length, getD};
-ghost use Rattle.text.specs.Reading.{longestText};
+ghost use Rattle.text.specs.Reading.{longestText, mostRules};
 ghost use Rattle.logic.specs.Syntax.{Edit};
 ghost use Rattle.tree.specs.Tree.{Tree, under};
 ghost use Rattle.tree.specs.Sizes.{capped};
@@ -64,7 +64,7 @@ fn push(text: &[u8], at: usize, stack: &mut [u16], top: usize) -> usize
 // The two ways of a 35 together, with its rule at `at`, which stands twice for each rule of the book: 25 26 27 K T 26 K U.
 // Inner: the text was read before.
 fn join_ways(text: &[u8], at: usize, rules: usize, t: &[usize], state: &mut [usize])
-    requires { ⌜ Some (now text) at × (length (now text) ≤ longestText) × (rules ≤ 32) × (length (now t) ≡ 130) × (length (now state) ≡ 130) ⌝ }
+    requires { ⌜ Some (now text) at × (length (now text) ≤ longestText) × (rules ≤ mostRules) × (length (now t) ≡ 130) × (length (now state) ≡ 130) ⌝ }
     ensures { λ r. ⌜ ((K : Tree) → At (now (text .entry)) at K → Joined rules K (now (t .entry)) (now (state .entry)) (now (state .exit))) ⌝ }
 {
     numbers::merge(t, state);
@@ -84,7 +84,7 @@ fn one_back(
     out: &mut [u8],
     pos: usize,
 ) -> usize
-    requires { ⌜ StepRoom (now text) at pos × (getD (now text) at 0 ≡ 0x30 → ⊥) × (top ≤ at) × (length (now text) ≤ length (now stack)) × (length (now text) ≤ longestText) × (rules ≤ 32) × Held (now state) × (pos ≤ length (now out)) ⌝ }
+    requires { ⌜ StepRoom (now text) at pos × (getD (now text) at 0 ≡ 0x30 → ⊥) × (top ≤ at) × (length (now text) ≤ length (now stack)) × (length (now text) ≤ longestText) × (rules ≤ mostRules) × Held (now state) × (pos ≤ length (now out)) ⌝ }
     ensures { λ r. ⌜ ((Z : Edit) → EditAt (now (text .entry)) at Z → StepMeasured rules Z (now (state .entry)) (now (state .exit)) × Prefixed rules Z (now (state .entry)) (now (out .entry)) pos (now (out .exit)) r) × Kept top (now (stack .entry)) (now (stack .exit)) ⌝ }
 {
     let c = text[at];
@@ -115,7 +115,7 @@ pub fn back(
     out: &mut [u8],
     pos: usize,
 ) -> usize
-    requires { ⌜ EditRoom (now text) at pos × (top ≤ at) × (length (now text) ≤ length (now stack)) × (length (now text) ≤ longestText) × (rules ≤ 32) × Held (now state) × (pos ≤ length (now out)) ⌝ }
+    requires { ⌜ EditRoom (now text) at pos × (top ≤ at) × (length (now text) ≤ length (now stack)) × (length (now text) ≤ longestText) × (rules ≤ mostRules) × Held (now state) × (pos ≤ length (now out)) ⌝ }
     ensures { λ r. ⌜ ((Z : Edit) → EditAt (now (text .entry)) at Z → Backed rules Z (now (state .entry)) (now (out .entry)) pos (now (state .exit)) (now (out .exit)) r) × Kept top (now (stack .entry)) (now (stack .exit)) ⌝ }
 {
     let mut n = push(text, at, stack, top);

@@ -18,7 +18,7 @@ mod keep;
 mod numbers;
 mod scan;
 
-// The length in bytes and the levels of a carried book, each 16,385 where it is more than 16,384, and where the edit without its idle steps starts.
+// The length in bytes and the levels of a carried book, each cut where it is more than a carried book may have bytes, and where the edit without its idle steps starts.
 pub struct BookSize {
     pub len: usize,
     pub levels: usize,

@@ -1,4 +1,4 @@
-// The 130 numbers that are kept of the carried text, each cut at 16,385: how often each of the 64 names stands there (cells 0 to 63: labels, then
+// The 130 numbers that are kept of the carried text, each cut at one more than a carried book may have bytes: how often each of the 64 names stands there (cells 0 to 63: labels, then
 // arrows), its deepest level (64 to 127, 0 where it stands nowhere), the length (128) and the levels (129).
 ghost use mathlib.Core.Path.{_≡_};
 ghost use Prim.Native.Nat.{_+_, _<_, max};
@@ -7,9 +7,10 @@ ghost use Rattle.tree.specs.Tree.{under};
 ghost use Rattle.tree.specs.Sizes.{capped};
 ghost use Rattle.ends.specs.Kept.{Kept};
 ghost use Rattle.measure.specs.Edits.{Merged};
+use text::Text;
 
 // Where counting ends: one more than the most bytes of a carried book.
-const BEYOND: usize = 16385;
+const BEYOND: usize = Text::LONGEST_CARRIED + 1;
 
 // The larger number.
 fn larger(a: usize, b: usize) -> usize

@@ -1,12 +1,13 @@
 -- What the program `enter` prints, given a whole input: the line of the answer, then the sheet ("The program `enter`" of document 01).
 use mathlib.Core.List.{List}
 use Prim.Native.Nat.{ℕ}
+use Rattle.text.specs.Reading.{longestCarried}
 use Rattle.demands.specs.Enter.{enterAnswer, enterSheet}
 use Rattle.line.specs.Line.{askedLine}
 
--- The bytes of its scratch.
+-- The bytes of its scratch: as many as a carried book may have.
 abbrev pub scratchBytes : ℕ
-scratchBytes = 16384
+scratchBytes = longestCarried
 
 abbrev pub printedLine : (sheet book edit : List ℕ) → List ℕ
 printedLine sheet book edit = askedLine (enterAnswer sheet book edit scratchBytes)

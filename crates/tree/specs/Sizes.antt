@@ -4,6 +4,7 @@ use mathlib.Core.Bool.{cond}
 use mathlib.Core.List.{List, [], _∷_}
 use Prim.Native.Nat.{ℕ, suc, _+_, _*_, max, min}
 use Rattle.logic.specs.Syntax.{rule, Expr, Edit, finish, addLabel, takeLabel, addArrow, takeArrow, choose}
+use Rattle.text.specs.Reading.{longestCarried}
 use Rattle.tree.specs.Tree.{Tree, same, size, height, count, under, deep, tree}
 
 pub record Measure : Type 0 where
@@ -52,11 +53,11 @@ unfoldable pub measures : List (Expr rule) → Measure
 measures [] = nothing
 measures (K ∷ Ks) = join (measure (tree K)) (measures Ks)
 
--- Counting ends one beyond the 16,384 bytes that a carried book may have.
+-- Counting ends one beyond the bytes that a carried book may have.
 abbrev pub beyond : ℕ
-beyond = 16385
+beyond = longestCarried + 1
 
--- A number cut there: exact up to 16,384, and over it when the true number is.
+-- A number cut there: exact up to the most bytes of a carried book, and over them when the true number is.
 abbrev pub capped : ℕ → ℕ
 capped x = min x beyond
 
