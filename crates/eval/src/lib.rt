@@ -2,7 +2,7 @@
 // Inner, all of them: the sheet is sound, and an expression in range stands at `at`. Levels have no bound here.
 // A relation is put into `out`, which is 64 zeros before; what is returned is then where the text goes on.
 //
-// Stack: 704 bytes for a level of 05 to 0B, 688 for one of 12 to 16, 160 for one of 25 to 27.
+// What a level takes of the stack: DECISIONS 21.
 ghost use mathlib.Core.Path.{_≡_};
 ghost use mathlib.Core.Bool.{true};
 ghost use Prim.Native.Nat.{_<_, _≤_};
@@ -175,7 +175,7 @@ fn node_within(sheet: &[u8], n: usize, all: u64, within: u64, text: &[u8], at: u
         let m = text[at + k - 1];
         let t = behind_turns(n, text, at + k);
         let p = t.next;
-        if rows::over_kinds::straight(text[p], c, m, t.turned) {
+        if rows::over_kinds::straight(text[p], c, t.turned) {
             let e = node_within(sheet, n, all, all, text, p + 2);
             NodeSet {
                 set: rows::over_kinds::quantified_kind(
@@ -236,6 +236,7 @@ pub fn eval_arrow(
 }
 
 // 13, 14, 15: the relation that the second operand means joined to what is in `out`; only one that is no leaf needs rows of its own.
+// That one is evaluated where it stands: the unread length fell at the call of this function, and not again here. The measure is twice the unread length, here one more.
 fn join_arrow(
     c: u8,
     sheet: &[u8],

@@ -1,18 +1,15 @@
 -- The four quantifiers are one question, whether there are so many ends or more.
 use mathlib.Core.Path.{_≡_, refl, sym, ap, ap₂, subst, _∙_}
-use mathlib.Core.Bool.{Bool, true, false, not, _&&_, _||_, cond, and-true, Bool·not-not}
-use Prim.Native.Nat.{ℕ, zero, suc, _+_, _^_, _<_, _≤_}
-use native.Mathlib.Nat.{lt-of-lt-of-le}
+use mathlib.Core.Bool.{Bool, true, false, not, _&&_, _||_, cond, and-true}
+use Prim.Native.Nat.{ℕ, _+_, _^_, _<_, _≤_}
 use native.Mathlib.Numerals.{add-one}
 use native.Mathlib.Omega.{arith}
-use lib.Count.{ones}
-use lib.Dec.{eqb, leb, ltb}
-use lib.Pow.{pow-mono}
-use borrow.Author.Tests.{leb-true, leb-false, le-leb, lt-leb}
+use lib.Dec.{eqb, leb}
+use borrow.Author.Tests.{leb-true, leb-false, le-leb, lt-leb, eq-eqb, eqb-false}
 use Rattle.logic.specs.Graph.{Nodes, Pairs, anyBelow, allBelow, countBelow, implies}
-use Rattle.logic.proofs.Below.{none-outside, count-cong, one-or-more, leave, count-leave}
+use Rattle.logic.proofs.Below.{none-outside, count-cong, one-or-more}
 use Rattle.words.specs.Words.{setOf, member, combined}
-use Rattle.words.proofs.SetLaws.{setOf-lt, setOf-cong, setOf-member-lt, setOf-empty, setOf-none, setOf-lowest, ones-setOf, member-setOf, combined-sets}
+use Rattle.words.proofs.SetLaws.{setOf-lt, setOf-cong, setOf-member-lt, setOf-none, member-setOf, combined-sets}
 use Rattle.rows.specs.Operations.{quantified, enough, least, looked, answered, Among}
 
 -- An end is a node.
@@ -41,31 +38,6 @@ quantified-is c m n nodes v w ends = go (eqb c 0x08) (eqb c 0x09) (eqb c 0x0A)
     go false false true = refl
     go false false false = most (countBelow n (λ j. v j && w j))
 
--- The members of a word are counted in the set.
-pub count-members : (n : ℕ) (p : Nodes) → n ≤ 64 → countBelow 64 (member (setOf n p)) ≡ countBelow n p
-count-members n p h = sym (ones-setOf 64 (member (setOf n p))) ∙ ap ones (setOf-member-lt 64 (setOf n p) (wide n p h)) ∙ ones-setOf n p
-  where
-    wide : (n : ℕ) (p : Nodes) → n ≤ 64 → setOf n p < 2 ^ 64
-    wide n p h = lt-of-lt-of-le (setOf-lt n p) (pow-mono h)
-
--- more than one: one is left without the lowest
-module _ (x i y : ℕ) (l : i < 64) (m : member x i ≡ true) (e : y ≡ setOf 64 (leave (member x) i)) where
-  pub several-is : not (eqb y 0) ≡ leb 2 (countBelow 64 (member x))
-  several-is =
-      ap (λ (z : ℕ). not (eqb z 0)) e ∙ ap not (setOf-empty 64 (leave (member x) i)) ∙ Bool·not-not (anyBelow 64 (leave (member x) i))
-      ∙ sym (one-or-more 64 (leave (member x) i)) ∙ up (countBelow 64 (leave (member x) i)) ∙ ap (leb 2) (sym (count-leave 64 i (member x) l m))
-    where
-      up : (k : ℕ) → leb 1 k ≡ leb 2 (suc k)
-      up zero = refl
-      up (suc k) = le-leb 1 (suc k) (omega arith) ∙ sym (le-leb 2 (suc (suc k)) (omega arith))
-
-pub several-none : (x : ℕ) → x ≡ 0 → false ≡ leb 2 (countBelow 64 (member x))
-unfolding countBelow
-several-none x e = sym (ap (leb 2) (ap (λ (y : ℕ). countBelow 64 (member y)) (e ∙ sym (setOf-none 0)) ∙ count-members 0 (λ i. false) (omega arith) ∙ nothing))
-  where
-    nothing : countBelow 0 (λ i. false) ≡ 0
-    nothing = refl
-
 -- of the nodes within
 pub answered-sets : (c n within r : ℕ) (f : Bool → Bool → Bool) (p : Nodes) → n ≤ 64 → within < 2 ^ n → r ≡ setOf n p → f false false ≡ false → ((a b : Bool) → f a b ≡ (a && answered c b)) → combined f within r ≡ setOf n (λ i. member within i && answered c (p i))
 answered-sets c n within r f p h l e z g =
@@ -73,13 +45,6 @@ answered-sets c n within r f p h l e z g =
 
 pub set-small : (n : ℕ) {x : ℕ} (p : Nodes) → x ≡ setOf n p → x < 2 ^ n
 set-small n {x} p e = subst (λ (y : ℕ). y < 2 ^ n) (sym e) (setOf-lt n p)
-
--- none wanted: all have them
-pub none-wanted : (k n x : ℕ) (v : Pairs) (w : Nodes) → n ≤ 64 → k ≡ 0 → x ≡ setOf 64 (λ j. ltb j n) → x ≡ setOf n (λ j. enough k n (λ i. v i j) w)
-none-wanted k n x v w h e f = f ∙ setOf-lowest n 64 h ∙ setOf-cong n _ _ (λ j l. sym (ap (λ (x : ℕ). leb x (countBelow n (λ i. v i j && w i))) e ∙ le-leb 0 (countBelow n (λ i. v i j && w i)) (omega arith)))
-
-pub wanted-is : (k n : ℕ) {m : ℕ} (v : Pairs) (w : Nodes) → k ≡ m → setOf n (λ j. enough m n (λ i. v i j) w) ≡ setOf n (λ j. enough k n (λ i. v i j) w)
-wanted-is k n v w e = ap (λ (x : ℕ). setOf n (λ j. enough x n (λ i. v i j) w)) (sym e)
 
 -- the ends of all rows, row by row
 pub any-none : (n : ℕ) (v : Pairs) → 0 ≡ setOf n (λ j. anyBelow 0 (λ k. v k j))
@@ -95,16 +60,23 @@ any-more n i v r row z h p q e =
 pub any-end : (n i : ℕ) (v : Pairs) (r : ℕ) → i ≤ n → n ≤ i → r ≡ setOf n (λ j. anyBelow i (λ k. v k j)) → r ≡ setOf n (λ j. anyBelow n (λ k. v k j))
 any-end n i v r h l e = let q : i ≡ n = omega arith in e ∙ ap (λ (m : ℕ). setOf n (λ j. anyBelow m (λ k. v k j))) q
 
-pub any-wanted : (k n e all : ℕ) (v : Pairs) → k ≡ 1 → e ≡ all → Among all v → setOf n (λ j. anyBelow n (λ i. v i j)) ≡ setOf n (λ j. enough k n (λ i. v i j) (member e))
-any-wanted k n e all v q f a =
+pub any-wanted : (n e all : ℕ) (v : Pairs) → e ≡ all → Among all v → setOf n (λ j. anyBelow n (λ i. v i j)) ≡ setOf n (λ j. enough 1 n (λ i. v i j) (member e))
+any-wanted n e all v f a =
     setOf-cong n _ _ (λ j l. sym (
-    ap (λ (x : ℕ). enough x n (λ i. v i j) (member e)) q
-    ∙ ap (leb 1) (count-cong n _ (λ i. v i j) (λ i m. ap (λ (x : ℕ). v i j && member x i) f ∙ both (v i j) (member all i) (a .starts i j)))
+    ap (leb 1) (count-cong n _ (λ i. v i j) (λ i m. ap (λ (x : ℕ). v i j && member x i) f ∙ both (v i j) (member all i) (a .starts i j)))
     ∙ one-or-more n (λ i. v i j)))
   where
     both : (x y : Bool) → (y ≡ false → x ≡ false) → (x && y) ≡ x
     both x true h = and-true x
     both x false h = rw (h refl)
+
+-- 08 and 09 look for one.
+pub one-wanted : (c m : ℕ) → 0x08 ≤ c → c ≤ 0x09 → 1 ≡ least c m
+one-wanted c m l h = go (eqb c 0x08) refl
+  where
+    go : (b : Bool) → eqb c 0x08 ≡ b → 1 ≡ cond b 1 (cond (eqb c 0x09) 1 (cond (eqb c 0x0A) m (m + 1)))
+    go true e = refl
+    go false e = rw (eq-eqb c 0x09 (omega (arith, eqb-false c 0x08 e)))
 
 -- What the code looks at and answers is what it means, of the nodes within.
 module _ (c m n all within e : ℕ) (p : Pairs) (ends : (i j : ℕ) → member all j ≡ false → p i j ≡ false) where

@@ -96,11 +96,6 @@ one-more : (b : Bool) (c : ℕ) → leb 1 (cond b (suc c) c) ≡ (leb 1 c || b)
 one-more true c = le-leb 1 (suc c) (omega arith) ∙ sym (or-true (leb 1 c))
 one-more false c = sym (or-false (leb 1 c))
 
-two-more : (b : Bool) (c : ℕ) → leb 2 (cond b (suc c) c) ≡ (leb 2 c || (leb 1 c && b))
-two-more true zero = refl
-two-more true (suc c) = le-leb 2 (suc (suc c)) (omega arith) ∙ sym (ap (λ (a : Bool). leb 2 (suc c) || (a && true)) (le-leb 1 (suc c) (omega arith)) ∙ or-true (leb 2 (suc c)))
-two-more false c = sym (ap (leb 2 c ||_) (and-false (leb 1 c)) ∙ or-false (leb 2 c))
-
 count-more : (n i : ℕ) (c s t : Nodes) → i < n → s i ≡ false → ((k : ℕ) → k < n → t k ≡ (s k || eqb k i)) → countBelow n (λ k. c k && t k) ≡ cond (c i) (suc (countBelow n (λ k. c k && s k))) (countBelow n (λ k. c k && s k))
 count-more n i c s t l e f = go (c i) refl
   where
@@ -139,9 +134,3 @@ module _ (n x : ℕ) (v : Pairs) where
     counted-one z t =
         t ∙ ap₂ (combined _||_) p r ∙ combined-sets _||_ refl n (λ j. enough 1 n (λ k. v k j) (gone x left)) (v i) h
         ∙ setOf-cong n _ _ (λ j l. sym (ap (leb 1) (more j) ∙ one-more (v i j) (countBelow n (λ k. v k j && gone x left k))))
-
-    pub counted-two : (two y z : ℕ) → Counted 2 n x left v two → y ≡ combined _&&_ one row → z ≡ combined _||_ two y → Counted 2 n x next v z
-    counted-two two y z q s t =
-        t ∙ ap₂ (combined _||_) q (s ∙ ap₂ (combined _&&_) p r ∙ combined-sets _&&_ refl n (λ j. enough 1 n (λ k. v k j) (gone x left)) (v i) h)
-        ∙ combined-sets _||_ refl n (λ j. enough 2 n (λ k. v k j) (gone x left)) (λ j. enough 1 n (λ k. v k j) (gone x left) && v i j) h
-        ∙ setOf-cong n _ _ (λ j l. sym (ap (leb 2) (more j) ∙ two-more (v i j) (countBelow n (λ k. v k j && gone x left k))))

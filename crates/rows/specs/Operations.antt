@@ -10,6 +10,8 @@ use Rattle.logic.specs.Limits.{maxNodes, arrowCount}
 use Rattle.words.specs.Words.{setOf, member, combined}
 use Rattle.sheet.specs.Sheet.{graphOf}
 use Rattle.sheet.specs.Questions.{Sound}
+use Rattle.rows.specs.declared.counting.Wanted.{Wanted}
+use Rattle.rows.specs.declared.counting.Wanted.the-variants.{One, Count}
 
 -- 13 union; 14 common; 15 first without second
 abbrev pub arrowOperation : ℕ → Bool → Bool → Bool
@@ -38,6 +40,11 @@ pub record Columns (m : ℕ) (a r : List ℕ) : Type 0 where
 -- All four say whether a start node has so many ends or more: k of its ends v, among n, in w.
 abbrev pub enough : (k n : ℕ) → Nodes → Nodes → Bool
 enough k n v w = leb k (countBelow n (λ j. v j && w j))
+
+-- Of inner functions: how many that is.
+abbrev pub number : Wanted → ℕ
+number One = 1
+number (Count m) = m
 
 -- by code: how many, of those in the set or (09) of the nodes that are not in it, and whether (09, 0B) not to have them is wanted
 abbrev pub least : ℕ → ℕ → ℕ

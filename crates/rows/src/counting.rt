@@ -2,46 +2,38 @@
 ghost use mathlib.Core.Path.{_≡_};
 ghost use mathlib.Core.Bool.{_&&_};
 ghost use Prim.Native.Nat.{ℕ, _^_, _<_, _≤_};
-ghost use lib.Dec.{leb};
-ghost use Rattle.logic.specs.Graph.{Nodes, countBelow};
+ghost use Rattle.logic.specs.Graph.{Nodes};
 ghost use Rattle.words.specs.Words.{setOf, member};
-ghost use Rattle.rows.specs.Operations.{enough, least, looked, answered};
+ghost use Rattle.rows.specs.Operations.{number, enough, least, looked, answered};
 
-// Whether more than one node is in the set: something is left without its lowest.
-fn several(x: u64) -> bool
-    ensures { λ r. ⌜ r ≡ leb 2 (countBelow 64 (member x)) ⌝ }
-{
-    if x == 0 {
-        return false;
-    }
-    words::but_first(x) != 0
+// How many ends are looked for: some one (08, 09), or a number of them that is counted (0A, 0B).
+pub enum Wanted {
+    One,
+    Count(usize),
 }
 
-// Whether k or more ends of a row are in e.
-pub fn enough(k: usize, row: u64, e: u64) -> bool
-    ensures { λ r. ⌜ ((n : ℕ) (v w : Nodes) → n ≤ 64 → row ≡ setOf n v → e ≡ setOf n w → r ≡ enough k n v w) ⌝ }
+// Whether so many ends of a row are in e or more. For 0A and 0B the common bits are counted, however small the number is that they are compared with.
+pub fn enough(k: Wanted, row: u64, e: u64) -> bool
+    ensures { λ r. ⌜ ((n : ℕ) (v w : Nodes) → n ≤ 64 → row ≡ setOf n v → e ≡ setOf n w → r ≡ enough (number k) n v w) ⌝ }
 {
-    if k == 1 {
-        words::both(row, e) != 0
-    } else if k == 2 {
-        several(words::both(row, e))
-    } else {
-        k <= words::count_common(row, e) as usize
+    match k {
+        Wanted::One => words::both(row, e) != 0,
+        Wanted::Count(m) => m <= words::count_common(row, e) as usize,
     }
 }
 
 // 08, 09, 0A, 0B: how many ends are looked for,
-pub fn least(c: u8, m: u8) -> usize
-    ensures { λ r. ⌜ r ≡ least c m ⌝ }
+pub fn least(c: u8, m: u8) -> Wanted
+    ensures { λ r. ⌜ number r ≡ least c m ⌝ }
 {
     if c == 0x08 {
-        1
+        Wanted::One
     } else if c == 0x09 {
-        1
+        Wanted::One
     } else if c == 0x0A {
-        m as usize
+        Wanted::Count(m as usize)
     } else {
-        m as usize + 1
+        Wanted::Count(m as usize + 1)
     }
 }
 

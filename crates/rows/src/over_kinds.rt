@@ -5,7 +5,8 @@ ghost use Prim.Native.Nat.{_^_, _<_, _≤_};
 ghost use Rattle.logic.specs.Graph.{Nodes, anyBelow};
 ghost use Rattle.words.specs.Words.{setOf, member};
 ghost use Rattle.sheet.specs.Sheet.{graphOf};
-ghost use Rattle.rows.specs.Operations.{quantified, enough, least, turn, Among, OfSheet};
+ghost use Rattle.rows.specs.Operations.{number, quantified, enough, turn, Among, OfSheet};
+use crate::counting::Wanted;
 use crate::counting::answered;
 use crate::counting::enough;
 use crate::counting::least;
@@ -14,11 +15,11 @@ use logic::Arrow;
 use logic::Node;
 use sheet::Sheet;
 
-// Of the nodes within, those with k or more ends in e. Inner: the sheet is sound, n is its node count, and it has that arrow, here and in the
+// Of the nodes within, those with the ends wanted in e. Inner: the sheet is sound, n is its node count, and it has that arrow, here and in the
 // functions of this kind below.
-fn kind_starts(k: usize, sheet: &[u8], n: usize, within: u64, a: Arrow, e: u64) -> u64
+fn kind_starts(k: Wanted, sheet: &[u8], n: usize, within: u64, a: Arrow, e: u64) -> u64
     requires { ⌜ OfSheet (now sheet) n (a .0) × (within < 2 ^ n) ⌝ }
-    ensures { λ r. ⌜ ((w : Nodes) → e ≡ setOf n w → r ≡ setOf n (λ i. member within i && enough k n (graphOf (now (sheet .entry)) .joined (a .0) i) w)) ⌝ }
+    ensures { λ r. ⌜ ((w : Nodes) → e ≡ setOf n w → r ≡ setOf n (λ i. member within i && enough (number k) n (graphOf (now (sheet .entry)) .joined (a .0) i) w)) ⌝ }
 {
     let mut r: u64 = 0;
     let mut left = within;
@@ -33,9 +34,9 @@ fn kind_starts(k: usize, sheet: &[u8], n: usize, within: u64, a: Arrow, e: u64) 
 }
 
 // Of all nodes.
-fn kind_all_starts(k: usize, sheet: &[u8], n: usize, a: Arrow, e: u64) -> u64
+fn kind_all_starts(k: Wanted, sheet: &[u8], n: usize, a: Arrow, e: u64) -> u64
     requires { ⌜ OfSheet (now sheet) n (a .0) ⌝ }
-    ensures { λ r. ⌜ ((w : Nodes) → e ≡ setOf n w → r ≡ setOf n (λ i. enough k n (graphOf (now (sheet .entry)) .joined (a .0) i) w)) ⌝ }
+    ensures { λ r. ⌜ ((w : Nodes) → e ≡ setOf n w → r ≡ setOf n (λ i. enough (number k) n (graphOf (now (sheet .entry)) .joined (a .0) i) w)) ⌝ }
 {
     let mut r: u64 = 0;
     let mut i = 0;
@@ -63,24 +64,6 @@ fn kind_ends_of_one(sheet: &[u8], n: usize, a: Arrow, e: u64) -> u64
     one
 }
 
-// The ends of two of them or more.
-fn kind_ends_of_two(sheet: &[u8], n: usize, a: Arrow, e: u64) -> u64
-    requires { ⌜ OfSheet (now sheet) n (a .0) × (e < 2 ^ n) ⌝ }
-    ensures { λ r. ⌜ r ≡ setOf n (λ j. enough 2 n (λ i. graphOf (now (sheet .entry)) .joined (a .0) i j) (member e)) ⌝ }
-{
-    let mut one: u64 = 0;
-    let mut two: u64 = 0;
-    let mut left = e;
-    while 0 < left {
-        let i = words::first(left);
-        let x = Sheet::row_word(sheet, a, Node(i as u8));
-        two = words::either(two, words::both(one, x));
-        one = words::either(one, x);
-        left = words::but_first(left);
-    }
-    two
-}
-
 // The ends of all of them.
 pub fn kind_all_ends(sheet: &[u8], n: usize, a: Arrow) -> u64
     requires { ⌜ OfSheet (now sheet) n (a .0) ⌝ }
@@ -95,35 +78,30 @@ pub fn kind_all_ends(sheet: &[u8], n: usize, a: Arrow) -> u64
     r
 }
 
-// Whether an operand with that code is counted straight from the sheet: an arrow kind, by rows, or by columns up to two.
-pub fn straight(code: u8, c: u8, m: u8, turned: bool) -> bool
-    ensures { λ r. ⌜ (r ≡ true → (code ≤ 0x11) × (turned ≡ true → least c m ≤ 2)) ⌝ }
+// Whether an operand with that code is asked straight from the sheet: an arrow kind, by rows, or for 08 and 09 by columns. 0A and 0B count along rows, which
+// a reversed arrow has only once it is reversed.
+pub fn straight(code: u8, c: u8, turned: bool) -> bool
+    ensures { λ r. ⌜ (r ≡ true → (code ≤ 0x11) × (turned ≡ true → c ≤ 0x09)) ⌝ }
 {
     if code > 0x11 {
         return false;
     }
-    if turned { least(c, m) <= 2 } else { true }
+    if turned { c <= 0x09 } else { true }
 }
 
-// The nodes that k or more arrows of that kind from e end in. Inner: k is 2 at most.
-fn kind_ends(k: usize, sheet: &[u8], n: usize, all: u64, a: Arrow, e: u64) -> u64
-    requires { ⌜ (k ≤ 2) × OfSheet (now sheet) n (a .0) × Among all (graphOf (now sheet) .joined (a .0)) × (e < 2 ^ n) ⌝ }
-    ensures { λ r. ⌜ r ≡ setOf n (λ j. enough k n (λ i. graphOf (now (sheet .entry)) .joined (a .0) i j) (member e)) ⌝ }
+// The nodes that some arrow of that kind from e ends in.
+fn kind_ends(sheet: &[u8], n: usize, all: u64, a: Arrow, e: u64) -> u64
+    requires { ⌜ OfSheet (now sheet) n (a .0) × Among all (graphOf (now sheet) .joined (a .0)) × (e < 2 ^ n) ⌝ }
+    ensures { λ r. ⌜ r ≡ setOf n (λ j. enough 1 n (λ i. graphOf (now (sheet .entry)) .joined (a .0) i j) (member e)) ⌝ }
 {
-    if k == 0 {
-        words::lowest(n)
-    } else if k == 1 {
-        if e == all {
-            kind_all_ends(sheet, n, a)
-        } else {
-            kind_ends_of_one(sheet, n, a, e)
-        }
+    if e == all {
+        kind_all_ends(sheet, n, a)
     } else {
-        kind_ends_of_two(sheet, n, a, e)
+        kind_ends_of_one(sheet, n, a, e)
     }
 }
 
-// 08, 09, 0A, 0B over 11, or over 12 11: the nodes within of which it holds. Inner: `straight` says that it may be asked.
+// 08, 09, 0A, 0B over 11, or over 12 11: the nodes within of which it holds. Inner: c is a quantifier's code, and `straight` says that it may be asked.
 pub fn quantified_kind(
     c: u8,
     m: u8,
@@ -135,13 +113,13 @@ pub fn quantified_kind(
     a: Arrow,
     e: u64,
 ) -> u64
-    requires { ⌜ OfSheet (now sheet) n (a .0) × (within < 2 ^ n) × (all < 2 ^ n) × Among all (graphOf (now sheet) .joined (a .0)) × (e < 2 ^ n) × (turned ≡ true → least c m ≤ 2) ⌝ }
+    requires { ⌜ OfSheet (now sheet) n (a .0) × (within < 2 ^ n) × (all < 2 ^ n) × Among all (graphOf (now sheet) .joined (a .0)) × (e < 2 ^ n) × (0x08 ≤ c) × (turned ≡ true → c ≤ 0x09) ⌝ }
     ensures { λ r. ⌜ r ≡ setOf n (λ i. member within i && quantified c m n (turn turned (graphOf (now (sheet .entry)) .joined (a .0)) i) (member e)) ⌝ }
 {
     let k = least(c, m);
     let f = looked(c, all, e);
     if turned {
-        answered(c, within, kind_ends(k, sheet, n, all, a, f))
+        answered(c, within, kind_ends(sheet, n, all, a, f))
     } else if within == all {
         answered(c, within, kind_all_starts(k, sheet, n, a, f))
     } else {

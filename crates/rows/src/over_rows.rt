@@ -7,17 +7,18 @@ ghost use Rattle.logic.specs.Graph.{Nodes, Pairs, anyBelow};
 ghost use Rattle.logic.specs.Limits.{maxNodes};
 ghost use Rattle.words.specs.Words.{setOf, member};
 ghost use Rattle.sheet.specs.Sheet.{Rows};
-ghost use Rattle.rows.specs.Operations.{quantified, enough, turn, Among};
+ghost use Rattle.rows.specs.Operations.{number, quantified, enough, turn, Among};
+use crate::counting::Wanted;
 use crate::counting::answered;
 use crate::counting::enough;
 use crate::counting::least;
 use crate::counting::looked;
 use crate::relations::reverse_rows;
 
-// Of the nodes within, those with k or more ends in e. Inner: n is a sheet's and there are 64 rows, as in all functions below.
-fn starts(k: usize, n: usize, within: u64, rows: &[u64], e: u64) -> u64
+// Of the nodes within, those with the ends wanted in e. Inner: n is a sheet's and there are 64 rows, as in all functions below.
+fn starts(k: Wanted, n: usize, within: u64, rows: &[u64], e: u64) -> u64
     requires { ⌜ (n ≤ maxNodes) × (length (now rows) ≡ 64) × (within < 2 ^ n) ⌝ }
-    ensures { λ r. ⌜ ((v : Pairs) (w : Nodes) → Rows n v (now (rows .entry)) → e ≡ setOf n w → r ≡ setOf n (λ i. member within i && enough k n (v i) w)) ⌝ }
+    ensures { λ r. ⌜ ((v : Pairs) (w : Nodes) → Rows n v (now (rows .entry)) → e ≡ setOf n w → r ≡ setOf n (λ i. member within i && enough (number k) n (v i) w)) ⌝ }
 {
     let mut r: u64 = 0;
     let mut left = within;
@@ -31,10 +32,10 @@ fn starts(k: usize, n: usize, within: u64, rows: &[u64], e: u64) -> u64
     r
 }
 
-// Of all nodes, those with k or more ends in e: by the rows in turn, which costs less a node than member by member.
-fn all_starts(k: usize, n: usize, rows: &[u64], e: u64) -> u64
+// Of all nodes, those with the ends wanted in e: by the rows in turn, which costs less a node than member by member.
+fn all_starts(k: Wanted, n: usize, rows: &[u64], e: u64) -> u64
     requires { ⌜ (n ≤ maxNodes) × (length (now rows) ≡ 64) ⌝ }
-    ensures { λ r. ⌜ ((v : Pairs) (w : Nodes) → Rows n v (now (rows .entry)) → e ≡ setOf n w → r ≡ setOf n (λ i. enough k n (v i) w)) ⌝ }
+    ensures { λ r. ⌜ ((v : Pairs) (w : Nodes) → Rows n v (now (rows .entry)) → e ≡ setOf n w → r ≡ setOf n (λ i. enough (number k) n (v i) w)) ⌝ }
 {
     let mut r: u64 = 0;
     let mut i = 0;
@@ -62,24 +63,6 @@ fn ends_of_one(n: usize, rows: &[u64], e: u64) -> u64
     one
 }
 
-// The ends of two rows of e or more.
-fn ends_of_two(n: usize, rows: &[u64], e: u64) -> u64
-    requires { ⌜ (n ≤ maxNodes) × (length (now rows) ≡ 64) × (e < 2 ^ n) ⌝ }
-    ensures { λ r. ⌜ ((v : Pairs) → Rows n v (now (rows .entry)) → r ≡ setOf n (λ j. enough 2 n (λ i. v i j) (member e))) ⌝ }
-{
-    let mut one: u64 = 0;
-    let mut two: u64 = 0;
-    let mut left = e;
-    while 0 < left {
-        let i = words::first(left);
-        let x = rows[i];
-        two = words::either(two, words::both(one, x));
-        one = words::either(one, x);
-        left = words::but_first(left);
-    }
-    two
-}
-
 // The ends of all rows.
 fn all_ends(n: usize, rows: &[u64]) -> u64
     requires { ⌜ (n ≤ maxNodes) × (length (now rows) ≡ 64) ⌝ }
@@ -94,24 +77,27 @@ fn all_ends(n: usize, rows: &[u64]) -> u64
     r
 }
 
-// The nodes that k or more rows of e end in. The rows may be used up.
-fn ends(k: usize, n: usize, all: u64, rows: &mut [u64], e: u64) -> u64
+// The nodes that some row of e ends in.
+fn ends(n: usize, all: u64, rows: &[u64], e: u64) -> u64
     requires { ⌜ (n ≤ maxNodes) × (length (now rows) ≡ 64) × (e < 2 ^ n) ⌝ }
-    ensures { λ r. ⌜ ((v : Pairs) → Among all v → Rows n v (now (rows .entry)) → r ≡ setOf n (λ j. enough k n (λ i. v i j) (member e))) × (length (now (rows .exit)) ≡ 64) ⌝ }
+    ensures { λ r. ⌜ ((v : Pairs) → Among all v → Rows n v (now (rows .entry)) → r ≡ setOf n (λ j. enough 1 n (λ i. v i j) (member e))) ⌝ }
 {
-    if k == 0 {
-        words::lowest(n)
-    } else if k == 1 {
-        if e == all {
-            all_ends(n, rows)
-        } else {
-            ends_of_one(n, rows, e)
-        }
-    } else if k == 2 {
-        ends_of_two(n, rows, e)
+    if e == all {
+        all_ends(n, rows)
     } else {
-        reverse_rows(n, rows);
-        all_starts(k, n, rows, e)
+        ends_of_one(n, rows, e)
+    }
+}
+
+// Of the nodes within, those with the ends wanted in e.
+fn asked_starts(k: Wanted, n: usize, all: u64, within: u64, rows: &[u64], e: u64) -> u64
+    requires { ⌜ (n ≤ maxNodes) × (length (now rows) ≡ 64) × (within < 2 ^ n) ⌝ }
+    ensures { λ r. ⌜ ((v : Pairs) (w : Nodes) → Rows n v (now (rows .entry)) → e ≡ setOf n w → r ≡ setOf n (λ i. member within i && enough (number k) n (v i) w)) ⌝ }
+{
+    if within == all {
+        words::both(within, all_starts(k, n, rows, e))
+    } else {
+        starts(k, n, within, rows, e)
     }
 }
 
@@ -132,10 +118,14 @@ pub fn quantified(
     let k = least(c, m);
     let f = looked(c, all, e);
     if turned {
-        answered(c, within, ends(k, n, all, rows, f))
-    } else if within == all {
-        answered(c, within, all_starts(k, n, rows, f))
+        match k {
+            Wanted::One => answered(c, within, ends(n, all, rows, f)),
+            Wanted::Count(_) => {
+                reverse_rows(n, rows);
+                answered(c, within, asked_starts(k, n, all, within, rows, f))
+            }
+        }
     } else {
-        answered(c, within, starts(k, n, within, rows, f))
+        answered(c, within, asked_starts(k, n, all, within, rows, f))
     }
 }

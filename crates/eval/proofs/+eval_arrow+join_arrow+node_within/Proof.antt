@@ -143,7 +143,7 @@ pub +eval-arrow+join-arrow+node-within-spec : {M : Type 1} → statement M
     (λ c κs. let s = c .before .before .before .before .before .before .before .before .before .before .before .before .before .before in let q = as-quantifier _ _ _ (s .pre .1 .2 .what) (s .pre .1 .2 .stands) (c .before .before .before .before .before .before .if5 .left) _ (c .before .before .before .before .before .ahead .ensures .0) (c .before .before .before .before .before .ahead .ensures .1) in let d = c .before .before .before .behind-turns .ensures (q .A) (q .first) in let g = c .before .straight .ensures (c .if6 .taken) in let w = arrows.as-kind _ _ _ (d .R) (d .stands) (g .0) in (omega (arith, s .pre .0, q .behind-code, d .on, w .inside), (s .pre .1 .0, all-used (s .pre .1 .0), record { what = q .B; stands = q .second _ (omega (arith, d .ends, w .size)) })))
     (λ c. let s = c .before .before .before .before .before .before .before .before .before .before .before .before .before .before .before in let q = as-quantifier _ _ _ (s .pre .1 .2 .what) (s .pre .1 .2 .stands) (c .before .before .before .before .before .before .before .if5 .left) _ (c .before .before .before .before .before .before .ahead .ensures .0) (c .before .before .before .before .before .before .ahead .ensures .1) in let d = c .before .before .before .before .behind-turns .ensures (q .A) (q .first) in let g = c .before .before .straight .ensures (c .before .if6 .taken) in let w = arrows.as-kind _ _ _ (d .R) (d .stands) (g .0) in omega (arith, w .inside))
     (λ c. let s = c .before .before .before .before .before .before .before .before .before .before .before .before .before .before .before .before in let q = as-quantifier _ _ _ (s .pre .1 .2 .what) (s .pre .1 .2 .stands) (c .before .before .before .before .before .before .before .before .if5 .left) _ (c .before .before .before .before .before .before .before .ahead .ensures .0) (c .before .before .before .before .before .before .before .ahead .ensures .1) in let d = c .before .before .before .before .before .behind-turns .ensures (q .A) (q .first) in let g = c .before .before .before .straight .ensures (c .before .before .if6 .taken) in let w = arrows.as-kind _ _ _ (d .R) (d .stands) (g .0) in omega (arith, w .inside))
-    (λ c κs. let s = c .before .before .before .before .before .before .before .before .before .before .before .before .before .before .before .before in let q = as-quantifier _ _ _ (s .pre .1 .2 .what) (s .pre .1 .2 .stands) (c .before .before .before .before .before .before .before .before .if5 .left) _ (c .before .before .before .before .before .before .before .ahead .ensures .0) (c .before .before .before .before .before .before .before .ahead .ensures .1) in let d = c .before .before .before .before .before .behind-turns .ensures (q .A) (q .first) in let g = c .before .before .before .straight .ensures (c .before .before .if6 .taken) in let w = arrows.as-kind _ _ _ (d .R) (d .stands) (g .0) in (record { sound = s .pre .1 .0 .sound; count = s .pre .1 .0 .count; few = s .pre .1 .0 .few; kind = w .range }, s .pre .1 .1 .small, all-used (s .pre .1 .0) .small, among-all (s .pre .1 .0) (s .pre .1 .0 .within .arrows-in _), part-used (all-used (s .pre .1 .0)) (c .before .node-within6 .ensures (q .B) (q .second _ (omega (arith, d .ends, w .size)))) .small, g .1))
+    (λ c κs. let s = c .before .before .before .before .before .before .before .before .before .before .before .before .before .before .before .before in let q = as-quantifier _ _ _ (s .pre .1 .2 .what) (s .pre .1 .2 .stands) (c .before .before .before .before .before .before .before .before .if5 .left) _ (c .before .before .before .before .before .before .before .ahead .ensures .0) (c .before .before .before .before .before .before .before .ahead .ensures .1) in let d = c .before .before .before .before .before .behind-turns .ensures (q .A) (q .first) in let g = c .before .before .before .straight .ensures (c .before .before .if6 .taken) in let w = arrows.as-kind _ _ _ (d .R) (d .stands) (g .0) in (record { sound = s .pre .1 .0 .sound; count = s .pre .1 .0 .count; few = s .pre .1 .0 .few; kind = w .range }, s .pre .1 .1 .small, all-used (s .pre .1 .0) .small, among-all (s .pre .1 .0) (s .pre .1 .0 .within .arrows-in _), part-used (all-used (s .pre .1 .0)) (c .before .node-within6 .ensures (q .B) (q .second _ (omega (arith, d .ends, w .size)))) .small, omega (arith, c .before .before .before .before .before .before .before .before .if5 .left), g .1))
     (λ c. search needs)
     (λ c κs. let s = c .before .before .before .before .before .before .before .before .before .before .before .before .before .before .before in let q = as-quantifier _ _ _ (s .pre .1 .2 .what) (s .pre .1 .2 .stands) (c .before .before .before .before .before .before .before .if5 .left) _ (c .before .before .before .before .before .before .ahead .ensures .0) (c .before .before .before .before .before .before .ahead .ensures .1) in let d = c .before .before .before .before .behind-turns .ensures (q .A) (q .first) in (omega (arith, s .pre .0, q .behind-code, d .on, starts-inside _ _ _ _ (d .stands)), (s .pre .1 .0, record { what = d .R; stands = d .stands }, refl)))
     (λ c κs. let s = c .before .before .before .before .before .before .before .before .before .before .before .before .before .before .before .before .before in let q = as-quantifier _ _ _ (s .pre .1 .2 .what) (s .pre .1 .2 .stands) (c .before .before .before .before .before .before .before .before .before .if5 .left) _ (c .before .before .before .before .before .before .before .before .ahead .ensures .0) (c .before .before .before .before .before .before .before .before .ahead .ensures .1) in let d = c .before .before .before .before .before .before .behind-turns .ensures (q .A) (q .first) in let a = c .before .eval-arrow .ensures .0 (d .R) (d .stands) in (omega (arith, s .pre .0, q .behind-code, d .on, starts-inside _ _ _ _ (d .stands), a .ends), (s .pre .1 .0, all-used (s .pre .1 .0), record { what = q .B; stands = q .second _ (omega (arith, a .ends, d .ends)) })))

@@ -3,7 +3,7 @@ use mathlib.Core.Logic.{⊎-elim}
 use Prim.Native.Nat.{ℕ, _≤_, _-_}
 use native.Mathlib.Omega.{arith}
 use borrow.Author.Needs.{needs}
-use Rattle.rows.specs.Operations.{enough}
+use Rattle.rows.specs.Operations.{number, enough}
 use Rattle.logic.specs.Graph.{Nodes}
 use Rattle.sheet.specs.Sheet.{graphOf}
 use Rattle.words.proofs.SetLaws.{setOf-zero, setOf-more, setOf-same, setOf-end}
@@ -12,7 +12,7 @@ use Rattle.rows.proofs.over_kinds.kind_all_starts.Statement.{statement}
 use Rattle.rows.proofs.over_kinds.kind_all_starts.Tie as tie
 
 abbrev Inv-loop : tie.InvT-loop
-Inv-loop k sheet n a e r₀ i₀ r i = (i ≤ n) × ((w : Nodes) → e ≡ setOf n w → r ≡ setOf i (λ j. enough k n (graphOf sheet .joined (a .0) j) w))
+Inv-loop k sheet n a e r₀ i₀ r i = (i ≤ n) × ((w : Nodes) → e ≡ setOf n w → r ≡ setOf i (λ j. enough (number k) n (graphOf sheet .joined (a .0) j) w))
 
 abbrev μ-loop : tie.MeasureT-loop
 μ-loop k sheet n a e r₀ i₀ r i = n - i

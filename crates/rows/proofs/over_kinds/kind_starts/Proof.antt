@@ -7,13 +7,13 @@ use Rattle.logic.specs.Graph.{Nodes}
 use Rattle.sheet.specs.Sheet.{graphOf}
 use Rattle.words.specs.Words.{setOf}
 use Rattle.words.proofs.MemberLaws.{member-small}
-use Rattle.rows.specs.Operations.{enough}
+use Rattle.rows.specs.Operations.{number, enough}
 use Rattle.rows.proofs.Walks.{Inside, inside-less, Picked, picked-none, picked-yes, picked-no, picked-end}
 use Rattle.rows.proofs.over_kinds.kind_starts.Statement.{statement}
 use Rattle.rows.proofs.over_kinds.kind_starts.Tie as tie
 
 abbrev Inv-loop : tie.InvT-loop
-Inv-loop k sheet n within a e r₀ left₀ r left = (left < 2 ^ n) × Inside left within × ((w : Nodes) → e ≡ setOf n w → Picked n within left (λ i. enough k n (graphOf sheet .joined (a .0) i) w) r)
+Inv-loop k sheet n within a e r₀ left₀ r left = (left < 2 ^ n) × Inside left within × ((w : Nodes) → e ≡ setOf n w → Picked n within left (λ i. enough (number k) n (graphOf sheet .joined (a .0) i) w) r)
 
 abbrev μ-loop : tie.MeasureT-loop
 μ-loop k sheet n within a e r₀ left₀ r left = left

@@ -3,7 +3,7 @@ use mathlib.Core.Logic.{⊎-elim}
 use Prim.Native.Nat.{_≤_, _-_}
 use native.Mathlib.Omega.{arith}
 use borrow.Author.Needs.{needs}
-use Rattle.rows.specs.Operations.{enough}
+use Rattle.rows.specs.Operations.{number, enough}
 use Rattle.logic.specs.Graph.{Nodes, Pairs}
 use Rattle.sheet.specs.Sheet.{Rows}
 use Rattle.words.proofs.SetLaws.{setOf-zero, setOf-more, setOf-same, setOf-end}
@@ -12,7 +12,7 @@ use Rattle.rows.proofs.over_rows.all_starts.Statement.{statement}
 use Rattle.rows.proofs.over_rows.all_starts.Tie as tie
 
 abbrev Inv-loop : tie.InvT-loop
-Inv-loop k n rows e r₀ i₀ r i = (i ≤ n) × ((v : Pairs) (w : Nodes) → Rows n v rows → e ≡ setOf n w → r ≡ setOf i (λ j. enough k n (v j) w))
+Inv-loop k n rows e r₀ i₀ r i = (i ≤ n) × ((v : Pairs) (w : Nodes) → Rows n v rows → e ≡ setOf n w → r ≡ setOf i (λ j. enough (number k) n (v j) w))
 
 abbrev μ-loop : tie.MeasureT-loop
 μ-loop k n rows e r₀ i₀ r i = n - i
