@@ -4,8 +4,8 @@ use mathlib.Core.Logic.{_↔_}
 use mathlib.Core.List.{List, [], map}
 use Prim.Native.Nat.{ℕ}
 use lib.Dec.{T}
-use Rattle.answer.specs.Asked.{passed, _>>_, after, outcome}
-use Rattle.logic.specs.Syntax.{Expr, rule}
+use Rattle.answer.specs.Asked.{Asked, passed, refused, _>>=_, _>>_, after, outcome}
+use Rattle.logic.specs.Syntax.{Expr, rule, Edit}
 use Rattle.logic.specs.Graph.{Graph}
 use Rattle.logic.specs.Meaning.{value}
 use Rattle.logic.specs.Steps.{run}
@@ -18,7 +18,7 @@ use Rattle.sheet.proofs.ReadBack.{read-back}
 use Rattle.sheet.proofs.Opening.{Opened, opening}
 use Rattle.text.specs.Reading.{textLimits}
 use Rattle.text.specs.Questions.{askBook}
-use Rattle.judge.specs.Questions.{askSheetAndBook}
+use Rattle.judge.specs.Questions.{askSheetAndBook, askRules}
 use Rattle.single.specs.Scratch.{askScratch}
 use Rattle.apply.specs.Apply.{afterSteps}
 use Rattle.demands.specs.Enter.{askEnter, enterAnswer, enterSheet}
@@ -62,6 +62,20 @@ module _ {book edit sheet : List ℕ} (i : Given book edit sheet) where
 
   asks : (room : ℕ) → askEnter sheet book edit room ≡ askSteps (i .rules) (graphOf sheet) (call room)
   asks room = enter-asks sheet book (i .rules) (call room) sheet-and-book
+
+  -- 31 to 33, and then 41 of the book's own rules on the sheet that the steps leave
+  answers : (room : ℕ) → enterAnswer sheet book edit room ≡ (askScratch (carriedBook (i .steps) (i .rules)) room >> askRules (graphOf (afterSteps (i .steps) sheet)) (i .rules) 0)
+  unfolding askSteps outcome _>>=_ _>>_
+  answers room =
+      ap outcome (asks room)
+      ∙ ap (λ (q : Asked Edit). outcome (q >>= (λ Z. askScratch (carriedBook Z (i .rules)) room >> (askRules (run Z (graphOf sheet)) (i .rules) 0 >> passed Z)))) (i .edit-read)
+      ∙ go (askScratch (carriedBook (i .steps) (i .rules)) room) (askRules (run (i .steps) (graphOf sheet)) (i .rules) 0)
+      ∙ ap (λ g. askScratch (carriedBook (i .steps) (i .rules)) room >> askRules g (i .rules) 0) (sym left)
+    where
+      go : (q r : Asked (Unit {0})) → outcome (q >> (r >> passed (i .steps))) ≡ (q >> r)
+      go (passed u) (passed v) = refl
+      go (passed u) (refused n p) = refl
+      go (refused n p) r = refl
 
   -- done is answered of this edit, and all else has passed
   done-with : (room : ℕ) → enterAnswer sheet book edit room ≡ passed tt → Entered (i .rules) (graphOf sheet) (call room) (i .steps)
@@ -109,5 +123,6 @@ demand-3 =
       carried-ensure = λ i h. carried-keeps i h;
       entered-when = λ i. entered-iff i;
       entered-leaves = λ i. leaves i;
+      enter-answers = λ i. answers i;
       every-run = run-right;
     }

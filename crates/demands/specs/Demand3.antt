@@ -4,11 +4,12 @@ use mathlib.Core.Logic.{_↔_}
 use mathlib.Core.List.{List, [], _∷_, map}
 use Prim.Native.Nat.{ℕ}
 use lib.Dec.{T}
-use Rattle.answer.specs.Asked.{passed}
+use Rattle.answer.specs.Asked.{passed, _>>_}
 use Rattle.logic.specs.Syntax.{Expr, rule}
 use Rattle.logic.specs.Meaning.{value}
 use Rattle.logic.specs.Carry.{carry, carriedBook}
 use Rattle.sheet.specs.Sheet.{graphOf}
+use Rattle.judge.specs.Questions.{askRules}
 use Rattle.single.specs.Scratch.{askScratch}
 use Rattle.apply.specs.Apply.{afterSteps}
 use Rattle.demands.specs.Enter.{enterAnswer, enterSheet}
@@ -47,5 +48,10 @@ pub record Demand3 : Type 1 where
       → (enterAnswer sheet book edit room ≡ passed tt) ↔ Hold (graphOf sheet) (carriedBook (i .steps) (i .rules))
   pub entered-leaves : {book edit sheet : List ℕ} (i : Given book edit sheet) (room : ℕ)
       → enterAnswer sheet book edit room ≡ passed tt → enterSheet sheet book edit room ≡ afterSteps (i .steps) sheet
+  -- Outside of runs too, on every sound sheet, also one that breaks the book: the answer is the first no of 31 to 33 of the carried book, else 41 with
+  -- the first rule of the book itself that does not hold on the sheet that the steps leave, else done.
+  pub enter-answers : {book edit sheet : List ℕ} (i : Given book edit sheet) (room : ℕ)
+      → enterAnswer sheet book edit room
+      ≡ (askScratch (carriedBook (i .steps) (i .rules)) room >> askRules (graphOf (afterSteps (i .steps) sheet)) (i .rules) 0)
   -- For every list of enter calls under one book, refused ones included, from a sheet that keeps the book.
   pub every-run : (opening book : List ℕ) (calls : List Call) → Bytes opening → Keeps book opening → RunRight opening book calls
