@@ -14,10 +14,12 @@ use Rattle.text.specs.Reading.{Limits, carriedLimits}
 use Rattle.text.specs.Questions.{askRule}
 use Rattle.text.proofs.Books.{rule-is-spelled, spelled-rule-passes}
 use Rattle.laws.specs.Laws.{Step, Fits, Chain}
-use Rattle.laws.specs.Asking.{askChain, askCheck, Accepted, CheckPasses}
+use Rattle.laws.specs.Asking.{askChain, askCheck, CheckPasses}
+use Rattle.laws.specs.SameTruth.{SameTruth}
 use Rattle.laws.proofs.Sound.{chain-sound}
 use Rattle.laws.proofs.Limits.{step-shorter, step-no-deeper, step-in-range}
 use Rattle.laws.proofs.Accepted.{WhenPassed, accepted}
+use Rattle.laws.proofs.OneReading.{one-rule}
 
 module _ (l : Limits) where
   -- "After each fitting step the text is again one rule within the limits."
@@ -50,25 +52,27 @@ check-passes carried steps sent = (there, back)
     back : CheckPasses carried steps sent → askCheck carried steps sent ≡ passed tt
     back c = ap (_>>= (λ K. askChain K steps sent)) (c .read) ∙ accepted (c .first) steps sent .1 (c .accepted)
 
--- "Accepted means that both texts have the same truth on every sheet whose node numbers fit": the text sent is one rule within the same limits,
--- and it holds on a graph within the limits exactly when the carried one does.
-pub record SameTruth (carried sent : List ℕ) : Type 0 where
-  pub first : Expr rule
-  pub last : Expr rule
-  pub first-read : askRule (carriedLimits maxNodes) carried ≡ passed first
-  pub last-read : askRule (carriedLimits maxNodes) sent ≡ passed last
-  pub same-truth : (g : Graph) → Within g → value g first ≡ value g last
+-- "Accepted means that both texts have the same truth on every sheet whose node numbers fit"
+module _ (carried steps sent : List ℕ) (c : CheckPasses carried steps sent) (l : Limits) (K : Expr rule) (read : askRule l carried ≡ passed K) where
+  abbrev last : Expr rule
+  last = c .accepted .last
+
+  -- the chain leads from the rule that the carried text is by these limits
+  led : Chain (c .accepted .chain) K last
+  led = subst (λ M. Chain (c .accepted .chain) M last) (one-rule (carriedLimits maxNodes) l carried (c .first) K (c .read) read) (c .accepted .leads)
+
+  sent-read : askRule l sent ≡ passed last
+  sent-read =
+      let first : askRule l (code K) ≡ passed K = subst (λ t. askRule l t ≡ passed K) (rule-is-spelled l carried K read .text-is) read in
+      subst (λ t. askRule l t ≡ passed last) (c .accepted .same) (chain-passes l (c .accepted .chain) K last led first)
+
+  truth : (L : Expr rule) → askRule l sent ≡ passed L → (g : Graph) → Within g → value g K ≡ value g L
+  truth L h g w = chain-sound g w (c .accepted .chain) K last led ∙ ap (λ M. value g M) (one-rule l l sent last L sent-read h)
 
 pub check-means : (carried steps sent : List ℕ) → askCheck carried steps sent ≡ passed tt → SameTruth carried sent
 check-means carried steps sent h =
     let c : CheckPasses carried steps sent = check-passes carried steps sent .0 h in
-    let a : Accepted (c .first) steps sent = c .accepted in
-    let l : Limits = carriedLimits maxNodes in
-    let first : askRule l (code (c .first)) ≡ passed (c .first) = subst (λ t. askRule l t ≡ passed (c .first)) (rule-is-spelled l carried (c .first) (c .read) .text-is) (c .read) in
     record {
-      first = c .first;
-      last = a .last;
-      first-read = c .read;
-      last-read = subst (λ t. askRule l t ≡ passed (a .last)) (a .same) (chain-passes l (a .chain) (c .first) (a .last) (a .leads) first);
-      same-truth = λ g w. chain-sound g w (a .chain) (c .first) (a .last) (a .leads);
+      reads-too = λ l K read. (c .accepted .last, sent-read carried steps sent c l K read);
+      same-truth = λ l K L read. truth carried steps sent c l K read L;
     }

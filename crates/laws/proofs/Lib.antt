@@ -9,4 +9,5 @@ pub mod Exact
 pub mod Limits
 pub mod Examples
 pub mod Accepted
+pub mod OneReading
 pub mod Checked

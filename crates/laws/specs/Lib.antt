@@ -4,3 +4,4 @@ pub mod Laws
 pub mod Checking
 pub mod Examples
 pub mod Asking
+pub mod SameTruth
