@@ -35,7 +35,7 @@ unfolding after
 after-bytes (passed a) made before h b = h a
 after-bytes (refused q p) made before h b = b
 
-n-bytes : (t : List ℕ) → Bytes t → graphOf t .n < 256
+pub n-bytes : (t : List ℕ) → Bytes t → graphOf t .n < 256
 unfolding graphIn
 n-bytes t b = b 2
 
@@ -47,7 +47,7 @@ leaves-bytes book sheet (closing i) b = after-bytes (askClose sheet book i) (λ 
 leaves-bytes book sheet (opening i) b = after-bytes (askOpen sheet book i) (λ u. store (openNode (graphOf sheet) i)) sheet (λ u. store-small (openNode (graphOf sheet) i) (n-bytes sheet b)) b
 
 -- a store with one plan replaced
-plans-bytes : (t : List ℕ) (i : ℕ) (x : Plan) → Bytes t → FewNodes x → Bytes (storeOf (update (plansOf t) i x))
+pub plans-bytes : (t : List ℕ) (i : ℕ) (x : Plan) → Bytes t → FewNodes x → Bytes (storeOf (update (plansOf t) i x))
 unfolding update plansOf
 plans-bytes t i x b h = storeOf-small (update (plansOf t) i x) (λ j. go j (eqb j i) (filledIn t j))
   where

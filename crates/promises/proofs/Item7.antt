@@ -1,1 +1,16 @@
 -- Item 7 of document 02 is kept.
+use Rattle.plans.specs.Calls.{returnedSheet}
+use Rattle.history.proofs.Back.{gives-back, gives-back-from}
+use Rattle.history.proofs.Returns.{good-keeps, good-right, returned-good}
+use Rattle.promises.specs.Item7.{Item7}
+
+pub item-7 : Item7
+item-7 =
+    record {
+      gives-back = gives-back;
+      gives-back-from = gives-back-from;
+      run-opens = λ sheet store name book b e.
+          let t = returnedSheet sheet store name book in
+          let g = returned-good book sheet store name b e in
+          (good-keeps book t g, λ calls. good-right book t calls g);
+    }

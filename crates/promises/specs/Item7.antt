@@ -1,1 +1,21 @@
 -- Item 7 of document 02: plans to come back to. proofs/Item7 proves it.
+use mathlib.Core.Path.{_≡_}
+use mathlib.Core.List.{List, _∷_}
+use Prim.Native.Nat.{ℕ}
+use Rattle.answer.specs.Asked.{passed}
+use Rattle.plans.specs.Questions.{askReturn}
+use Rattle.plans.specs.Calls.{returnedSheet}
+use Rattle.demands.specs.Run.{Bytes, Keeps, Call}
+use Rattle.demands.specs.Demand3.{RunRight}
+use Rattle.history.specs.History.{All}
+use Rattle.history.specs.Store.{StoreCall, blank, KeepsBytes, nothing, heldIn, GivesBack}
+
+pub record Item7 : Type 0 where
+  -- "While only these calls write the store, a return that is done gives back, byte for byte, the sheet last kept under that name, whatever was entered
+  -- since": from a buffer of any contents and length that is made blank,
+  pub gives-back : (buffer : List ℕ) (calls : List StoreCall) → All KeepsBytes calls → (name : ℕ) → GivesBack nothing buffer (blank ∷ calls) name
+  -- and from a store that comes from elsewhere, whose sheets count as kept.
+  pub gives-back-from : (store : List ℕ) → Bytes store → (calls : List StoreCall) → All KeepsBytes calls → (name : ℕ) → GivesBack (heldIn store name) store calls name
+  -- "and a new run opens there": the sheet keeps the book that the return was lent, whatever the sheet before, and every run from it has what demand 3 says.
+  pub run-opens : (sheet store : List ℕ) (name : ℕ) (book : List ℕ) → Bytes store → askReturn sheet store name book ≡ passed tt
+      → Keeps book (returnedSheet sheet store name book) × ((calls : List Call) → RunRight (returnedSheet sheet store name book) book calls)
