@@ -439,7 +439,7 @@ static zamiathen_played play(const uint8_t *from, size_t moves) {
 static void print_played(zamiathen_played played, size_t moves) {
     printf("zamiathen_play with %zu move%s answers %02zu %05zu: ", moves, moves == 1 ? "" : "s", played.number,
            played.place);
-    if (played.number != ZAMIATHEN_DONE)
+    if (played.outcome == ZAMIATHEN_PLAY_REFUSED)
         printf("refused.\n");
     else if (played.outcome == ZAMIATHEN_PLAY_EDIT)
         printf("edit %zu forces a win, %s.\n", played.edit, game_names[played.edit]);
@@ -453,7 +453,7 @@ static void print_played(zamiathen_played played, size_t moves) {
 static void make_move(uint8_t *on, size_t moves) {
     zamiathen_played played = play(on, moves);
     print_played(played, moves);
-    if (played.number == ZAMIATHEN_DONE && played.outcome == ZAMIATHEN_PLAY_EDIT)
+    if (played.outcome == ZAMIATHEN_PLAY_EDIT)
         zamiathen_enter(on, sizeof sheet, book.bytes, book.length, game_edits[played.edit].bytes,
                         game_edits[played.edit].length, scratch, sizeof scratch);
 }

@@ -128,7 +128,8 @@ enum zamiathen_number {
     ZAMIATHEN_SMALL_SHEETS = 61, /* n is not from 1 to 3, or another label or arrow than 0 is named */
 
     /* The game. Asked before the sheet. Place 0. */
-    ZAMIATHEN_GAME_RANGE = 62 /* not 1 to 4 dispatcher edits, 0 to 4 disruption edits and 1 to 6 moves */
+    ZAMIATHEN_GAME_RANGE = 62 /* not 1 to 4 dispatcher edits, 0 to 4 disruption edits and 1 to 6 moves; or the edits' lengths together
+                               * are not that of the bytes lent as edits */
 };
 
 /* The answer: a number of enum zamiathen_number, and its place. */
@@ -160,12 +161,13 @@ typedef struct {
     size_t broken_broken; /* broken before and after */
 } zamiathen_counts;
 
-/* What play states, and its answer with it: the outcome, and the edit, 0 unless the outcome is an edit. After every number
- * but done both are 0. */
+/* What play states, and its answer with it: the outcome, and an edit by its place in the list of edits, from 0. After a
+ * refusal the edit is the one that 21 to 26, 31 or 32 is about. Where neither names an edit it is 0. */
 enum zamiathen_outcome {
     ZAMIATHEN_PLAY_CANNOT = 0, /* no win can be forced */
-    ZAMIATHEN_PLAY_EDIT = 1,   /* one can, by this edit first: the lowest-numbered that forces it, from 0 */
-    ZAMIATHEN_PLAY_PASS = 2    /* one can, and the dispatcher, who can make no edit, passes first */
+    ZAMIATHEN_PLAY_EDIT = 1,   /* one can, by this edit first: the lowest-numbered that forces it */
+    ZAMIATHEN_PLAY_PASS = 2,   /* one can, and the dispatcher, who can make no edit, passes first */
+    ZAMIATHEN_PLAY_REFUSED = 3 /* nothing is stated: the number is not 0 */
 };
 
 typedef struct {
@@ -397,15 +399,16 @@ zamiathen_counts zamiathen_count(size_t n, const uint8_t *book, size_t book_leng
  * The dispatcher wins when the goal, a rule, holds after the last move. Can the dispatcher force a win, and by which move
  * first? The sheet need not keep the book.
  *
- * The texts of the edits stand one behind the other in edits, the dispatcher's first; lengths has the length of each, cut
- * off where edits ends, and bytes behind the last of them are not read. The first `dispatchers` of the lengths_count edits
- * are the dispatcher's, the others the disruption's. The goal is a book of one rule: an empty one is answered 12, bytes
- * behind the rule are 16.
+ * The texts of the edits stand one after the other in edits, the dispatcher's first; lengths has the length of each, and
+ * together they must be edits_length: the sum is that of whole numbers, so one that would wrap around to it is 62 too. The
+ * first `dispatchers` of the lengths_count edits are the dispatcher's, the others the disruption's. The goal is a book of
+ * one rule: an empty one is answered 12, bytes after the rule are 16.
  *
  * Answers 62, asked before the sheet, 1 to 4, 11 to 16 of the book and then of the goal, 21 to 26 of each edit in turn,
  * with the place in its own text, 31 or 32 for the first dispatcher edit through which the carried book does not fit, and
- * else 0 with the outcome. It does not say whose text a number is about: zamiathen_judge and zamiathen_apply tell. Writes
- * nothing. At most 4,096 lines of play of 6 moves are gone through, and each is left as soon as it is decided. */
+ * else 0 with the outcome. After 21 to 26, 31 and 32 the edit says which one is meant; whether 11 to 16 are about the book
+ * or the goal is told by zamiathen_judge of the book. Writes nothing. At most 4,096 lines of play of 6 moves are gone
+ * through, and each is left as soon as it is decided. */
 zamiathen_played zamiathen_play(const uint8_t *sheet, size_t sheet_length, const uint8_t *book, size_t book_length,
                                 const uint8_t *goal, size_t goal_length, const uint8_t *edits, size_t edits_length,
                                 const size_t *lengths, size_t lengths_count, size_t dispatchers, size_t moves);

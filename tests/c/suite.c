@@ -1195,10 +1195,13 @@ static void counts(void) {
 }
 
 /* Games on a blank sheet of two nodes: the edits' texts one behind the other, the dispatcher's first, their lengths, and
- * the answer: number, place, outcome (0 can't, 1 an edit, 2 a pass), the edit. GIVE gives node 0 label 0. */
+ * the answer: number, place, outcome (0 can't, 1 an edit, 2 a pass, 3 after a refusal), the edit. GIVE gives node 0 label 0. */
 #define GIVE "31 00 04 00 30 "
 #define TAKE_IT "32 00 04 00 30 "
 #define LABELLED "23 00 03 00"
+#define DOUBLED "31 00 03 00 31 00 03 00 31 00 03 00 31 00 03 00 31 00 03 00 "
+#define DOUBLING DOUBLED DOUBLED DOUBLED "30 "
+#define REFUSED ZAMIATHEN_PLAY_REFUSED
 _Static_assert(ZAMIATHEN_GAME_RANGE == 62, "document 02");
 static const struct {
     const char *book, *goal, *edits;
@@ -1216,18 +1219,24 @@ static const struct {
     {"21 03 00 02", LABELLED, "30 " GIVE, {1, 5}, 2, 1, 3, {0, 0, 1, 0}},
     {"21 03 00 02", LABELLED, TAKE_IT GIVE, {5, 5}, 2, 1, 3, {0, 0, 0, 0}},
     {"", LABELLED, "30 30 30 " GIVE "30 30 30 30", {1, 1, 1, 5, 1, 1, 1, 1}, 8, 4, 6, {0, 0, 1, 0}},
-    {"FF", "", "FF", {1}, 1, 0, 1, {ZAMIATHEN_GAME_RANGE}},
-    {"FF", "", "FF", {1}, 1, 1, 0, {ZAMIATHEN_GAME_RANGE}},
-    {"FF", "", "FF", {1}, 1, 1, 7, {ZAMIATHEN_GAME_RANGE}},
-    {"FF", "", "FF", {1, 1, 1, 1, 1}, 5, 5, 1, {ZAMIATHEN_GAME_RANGE}},
-    {"FF", "", "FF", {1, 1, 1, 1, 1, 1}, 6, 1, 1, {ZAMIATHEN_GAME_RANGE}},
-    {"FF", "", "FF", {1}, 1, 1, 1, {ZAMIATHEN_BOOK_CODE, 0}},
-    {"", "", "FF", {1}, 1, 1, 1, {ZAMIATHEN_BOOK_ENDS, 0}},
-    {"", "23 02 01", "FF", {1}, 1, 1, 1, {ZAMIATHEN_BOOK_NUMBER, 1}},
-    {"", LABELLED " 21", "FF", {1}, 1, 1, 1, {ZAMIATHEN_BOOK_RULES, 4}},
-    {"", LABELLED, "30 30 30 FF", {1, 2, 1}, 3, 2, 1, {ZAMIATHEN_EDIT_MORE, 1}},
-    {"", LABELLED, "30 FF", {1, 1}, 2, 1, 1, {ZAMIATHEN_EDIT_CODE, 0}},
-    {"", LABELLED, "30 31 00", {1, SIZE_MAX}, 2, 2, 1, {ZAMIATHEN_EDIT_ENDS, 2}},
+    {"FF", "", "FF", {1}, 1, 0, 1, {ZAMIATHEN_GAME_RANGE, 0, REFUSED, 0}},
+    {"FF", "", "FF", {1}, 1, 1, 0, {ZAMIATHEN_GAME_RANGE, 0, REFUSED, 0}},
+    {"FF", "", "FF", {1}, 1, 1, 7, {ZAMIATHEN_GAME_RANGE, 0, REFUSED, 0}},
+    {"FF", "", "FF", {1, 1, 1, 1, 1}, 5, 5, 1, {ZAMIATHEN_GAME_RANGE, 0, REFUSED, 0}},
+    {"FF", "", "FF", {1, 1, 1, 1, 1, 1}, 6, 1, 1, {ZAMIATHEN_GAME_RANGE, 0, REFUSED, 0}},
+    {"FF", "", "FF", {1}, 1, 1, 1, {ZAMIATHEN_BOOK_CODE, 0, REFUSED, 0}},
+    {"", "", "FF", {1}, 1, 1, 1, {ZAMIATHEN_BOOK_ENDS, 0, REFUSED, 0}},
+    {"", "23 02 01", "FF", {1}, 1, 1, 1, {ZAMIATHEN_BOOK_NUMBER, 1, REFUSED, 0}},
+    {"", LABELLED " 21", "FF", {1}, 1, 1, 1, {ZAMIATHEN_BOOK_RULES, 4, REFUSED, 0}},
+    {"", LABELLED, "30 30 30 FF", {1, 2, 1}, 3, 2, 1, {ZAMIATHEN_EDIT_MORE, 1, REFUSED, 1}},
+    {"", LABELLED, "30 FF", {1, 1}, 2, 1, 1, {ZAMIATHEN_EDIT_CODE, 0, REFUSED, 1}},
+    {"", LABELLED, "30 30 31 00", {1, 1, 2}, 3, 2, 1, {ZAMIATHEN_EDIT_ENDS, 2, REFUSED, 2}},
+    {LABELLED, LABELLED, "30 " DOUBLING "30", {1, 61, 1}, 3, 2, 1, {ZAMIATHEN_CARRIED_LENGTH, 0, REFUSED, 1}},
+    {"FF", "", "30 31 00", {1, 1}, 2, 2, 1, {ZAMIATHEN_GAME_RANGE, 0, REFUSED, 0}},
+    {"FF", "", "30 31 00", {1, 3}, 2, 2, 1, {ZAMIATHEN_GAME_RANGE, 0, REFUSED, 0}},
+    {"FF", "", "30 31 00", {1, SIZE_MAX}, 2, 2, 1, {ZAMIATHEN_GAME_RANGE, 0, REFUSED, 0}},
+    {"FF", "", "30 31 00", {SIZE_MAX, 4}, 2, 2, 1, {ZAMIATHEN_GAME_RANGE, 0, REFUSED, 0}},
+    {"FF", "", "30 31 00", {3, SIZE_MAX, 1}, 3, 2, 1, {ZAMIATHEN_GAME_RANGE, 0, REFUSED, 0}},
 };
 
 static void played(size_t sheet_length, size_t i, const struct text *edits, const size_t *numbers) {
@@ -1254,7 +1263,8 @@ static void play(void) {
         edits.length = 0;
         put(&edits, games[i].edits);
         played(whole, i, &edits, games[i].numbers);
-        const size_t refused[4] = {games[i].numbers[0] == ZAMIATHEN_GAME_RANGE ? ZAMIATHEN_GAME_RANGE : ZAMIATHEN_SHEET_LENGTH};
+        const size_t number = games[i].numbers[0] == ZAMIATHEN_GAME_RANGE ? ZAMIATHEN_GAME_RANGE : ZAMIATHEN_SHEET_LENGTH;
+        const size_t refused[4] = {number, 0, REFUSED, 0};
         played(whole - 1, i, &edits, refused);
     }
 }

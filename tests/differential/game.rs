@@ -180,7 +180,7 @@ fn great_games(tally: &mut Tally) {
 /// A goal that is often broken by one step and mended by another.
 fn random_games(tally: &mut Tally, rounds: usize, most_moves: usize, seed: u64) {
     let mut random = Random::new(seed);
-    let mut outcomes = [0; 3];
+    let mut outcomes = [0; 4];
     for _ in 0..rounds {
         let n = 1 + random.below(3);
         let names = Names { n, labels: 1 + random.below(2), arrows: 1 };
@@ -212,6 +212,13 @@ fn random_games(tally: &mut Tally, rounds: usize, most_moves: usize, seed: u64) 
                 let at = random.below(lengths.len());
                 lengths[at] = random.pick(&[0, 1, 5, 4097, 1 << 63, usize::MAX]);
             }
+            // The same bytes cut elsewhere.
+            6 if lengths.len() > 1 => {
+                let at = random.below(lengths.len() - 1);
+                let both = lengths[at] + lengths[at + 1];
+                lengths[at] = random.below(both + 1);
+                lengths[at + 1] = both - lengths[at];
+            }
             _ => {}
         }
         let moves = 1 + random.below(most_moves);
@@ -224,8 +231,7 @@ fn random_games(tally: &mut Tally, rounds: usize, most_moves: usize, seed: u64) 
             dispatchers: ours,
             moves,
         };
-        let numbers = call.compare(tally);
-        outcomes[numbers[2]] += usize::from(numbers[0] == 0);
+        outcomes[call.compare(tally)[2]] += 1;
     }
     assert!(outcomes.iter().all(|count| 50 * count > rounds), "each outcome is frequent: {outcomes:?}");
 }
@@ -247,21 +253,21 @@ fn orders(tally: &mut Tally) {
         call.known(tally, what, numbers);
     };
     for moves in [0, 7, 8, 256 + 1, 1 << 32 | 1, 1 << 63, usize::MAX] {
-        played("62", &[], bad, &[], &[bad, bad], 1, moves, [62, 0, 0, 0]);
+        played("62", &[], bad, &[], &[bad, bad], 1, moves, [62, 0, 3, 0]);
     }
     for (ours, theirs) in [(0, 0), (0, 1), (0, 4), (5, 0), (5, 4), (9, 1), (1, 5), (4, 5), (4, 9), (256 + 1, 0)] {
-        played("62", &[], bad, &[], &vec![bad; ours + theirs], ours, 1, [62, 0, 0, 0]);
+        played("62", &[], bad, &[], &vec![bad; ours + theirs], ours, 1, [62, 0, 3, 0]);
     }
     // More dispatcher edits than there are edits.
-    (1..4).for_each(|count| played("62", &[], bad, &[], &vec![bad; count], count + 1, 1, [62, 0, 0, 0]));
+    (1..4).for_each(|count| played("62", &[], bad, &[], &vec![bad; count], count + 1, 1, [62, 0, 3, 0]));
     for (ours, theirs) in (1..=4).flat_map(|ours| (0..=4).map(move |theirs| (ours, theirs))) {
         for moves in [1, 2, 6] {
-            played("in range", &[], bad, &[], &vec![bad; ours + theirs], ours, moves, [1, 0, 0, 0]);
+            played("in range", &[], bad, &[], &vec![bad; ours + theirs], ours, moves, [1, 0, 3, 0]);
             played("in range", &sound, &[], goal, &vec![end; ours + theirs], ours, moves, [0, 0, 1, 0]);
         }
     }
     let sheets: [(usize, u8, [usize; 4]); 4] =
-        [(600, 1, [2, 1, 0, 0]), (512, 1, [3, 1, 0, 0]), (400, 7, [4, 0, 0, 0]), (2, 61, [3, 0, 0, 0])];
+        [(600, 1, [2, 1, 3, 0]), (512, 1, [3, 1, 3, 0]), (400, 7, [4, 0, 3, 0]), (2, 61, [3, 0, 3, 0])];
     for (at, value, numbers) in sheets {
         let mut bytes = sound.clone();
         bytes[at] = value;
@@ -271,62 +277,84 @@ fn orders(tally: &mut Tally) {
         played("orders of play", &bytes, bad, &[], &[bad], 1, 1, numbers);
     }
     let rules: [(Vec<u8>, [usize; 4]); 6] = [
-        (vec![0x21; 4097], [11, 0, 0, 0]),
-        (vec![0x21, 0x01], [12, 2, 0, 0]),
-        (vec![0x21, 0x11], [13, 1, 0, 0]),
-        ([vec![0x23, 0x00], vec![0x05; 32]].concat(), [14, 33, 0, 0]),
-        (vec![0x23, 0x02, 0x01], [15, 1, 0, 0]),
-        (vec![0x23, 0x00, 0x0B, 0x3C, 0x11, 0x00, 0x01], [15, 3, 0, 0]),
+        (vec![0x21; 4097], [11, 0, 3, 0]),
+        (vec![0x21, 0x01], [12, 2, 3, 0]),
+        (vec![0x21, 0x11], [13, 1, 3, 0]),
+        ([vec![0x23, 0x00], vec![0x05; 32]].concat(), [14, 33, 3, 0]),
+        (vec![0x23, 0x02, 0x01], [15, 1, 3, 0]),
+        (vec![0x23, 0x00, 0x0B, 0x3C, 0x11, 0x00, 0x01], [15, 3, 3, 0]),
     ];
     for (text, numbers) in &rules {
         played("orders of play", &sound, text, &[], &[bad], 1, 1, *numbers);
         played("goal", &sound, &[], text, &[bad], 1, 1, *numbers);
     }
-    played("orders of play", &sound, &[&goal.repeat(32)[..], bad].concat(), &[], &[bad], 1, 1, [16, 96, 0, 0]);
-    played("goal", &sound, &[], &[], &[bad], 1, 1, [12, 0, 0, 0]);
-    played("goal", &sound, &[], &goal.repeat(2), &[bad], 1, 1, [16, 3, 0, 0]);
-    played("goal", &sound, &[], &[goal, bad].concat(), &[bad], 1, 1, [16, 3, 0, 0]);
-    let faults: [(Vec<u8>, [usize; 4]); 7] = [
-        (vec![0x30; 4097], [21, 0, 0, 0]),
-        (vec![], [22, 0, 0, 0]),
-        (vec![0x31, 0x00], [22, 2, 0, 0]),
-        (vec![0x21], [23, 0, 0, 0]),
-        ([vec![0x31, 0x00], vec![0x05; 32]].concat(), [24, 33, 0, 0]),
-        (vec![0x31, 0x00, 0x04, 0x02, 0x30], [25, 3, 0, 0]),
-        (vec![0x30, 0x30], [26, 1, 0, 0]),
+    played("orders of play", &sound, &[&goal.repeat(32)[..], bad].concat(), &[], &[bad], 1, 1, [16, 96, 3, 0]);
+    played("goal", &sound, &[], &[], &[bad], 1, 1, [12, 0, 3, 0]);
+    played("goal", &sound, &[], &goal.repeat(2), &[bad], 1, 1, [16, 3, 3, 0]);
+    played("goal", &sound, &[], &[goal, bad].concat(), &[bad], 1, 1, [16, 3, 3, 0]);
+    let faults: [(Vec<u8>, [usize; 2]); 7] = [
+        (vec![0x30; 4097], [21, 0]),
+        (vec![], [22, 0]),
+        (vec![0x31, 0x00], [22, 2]),
+        (vec![0x21], [23, 0]),
+        ([vec![0x31, 0x00], vec![0x05; 32]].concat(), [24, 33]),
+        (vec![0x31, 0x00, 0x04, 0x02, 0x30], [25, 3]),
+        (vec![0x30, 0x30], [26, 1]),
     ];
     // A fault in each place of two against two; before it carried books that do not fit, behind it another fault.
-    for (text, numbers) in &faults {
-        for place in 0..4 {
+    for (text, [number, place]) in &faults {
+        for edit in 0..4 {
             let mut texts = vec![&doubling[..]; 4];
-            texts[place] = text;
-            texts[place + 1..].iter_mut().for_each(|text| *text = bad);
-            played("edits", &sound, label, goal, &texts, 2, 1, *numbers);
+            texts[edit] = text;
+            texts[edit + 1..].iter_mut().for_each(|text| *text = bad);
+            played("edits", &sound, label, goal, &texts, 2, 1, [*number, *place, 3, edit]);
         }
     }
     // 31 and 32, edit by edit, of the dispatcher's alone.
-    played("fit", &sound, label, label, &[&doubling, &deep], 2, 1, [31, 0, 0, 0]);
-    played("fit", &sound, label, label, &[&deep, &doubling], 2, 1, [32, 0, 0, 0]);
-    played("fit", &sound, label, label, &[end, &deep, &doubling], 3, 1, [32, 0, 0, 0]);
+    played("fit", &sound, label, label, &[&doubling, &deep], 2, 1, [31, 0, 3, 0]);
+    played("fit", &sound, label, label, &[&deep, &doubling], 2, 1, [32, 0, 3, 0]);
+    for edit in 0..4 {
+        for (text, number) in [(&doubling, 31), (&deep, 32)] {
+            let mut texts = vec![end; 8];
+            texts[edit..].iter_mut().for_each(|text| *text = &deep);
+            texts[edit] = text;
+            played("fit", &sound, label, label, &texts, 4, 1, [number, 0, 3, edit]);
+        }
+    }
     played("fit", &sound, &[], label, &[&deep, &doubling], 2, 1, [0, 0, 0, 0]);
     played("fit", &sound, label, goal, &[end, &doubling, &deep], 1, 1, [0, 0, 2, 0]);
-    // The last text is cut off where the bytes end, and what stands behind the last is nobody's.
+    // 62 too when the lengths together are not that of the bytes, by one or by a sum that wraps to it; before the sheet.
     let add: &[u8] = &[0x31, 0x00, 0x01, 0x30];
-    let edits = [end, add, bad].concat();
+    let edits = [end, add].concat();
     let call =
         Call { sheet: &sound, book: &[], goal: label, edits: &edits, lengths: &[1, 4], dispatchers: 2, moves: 1 };
-    call.known(tally, "cut", [0, 0, 1, 1]);
-    for (lengths, numbers) in [
-        ([1, usize::MAX], [26, 4, 0, 0]),
-        ([usize::MAX, 4], [26, 1, 0, 0]),
-        ([6, 1], [26, 1, 0, 0]),
-        ([1, 3], [22, 3, 0, 0]),
-        ([0, 6], [22, 0, 0, 0]),
-    ] {
-        Call { lengths: &lengths, ..call }.known(tally, "cut", numbers);
+    call.known(tally, "filled", [0, 0, 1, 1]);
+    Call { lengths: &[4, 1], ..call }.known(tally, "filled", [26, 1, 3, 0]);
+    Call { lengths: &[1, 3, 1], ..call }.known(tally, "filled", [22, 3, 3, 1]);
+    Call { lengths: &[0, 5], ..call }.known(tally, "filled", [22, 0, 3, 0]);
+    Call { lengths: &[5, 0], ..call }.known(tally, "filled", [26, 1, 3, 0]);
+    Call { lengths: &[1, 4, 0], ..call }.known(tally, "filled", [22, 0, 3, 2]);
+    let wrong: [&[usize]; 12] = [
+        &[1, 3],
+        &[1, 5],
+        &[1, 0],
+        &[0, 0],
+        &[6, 0],
+        &[1, usize::MAX],
+        &[usize::MAX, 4],
+        &[6, usize::MAX],
+        &[usize::MAX, 6],
+        &[1 << 63, 1 << 63, 1, 4],
+        &[usize::MAX, usize::MAX, 7],
+        &[1, 4, usize::MAX, 1],
+    ];
+    for lengths in wrong {
+        Call { lengths, ..call }.known(tally, "62", [62, 0, 3, 0]);
+        Call { lengths, sheet: &[], book: bad, ..call }.known(tally, "62", [62, 0, 3, 0]);
     }
-    Call { edits: &edits[..5], lengths: &[1, usize::MAX], ..call }.known(tally, "cut", [0, 0, 1, 1]);
-    Call { edits: &edits[..1], lengths: &[1, 1], ..call }.known(tally, "cut", [22, 0, 0, 0]);
+    Call { edits: &edits[..4], ..call }.known(tally, "62", [62, 0, 3, 0]);
+    Call { edits: &[], ..call }.known(tally, "62", [62, 0, 3, 0]);
+    Call { edits: &[&edits[..], bad].concat(), ..call }.known(tally, "62", [62, 0, 3, 0]);
 }
 
 fn main() {
@@ -336,6 +364,6 @@ fn main() {
     great_games(&mut tally);
     random_games(&mut tally, 4_000, 3, 131);
     random_games(&mut tally, 300, 6, 132);
-    tally.all_reached("play", &[0, 2, 3, 4, 12, 13, 15, 16, 22]);
+    tally.all_reached("play", &[0, 2, 3, 4, 12, 13, 15, 16, 22, 26, 62]);
     tally.finish(&[0, 1, 2, 3, 4, 11, 12, 13, 14, 15, 16, 21, 22, 23, 24, 25, 26, 31, 32, 62]);
 }

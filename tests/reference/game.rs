@@ -17,6 +17,17 @@ pub enum Outcome {
     Pass,
 }
 
+/// A refusal, and the edit that it is about, by its place in the list: 0 where it is about none.
+#[derive(Clone, Copy, PartialEq, Eq, Debug)]
+pub struct Refused {
+    pub answer: Answer,
+    pub edit: usize,
+}
+
+fn about<T>(edit: usize, asked: Asked<T>) -> Result<T, Refused> {
+    asked.map_err(|answer| Refused { answer, edit })
+}
+
 /// The texts of the edits one behind the other, the dispatcher's first, and the length of each.
 pub struct Edits<'e> {
     pub bytes: &'e [u8],
@@ -25,39 +36,42 @@ pub struct Edits<'e> {
 }
 
 impl Edits<'_> {
-    /// Each text, cut off where the bytes end.
+    /// Each text. The lengths fill the bytes.
     fn texts(&self) -> Vec<&[u8]> {
         let mut rest = self.bytes;
         let mut texts = vec![];
         for length in self.lengths {
-            let (text, behind) = rest.split_at((*length).min(rest.len()));
+            let (text, behind) = rest.split_at(*length);
             texts.push(text);
             rest = behind;
         }
         texts
     }
 
-    /// 1 to 4 dispatcher edits and 0 to 4 disruption edits.
+    /// 1 to 4 dispatcher edits and 0 to 4 disruption edits, whose lengths together are that of the bytes.
     fn in_range(&self) -> bool {
         let disruptions = self.lengths.len().checked_sub(self.dispatchers);
-        (1..=4).contains(&self.dispatchers) && disruptions.is_some_and(|count| count <= 4)
+        let sum: u128 = self.lengths.iter().map(|length| *length as u128).sum();
+        (1..=4).contains(&self.dispatchers)
+            && disruptions.is_some_and(|count| count <= 4)
+            && sum == self.bytes.len() as u128
     }
 }
 
-pub fn play(bytes: &[u8], book: &[u8], goal: &[u8], edits: &Edits, moves: usize) -> Result<Outcome, Answer> {
+pub fn play(bytes: &[u8], book: &[u8], goal: &[u8], edits: &Edits, moves: usize) -> Result<Outcome, Refused> {
     if !edits.in_range() || !(1..=6).contains(&moves) {
-        return refuse(62, 0);
+        return about(0, refuse(62, 0));
     }
-    let n = sheet::ask(bytes)?;
-    let rules: Vec<Rule> = reader::book(book, n)?.into_iter().map(|placed| placed.rule).collect();
-    let goal = ask_goal(goal, n)?;
+    let n = about(0, sheet::ask(bytes))?;
+    let rules: Vec<Rule> = about(0, reader::book(book, n))?.into_iter().map(|placed| placed.rule).collect();
+    let goal = about(0, ask_goal(goal, n))?;
     let mut read = vec![];
-    for text in edits.texts() {
-        read.push(reader::edit(text, n)?);
+    for (number, text) in edits.texts().into_iter().enumerate() {
+        read.push(about(number, reader::edit(text, n))?);
     }
     let disruptions = read.split_off(edits.dispatchers);
-    for edit in &read {
-        carry(rules.iter(), edit)?;
+    for (number, edit) in read.iter().enumerate() {
+        about(number, carry(rules.iter(), edit))?;
     }
     let game = Game { rules, goal, dispatchers: read, disruptions };
     Ok(game.outcome(&sheet::read(bytes), moves))
@@ -120,10 +134,11 @@ impl Game {
     }
 }
 
-/// Number, place, outcome (0 can't, 1 an edit, 2 a pass) and the edit's number, 0 unless the outcome is 1.
-pub fn numbers(played: Result<Outcome, Answer>) -> [usize; 4] {
+/// Number, place, outcome (0 can't, 1 an edit, 2 a pass, 3 after a refusal) and an edit's number: of the first move, or the one
+/// that was refused.
+pub fn numbers(played: Result<Outcome, Refused>) -> [usize; 4] {
     let (answer, outcome, edit) = match played {
-        Err(answer) => (answer, 0, 0),
+        Err(refused) => (refused.answer, 3, refused.edit),
         Ok(Outcome::Cannot) => (DONE, 0, 0),
         Ok(Outcome::First(edit)) => (DONE, 1, edit),
         Ok(Outcome::Pass) => (DONE, 2, 0),

@@ -640,23 +640,26 @@ fn games(tally: &mut Tally) {
     // The given sheet need not keep the book.
     tally.same("repaired", played("21 01 03 00", "23 01 03 00", &[give, "31 00 01 30"], &[], 1), [0, 0, 1, 1]);
     let four = ["30"; 5];
-    tally.same("no dispatcher", played("FF", "", &[], &[], 1), [62, 0, 0, 0]);
-    tally.same("five dispatchers", played("FF", "", &four, &[], 1), [62, 0, 0, 0]);
-    tally.same("five disruptions", played("FF", "", &["30"], &four, 1), [62, 0, 0, 0]);
-    tally.same("no move", played("FF", "", &["30"], &[], 0), [62, 0, 0, 0]);
-    tally.same("seven moves", played("FF", "", &["30"], &[], 7), [62, 0, 0, 0]);
-    tally.same("book", played("FF", "", &["FF"], &[], 1), [13, 0, 0, 0]);
-    tally.same("no goal", played("", "", &["FF"], &[], 1), [12, 0, 0, 0]);
-    tally.same("two goals", played("", "21 01 01 21 01 01", &["FF"], &[], 1), [16, 3, 0, 0]);
-    tally.same("a goal of node 2", played("", "23 02 01", &["FF"], &[], 1), [15, 1, 0, 0]);
-    tally.same("our second edit", played("", labelled, &["30", "30 30"], &["FF"], 1), [26, 1, 0, 0]);
-    tally.same("their edit", played("", labelled, &["30"], &["FF"], 1), [23, 0, 0, 0]);
+    tally.same("no dispatcher", played("FF", "", &[], &[], 1), [62, 0, 3, 0]);
+    tally.same("five dispatchers", played("FF", "", &four, &[], 1), [62, 0, 3, 0]);
+    tally.same("five disruptions", played("FF", "", &["30"], &four, 1), [62, 0, 3, 0]);
+    tally.same("no move", played("FF", "", &["30"], &[], 0), [62, 0, 3, 0]);
+    tally.same("seven moves", played("FF", "", &["30"], &[], 7), [62, 0, 3, 0]);
+    tally.same("book", played("FF", "", &["FF"], &[], 1), [13, 0, 3, 0]);
+    tally.same("no goal", played("", "", &["FF"], &[], 1), [12, 0, 3, 0]);
+    tally.same("two goals", played("", "21 01 01 21 01 01", &["FF"], &[], 1), [16, 3, 3, 0]);
+    tally.same("a goal of node 2", played("", "23 02 01", &["FF"], &[], 1), [15, 1, 3, 0]);
+    tally.same("our second edit", played("", labelled, &["30", "30 30"], &["FF"], 1), [26, 1, 3, 1]);
+    tally.same("their edit", played("", labelled, &["30"], &["FF"], 1), [23, 0, 3, 1]);
     let deep = ["31 00 02 "; 255].concat() + "30";
-    tally.same("too deep for ours", played(labelled, labelled, &["30", &deep], &[], 1), [32, 0, 0, 0]);
+    tally.same("too deep for ours", played(labelled, labelled, &["30", &deep], &[], 1), [32, 0, 3, 1]);
     tally.same("not asked of theirs", played(labelled, labelled, &[give], &[&deep], 1), [0, 0, 1, 0]);
-    let cut = Edits { bytes: &hex("31 00 01 30 31"), lengths: &[4, 4], dispatchers: 1 };
-    let found = game::play(&blank, &[], &hex(labelled), &cut, 1);
-    tally.same("cut off where the bytes end", found, Err(Answer { number: 22, place: 1 }));
+    // The lengths together are that of the bytes: no text is cut off, and none is left over.
+    for lengths in [[4, 4], [4, 0], [5, usize::MAX], [usize::MAX, 6]] {
+        let wrong = Edits { bytes: &hex("31 00 01 30 30"), lengths: &lengths, dispatchers: 1 };
+        let found = game::numbers(game::play(&blank, &[], &hex(labelled), &wrong, 1));
+        tally.same("lengths that do not fill the bytes", found, [62, 0, 3, 0]);
+    }
 }
 
 /// None of these may take exponential time.

@@ -4,27 +4,28 @@ use mathlib.Core.Bool.{Bool, true, false, _&&_}
 use mathlib.Core.List.{List}
 use Prim.Native.Nat.{ℕ, _-_, _≤_}
 use native.Mathlib.Omega.{arith}
-use lib.Dec.{leb}
+use lib.Dec.{eqb, leb}
 use lib.ListN.{length, take, drop}
-use borrow.Author.Tests.{leb-true}
-use Rattle.answer.specs.Asked.{Asked, passed, refused, _>>=_, _>>_, is, outcome}
+use borrow.Author.Tests.{eqb-true, leb-true}
+use Rattle.answer.specs.Asked.{Asked, passed, refused, _>>=_, _>>_, is, after, outcome}
 use Rattle.answer.specs.Answers.{asked, refusalNumber, refusalPlace}
 use Rattle.answer.specs.declared.Refusal.{Refusal}
 use Rattle.answer.specs.declared.Answer.{Answer}
 use Rattle.answer.specs.declared.Answer.the-variants.{Done, Refused}
 use Rattle.answer.proofs.AnswerLaws.{Learned, learned, not-learned}
 use Rattle.logic.specs.Syntax.{Expr, rule, Edit}
+use Rattle.logic.specs.Carry.{carriedBook}
 use Rattle.logic.specs.Limits.{ranges}
 use Rattle.sheet.specs.Sheet.{graphOf}
 use Rattle.sheet.specs.Questions.{askSheet, Sound}
 use Rattle.text.specs.Reading.{Limits, textLimits}
-use Rattle.text.specs.Questions.{askBook}
+use Rattle.text.specs.Questions.{askBook, askEdit}
 use Rattle.judge.specs.Questions.{askSheetAndBook}
 use Rattle.ends.specs.Books.{SomeBook}
 use Rattle.ends.proofs.Rules.{book-passed}
 use Rattle.game.specs.Game.{Game}
 use Rattle.game.proofs.Bools.{and-left, and-right}
-use Rattle.play.specs.Questions.{mostEdits, mostMoves, inRange, askGoal, cut, askEdits, askFits, askGame}
+use Rattle.play.specs.Questions.{mostEdits, mostMoves, inRange, total, listsRight, askGoal, askAims, cut, askEdits, askCarried, askFits, askGame, firstRefused, faultyEdit}
 use Rattle.play.specs.Standing.{EditsAt, SomeEdits}
 use Rattle.play.proofs.Edits.{edits-stand}
 
@@ -36,114 +37,198 @@ module _ {A : Type 0} (f : ℕ → Asked A) (m n : ℕ) (e : m ≡ n) (a : Answe
   pub read-for-n : a ≡ Done → Learned (f n)
   read-for-n d = learned (f n) (sym (ap asked d) ∙ for-n)
 
--- Lists and moves in their ranges.
-module _ (count d moves : ℕ) (ok : inRange count d moves ≡ true) where
-  from-count : (leb d count && (leb (count - d) mostEdits && (leb 1 moves && leb moves mostMoves))) ≡ true
-  unfolding inRange
-  from-count = and-right (leb d mostEdits) _ (and-right (leb 1 d) _ ok)
+-- What 62 asks, by the ranges.
+module _ (edits lengths : List ℕ) (d moves : ℕ) where
+  pub out-of-range : inRange (length lengths) d moves ≡ false → false ≡ listsRight edits lengths d moves
+  unfolding listsRight
+  out-of-range e = sym (ap (_&& eqb (total lengths) (length edits)) e)
 
-  pub enough : d ≤ count
-  enough = leb-true d count (and-left (leb d count) _ from-count)
+  pub by-filling : inRange (length lengths) d moves ≡ true → eqb (total lengths) (length edits) ≡ listsRight edits lengths d moves
+  unfolding listsRight
+  by-filling e = sym (ap (_&& eqb (total lengths) (length edits)) e)
+
+-- Lists and moves in their ranges, and lengths that fill the edits.
+module _ (edits lengths : List ℕ) (d moves : ℕ) (ok : listsRight edits lengths d moves ≡ true) where
+  in-ranges : inRange (length lengths) d moves ≡ true
+  unfolding listsRight
+  in-ranges = and-left (inRange (length lengths) d moves) _ ok
+
+  from-count : (leb d (length lengths) && (leb (length lengths - d) mostEdits && (leb 1 moves && leb moves mostMoves))) ≡ true
+  unfolding inRange
+  from-count = and-right (leb d mostEdits) _ (and-right (leb 1 d) _ in-ranges)
+
+  pub enough : d ≤ length lengths
+  enough = leb-true d (length lengths) (and-left (leb d (length lengths)) _ from-count)
 
   pub some-moves : 1 ≤ moves
-  some-moves = leb-true 1 moves (and-left (leb 1 moves) (leb moves mostMoves) (and-right (leb (count - d) mostEdits) _ (and-right (leb d count) _ from-count)))
+  some-moves = leb-true 1 moves (and-left (leb 1 moves) (leb moves mostMoves) (and-right (leb (length lengths - d) mostEdits) _ (and-right (leb d (length lengths)) _ from-count)))
 
-module _ (sheet book goal edits lengths : List ℕ) (d moves : ℕ) where
+  pub filled : total lengths ≡ length edits
+  unfolding listsRight
+  filled = eqb-true (total lengths) (length edits) (and-right (inRange (length lengths) d moves) _ ok)
+
+-- A list of questions that stops, or passes, before others.
+stops : {A B : Type 0} (q : Asked A) (f : A → Asked B) (a : Answer) → asked a ≡ outcome q → (r : Refusal) → a ≡ Refused r → asked a ≡ outcome (q >>= f)
+unfolding _>>=_ outcome
+stops q f a s r e = ap asked e ∙ sym (ap (λ x. outcome (x >>= f)) (not-learned q (refusalNumber r) (refusalPlace r) (sym (ap asked e) ∙ s)))
+
+passes : {A B : Type 0} (q : Asked A) (f : A → Asked B) (l : Learned q) → (q >>= f) ≡ f (l .what)
+unfolding _>>=_
+passes q f l = ap (_>>= f) (l .is)
+
+-- Sheet, book and goal.
+module _ (sheet book goal : List ℕ) where
   abbrev limits : Limits
   limits = textLimits (graphOf sheet .n)
+
+  abbrev both : List (Expr rule) → Expr rule → List (Expr rule) × Expr rule
+  both rules aim = (rules, aim)
+
+  abbrev withGoal : List (Expr rule) → Asked (List (Expr rule) × Expr rule)
+  withGoal rules = askGoal limits goal >>= (λ aim. passed (both rules aim))
+
+  pub sheet-stops : (a : Answer) (r : Refusal) → asked a ≡ askSheet sheet → a ≡ Refused r → asked a ≡ outcome (askAims sheet book goal)
+  unfolding askAims askSheetAndBook outcome _>>=_ _>>_
+  sheet-stops a r s e = ap asked e ∙ sym (ap (λ (x : Asked (Unit {0})). outcome ((x >> askBook limits book) >>= (λ rules. withGoal rules))) (sym s ∙ ap asked e))
+
+  module _ (sound : Sound sheet) where
+    from-sheet : askAims sheet book goal ≡ (askBook limits book >>= (λ rules. withGoal rules))
+    unfolding askAims askSheetAndBook _>>_
+    from-sheet = ap (λ (x : Asked (Unit {0})). (x >> askBook limits book) >>= (λ rules. withGoal rules)) sound
+
+    pub book-stops : (a : Answer) → asked a ≡ outcome (askBook limits book) → (r : Refusal) → a ≡ Refused r → asked a ≡ outcome (askAims sheet book goal)
+    book-stops a s r e = stops (askBook limits book) (λ rules. withGoal rules) a s r e ∙ sym (ap outcome from-sheet)
+
+    pub goal-last : Learned (askBook limits book) → (a : Answer) → asked a ≡ outcome (askGoal limits goal) → asked a ≡ outcome (askAims sheet book goal)
+    unfolding outcome _>>=_
+    goal-last B a s = s ∙ last (askGoal limits goal) ∙ sym (ap outcome (from-sheet ∙ passes (askBook limits book) (λ rules. withGoal rules) B))
+      where
+        last : (y : Asked (Expr rule)) → outcome y ≡ outcome (y >>= (λ aim. passed (both (B .what) aim)))
+        last (passed K) = refl
+        last (refused q p) = refl
+
+  -- What is known of them once they have passed.
+  pub record AimsRead (aims : List (Expr rule) × Expr rule) : Type 0 where
+    pub sound : Sound sheet
+    pub book-is : askBook limits book ≡ passed (aims .0)
+    pub goal-is : askGoal limits goal ≡ passed (aims .1)
+
+  pub aims-read : (aims : List (Expr rule) × Expr rule) → askAims sheet book goal ≡ passed aims → AimsRead aims
+  unfolding askAims askSheetAndBook _>>=_ _>>_
+  aims-read aims e = go (askSheet sheet) refl (askBook limits book) refl (askGoal limits goal) refl e
+    where
+      go : (x : Asked (Unit {0})) → askSheet sheet ≡ x → (y : Asked (List (Expr rule))) → askBook limits book ≡ y → (z : Asked (Expr rule)) → askGoal limits goal ≡ z
+          → ((x >> y) >>= (λ rules. z >>= (λ aim. passed (both rules aim)))) ≡ passed aims → AimsRead aims
+      go (passed u) ex (passed rules) ey (passed aim) ez h = let same : both rules aim ≡ aims = cc in record { sound = ex; book-is = ey ∙ ap (λ x. passed (x .0)) same; goal-is = ez ∙ ap (λ x. passed (x .1)) same }
+      go (passed u) ex (passed rules) ey (refused q p) ez h = let z : _≡_ {A = ℕ} 0 1 = cc in absurd (omega arith)
+      go (passed u) ex (refused q p) ey z ez h = let z : _≡_ {A = ℕ} 0 1 = cc in absurd (omega arith)
+      go (refused q p) ex y ey z ez h = let z : _≡_ {A = ℕ} 0 1 = cc in absurd (omega arith)
+
+  module _ (a : Answer) (s : asked a ≡ outcome (askAims sheet book goal)) (e : a ≡ Done) where
+    pub aims-learned : Learned (askAims sheet book goal)
+    aims-learned = learned (askAims sheet book goal) (sym (ap asked e) ∙ s)
+
+    pub aims-known : AimsRead (aims-learned .what)
+    aims-known = aims-read (aims-learned .what) (aims-learned .is)
+
+module _ (sheet book goal edits lengths : List ℕ) (d moves : ℕ) where
+  abbrev reads : Limits
+  reads = textLimits (graphOf sheet .n)
 
   abbrev pub gameOf : List (Expr rule) → Expr rule → List Edit → Game
   gameOf rules aim Zs = record { book = rules; goal = aim; dispatchers = take d Zs; disruptions = drop d Zs }
 
-  abbrev byEdits : List (Expr rule) → Expr rule → List Edit → Asked Game
-  byEdits rules aim Zs = askFits rules (take d Zs) >> passed (gameOf rules aim Zs)
+  abbrev byEdits : List (Expr rule) × Expr rule → List Edit → Asked Game
+  byEdits aims Zs = askFits (aims .0) (take d Zs) >> passed (gameOf (aims .0) (aims .1) Zs)
 
-  abbrev byGoal : List (Expr rule) → Expr rule → Asked Game
-  byGoal rules aim = askEdits limits (cut edits lengths) >>= (λ Zs. byEdits rules aim Zs)
-
-  abbrev byBook : List (Expr rule) → Asked Game
-  byBook rules = askGoal limits goal >>= (λ aim. byGoal rules aim)
+  abbrev byAims : List (Expr rule) × Expr rule → Asked Game
+  byAims aims = askEdits reads (cut edits lengths) >>= (λ Zs. byEdits aims Zs)
 
   abbrev All : Asked Game
   All = askGame sheet book goal edits lengths d moves
 
-  pub range-stops : (b : Bool) → b ≡ inRange (length lengths) d moves → b ≡ false → refused 62 0 ≡ outcome All
-  unfolding askGame is _>>_ outcome
-  range-stops b e f = sym (ap (λ (x : Bool). outcome (is x 62 0 >> (askSheetAndBook sheet book >>= (λ rules. byBook rules)))) (sym e ∙ f))
+  -- The faulty edit, among those that are asked last.
+  abbrev firstUnfit : List (Expr rule) → List Edit → ℕ
+  firstUnfit rules Zs = firstRefused (λ Z. askCarried (carriedBook Z rules)) (take d Zs)
 
-  module _ (ok : inRange (length lengths) d moves ≡ true) where
-    from-range : All ≡ (askSheetAndBook sheet book >>= (λ rules. byBook rules))
+  abbrev faulty : List (Expr rule) × Expr rule → ℕ
+  faulty aims = after (askEdits reads (cut edits lengths)) (λ Zs. firstUnfit (aims .0) Zs) (firstRefused (askEdit reads) (cut edits lengths))
+
+  -- What is answered, and the edit with it.
+  abbrev Asks : Asked (Unit {0}) → ℕ → Type 0
+  Asks a edit = (a ≡ outcome All) × (edit ≡ faultyEdit sheet book goal edits lengths d moves)
+
+  pub lists-stop : (b : Bool) → b ≡ listsRight edits lengths d moves → b ≡ false → Asks (refused 62 0) 0
+  unfolding askGame faultyEdit is _>>_ outcome after
+  lists-stop b e f = (
+    sym (ap (λ (x : Bool). outcome (is x 62 0 >> (askAims sheet book goal >>= (λ aims. byAims aims)))) (sym e ∙ f)),
+    sym (ap (λ (x : Bool). after (is x 62 0 >> askAims sheet book goal) (λ aims. faulty aims) 0) (sym e ∙ f)),
+  )
+
+  module _ (ok : listsRight edits lengths d moves ≡ true) where
+    from-lists : All ≡ (askAims sheet book goal >>= (λ aims. byAims aims))
     unfolding askGame is _>>_
-    from-range = ap (λ (x : Bool). is x 62 0 >> (askSheetAndBook sheet book >>= (λ rules. byBook rules))) ok
+    from-lists = ap (λ (x : Bool). is x 62 0 >> (askAims sheet book goal >>= (λ aims. byAims aims))) ok
 
-    pub sheet-stops : (a : Answer) (r : Refusal) → asked a ≡ askSheet sheet → a ≡ Refused r → asked a ≡ outcome All
-    unfolding askSheetAndBook outcome _>>=_ _>>_
-    sheet-stops a r s e = ap asked e ∙ sym (ap outcome from-range ∙ ap (λ (x : Asked (Unit {0})). outcome ((x >> askBook limits book) >>= (λ rules. byBook rules))) (sym s ∙ ap asked e))
+    fault-lists : faultyEdit sheet book goal edits lengths d moves ≡ after (askAims sheet book goal) (λ aims. faulty aims) 0
+    unfolding faultyEdit is _>>_
+    fault-lists = ap (λ (x : Bool). after (is x 62 0 >> askAims sheet book goal) (λ aims. faulty aims) 0) ok
 
-    -- A list of questions that stops, or passes.
-    stops : {A : Type 0} (q : Asked A) (f : A → Asked Game) → All ≡ (q >>= f) → (a : Answer) → asked a ≡ outcome q → (r : Refusal) → a ≡ Refused r → asked a ≡ outcome All
-    unfolding _>>=_ outcome
-    stops q f w a s r e = ap asked e ∙ sym (ap outcome (w ∙ ap (_>>= f) (not-learned q (refusalNumber r) (refusalPlace r) (sym (ap asked e) ∙ s))))
+    pub aims-stop : (a : Answer) → asked a ≡ outcome (askAims sheet book goal) → (r : Refusal) → a ≡ Refused r → Asks (asked a) 0
+    unfolding after
+    aims-stop a s r e = (
+      stops (askAims sheet book goal) (λ aims. byAims aims) a s r e ∙ sym (ap outcome from-lists),
+      sym (fault-lists ∙ ap (λ x. after x (λ aims. faulty aims) 0) (not-learned (askAims sheet book goal) (refusalNumber r) (refusalPlace r) (sym (ap asked e) ∙ s))),
+    )
 
-    passes : {A : Type 0} (q : Asked A) (f : A → Asked Game) → All ≡ (q >>= f) → (l : Learned q) → All ≡ f (l .what)
-    unfolding _>>=_
-    passes q f w l = w ∙ ap (_>>= f) (l .is)
+    module _ (A : Learned (askAims sheet book goal)) where
+      from-aims : All ≡ byAims (A .what)
+      from-aims = from-lists ∙ passes (askAims sheet book goal) (λ aims. byAims aims) A
 
-    module _ (sound : Sound sheet) where
-      from-sheet : All ≡ (askBook limits book >>= (λ rules. byBook rules))
-      unfolding askSheetAndBook _>>_
-      from-sheet = from-range ∙ ap (λ (x : Asked (Unit {0})). (x >> askBook limits book) >>= (λ rules. byBook rules)) sound
+      fault-aims : faultyEdit sheet book goal edits lengths d moves ≡ faulty (A .what)
+      unfolding after
+      fault-aims = fault-lists ∙ ap (λ x. after x (λ aims. faulty aims) 0) (A .is)
 
-      pub book-stops : (a : Answer) → asked a ≡ outcome (askBook limits book) → (r : Refusal) → a ≡ Refused r → asked a ≡ outcome All
-      book-stops = stops (askBook limits book) (λ rules. byBook rules) from-sheet
+      pub edits-stop : (a : Answer) → asked a ≡ outcome (askEdits reads (cut edits lengths)) → (edit : ℕ) → edit ≡ firstRefused (askEdit reads) (cut edits lengths) → (r : Refusal) → a ≡ Refused r → Asks (asked a) edit
+      unfolding after
+      edits-stop a s edit f r e = (
+        stops (askEdits reads (cut edits lengths)) (λ Zs. byEdits (A .what) Zs) a s r e ∙ sym (ap outcome from-aims),
+        f ∙ sym (fault-aims ∙ ap (λ x. after x (λ Zs. firstUnfit (A .what .0) Zs) (firstRefused (askEdit reads) (cut edits lengths))) (not-learned (askEdits reads (cut edits lengths)) (refusalNumber r) (refusalPlace r) (sym (ap asked e) ∙ s))),
+      )
 
-      module _ (B : Learned (askBook limits book)) where
-        from-book : All ≡ byBook (B .what)
-        from-book = passes (askBook limits book) (λ rules. byBook rules) from-sheet B
-
-        pub goal-stops : (a : Answer) → asked a ≡ outcome (askGoal limits goal) → (r : Refusal) → a ≡ Refused r → asked a ≡ outcome All
-        goal-stops = stops (askGoal limits goal) (λ aim. byGoal (B .what) aim) from-book
-
-        module _ (K : Learned (askGoal limits goal)) where
-          from-goal : All ≡ byGoal (B .what) (K .what)
-          from-goal = passes (askGoal limits goal) (λ aim. byGoal (B .what) aim) from-book K
-
-          pub edits-stop : (a : Answer) → asked a ≡ outcome (askEdits limits (cut edits lengths)) → (r : Refusal) → a ≡ Refused r → asked a ≡ outcome All
-          edits-stop = stops (askEdits limits (cut edits lengths)) (λ Zs. byEdits (B .what) (K .what) Zs) from-goal
-
-          module _ (E : Learned (askEdits limits (cut edits lengths))) where
-            from-edits : All ≡ byEdits (B .what) (K .what) (E .what)
-            from-edits = passes (askEdits limits (cut edits lengths)) (λ Zs. byEdits (B .what) (K .what) Zs) from-goal E
-
-            pub fits-last : (a : Answer) → asked a ≡ askFits (B .what) (take d (E .what)) → asked a ≡ outcome All
-            unfolding outcome _>>_
-            fits-last a s = s ∙ last (askFits (B .what) (take d (E .what))) ∙ sym (ap outcome from-edits)
-              where
-                last : (y : Asked (Unit {0})) → y ≡ outcome (y >> passed (gameOf (B .what) (K .what) (E .what)))
-                last (passed u) = refl
-                last (refused q p) = refl
+      module _ (E : Learned (askEdits reads (cut edits lengths))) where
+        pub fits-last : (a : Answer) → asked a ≡ askFits (A .what .0) (take d (E .what)) → (edit : ℕ) → edit ≡ firstUnfit (A .what .0) (E .what) → Asks (asked a) edit
+        unfolding outcome _>>_ after
+        fits-last a s edit f = (
+          s ∙ last (askFits (A .what .0) (take d (E .what))) ∙ sym (ap outcome (from-aims ∙ passes (askEdits reads (cut edits lengths)) (λ Zs. byEdits (A .what) Zs) E)),
+          f ∙ sym (fault-aims ∙ ap (λ x. after x (λ Zs. firstUnfit (A .what .0) Zs) (firstRefused (askEdit reads) (cut edits lengths))) (E .is)),
+        )
+          where
+            last : (y : Asked (Unit {0})) → y ≡ outcome (y >> passed (gameOf (A .what .0) (A .what .1) (E .what)))
+            last (passed u) = refl
+            last (refused q p) = refl
 
     -- What carrying back asks of book and edits.
-    module _ (B : Learned (askBook limits book)) (E : Learned (askEdits limits (cut edits lengths))) where
+    module _ (E : Learned (askEdits reads (cut edits lengths))) where
       abbrev pub edits-at : EditsAt edits d (E .what)
-      edits-at = let s = edits-stand (graphOf sheet .n) edits lengths (E .what) (E .is) in record { limits = ranges (graphOf sheet .n); stand = s .stand; enough = omega (arith, s .many, enough (length lengths) d moves ok) }
+      edits-at = let s = edits-stand (graphOf sheet .n) edits lengths (E .what) (E .is) in record { limits = ranges (graphOf sheet .n); stand = s .stand; enough = omega (arith, s .many, enough edits lengths d moves ok) }
 
-      pub both-read : SomeBook book × SomeEdits edits d
-      both-read = (record { what = B .what; is = book-passed limits (B .is) }, record { what = E .what; are = edits-at })
+      pub both-read : (rules : List (Expr rule)) → askBook reads book ≡ passed rules → SomeBook book × SomeEdits edits d
+      both-read rules B = (record { what = rules; is = book-passed reads B }, record { what = E .what; are = edits-at })
 
   -- All have passed.
   pub record Passed (G : Game) : Type 0 where
-    pub ok : inRange (length lengths) d moves ≡ true
+    pub ok : listsRight edits lengths d moves ≡ true
     pub sound : Sound sheet
-    pub book-read : Learned (askBook limits book)
-    pub goal-read : Learned (askGoal limits goal)
-    pub edits-read : Learned (askEdits limits (cut edits lengths))
+    pub book-read : Learned (askBook reads book)
+    pub goal-read : Learned (askGoal reads goal)
+    pub edits-read : Learned (askEdits reads (cut edits lengths))
     pub is : gameOf (book-read .what) (goal-read .what) (edits-read .what) ≡ G
     pub fit : askFits (book-read .what) (take d (edits-read .what)) ≡ passed tt
 
   pub all-passed : (G : Game) → All ≡ passed G → Passed G
-  unfolding askGame askSheetAndBook is _>>=_ _>>_
-  all-passed G e = go (inRange (length lengths) d moves) refl (askSheet sheet) refl (askBook limits book) refl (askGoal limits goal) refl (askEdits limits (cut edits lengths)) refl e
+  unfolding askGame is _>>=_ _>>_
+  all-passed G e = go (listsRight edits lengths d moves) refl (askAims sheet book goal) refl (askEdits reads (cut edits lengths)) refl e
     where
       last : (g : Game) (v : Asked (Unit {0})) → (v >> passed g) ≡ passed G → g ≡ G
       last g (passed u) h = cc
@@ -153,15 +238,23 @@ module _ (sheet book goal edits lengths : List ℕ) (d moves : ℕ) where
       fitted g (passed u) h = refl
       fitted g (refused q p) h = let z : _≡_ {A = ℕ} 0 1 = cc in absurd (omega arith)
 
-      go : (b : Bool) → inRange (length lengths) d moves ≡ b → (x : Asked (Unit {0})) → askSheet sheet ≡ x → (y : Asked (List (Expr rule))) → askBook limits book ≡ y → (z : Asked (Expr rule)) → askGoal limits goal ≡ z
-          → (w : Asked (List Edit)) → askEdits limits (cut edits lengths) ≡ w → (is b 62 0 >> ((x >> y) >>= (λ rules. z >>= (λ aim. w >>= (λ Zs. byEdits rules aim Zs))))) ≡ passed G → Passed G
-      go true eb (passed u) ex (passed rules) ey (passed aim) ez (passed Zs) ew h =
-          record { ok = eb; sound = ex; book-read = record { what = rules; is = ey }; goal-read = record { what = aim; is = ez }; edits-read = record { what = Zs; is = ew }; is = last (gameOf rules aim Zs) (askFits rules (take d Zs)) h; fit = fitted (gameOf rules aim Zs) (askFits rules (take d Zs)) h }
-      go true eb (passed u) ex (passed rules) ey (passed aim) ez (refused q p) ew h = let z : _≡_ {A = ℕ} 0 1 = cc in absurd (omega arith)
-      go true eb (passed u) ex (passed rules) ey (refused q p) ez w ew h = let z : _≡_ {A = ℕ} 0 1 = cc in absurd (omega arith)
-      go true eb (passed u) ex (refused q p) ey z ez w ew h = let z : _≡_ {A = ℕ} 0 1 = cc in absurd (omega arith)
-      go true eb (refused q p) ex y ey z ez w ew h = let z : _≡_ {A = ℕ} 0 1 = cc in absurd (omega arith)
-      go false eb x ex y ey z ez w ew h = let z : _≡_ {A = ℕ} 0 1 = cc in absurd (omega arith)
+      go : (b : Bool) → listsRight edits lengths d moves ≡ b → (x : Asked (List (Expr rule) × Expr rule)) → askAims sheet book goal ≡ x → (w : Asked (List Edit)) → askEdits reads (cut edits lengths) ≡ w
+          → (is b 62 0 >> (x >>= (λ aims. w >>= (λ Zs. byEdits aims Zs)))) ≡ passed G → Passed G
+      go true eb (passed aims) ex (passed Zs) ew h =
+          let a = aims-read sheet book goal aims ex in
+          let g = gameOf (aims .0) (aims .1) Zs in
+          record {
+            ok = eb;
+            sound = a .sound;
+            book-read = record { what = aims .0; is = a .book-is };
+            goal-read = record { what = aims .1; is = a .goal-is };
+            edits-read = record { what = Zs; is = ew };
+            is = last g (askFits (aims .0) (take d Zs)) h;
+            fit = fitted g (askFits (aims .0) (take d Zs)) h;
+          }
+      go true eb (passed aims) ex (refused q p) ew h = let z : _≡_ {A = ℕ} 0 1 = cc in absurd (omega arith)
+      go true eb (refused q p) ex w ew h = let z : _≡_ {A = ℕ} 0 1 = cc in absurd (omega arith)
+      go false eb x ex w ew h = let z : _≡_ {A = ℕ} 0 1 = cc in absurd (omega arith)
 
   pub all-fit : (G : Game) → All ≡ passed G → askFits (G .book) (G .dispatchers) ≡ passed tt
   all-fit G e = let p = all-passed G e in subst (λ (H : Game). askFits (H .book) (H .dispatchers) ≡ passed tt) (p .is) (p .fit)

@@ -1,15 +1,15 @@
 -- The edits' texts: cut out of what is lent, read in turn, standing one behind the other.
 use mathlib.Core.Path.{_≡_, refl, sym, ap, ap₂, _∙_, subst}
-use mathlib.Core.Bool.{Bool, cond}
+use mathlib.Core.Bool.{false}
 use mathlib.Core.List.{List, [], _∷_, _++_, append-nil}
-use Prim.Native.Nat.{ℕ, suc, _+_, _-_, _≤_, _<_}
+use Prim.Native.Nat.{ℕ, zero, suc, _+_, _-_, _≤_, _<_}
 use native.Mathlib.Numerals.{add-one}
-use native.Mathlib.Decide.{decLt}
 use native.Mathlib.Omega.{arith}
-use lib.ListN.{length, take, drop, getD, length-drop, take-append-drop, drop-of-length-le}
-use lib.Seq.{drop-cons, drop-drop, take-all, take-append-seam}
-use borrow.Author.Tests.{lt-ltb, le-ltb}
-use Rattle.answer.specs.Asked.{Asked, passed, refused, _>>=_, _>>_, outcome}
+use lib.Dec.{eqb}
+use lib.ListN.{length, take, drop, getD, take-append-drop, drop-of-length-le}
+use lib.Seq.{drop-cons, drop-drop, take-append-seam}
+use borrow.Author.Tests.{eq-eqb, ne-eqb}
+use Rattle.answer.specs.Asked.{Asked, passed, refused, _>>=_, _>>_, after, outcome}
 use Rattle.answer.specs.Answers.{asked, refusalNumber, refusalPlace}
 use Rattle.answer.specs.declared.Refusal.{Refusal}
 use Rattle.answer.specs.declared.Answer.{Answer}
@@ -26,30 +26,43 @@ use Rattle.text.proofs.Books.{edit-is-spelled}
 use Rattle.text.proofs.Standing.{behind, within}
 use Rattle.ends.specs.Edits.{EditAt}
 use Rattle.ends.proofs.Steps.{edit-inside}
-use Rattle.play.specs.Questions.{cut, askEdits, askCarried, askFits}
-use Rattle.play.specs.Standing.{EditsStand, cutEnd}
+use Rattle.play.specs.Questions.{total, cut, askEdits, askCarried, askFits, firstRefused}
+use Rattle.play.specs.Standing.{EditsStand}
 
--- Where a text ends, and that it is the one that is cut out there.
-module _ (edits : List ℕ) (at size end : ℕ) (inside : at ≤ length edits) (e : end ≡ cutEnd (length edits) at size) where
-  abbrev Cut : Type 0
-  Cut = (at ≤ end) × (end ≤ length edits) × (take (end - at) (drop at edits) ≡ take size (drop at edits)) × (drop end edits ≡ drop size (drop at edits))
+-- The first that is refused, by what the first of the list is asked.
+module _ {A B : Type 0} (ask : A → Asked B) (x : A) (xs : List A) where
+  refused-here : {q p : ℕ} → ask x ≡ refused q p → firstRefused ask (x ∷ xs) ≡ 0
+  unfolding firstRefused after
+  refused-here e = ap (λ (y : Asked B). after y (λ b. suc (firstRefused ask xs)) 0) e
 
-  pub cut-is : Cut
-  cut-is = go (decLt size (length edits - at))
+  passed-here : {b : B} → ask x ≡ passed b → firstRefused ask (x ∷ xs) ≡ suc (firstRefused ask xs)
+  unfolding firstRefused after
+  passed-here e = ap (λ (y : Asked B). after y (λ b. suc (firstRefused ask xs)) 0) e
+
+-- What is left of the sum of the lengths: one length and the others, or nothing.
+module _ (lengths : List ℕ) (i : ℕ) where
+  pub total-next : i < length lengths → total (drop i lengths) ≡ getD lengths i 0 + total (drop (i + 1) lengths)
+  unfolding total
+  total-next l = ap total (drop-cons lengths i 0 l) ∙ ap (λ (k : ℕ). getD lengths i 0 + total (drop k lengths)) (sym (add-one i))
+
+  pub total-past : length lengths ≤ i → total (drop i lengths) ≡ 0
+  unfolding total
+  total-past h = ap total (drop-of-length-le lengths {i = i} h)
+
+-- Lengths taken off a size one by one: what is left of it, with those before i taken off.
+module _ (lengths : List ℕ) (size left i : ℕ) (so-far : total lengths + left ≡ size + total (drop i lengths)) where
+  pub too-long : i < length lengths → left < getD lengths i 0 → false ≡ eqb (total lengths) size
+  too-long l h = sym (ne-eqb (total lengths) size (λ e. omega (arith, e, so-far, total-next lengths i l)))
+
+  pub taken-off : i < length lengths → getD lengths i 0 ≤ left → total lengths + (left - getD lengths i 0) ≡ size + total (drop (i + 1) lengths)
+  taken-off l h = omega (arith, so-far, total-next lengths i l)
+
+  pub all-taken : length lengths ≤ i → eqb left 0 ≡ eqb (total lengths) size
+  all-taken h = go left refl
     where
-      go : Dec (size < length edits - at) → Cut
-      go (yes l) =
-          let q : end ≡ at + size = e ∙ ap (λ (b : Bool). cond b (at + size) (length edits)) (lt-ltb size (length edits - at) l) in
-          let k : end - at ≡ size = omega arith in
-          (omega arith, omega arith, ap (λ (m : ℕ). take m (drop at edits)) k, ap (λ (m : ℕ). drop m edits) q ∙ sym (drop-drop size at edits))
-      go (no l) =
-          let q : end ≡ length edits = e ∙ ap (λ (b : Bool). cond b (at + size) (length edits)) (le-ltb size (length edits - at) (omega arith)) in
-          let n = length-drop at edits in (
-            omega arith,
-            omega arith,
-            take-all (end - at) (drop at edits) (omega (arith, n)) ∙ sym (take-all size (drop at edits) (omega (arith, n))),
-            drop-of-length-le edits {i = end} (omega arith) ∙ sym (drop-of-length-le (drop at edits) {i = size} (omega (arith, n))),
-          )
+      go : (k : ℕ) → left ≡ k → eqb left 0 ≡ eqb (total lengths) size
+      go zero e = eq-eqb left 0 e ∙ sym (eq-eqb (total lengths) size (omega (arith, so-far, total-past lengths i h)))
+      go (suc k) e = ne-eqb left 0 (λ z. omega arith) ∙ sym (ne-eqb (total lengths) size (λ z. omega (arith, so-far, total-past lengths i h)))
 
 -- One more edit that has passed changes nothing in the outcome of the others.
 more-outcome : (Z : Edit) (y : Asked (List Edit)) → outcome (y >>= (λ Zs. passed (Z ∷ Zs))) ≡ outcome y
@@ -59,45 +72,73 @@ more-outcome Z (refused q p) = refl
 
 -- The texts read in turn.
 module _ (n : ℕ) (edits lengths : List ℕ) where
-  -- What is left to be asked is from the place `at` and the length i on.
-  abbrev pub Left : ℕ → ℕ → Type 0
-  Left at i = outcome (askEdits (textLimits n) (cut edits lengths)) ≡ outcome (askEdits (textLimits n) (cut (drop at edits) (drop i lengths)))
+  abbrev readAll : List (List ℕ) → Asked (Unit {0})
+  readAll ts = outcome (askEdits (textLimits n) ts)
 
-  module _ (at i : ℕ) (left : Left at i) (inside : at ≤ length edits) (l : i < length lengths) (end : ℕ) (e : end ≡ cutEnd (length edits) at (getD lengths i 0))
-      (b : Answer) (read : asked b ≡ outcome (askEdit (textLimits n) (take (end - at) (drop at edits)))) where
+  abbrev firstBad : List (List ℕ) → ℕ
+  firstBad ts = firstRefused (askEdit (textLimits n)) ts
+
+  -- What is left to be asked is from the place `at` and the length i on.
+  pub record Left (at i : ℕ) : Type 0 where
+    pub filled : at + total (drop i lengths) ≡ length edits
+    pub questions : readAll (cut edits lengths) ≡ readAll (cut (drop at edits) (drop i lengths))
+    pub first : firstBad (cut edits lengths) ≡ i + firstBad (cut (drop at edits) (drop i lengths))
+
+  pub texts-first : total lengths ≡ length edits → Left 0 0
+  texts-first e = record { filled = omega (arith, e); questions = refl; first = omega arith }
+
+  module _ (at i : ℕ) (left : Left at i) (l : i < length lengths) where
+    abbrev end : ℕ
+    end = at + getD lengths i 0
+
+    pub end-inside : end ≤ length edits
+    end-inside = omega (arith, left .filled, total-next lengths i l)
+
     abbrev text : List ℕ
     text = take (end - at) (drop at edits)
 
-    abbrev others : List ℕ
-    others = drop (suc i) lengths
+    abbrev others : List (List ℕ)
+    others = cut (drop end edits) (drop (i + 1) lengths)
 
-    asked-here : outcome (askEdits (textLimits n) (cut edits lengths))
-        ≡ outcome (askEdit (textLimits n) text >>= (λ Z. askEdits (textLimits n) (cut (drop end edits) others) >>= (λ Zs. passed (Z ∷ Zs))))
-    unfolding cut askEdits
-    asked-here =
-        let c = cut-is edits at (getD lengths i 0) end inside e in
-        left
-        ∙ ap (λ (ks : List ℕ). outcome (askEdits (textLimits n) (cut (drop at edits) ks))) (drop-cons lengths i 0 l)
-        ∙ sym (ap₂ (λ (t r : List ℕ). outcome (askEdit (textLimits n) t >>= (λ Z. askEdits (textLimits n) (cut r others) >>= (λ Zs. passed (Z ∷ Zs))))) (c .2) (c .3))
+    here : cut (drop at edits) (drop i lengths) ≡ text ∷ others
+    unfolding cut
+    here =
+        let k : getD lengths i 0 ≡ end - at = omega arith in
+        ap (cut (drop at edits)) (drop-cons lengths i 0 l)
+        ∙ ap (λ (m : ℕ). take (getD lengths i 0) (drop at edits) ∷ cut (drop (getD lengths i 0) (drop at edits)) (drop m lengths)) (sym (add-one i))
+        ∙ ap₂ (λ (m : ℕ) (r : List ℕ). take m (drop at edits) ∷ cut r (drop (i + 1) lengths)) k (drop-drop (getD lengths i 0) at edits)
 
-    pub text-stops : (r : Refusal) → b ≡ Refused r → asked b ≡ outcome (askEdits (textLimits n) (cut edits lengths))
-    unfolding _>>=_ outcome
-    text-stops r q =
-        ap asked q
-        ∙ sym (asked-here ∙ ap (λ (x : Asked Edit). outcome (x >>= (λ Z. askEdits (textLimits n) (cut (drop end edits) others) >>= (λ Zs. passed (Z ∷ Zs))))) (not-learned (askEdit (textLimits n) text) (refusalNumber r) (refusalPlace r) (sym (ap asked q) ∙ read)))
+    module _ (b : Answer) (read : asked b ≡ outcome (askEdit (textLimits n) text)) where
+      asked-here : readAll (cut edits lengths) ≡ outcome (askEdit (textLimits n) text >>= (λ Z. askEdits (textLimits n) others >>= (λ Zs. passed (Z ∷ Zs))))
+      unfolding askEdits
+      asked-here = left .questions ∙ ap readAll here
 
-    pub text-passes : b ≡ Done → Left end (i + 1)
-    unfolding _>>=_
-    text-passes q =
-        let z = learned (askEdit (textLimits n) text) (sym (ap asked q) ∙ read) in
-        asked-here
-        ∙ ap (λ (x : Asked Edit). outcome (x >>= (λ Z. askEdits (textLimits n) (cut (drop end edits) others) >>= (λ Zs. passed (Z ∷ Zs))))) (z .is)
-        ∙ more-outcome (z .what) (askEdits (textLimits n) (cut (drop end edits) others))
-        ∙ ap (λ (k : ℕ). outcome (askEdits (textLimits n) (cut (drop end edits) (drop k lengths)))) (sym (add-one i))
+      first-here : firstBad (cut edits lengths) ≡ i + firstBad (text ∷ others)
+      first-here = left .first ∙ ap (λ (ts : List (List ℕ)). i + firstBad ts) here
 
-  pub texts-end : (at i : ℕ) → Left at i → length lengths ≤ i → passed tt ≡ outcome (askEdits (textLimits n) (cut edits lengths))
-  unfolding cut askEdits outcome
-  texts-end at i left h = sym (left ∙ ap (λ (ks : List ℕ). outcome (askEdits (textLimits n) (cut (drop at edits) ks))) (drop-of-length-le lengths {i = i} h))
+      pub text-stops : (r : Refusal) → b ≡ Refused r → (asked b ≡ readAll (cut edits lengths)) × (i ≡ firstBad (cut edits lengths))
+      unfolding _>>=_ outcome
+      text-stops r q =
+          let z = not-learned (askEdit (textLimits n) text) (refusalNumber r) (refusalPlace r) (sym (ap asked q) ∙ read) in (
+            ap asked q ∙ sym (asked-here ∙ ap (λ (x : Asked Edit). outcome (x >>= (λ Z. askEdits (textLimits n) others >>= (λ Zs. passed (Z ∷ Zs))))) z),
+            omega (arith, first-here, refused-here (askEdit (textLimits n)) text others z),
+          )
+
+      pub text-passes : b ≡ Done → Left end (i + 1)
+      unfolding _>>=_
+      text-passes q =
+          let z = learned (askEdit (textLimits n) text) (sym (ap asked q) ∙ read) in
+          record {
+            filled = omega (arith, left .filled, total-next lengths i l);
+            questions = asked-here ∙ ap (λ (x : Asked Edit). outcome (x >>= (λ Z. askEdits (textLimits n) others >>= (λ Zs. passed (Z ∷ Zs))))) (z .is) ∙ more-outcome (z .what) (askEdits (textLimits n) others);
+            first = omega (arith, first-here, passed-here (askEdit (textLimits n)) text others (z .is));
+          }
+
+  pub texts-end : (at i : ℕ) → Left at i → i ≤ length lengths → length lengths ≤ i → (passed tt ≡ readAll (cut edits lengths)) × (i ≡ firstBad (cut edits lengths))
+  unfolding cut askEdits outcome firstRefused
+  texts-end at i left k h =
+      let none : cut (drop at edits) (drop i lengths) ≡ [] = ap (cut (drop at edits)) (drop-of-length-le lengths {i = i} h) in
+      (sym (left .questions ∙ ap readAll none), omega (arith, left .first, ap firstBad none))
 
 -- Texts that have passed stand one behind the other.
 module _ (n : ℕ) (text : List ℕ) where
@@ -185,31 +226,53 @@ module _ (r : Ranges) (text : List ℕ) (Zs : List Edit) (i at : ℕ) (s : FromH
 
 -- 31 and 32 of so many of them.
 module _ (rules : List (Expr rule)) (Zs : List Edit) (count : ℕ) (enough : count ≤ length Zs) where
-  abbrev pub FitsLeft : ℕ → Type 0
-  FitsLeft i = askFits rules (take count Zs) ≡ askFits rules (take (count - i) (drop i Zs))
+  abbrev fitting : Edit → Asked (Unit {0})
+  fitting Z = askCarried (carriedBook Z rules)
+
+  pub record FitsLeft (i : ℕ) : Type 0 where
+    pub questions : askFits rules (take count Zs) ≡ askFits rules (take (count - i) (drop i Zs))
+    pub first : firstRefused fitting (take count Zs) ≡ i + firstRefused fitting (take (count - i) (drop i Zs))
 
   pub fits-first : FitsLeft 0
-  fits-first = let z : count ≡ count - 0 = omega arith in ap (λ (m : ℕ). askFits rules (take m Zs)) z
+  fits-first =
+      let z : count ≡ count - 0 = omega arith in
+      record { questions = ap (λ (m : ℕ). askFits rules (take m Zs)) z; first = omega (arith, ap (λ (m : ℕ). firstRefused fitting (take m Zs)) z) }
 
-  module _ (i : ℕ) (left : FitsLeft i) (l : i < count) (b : Answer) (fit : asked b ≡ askCarried (carriedBook (getD Zs i finish) rules)) where
-    fits-here : askFits rules (take count Zs) ≡ (asked b >> askFits rules (take (count - (i + 1)) (drop (suc i) Zs)))
-    unfolding askFits
-    fits-here =
+  module _ (i : ℕ) (left : FitsLeft i) (l : i < count) (b : Answer) (fit : asked b ≡ fitting (getD Zs i finish)) where
+    abbrev later : List Edit
+    later = take (count - (i + 1)) (drop (i + 1) Zs)
+
+    here-fits : take (count - i) (drop i Zs) ≡ getD Zs i finish ∷ later
+    here-fits =
         let k : count - i ≡ suc (count - (i + 1)) = omega arith in
-        left
-        ∙ ap₂ (λ (m : ℕ) (ys : List Edit). askFits rules (take m ys)) k (drop-cons Zs i finish (omega arith))
-        ∙ ap (_>> askFits rules (take (count - (i + 1)) (drop (suc i) Zs))) (sym fit)
+        ap₂ (λ (m : ℕ) (ys : List Edit). take m ys) k (drop-cons Zs i finish (omega arith))
+        ∙ ap (λ (m : ℕ). getD Zs i finish ∷ take (count - (i + 1)) (drop m Zs)) (sym (add-one i))
 
-    pub fits-stop : (r : Refusal) → b ≡ Refused r → asked b ≡ askFits rules (take count Zs)
+    asks-here : askFits rules (take count Zs) ≡ (asked b >> askFits rules later)
+    unfolding askFits
+    asks-here = left .questions ∙ ap (askFits rules) here-fits ∙ ap (_>> askFits rules later) (sym fit)
+
+    not-before : firstRefused fitting (take count Zs) ≡ i + firstRefused fitting (getD Zs i finish ∷ later)
+    not-before = left .first ∙ ap (λ (ys : List Edit). i + firstRefused fitting ys) here-fits
+
+    pub fits-stop : (r : Refusal) → b ≡ Refused r → (asked b ≡ askFits rules (take count Zs)) × (i ≡ firstRefused fitting (take count Zs))
     unfolding _>>_
-    fits-stop r q = ap asked q ∙ sym (fits-here ∙ ap (λ (x : Answer). asked x >> askFits rules (take (count - (i + 1)) (drop (suc i) Zs))) q)
+    fits-stop r q = (
+      ap asked q ∙ sym (asks-here ∙ ap (λ (x : Answer). asked x >> askFits rules later) q),
+      omega (arith, not-before, refused-here fitting (getD Zs i finish) later (sym fit ∙ ap asked q)),
+    )
 
     pub fits-pass : b ≡ Done → FitsLeft (i + 1)
     unfolding _>>_
-    fits-pass q =
-        fits-here ∙ ap (λ (x : Answer). asked x >> askFits rules (take (count - (i + 1)) (drop (suc i) Zs))) q
-        ∙ ap (λ (k : ℕ). askFits rules (take (count - (i + 1)) (drop k Zs))) (sym (add-one i))
+    fits-pass q = record {
+      questions = asks-here ∙ ap (λ (x : Answer). asked x >> askFits rules later) q;
+      first = omega (arith, not-before, passed-here fitting (getD Zs i finish) later (sym fit ∙ ap asked q));
+    }
 
-  pub fits-end : (i : ℕ) → FitsLeft i → count ≤ i → passed tt ≡ askFits rules (take count Zs)
-  unfolding askFits
-  fits-end i left h = let z : count - i ≡ 0 = omega arith in sym (left ∙ ap (λ (m : ℕ). askFits rules (take m (drop i Zs))) z)
+  pub fits-end : (i : ℕ) → FitsLeft i → i ≤ count → count ≤ i → (passed tt ≡ askFits rules (take count Zs)) × (i ≡ firstRefused fitting (take count Zs))
+  unfolding askFits firstRefused
+  fits-end i left k h =
+      let z : count - i ≡ 0 = omega arith in (
+        sym (left .questions ∙ ap (λ (m : ℕ). askFits rules (take m (drop i Zs))) z),
+        omega (arith, left .first, ap (λ (m : ℕ). firstRefused fitting (take m (drop i Zs))) z),
+      )

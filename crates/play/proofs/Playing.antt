@@ -23,7 +23,7 @@ use Rattle.game.specs.Search.{sideOf, chosen}
 use Rattle.game.proofs.Chosen.{chosen-answer}
 use Rattle.play.specs.declared.search.Lists.{Lists}
 use Rattle.play.specs.declared.search.Found.{Found}
-use Rattle.play.specs.Questions.{askGame, askPlay, outcomeNumber, outcomeEdit}
+use Rattle.play.specs.Questions.{askGame, askPlay, faultyEdit, outcomeNumber, noOutcome, outcomeEdit}
 use Rattle.play.specs.Standing.{EditsStand, countOf, startOf, EditsAt, GameStands, outcomeOf}
 use Rattle.play.proofs.Edits.{edits-stand}
 use Rattle.play.proofs.Goal.{goal-stands}
@@ -43,19 +43,19 @@ module _ (sheet book goal edits lengths : List ℕ) (d moves : ℕ) where
   -- What is answered: the outcome of the questions, and the game's outcome in numbers.
   pub record Says (a : Asked (Unit {0})) (number edit : ℕ) : Type 0 where
     pub answer-is : a ≡ outcome Played
-    pub number-is : number ≡ after Played outcomeNumber 0
-    pub edit-is : edit ≡ after Played outcomeEdit 0
+    pub number-is : number ≡ after Played outcomeNumber noOutcome
+    pub edit-is : edit ≡ after Played outcomeEdit (faultyEdit sheet book goal edits lengths d moves)
 
   module _ (a : Answer) (s : asked a ≡ outcome (askGame sheet book goal edits lengths d moves)) where
     -- A question stops.
-    pub game-stops : (r : Refusal) → a ≡ Refused r → Says (asked a) 0 0
+    pub game-stops : (r : Refusal) → a ≡ Refused r → (edit : ℕ) → edit ≡ faultyEdit sheet book goal edits lengths d moves → Says (asked a) noOutcome edit
     unfolding askPlay _>>=_ outcome after
-    game-stops r e =
+    game-stops r e edit f =
         let q = ap (λ (x : Asked Game). x >>= (λ G. passed (answer G (moves - 1) (graphOf sheet)))) (not-learned (askGame sheet book goal edits lengths d moves) (refusalNumber r) (refusalPlace r) (sym (ap asked e) ∙ s)) in
         record {
           answer-is = ap asked e ∙ sym (ap outcome q);
-          number-is = sym (ap (λ (x : Asked Outcome). after x outcomeNumber 0) q);
-          edit-is = sym (ap (λ (x : Asked Outcome). after x outcomeEdit 0) q);
+          number-is = sym (ap (λ (x : Asked Outcome). after x outcomeNumber noOutcome) q);
+          edit-is = f ∙ sym (ap (λ (x : Asked Outcome). after x outcomeEdit (faultyEdit sheet book goal edits lengths d moves)) q);
         }
 
     -- All pass.
@@ -67,13 +67,13 @@ module _ (sheet book goal edits lengths : List ℕ) (d moves : ℕ) where
       known = all-passed sheet book goal edits lengths d moves (read .what) (read .is)
 
       pub texts-stand : EditsAt edits d (known .edits-read .what)
-      texts-stand = edits-at sheet book goal edits lengths d moves (known .ok) (known .book-read) (known .edits-read)
+      texts-stand = edits-at sheet book goal edits lengths d moves (known .ok) (known .edits-read)
 
       pub no-fewer : d ≤ length lengths
-      no-fewer = enough (length lengths) d moves (known .ok)
+      no-fewer = enough edits lengths d moves (known .ok)
 
       pub one-move : 1 ≤ moves
-      one-move = some-moves (length lengths) d moves (known .ok)
+      one-move = some-moves edits lengths d moves (known .ok)
 
       module _ (second : ℕ) (later : (Zs : List Edit) (t : EditsAt edits d Zs) → EditsStand (t .limits) edits second (drop d Zs)) where
         abbrev lists : Lists
@@ -89,7 +89,7 @@ module _ (sheet book goal edits lengths : List ℕ) (d moves : ℕ) where
               aim = goal-stands (textLimits (graphOf sheet .n)) goal (known .goal-read .what) (known .goal-read .is);
               stand = λ (ours : Bool). elim ours as (λ b. EditsStand (ranges (graphOf sheet .n)) edits (startOf lists b) (editsOf (gameOf sheet book goal edits lengths d moves (known .book-read .what) (known .goal-read .what) Zs) (sideOf b))) [
                 | true ↦ first-stand (ranges (graphOf sheet .n)) edits d 0 Zs (t .stand)
-                | false ↦ later Zs (edits-at sheet book goal edits lengths d moves (known .ok) (known .book-read) (known .edits-read))
+                | false ↦ later Zs (edits-at sheet book goal edits lengths d moves (known .ok) (known .edits-read))
               ];
               counted = λ (ours : Bool). elim ours as (λ b. countOf lists b ≡ length (editsOf (gameOf sheet book goal edits lengths d moves (known .book-read .what) (known .goal-read .what) Zs) (sideOf b))) [
                 | true ↦ sym (length-take-le d Zs (omega (arith, t .many, no-fewer)))
@@ -106,6 +106,6 @@ module _ (sheet book goal edits lengths : List ℕ) (d moves : ℕ) where
             let p : Played ≡ passed (outcomeOf h) = ap (λ (y : Asked Game). y >>= (λ G. passed (answer G (moves - 1) (graphOf sheet)))) (read .is) ∙ ap passed x in
             record {
               answer-is = sym (ap outcome p);
-              number-is = sym (ap (λ (y : Asked Outcome). after y outcomeNumber 0) p);
-              edit-is = sym (ap (λ (y : Asked Outcome). after y outcomeEdit 0) p);
+              number-is = sym (ap (λ (y : Asked Outcome). after y outcomeNumber noOutcome) p);
+              edit-is = sym (ap (λ (y : Asked Outcome). after y outcomeEdit (faultyEdit sheet book goal edits lengths d moves)) p);
             }

@@ -70,7 +70,7 @@ module _ (sheet book goal edits lengths : List ℕ) (d moves : ℕ) where
       go : (q : Asked Game) → askGame sheet book goal edits lengths d moves ≡ q → (q >>= (λ G. passed (answer G (moves - 1) (graphOf sheet)))) ≡ passed x → Answered sheet book goal edits lengths d moves x
       go (refused q p) r h = let z : _≡_ {A = ℕ} 0 1 = cc in absurd (omega arith)
       go (passed G) r h =
-          let m = some-moves (length lengths) d moves (all-passed sheet book goal edits lengths d moves G r .ok) in
+          let m = some-moves edits lengths d moves (all-passed sheet book goal edits lengths d moves G r .ok) in
           record {
             game = G;
             read = r;

@@ -1,10 +1,10 @@
 -- The questions of a game, in item 13's order, and what is answered when all have passed.
 use mathlib.Core.Bool.{Bool, _&&_}
 use mathlib.Core.List.{List, [], _∷_}
-use Prim.Native.Nat.{ℕ, _-_}
-use lib.Dec.{leb}
+use Prim.Native.Nat.{ℕ, suc, _+_, _-_}
+use lib.Dec.{eqb, leb}
 use lib.ListN.{length, take, drop}
-use Rattle.answer.specs.Asked.{Asked, passed, refused, _>>=_, _>>_, is}
+use Rattle.answer.specs.Asked.{Asked, passed, refused, _>>=_, _>>_, is, after}
 use Rattle.logic.specs.Syntax.{Expr, rule, Edit}
 use Rattle.logic.specs.Carry.{carriedBook}
 use Rattle.sheet.specs.Sheet.{graphOf}
@@ -25,6 +25,15 @@ unfoldable pub inRange : (count dispatchers moves : ℕ) → Bool
 inRange count dispatchers moves =
     leb 1 dispatchers && (leb dispatchers mostEdits && (leb dispatchers count && (leb (count - dispatchers) mostEdits && (leb 1 moves && leb moves mostMoves))))
 
+-- The sum of the lengths, as a whole number: no word that it would have to fit in.
+unfoldable pub total : (lengths : List ℕ) → ℕ
+total [] = 0
+total (l ∷ ls) = l + total ls
+
+-- 62 asks for the ranges, and that the lengths together are that of the bytes lent as edits.
+unfoldable pub listsRight : (edits lengths : List ℕ) (dispatchers moves : ℕ) → Bool
+listsRight edits lengths dispatchers moves = inRange (length lengths) dispatchers moves && eqb (total lengths) (length edits)
+
 -- "The goal is read after the book: empty it is 12, and bytes after its one rule are 16."
 unfoldable pub alone : Read (Expr rule) → Asked (Expr rule)
 alone (got K [] p) = passed K
@@ -36,7 +45,14 @@ askGoal l t = do
   is (leb (length t) (l .longest)) 11 0
   alone (readAs l (expr rule) t 0)
 
--- The edits, each a text of its own: they stand one behind the other, and a length is cut off where they end.
+-- Sheet and book, then the goal. What is learned is the rules of the book, and the goal.
+unfoldable pub askAims : (sheet book goal : List ℕ) → Asked (List (Expr rule) × Expr rule)
+askAims sheet book goal = do
+  rules ← askSheetAndBook sheet book
+  aim ← askGoal (textLimits (graphOf sheet .n)) goal
+  passed (rules, aim)
+
+-- The edits, each a text of its own: they stand one behind the other, and fill what is lent once 62 has passed.
 unfoldable pub cut : (edits lengths : List ℕ) → List (List ℕ)
 cut edits [] = []
 cut edits (l ∷ ls) = take l edits ∷ cut (drop l edits) ls
@@ -64,12 +80,25 @@ askFits rules (Z ∷ Zs) = do
 -- All questions: 62, "asked before the sheet", sheet, book, goal, edits, 31 and 32. What is learned is the game.
 unfoldable pub askGame : (sheet book goal edits lengths : List ℕ) (dispatchers moves : ℕ) → Asked Game
 askGame sheet book goal edits lengths dispatchers moves = do
-  is (inRange (length lengths) dispatchers moves) 62 0
-  rules ← askSheetAndBook sheet book
-  aim ← askGoal (textLimits (graphOf sheet .n)) goal
+  is (listsRight edits lengths dispatchers moves) 62 0
+  aims ← askAims sheet book goal
   Zs ← askEdits (textLimits (graphOf sheet .n)) (cut edits lengths)
-  askFits rules (take dispatchers Zs)
-  passed (record { book = rules; goal = aim; dispatchers = take dispatchers Zs; disruptions = drop dispatchers Zs })
+  askFits (aims .0) (take dispatchers Zs)
+  passed (record { book = aims .0; goal = aims .1; dispatchers = take dispatchers Zs; disruptions = drop dispatchers Zs })
+
+-- Of a list, asked in turn: the place of the first that is refused, from 0. The list's length where none is.
+unfoldable pub firstRefused : {A B : Type 0} → (A → Asked B) → List A → ℕ
+firstRefused ask [] = 0
+firstRefused ask (x ∷ xs) = after (ask x) (λ b. suc (firstRefused ask xs)) 0
+
+-- The edit that a refusal is about, by its place in the list of edits: after 21 to 26 the first whose text is refused, after 31 and 32 the first of the
+-- dispatcher's through which the carried book doesn't fit. 0 after the refusals that come before: 62, sheet, book and goal.
+unfoldable pub faultyEdit : (sheet book goal edits lengths : List ℕ) (dispatchers moves : ℕ) → ℕ
+faultyEdit sheet book goal edits lengths dispatchers moves =
+    let limits = textLimits (graphOf sheet .n) in
+    let texts = cut edits lengths in
+    after (is (listsRight edits lengths dispatchers moves) 62 0 >> askAims sheet book goal) (λ aims.
+    after (askEdits limits texts) (λ Zs. firstRefused (λ Z. askCarried (carriedBook Z (aims .0))) (take dispatchers Zs)) (firstRefused (askEdit limits) texts)) 0
 
 -- The call: the game's answer for these moves.
 unfoldable pub askPlay : (sheet book goal edits lengths : List ℕ) (dispatchers moves : ℕ) → Asked Outcome
@@ -77,11 +106,14 @@ askPlay sheet book goal edits lengths dispatchers moves = do
   G ← askGame sheet book goal edits lengths dispatchers moves
   passed (answer G (moves - 1) (graphOf sheet))
 
--- An outcome in numbers: 0 can't, 1 an edit, 2 a pass; and the edit, 0 where there is none.
+-- An outcome in numbers: 0 can't, 1 an edit, 2 a pass, and 3 after a refusal; and the edit, 0 where there is none.
 abbrev pub outcomeNumber : Outcome → ℕ
 outcomeNumber cannot = 0
 outcomeNumber (first (edit i)) = 1
 outcomeNumber (first pass) = 2
+
+abbrev pub noOutcome : ℕ
+noOutcome = 3
 
 abbrev pub outcomeEdit : Outcome → ℕ
 outcomeEdit cannot = 0

@@ -2,8 +2,7 @@
 use mathlib.Core.Path.{_≡_}
 use mathlib.Core.Bool.{Bool, cond}
 use mathlib.Core.List.{List, [], _∷_}
-use Prim.Native.Nat.{ℕ, _+_, _-_, _≤_}
-use lib.Dec.{ltb}
+use Prim.Native.Nat.{ℕ, _+_, _≤_}
 use lib.ListN.{length}
 use Rattle.logic.specs.Syntax.{Edit}
 use Rattle.logic.specs.Steps.{run}
@@ -52,10 +51,6 @@ abbrev pub outcomeOf : Found → Outcome
 outcomeOf Cannot = cannot
 outcomeOf (EditFound i) = first (edit i)
 outcomeOf Pass = first pass
-
--- Where a text of a length that starts at a place ends: cut off at the end of what there is.
-abbrev pub cutEnd : (total at size : ℕ) → ℕ
-cutEnd total at size = cond (ltb size (total - at)) (at + size) total
 
 -- So many edits stand at the start of a text, whatever the ranges of their numbers.
 pub record EditsAt (text : List ℕ) (count : ℕ) (Zs : List Edit) : Type 0 where

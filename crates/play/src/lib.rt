@@ -2,7 +2,7 @@
 ghost use mathlib.Core.Path.{_≡_};
 ghost use Rattle.answer.specs.Answers.{asked};
 ghost use Rattle.answer.specs.Asked.{outcome, after};
-ghost use Rattle.play.specs.Questions.{askPlay, outcomeNumber, outcomeEdit};
+ghost use Rattle.play.specs.Questions.{askPlay, faultyEdit, outcomeNumber, noOutcome, outcomeEdit};
 
 pub mod questions;
 pub mod search;
@@ -11,7 +11,10 @@ use answer::Answer;
 use search::Found;
 use search::Lists;
 
-// The answer, the outcome (0 can't, 1 an edit, 2 a pass) and the edit, from 0; both numbers are 0 after a refusal.
+// The outcome after a refusal.
+const REFUSED: usize = 3;
+
+// The answer, the outcome (0 can't, 1 an edit, 2 a pass, 3 after a refusal) and an edit, by its place in the list: the first move, or the edit that was refused.
 pub struct Played {
     pub answer: Answer,
     pub outcome: usize,
@@ -29,15 +32,17 @@ pub fn play(
     moves: usize,
 ) -> Played
     ensures { λ r. ⌜ asked (r .answer) ≡ outcome (askPlay (now (sheet .entry)) (now (book .entry)) (now (goal .entry)) (now (edits .entry)) (now (lengths .entry)) dispatchers moves) ⌝ }
-    ensures { λ r. ⌜ r .outcome ≡ after (askPlay (now (sheet .entry)) (now (book .entry)) (now (goal .entry)) (now (edits .entry)) (now (lengths .entry)) dispatchers moves) outcomeNumber 0 ⌝ }
-    ensures { λ r. ⌜ r .edit ≡ after (askPlay (now (sheet .entry)) (now (book .entry)) (now (goal .entry)) (now (edits .entry)) (now (lengths .entry)) dispatchers moves) outcomeEdit 0 ⌝ }
+    ensures { λ r. ⌜ r .outcome ≡ after (askPlay (now (sheet .entry)) (now (book .entry)) (now (goal .entry)) (now (edits .entry)) (now (lengths .entry)) dispatchers moves) outcomeNumber noOutcome ⌝ }
+    ensures { λ r. ⌜ r .edit ≡ after (askPlay (now (sheet .entry)) (now (book .entry)) (now (goal .entry)) (now (edits .entry)) (now (lengths .entry)) dispatchers moves) outcomeEdit
+        (faultyEdit (now (sheet .entry)) (now (book .entry)) (now (goal .entry)) (now (edits .entry)) (now (lengths .entry)) dispatchers moves) ⌝ }
 {
-    let answer = questions::ask(sheet, book, goal, edits, lengths, dispatchers, moves);
+    let asked = questions::ask(sheet, book, goal, edits, lengths, dispatchers, moves);
+    let answer = asked.answer;
     let Answer::Done = answer else {
         return Played {
             answer,
-            outcome: 0,
-            edit: 0,
+            outcome: REFUSED,
+            edit: asked.edit,
         };
     };
     let second = questions::behind(edits, dispatchers);

@@ -2,16 +2,18 @@
 ghost use mathlib.Core.Path.{_≡_};
 ghost use mathlib.Core.List.{List};
 ghost use Prim.Native.Nat.{_≤_};
+ghost use lib.Dec.{eqb};
 ghost use lib.ListN.{length, take, drop};
 ghost use Rattle.answer.specs.Answers.{asked};
 ghost use Rattle.answer.specs.Asked.{outcome};
 ghost use Rattle.logic.specs.Syntax.{Expr, rule, Edit};
 ghost use Rattle.logic.specs.Carry.{carriedBook};
 ghost use Rattle.text.specs.Reading.{longestText, textLimits};
+ghost use Rattle.text.specs.Questions.{askEdit};
 ghost use Rattle.ends.specs.Edits.{EditAt, SomeEdit};
 ghost use Rattle.ends.specs.Books.{BookIs, SomeBook};
-ghost use Rattle.play.specs.Questions.{inRange, askGoal, cut, askEdits, askCarried, askFits, askGame};
-ghost use Rattle.play.specs.Standing.{EditsStand, cutEnd, EditsAt, SomeEdits};
+ghost use Rattle.play.specs.Questions.{inRange, total, listsRight, askGoal, askAims, cut, askEdits, askCarried, askFits, askGame, firstRefused, faultyEdit};
+ghost use Rattle.play.specs.Standing.{EditsStand, EditsAt, SomeEdits};
 use answer::Answer;
 use answer::Refusal;
 use answer::Written;
@@ -22,6 +24,12 @@ use text::Text;
 const MOST_EDITS: usize = 4;
 
 const MOST_MOVES: usize = 6;
+
+// The answer to questions about edits, and the edit at which they stop, by its place in the list.
+pub struct AtEdit {
+    pub answer: Answer,
+    pub edit: usize,
+}
 
 // Are both lists and the number of moves in their ranges?
 fn in_range(count: usize, dispatchers: usize, moves: usize) -> bool
@@ -45,6 +53,32 @@ fn in_range(count: usize, dispatchers: usize, moves: usize) -> bool
     moves <= MOST_MOVES
 }
 
+// Are these the lengths of texts that fill so many bytes? What is left is counted down: a sum could wrap.
+fn fill(lengths: &[usize], size: usize) -> bool
+    ensures { λ r. ⌜ r ≡ eqb (total (now (lengths .entry))) size ⌝ }
+{
+    let mut left = size;
+    let mut i = 0;
+    while i < lengths.len() {
+        if lengths[i] > left {
+            return false;
+        }
+        left -= lengths[i];
+        i += 1;
+    }
+    left == 0
+}
+
+// All that 62 asks.
+fn lists_right(edits: &[u8], lengths: &[usize], dispatchers: usize, moves: usize) -> bool
+    ensures { λ r. ⌜ r ≡ listsRight (now (edits .entry)) (now (lengths .entry)) dispatchers moves ⌝ }
+{
+    if !in_range(lengths.len(), dispatchers, moves) {
+        return false;
+    }
+    fill(lengths, edits.len())
+}
+
 // Is the goal one rule? 11 to 16. Where rule 1 would start is behind rule 0, or the goal's end where that cannot be read.
 fn check_goal(goal: &[u8], n: usize) -> Answer
     ensures { λ r. ⌜ asked r ≡ outcome (askGoal (textLimits n) (now (goal .entry))) ⌝ }
@@ -62,33 +96,43 @@ fn check_goal(goal: &[u8], n: usize) -> Answer
     Text::check_book(goal, n)
 }
 
-// Where a text that starts at `at` ends. Inner: it starts within the edits.
-fn cut_end(total: usize, at: usize, size: usize) -> usize
-    requires { ⌜ at ≤ total ⌝ }
-    ensures { λ r. ⌜ r ≡ cutEnd total at size ⌝ }
+// Sheet, book and goal: 1 to 4, 11 to 16 of the book and of the goal.
+fn check_aims(sheet: &[u8], book: &[u8], goal: &[u8]) -> Answer
+    ensures { λ r. ⌜ asked r ≡ outcome (askAims (now (sheet .entry)) (now (book .entry)) (now (goal .entry))) ⌝ }
 {
-    if size < total - at {
-        return at + size;
-    }
-    total
+    let sound = Sheet::check(sheet);
+    let Answer::Done = sound else {
+        return sound;
+    };
+    let n = Sheet::node_count(sheet);
+    let rules = Text::check_book(book, n);
+    let Answer::Done = rules else {
+        return rules;
+    };
+    check_goal(goal, n)
 }
 
-// Are the texts of the edits edits? 21 to 26 of each in turn.
-fn check_edits(edits: &[u8], lengths: &[usize], n: usize) -> Answer
-    ensures { λ r. ⌜ asked r ≡ outcome (askEdits (textLimits n) (cut (now (edits .entry)) (now (lengths .entry)))) ⌝ }
+// Are the texts of the edits edits? 21 to 26 of each in turn. Inner: their lengths fill `edits`.
+fn check_edits(edits: &[u8], lengths: &[usize], n: usize) -> AtEdit
+    requires { ⌜ total (now lengths) ≡ length (now edits) ⌝ }
+    ensures { λ r. ⌜ asked (r .answer) ≡ outcome (askEdits (textLimits n) (cut (now (edits .entry)) (now (lengths .entry)))) ⌝ }
+    ensures { λ r. ⌜ r .edit ≡ firstRefused (askEdit (textLimits n)) (cut (now (edits .entry)) (now (lengths .entry))) ⌝ }
 {
     let mut at = 0;
     let mut i = 0;
     while i < lengths.len() {
-        let end = cut_end(edits.len(), at, lengths[i]);
+        let end = at + lengths[i];
         let answer = Text::check_edit(&edits[at..end], n);
         let Answer::Done = answer else {
-            return answer;
+            return AtEdit { answer, edit: i };
         };
         at = end;
         i += 1;
     }
-    Answer::Done
+    AtEdit {
+        answer: Answer::Done,
+        edit: i,
+    }
 }
 
 // Does the book carried back through an edit fit? 31 and 32. An output without room tells it: 33 comes after them. Inner: both were read before.
@@ -109,9 +153,10 @@ fn fits(book: &[u8], edit: &[u8]) -> Answer
 }
 
 // Does it through each of so many edits? Inner: they stand at the start of the text, one behind the other.
-fn check_fits(book: &[u8], edits: &[u8], count: usize) -> Answer
+fn check_fits(book: &[u8], edits: &[u8], count: usize) -> AtEdit
     requires { ⌜ SomeBook (now book) × SomeEdits (now edits) count ⌝ }
-    ensures { λ r. ⌜ ((rules : List (Expr rule)) (Zs : List Edit) → BookIs (now (book .entry)) rules → EditsAt (now (edits .entry)) count Zs → asked r ≡ askFits rules (take count Zs)) ⌝ }
+    ensures { λ r. ⌜ ((rules : List (Expr rule)) (Zs : List Edit) → BookIs (now (book .entry)) rules → EditsAt (now (edits .entry)) count Zs → asked (r .answer) ≡ askFits rules (take count Zs)) ⌝ }
+    ensures { λ r. ⌜ ((rules : List (Expr rule)) (Zs : List Edit) → BookIs (now (book .entry)) rules → EditsAt (now (edits .entry)) count Zs → r .edit ≡ firstRefused (λ Z. askCarried (carriedBook Z rules)) (take count Zs)) ⌝ }
 {
     let mut at = 0;
     let mut i = 0;
@@ -119,12 +164,15 @@ fn check_fits(book: &[u8], edits: &[u8], count: usize) -> Answer
         let end = ends::end_of(edits, at);
         let answer = fits(book, &edits[at..end]);
         let Answer::Done = answer else {
-            return answer;
+            return AtEdit { answer, edit: i };
         };
         at = end;
         i += 1;
     }
-    Answer::Done
+    AtEdit {
+        answer: Answer::Done,
+        edit: i,
+    }
 }
 
 // The place behind so many edits. Inner: as above.
@@ -150,27 +198,21 @@ pub fn ask(
     lengths: &[usize],
     dispatchers: usize,
     moves: usize,
-) -> Answer
-    ensures { λ r. ⌜ asked r ≡ outcome (askGame (now (sheet .entry)) (now (book .entry)) (now (goal .entry)) (now (edits .entry)) (now (lengths .entry)) dispatchers moves) ⌝ }
+) -> AtEdit
+    ensures { λ r. ⌜ asked (r .answer) ≡ outcome (askGame (now (sheet .entry)) (now (book .entry)) (now (goal .entry)) (now (edits .entry)) (now (lengths .entry)) dispatchers moves) ⌝ }
+    ensures { λ r. ⌜ r .edit ≡ faultyEdit (now (sheet .entry)) (now (book .entry)) (now (goal .entry)) (now (edits .entry)) (now (lengths .entry)) dispatchers moves ⌝ }
 {
-    if !in_range(lengths.len(), dispatchers, moves) {
-        return Answer::Refused(Refusal::GameRange { place: 0 });
+    if !lists_right(edits, lengths, dispatchers, moves) {
+        let answer = Answer::Refused(Refusal::GameRange { place: 0 });
+        return AtEdit { answer, edit: 0 };
     }
-    let sound = Sheet::check(sheet);
-    let Answer::Done = sound else {
-        return sound;
+    let answer = check_aims(sheet, book, goal);
+    let Answer::Done = answer else {
+        return AtEdit { answer, edit: 0 };
     };
-    let n = Sheet::node_count(sheet);
-    let rules = Text::check_book(book, n);
-    let Answer::Done = rules else {
-        return rules;
-    };
-    let aim = check_goal(goal, n);
-    let Answer::Done = aim else {
-        return aim;
-    };
-    let texts = check_edits(edits, lengths, n);
-    let Answer::Done = texts else {
+    let texts = check_edits(edits, lengths, Sheet::node_count(sheet));
+    let read = texts.answer;
+    let Answer::Done = read else {
         return texts;
     };
     check_fits(book, edits, dispatchers)

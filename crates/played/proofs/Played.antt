@@ -97,7 +97,7 @@ module _ (sheet book goal edits lengths : List ℕ) (d moves : ℕ) (G : Game) (
   texts = cut edits lengths
 
   as-many : d ≤ length Zs
-  as-many = omega (arith, edits-stand nodes edits lengths Zs (p .edits-read .is) .many, enough (length lengths) d moves (p .ok))
+  as-many = omega (arith, edits-stand nodes edits lengths Zs (p .edits-read .is) .many, enough edits lengths d moves (p .ok))
 
   first-d : length (take d Zs) ≡ d
   first-d = length-take-le d Zs as-many

@@ -3,7 +3,6 @@ use mathlib.Core.Path.{_≡_}
 use mathlib.Core.Bool.{true}
 use mathlib.Core.List.{List}
 use Prim.Native.Nat.{ℕ}
-use lib.ListN.{length}
 use Rattle.answer.specs.Asked.{_>>=_, _>>_, is, outcome}
 use Rattle.sheet.specs.Questions.{askSheet, Sound, askLabelBit, askArrowBit}
 use Rattle.sheet.specs.Noticed.{AsksSheetFirst}
@@ -15,7 +14,7 @@ use Rattle.plans.specs.Questions.{askKeep, askReturn}
 use Rattle.join.specs.Joined.{askJoin}
 use Rattle.pages.specs.Print.{askPrintArrow, askPrintLabels}
 use Rattle.pages.specs.Typed.{askType}
-use Rattle.play.specs.Questions.{inRange, askGame, askPlay}
+use Rattle.play.specs.Questions.{listsRight, askAims, askGame, askPlay}
 
 pub check-first : AsksSheetFirst askSheet
 check-first = record { first = λ sheet q p e. e }
@@ -77,7 +76,7 @@ pub join-second : (first : List ℕ) → Sound first → AsksSheetFirst (λ shee
 unfolding askJoin _>>_
 join-second first sound = record { first = λ sheet q p e. rw (sound, e) }
 
--- Play asks 62 first: it asks the sheet first where lists and moves are in their ranges.
-pub play-first : (book goal edits lengths : List ℕ) (dispatchers moves : ℕ) → inRange (length lengths) dispatchers moves ≡ true → AsksSheetFirst (λ sheet. askPlay sheet book goal edits lengths dispatchers moves)
-unfolding askPlay askGame askSheetAndBook is _>>_ _>>=_
+-- Play asks 62 first: it asks the sheet first where that has passed.
+pub play-first : (book goal edits lengths : List ℕ) (dispatchers moves : ℕ) → listsRight edits lengths dispatchers moves ≡ true → AsksSheetFirst (λ sheet. askPlay sheet book goal edits lengths dispatchers moves)
+unfolding askPlay askGame askAims askSheetAndBook is _>>_ _>>=_
 play-first book goal edits lengths dispatchers moves ok = record { first = λ sheet q p e. rw (ok, e) }

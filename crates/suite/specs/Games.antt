@@ -1,8 +1,10 @@
 -- The numbers that zamiathen_play answers.
+use Prim.Native.Nat.{ℕ}
 use Rattle.answer.specs.Asked.{Asked, askedNumber, askedPlace, after}
 use Rattle.game.specs.Game.{Outcome}
-use Rattle.play.specs.Questions.{outcomeNumber, outcomeEdit}
+use Rattle.play.specs.Questions.{outcomeNumber, noOutcome, outcomeEdit}
 use Rattle.suite.specs.declared.games.PlayNumbers.{PlayNumbers}
 
-abbrev pub playNumbers : Asked Outcome → PlayNumbers
-playNumbers q = record { number = askedNumber q; place = askedPlace q; outcome = after q outcomeNumber 0; edit = after q outcomeEdit 0 }
+-- From its questions and the edit that a refusal is about.
+abbrev pub playNumbers : Asked Outcome → ℕ → PlayNumbers
+playNumbers q faulty = record { number = askedNumber q; place = askedPlace q; outcome = after q outcomeNumber noOutcome; edit = after q outcomeEdit faulty }

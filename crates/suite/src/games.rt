@@ -1,9 +1,10 @@
 // Dispatcher against disruption.
 ghost use mathlib.Core.Path.{_≡_};
-ghost use Rattle.play.specs.Questions.{askPlay};
+ghost use Rattle.play.specs.Questions.{askPlay, faultyEdit};
 ghost use Rattle.suite.specs.Games.{playNumbers};
 
-// Number and place; the outcome, 0 can't, 1 an edit, 2 a pass; and the edit, from 0: 0 and 0 after a refusal.
+// Number and place; the outcome, 0 can't, 1 an edit, 2 a pass, 3 after a refusal; and an edit by its place in the list, from 0: the first move, or the
+// one that 21 to 26, 31 or 32 is about; else 0.
 #[repr(C)]
 pub struct PlayNumbers {
     pub number: usize,
@@ -22,7 +23,8 @@ pub extern "C" fn zamiathen_play(
     dispatchers: usize,
     moves: usize,
 ) -> PlayNumbers
-    ensures { λ r. ⌜ r ≡ playNumbers (askPlay (now (sheet .entry)) (now (book .entry)) (now (goal .entry)) (now (edits .entry)) (now (lengths .entry)) dispatchers moves) ⌝ }
+    ensures { λ r. ⌜ r ≡ playNumbers (askPlay (now (sheet .entry)) (now (book .entry)) (now (goal .entry)) (now (edits .entry)) (now (lengths .entry)) dispatchers moves)
+        (faultyEdit (now (sheet .entry)) (now (book .entry)) (now (goal .entry)) (now (edits .entry)) (now (lengths .entry)) dispatchers moves) ⌝ }
 {
     let played = play::play(sheet, book, goal, edits, lengths, dispatchers, moves);
     let a = played.answer;

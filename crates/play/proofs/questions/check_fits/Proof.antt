@@ -44,9 +44,14 @@ check-fits-spec =
     (λ c. search needs)
     (λ c. search needs)
     -- returns
-    (λ c rules Zs h e. let s = c .before .before .before .before .before .before .loop .inv .1 Zs e in let l = c .before .before .before .before .before .loop-test .taken in
-    let n = c .before .before .before .before .end-of .ensures _ (next-at _ _ _ _ _ s (omega (arith, l, e .enough))) in
-    fits-stop rules Zs _ (e .enough) _ (c .before .before .before .before .before .before .loop .inv .2 rules Zs h e) l _ (c .before .before .fits2 .ensures rules _ h (part-at _ _ _ _ _ s (omega (arith, l, e .enough)) _ n)) _ (c .enum-told2 .given .1))
+    (λ c. (
+      (λ rules Zs h e. let s = c .before .before .before .before .before .before .loop .inv .1 Zs e in let l = c .before .before .before .before .before .loop-test .taken in
+          let n = c .before .before .before .before .end-of .ensures _ (next-at _ _ _ _ _ s (omega (arith, l, e .enough))) in
+          fits-stop rules Zs _ (e .enough) _ (c .before .before .before .before .before .before .loop .inv .2 rules Zs h e) l _ (c .before .before .fits2 .ensures rules _ h (part-at _ _ _ _ _ s (omega (arith, l, e .enough)) _ n)) _ (c .enum-told2 .given .1) .0),
+      λ rules Zs h e. let s = c .before .before .before .before .before .before .loop .inv .1 Zs e in let l = c .before .before .before .before .before .loop-test .taken in
+          let n = c .before .before .before .before .end-of .ensures _ (next-at _ _ _ _ _ s (omega (arith, l, e .enough))) in
+          fits-stop rules Zs _ (e .enough) _ (c .before .before .before .before .before .before .loop .inv .2 rules Zs h e) l _ (c .before .before .fits2 .ensures rules _ h (part-at _ _ _ _ _ s (omega (arith, l, e .enough)) _ n)) _ (c .enum-told2 .given .1) .1,
+    ))
     -- add-i
     (λ c. omega (arith, c .before .before .before .before .before .loop-test .taken))
     -- loop-less
@@ -61,4 +66,7 @@ check-fits-spec =
           fits-pass rules Zs _ (e .enough) _ (c .before .before .before .before .before .before .loop .inv .2 rules Zs h e) l _ (c .before .before .fits2 .ensures rules _ h (part-at _ _ _ _ _ s (omega (arith, l, e .enough)) _ n)) (c .enum-told .given .1),
     ))
     -- returns-2
-    (λ c rules Zs h e. fits-end rules Zs _ (e .enough) _ (c .before .loop .inv .2 rules Zs h e) (c .loop-test .left)))
+    (λ c. (
+      (λ rules Zs h e. fits-end rules Zs _ (e .enough) _ (c .before .loop .inv .2 rules Zs h e) (c .before .loop .inv .0) (c .loop-test .left) .0),
+      λ rules Zs h e. fits-end rules Zs _ (e .enough) _ (c .before .loop .inv .2 rules Zs h e) (c .before .loop .inv .0) (c .loop-test .left) .1,
+    )))
