@@ -13,10 +13,11 @@ use Rattle.logic.specs.Syntax.{Expr, rule}
 use Rattle.logic.specs.Limits.{ranges}
 use Rattle.sheet.specs.Sheet.{graphOf}
 use Rattle.sheet.specs.Questions.{askSheet}
+use Rattle.text.specs.Part.{Part, noPart}
 use Rattle.text.specs.Reading.{textLimits}
 use Rattle.text.specs.Questions.{askBook}
 use Rattle.judge.specs.Questions.{askRules, askSheetAndBook, askJudge}
-use Rattle.judge.specs.Judging.{Part, noPart, brokenPart, judgedPart, RulesStand}
+use Rattle.judge.specs.Judging.{brokenPart, judgedPart, RulesStand}
 use Rattle.judge.proofs.Rules.{read-book-stands}
 
 module _ (sheet book : List ℕ) where

@@ -12,11 +12,12 @@ use Rattle.logic.specs.Meaning.{value}
 use Rattle.sheet.specs.Sheet.{graphOf}
 use Rattle.sheet.specs.Questions.{askSheet}
 use Rattle.text.specs.Code.{code, bookCode}
+use Rattle.text.specs.Part.{Part, noPart}
 use Rattle.text.specs.Reading.{textLimits}
 use Rattle.text.specs.Questions.{askBook}
 use Rattle.text.proofs.Books.{book-is-spelled}
 use Rattle.judge.specs.Questions.{askSheetAndBook}
-use Rattle.judge.specs.Judging.{Part, noPart, brokenPart, judgedPart}
+use Rattle.judge.specs.Judging.{brokenPart, judgedPart}
 
 abbrev pub EndsBy : Part → ℕ → Type 0
 EndsBy p end = p .start + p .size ≤ end

@@ -16,6 +16,7 @@ use Rattle.sheet.specs.Sheet.{present, graphOf}
 use Rattle.sheet.specs.Questions.{Sound}
 use Rattle.sheet.proofs.Opening.{opening}
 use Rattle.text.specs.Code.{code, bookCode}
+use Rattle.text.specs.Part.{noPart}
 use Rattle.text.specs.Reading.{Limits}
 use Rattle.text.specs.Questions.{askBook}
 use Rattle.text.specs.Stands.{Stands, RulesInRange}
@@ -24,7 +25,7 @@ use Rattle.eval.specs.Evaluated.{Opened, IsTruth}
 use Rattle.eval.proofs.Places.{filled}
 use Rattle.text.proofs.Standing.{behind, within}
 use Rattle.judge.specs.Questions.{askRules}
-use Rattle.judge.specs.Judging.{RulesStand, noPart, brokenPart}
+use Rattle.judge.specs.Judging.{RulesStand, brokenPart}
 
 -- What the evaluators ask of the sheet.
 pub opened : (sheet : List ℕ) (n all : ℕ) → ((p : ℕ) → getD sheet p 0 < 256) → Sound sheet → n ≡ graphOf sheet .n → n ≤ maxNodes → all ≡ setOf (graphOf sheet .n) (isNode (graphOf sheet)) → Opened sheet n all

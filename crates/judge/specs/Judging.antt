@@ -3,8 +3,7 @@ use mathlib.Core.Path.{_≡_}
 use mathlib.Core.Bool.{true, false}
 use mathlib.Core.List.{List, [], _∷_, _++_}
 use Prim.Native.Nat.{ℕ, _+_}
-use lib.ListN.{length, take, drop}
-use denote.Ref.{RefT, now}
+use lib.ListN.{length, drop}
 use Rattle.answer.specs.Asked.{after}
 use Rattle.logic.specs.Syntax.{Expr, rule}
 use Rattle.logic.specs.Graph.{Graph}
@@ -12,17 +11,10 @@ use Rattle.logic.specs.Meaning.{value}
 use Rattle.logic.specs.Limits.{Ranges}
 use Rattle.sheet.specs.Sheet.{graphOf}
 use Rattle.text.specs.Code.{code, bookCode}
+use Rattle.text.specs.Part.{Part, noPart}
 use Rattle.text.specs.Stands.{RulesInRange}
 use Rattle.judge.specs.Questions.{askSheetAndBook}
 use Rattle.judge.specs.declared.Verdict.{Verdict}
-
--- A part of the book: where it starts and how long it is.
-pub record Part : Type 0 where
-  pub start : ℕ
-  pub size : ℕ
-
-abbrev pub noPart : Part
-noPart = record { start = 0; size = 0 }
 
 -- The first broken rule at its own place, where the rules start at a place; no part when all hold.
 unfoldable pub brokenPart : Graph → List (Expr rule) → ℕ → Part
@@ -36,13 +28,6 @@ judgedPart sheet book = after (askSheetAndBook sheet book) (λ rules. brokenPart
 -- The part that a verdict names.
 abbrev pub partNamed : Verdict → Part
 partNamed v = record { start = v .start; size = v .size }
-
--- A slice is that part of the book itself, and no equal text elsewhere. Its pointer, a block of memory and an offset in it, is the book's
--- moved on by the part's start.
-pub record PartOf (book : RefT (List ℕ)) (p : Part) (slice : RefT (List ℕ)) : Type 0 where
-  pub memory : slice .ptr .0 ≡ book .ptr .0
-  pub starts : slice .ptr .1 ≡ book .ptr .1 + p .start
-  pub contents : now slice ≡ take (p .size) (drop (p .start) (now book))
 
 -- Rules that stand from a place to an end. An inner function asks for some and speaks of all such.
 pub record RulesStand (r : Ranges) (text : List ℕ) (at end : ℕ) (rules : List (Expr rule)) : Type 0 where

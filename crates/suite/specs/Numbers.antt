@@ -6,8 +6,8 @@ use lib.ListN.{length}
 use Rattle.answer.specs.Asked.{Asked, passed, refused, askedNumber, askedPlace, _>>=_}
 use Rattle.words.specs.Words.{digit}
 use Rattle.text.specs.Code.{code}
+use Rattle.text.specs.Part.{Part}
 use Rattle.text.specs.Questions.{askRuleEnd}
-use Rattle.judge.specs.Judging.{Part}
 use Rattle.suite.specs.declared.Numbers.{Numbers}
 use Rattle.suite.specs.declared.BitNumbers.{BitNumbers}
 use Rattle.suite.specs.declared.LengthNumbers.{LengthNumbers}

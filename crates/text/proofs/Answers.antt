@@ -2,10 +2,9 @@
 use mathlib.Core.Path.{_≡_, refl, sym, _∙_, ap, ap₂}
 use mathlib.Core.List.{List, [], _∷_}
 use Prim.Native.Nat.{ℕ, zero, suc, _-_, _≤_, _<_}
-use native.Mathlib.Nat.{sub-zero}
 use native.Mathlib.Omega.{arith}
-use lib.ListN.{length, drop, take, length-drop, drop-of-length-le}
-use lib.Seq.{drop-cons, take-at}
+use lib.ListN.{length, drop, length-drop, drop-of-length-le}
+use lib.Seq.{drop-cons}
 use borrow.Author.Tests.{le-leb, lt-leb}
 use Rattle.answer.specs.Asked.{Asked, passed, refused, _>>=_, _>>_, is, after, outcome}
 use Rattle.logic.specs.Syntax.{rule, Expr, Edit}
@@ -248,16 +247,12 @@ module _ (t : List ℕ) (ρ : Limits) (all-nodes : ρ ≡ textLimits maxNodes) w
     unfolding firstRule first after
     no-rule e = ap (λ x. after (first x) code []) (sym (was-fault t ρ (expr rule) 0 e .reading)) ∙ ap (λ q. after q code []) asked-first
 
-    pub the-rule : {p : ℕ} → stepAt t ρ (rowPlan 14 1) 0 ≡ Next p → take (p - 0) t ≡ firstRule t
+    pub the-rule : {p : ℕ} → stepAt t ρ (rowPlan 14 1) 0 ≡ Next p → p - 0 ≡ length (firstRule t)
     unfolding firstRule first after
     the-rule {p} e =
         let r = was-read t ρ (expr rule) 0 e in
-        let w = read-is-written ρ (expr rule) 1 t 0 (r .reading) in
-        ap (λ k. take k t) (sub-zero p)
-        ∙ ap (take p) (w .text-is)
-        ∙ take-at (code (r .thing)) (drop p t) p (omega (arith, w .place-is))
-        ∙ ap (λ x. after (first x) code []) (sym (r .reading))
-        ∙ ap (λ q. after q code []) asked-first
+        let size : p - 0 ≡ length (code (r .thing)) = omega (arith, read-is-written ρ (expr rule) 1 t 0 (r .reading) .place-is) in
+        size ∙ ap (λ x. length (after (first x) code [])) (sym (r .reading)) ∙ ap (λ q. length (after q code [])) asked-first
 
     pub rule-inside : {p : ℕ} → stepAt t ρ (rowPlan 14 1) 0 ≡ Next p → p ≤ length t
     rule-inside e = was-read t ρ (expr rule) 0 e .inside (omega arith)

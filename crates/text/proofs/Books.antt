@@ -4,14 +4,18 @@ use mathlib.Core.Bool.{Bool, true, false}
 use mathlib.Core.List.{List, [], _∷_, _++_, append-nil}
 use Prim.Native.Nat.{ℕ, zero, suc, _+_, _≤_}
 use native.Mathlib.Omega.{arith}
-use lib.ListN.{length}
+use lib.ListN.{length, take}
+use lib.Seq.{take-at}
 use lib.Dec.{T, leb, leb→le, le→leb}
-use Rattle.answer.specs.Asked.{Asked, passed, refused, _>>=_, _>>_, is}
+use denote.Ref.{RefT, now}
+use Rattle.answer.specs.Asked.{Asked, passed, refused, _>>=_, _>>_, is, after}
 use Rattle.logic.specs.Syntax.{Expr, rule, Edit}
+use Rattle.logic.specs.Limits.{maxNodes}
 use Rattle.text.specs.Code.{code, editCode, bookCode}
-use Rattle.text.specs.Reading.{mostRules, Limits, expr, edit, Fault, Read, got, fault, follow, readAs}
+use Rattle.text.specs.Part.{PartOf}
+use Rattle.text.specs.Reading.{mostRules, Limits, textLimits, expr, edit, Fault, Read, got, fault, follow, readAs}
 use Rattle.text.specs.Stands.{RulesInRange, EditStands}
-use Rattle.text.specs.Questions.{faultNumber, first, whole, alone, readRules, askBook, askFirst, askRule, askEdit}
+use Rattle.text.specs.Questions.{faultNumber, first, whole, alone, readRules, askBook, askFirst, askRule, askEdit, askRuleEnd, firstRule, firstPart}
 use Rattle.text.proofs.Converse.{Allowed, Written, Wrote, wrote}
 use Rattle.text.proofs.ReadBack.{reads}
 
@@ -199,6 +203,19 @@ module _ (l : Limits) where
       is-passed (leb (length t) (l .longest)) 11 0 (first (readAs l (expr rule) t 0)) (le→leb (length t) (l .longest) (s .short))
       ∙ ap (λ x. first (readAs l (expr rule) x 0)) (s .text-is)
       ∙ ap first (reads l (expr rule) 1 K (s .within) (s .rest) 0)
+
+-- RULE END: what stands in the part that holds the first rule is that rule, byte for byte.
+part-holds : (t : List ℕ) → take (length (firstRule t)) t ≡ firstRule t
+unfolding firstRule after
+part-holds t = go (askRuleEnd t) refl
+  where
+    go : (x : Asked (Expr rule)) → askRuleEnd t ≡ x → take (length (after x code [])) t ≡ after x code []
+    go (passed K) e = let s = first-is-spelled (textLimits maxNodes) t K e in ap (take (length (code K))) (s .text-is) ∙ take-at (code K) (s .rest) (length (code K)) refl
+    go (refused q p) e = refl
+
+pub part-is-rule : {text r : RefT (List ℕ)} → PartOf text (firstPart (now text)) r → now r ≡ firstRule (now text)
+unfolding firstPart
+part-is-rule {text} h = h .contents ∙ part-holds (now text)
 
 -- ONE TEXT for one book and for one edit, whatever the limits that it passed.
 pub one-text-of-a-book : (l l′ : Limits) (t t′ : List ℕ) (book : List (Expr rule)) → askBook l t ≡ passed book → askBook l′ t′ ≡ passed book → t ≡ t′

@@ -1,5 +1,6 @@
 pub mod Code
 pub mod Reading
+pub mod Part
 pub mod Questions
 pub mod Stands
 pub mod Rows

@@ -7,6 +7,7 @@ use Rattle.answer.specs.Asked.{Asked, passed, refused, _>>=_, _>>_, is, after}
 use Rattle.logic.specs.Syntax.{Expr, rule, Edit}
 use Rattle.logic.specs.Limits.{maxNodes}
 use Rattle.text.specs.Code.{code}
+use Rattle.text.specs.Part.{Part}
 pub use Rattle.text.specs.Reading.{mostRules}
 use Rattle.text.specs.Reading.{Limits, textLimits, expr, edit, Fault, missing, wrongSort, tooDeep, outOfRange, Read, got, fault, readAs}
 
@@ -79,9 +80,12 @@ module _ (l : Limits) where
     is (leb (length t) (l .longest)) 21 0
     whole (readAs l edit t 0)
 
--- Rule end: n as 60. The part of the text that holds the first rule, empty when refused.
+-- Rule end: n as 60. The bytes of the first rule, none when refused; and the part of the text that holds them.
 abbrev pub askRuleEnd : List ℕ → Asked (Expr rule)
 askRuleEnd t = askFirst (textLimits maxNodes) t
 
 unfoldable pub firstRule : List ℕ → List ℕ
 firstRule t = after (askRuleEnd t) code []
+
+unfoldable pub firstPart : List ℕ → Part
+firstPart t = record { start = 0; size = length (firstRule t) }

@@ -11,7 +11,8 @@ ghost use Rattle.text.specs.Rows.{itemOf, rowOf, sortOf, rowPlan, limits
 ghost use Rattle.answer.specs.Answers.{asked};
 ghost use Rattle.answer.specs.Asked.{outcome};
 ghost use Rattle.text.specs.Reading.{textLimits, formerLimits, carriedLimits};
-ghost use Rattle.text.specs.Questions.{askBook, askRule, askEdit, askRuleEnd, firstRule, ruleStart};
+ghost use Rattle.text.specs.Questions.{askBook, askRule, askEdit, askRuleEnd, firstPart, ruleStart};
+ghost use Rattle.text.specs.Part.{PartOf};
 
 // What is wrong with the bytes, and where: 12 to 15 of a book, 22 to 25 of an edit.
 pub enum Stop {
@@ -339,17 +340,17 @@ impl Text {
         Answer::Done
     }
 
-    // The first rule of a text, cut from it; empty when refused. n is 60.
+    // The first rule of a text, cut from it at its own place; empty, at the text's start, when refused. n is 60.
     pub fn first_rule(text: &[u8]) -> &[u8]
-        ensures { λ r. ⌜ now r ≡ firstRule (now (text .entry)) ⌝ }
+        ensures { λ r. ⌜ PartOf (text .entry) (firstPart (now (text .entry))) r ⌝ }
     {
         let limits = limits_for(Text::NODES);
         if text.len() > limits.longest as usize {
-            return &text[0..0];
+            return &text[0..0]; // 11
         }
         let step = read(text, limits, RULE, 0);
         let Step::Next(p) = step else {
-            return &text[0..0];
+            return &text[0..0]; // 12 to 15
         };
         &text[0..p]
     }

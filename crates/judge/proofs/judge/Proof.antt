@@ -37,8 +37,9 @@ use denote.Triple.Walked.{says, Stays, stay-none-slice, walkOf, goes-none-slice,
 use denote.Triple.Clauses.{ensured, lasts}
 use denote.Exit.{yes}
 use Rattle.answer.specs.Answers.{asked}
+use Rattle.text.specs.Part.{Part, PartOf}
 use Rattle.judge.specs.Questions.{askJudge}
-use Rattle.judge.specs.Judging.{Part, judgedPart, partNamed, PartOf}
+use Rattle.judge.specs.Judging.{judgedPart, partNamed}
 use Rattle.judge.specs.declared.Judged.{Judged}
 use Rattle.judge.specs.declared.Verdict.{Verdict}
 use Rattle.judge.proofs.Parts.{EndsBy, judged-inside}

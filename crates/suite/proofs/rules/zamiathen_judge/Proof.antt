@@ -1,7 +1,7 @@
 use borrow.Author.Needs.{needs}
 use mathlib.Core.Path.{ap, _∙_}
 use Rattle.answer.proofs.AnswerLaws.{unit-number, unit-place}
-use Rattle.judge.specs.Judging.{Part}
+use Rattle.text.specs.Part.{Part}
 use Rattle.suite.proofs.rules.zamiathen_judge.Statement.{statement}
 use Rattle.suite.proofs.rules.zamiathen_judge.Tie as tie
 
