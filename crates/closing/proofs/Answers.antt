@@ -1,6 +1,6 @@
 -- What closing and opening answer and leave, by where they stop.
 use mathlib.Core.Path.{_≡_, refl, sym, ap, _∙_}
-use mathlib.Core.Bool.{Bool, true, false, _&&_, cond}
+use mathlib.Core.Bool.{Bool, true, false, cond}
 use mathlib.Core.List.{List}
 use Prim.Native.Nat.{ℕ, _≤_, _<_}
 use native.Mathlib.Omega.{arith}
@@ -15,11 +15,8 @@ use Rattle.answer.specs.declared.Answer.{Answer}
 use Rattle.answer.specs.declared.Answer.the-variants.{Done, Refused}
 use Rattle.answer.proofs.AnswerLaws.{Learned, learned, not-learned}
 use Rattle.logic.specs.Syntax.{Expr, rule}
-use Rattle.logic.specs.Graph.{isNode}
 use Rattle.logic.specs.Limits.{ranges}
 use Rattle.logic.specs.Closing.{closeNode, openNode, canClose}
-use Rattle.words.specs.Words.{setOf, member}
-use Rattle.words.proofs.SetLaws.{member-setOf}
 use Rattle.sheet.specs.Sheet.{present, store, graphOf}
 use Rattle.sheet.specs.Questions.{askSheet, Sound}
 use Rattle.sheet.proofs.Opening.{opening}
@@ -88,10 +85,6 @@ module _ (sheet book : List ℕ) (node : ℕ) where
 
   pub ready : (a : Answer) → asked a ≡ outcome (askNode sheet book node) → a ≡ Done → Ready
   ready a s e = found (learned (askNode sheet book node) (sym (ap asked e) ∙ s))
-
-  pub in-use : (all : ℕ) → all ≡ setOf (graphOf sheet .n) (isNode (graphOf sheet)) → node < graphOf sheet .n → member all node ≡ graphOf sheet .inUse node
-  unfolding isNode
-  in-use all e l = ap (λ (x : ℕ). member x node) e ∙ member-setOf (graphOf sheet .n) (isNode (graphOf sheet)) node l ∙ ap (_&& graphOf sheet .inUse node) (lt-ltb node (graphOf sheet .n) l)
 
   -- Of questions f that follow, and the sheet that done makes.
   module _ (f : List (Expr rule) → Asked (Unit {0})) (made : List ℕ) where

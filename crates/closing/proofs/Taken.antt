@@ -5,8 +5,8 @@ use Prim.Native.Nat.{ℕ, _+_, _<_}
 use native.Mathlib.Decide.{decLt}
 use native.Mathlib.Omega.{arith}
 use lib.Dec.{eqb}
-use borrow.Author.Tests.{eq-eqb, ne-eqb}
-use Rattle.logic.specs.Graph.{Graph, Nodes, anyBelow}
+use borrow.Author.Tests.{eq-eqb, ne-eqb, lt-ltb}
+use Rattle.logic.specs.Graph.{Graph, Nodes, isNode, anyBelow}
 use Rattle.logic.specs.Steps.{update}
 use Rattle.logic.specs.Limits.{labelCount, arrowCount}
 use Rattle.logic.specs.Closing.{hasLabel, hasArrow, isOnly, canClose}
@@ -43,6 +43,11 @@ module _ (n : ℕ) (p q : Nodes) where
   any-second h = sym (any-cong n (λ j. p j || q j) q (λ j l. ap (_|| q j) (any-not n p h j l)))
 
 module _ (g : Graph) (i : ℕ) where
+  -- the bit among the nodes in use
+  pub bit-in-use : (all : ℕ) → i < g .n → all ≡ setOf (g .n) (isNode g) → member all i ≡ g .inUse i
+  unfolding isNode
+  bit-in-use all l e = ap (λ (x : ℕ). member x i) e ∙ member-setOf (g .n) (isNode g) i l ∙ ap (_&& g .inUse i) (lt-ltb i (g .n) l)
+
   pub label-found : (k : ℕ) → k < labelCount → g .labelled k i ≡ true → true ≡ hasLabel g i
   unfolding hasLabel
   label-found k l e = sym (any-one labelCount (λ k. g .labelled k i) k l e)

@@ -28,11 +28,11 @@ use sheet::Sheet;
 use text::Text;
 
 // The word of the nodes in use with that node in it, or without it. Inner: the word is a graph's, and the node below its n.
-fn with_use(all: u64, node: usize, used: bool) -> u64
-    requires { ⌜ node < 64 ⌝ }
-    ensures { λ r. ⌜ ((g : Graph) → g .n ≤ 64 → node < g .n → all ≡ setOf (g .n) (isNode g) → r ≡ setOf (g .n) (update (g .inUse) node used)) ⌝ }
+fn with_use(all: u64, node: Node, used: bool) -> u64
+    requires { ⌜ node .0 < 64 ⌝ }
+    ensures { λ r. ⌜ ((g : Graph) → g .n ≤ 64 → node .0 < g .n → all ≡ setOf (g .n) (isNode g) → r ≡ setOf (g .n) (update (g .inUse) (node .0) used)) ⌝ }
 {
-    let one = words::only(node);
+    let one = words::only(node.0 as usize);
     if used {
         words::either(all, one)
     } else {
@@ -41,22 +41,22 @@ fn with_use(all: u64, node: usize, used: bool) -> u64
 }
 
 // Puts the node into the sheet's nodes in use, or takes it out of them. Inner: the sheet is sound and has that node, as in all functions below.
-fn put_use(sheet: &mut [u8], node: usize, used: bool)
-    requires { ⌜ Sound (now sheet) × (node < graphOf (now sheet) .n) ⌝ }
-    ensures { λ _. ⌜ now (sheet .exit) ≡ store (setUse (graphOf (now (sheet .entry))) node used) ⌝ }
+fn put_use(sheet: &mut [u8], node: Node, used: bool)
+    requires { ⌜ Sound (now sheet) × (node .0 < graphOf (now sheet) .n) ⌝ }
+    ensures { λ _. ⌜ now (sheet .exit) ≡ store (setUse (graphOf (now (sheet .entry))) (node .0) used) ⌝ }
 {
     let all = with_use(Sheet::all_nodes(sheet), node, used);
     seal::put_word(&mut sheet[0..Sheet::BLOCK], 16 + 8 * Sheet::LABELS, all);
 }
 
 // Whether the node has a label.
-fn has_label(sheet: &[u8], node: usize) -> bool
-    requires { ⌜ Sound (now sheet) × (node < graphOf (now sheet) .n) ⌝ }
-    ensures { λ r. ⌜ r ≡ hasLabel (graphOf (now (sheet .entry))) node ⌝ }
+fn has_label(sheet: &[u8], node: Node) -> bool
+    requires { ⌜ Sound (now sheet) × (node .0 < graphOf (now sheet) .n) ⌝ }
+    ensures { λ r. ⌜ r ≡ hasLabel (graphOf (now (sheet .entry))) (node .0) ⌝ }
 {
     let mut k = 0;
     while k < Sheet::LABELS {
-        if words::member(Sheet::label_word(sheet, Label(k as u8)), node) {
+        if words::member(Sheet::label_word(sheet, Label(k as u8)), node.0 as usize) {
             return true;
         }
         k += 1;
@@ -65,20 +65,23 @@ fn has_label(sheet: &[u8], node: usize) -> bool
 }
 
 // Whether an arrow of that kind goes from the node or to it.
-fn touched(sheet: &[u8], n: usize, a: Arrow, node: usize) -> bool
-    requires { ⌜ OfSheet (now sheet) n (a .0) × (node < n) ⌝ }
-    ensures { λ r. ⌜ r ≡ anyBelow n (λ j. graphOf (now (sheet .entry)) .joined (a .0) node j || graphOf (now (sheet .entry)) .joined (a .0) j node) ⌝ }
+fn touched(sheet: &[u8], n: usize, a: Arrow, node: Node) -> bool
+    requires { ⌜ OfSheet (now sheet) n (a .0) × (node .0 < n) ⌝ }
+    ensures { λ r. ⌜ r ≡ anyBelow n (λ j. graphOf (now (sheet .entry)) .joined (a .0) (node .0) j || graphOf (now (sheet .entry)) .joined (a .0) j (node .0)) ⌝ }
 {
-    if Sheet::row_word(sheet, a, Node(node as u8)) != 0 {
+    if Sheet::row_word(sheet, a, node) != 0 {
         return true;
     }
-    words::member(rows::over_kinds::kind_all_ends(sheet, n, a), node)
+    words::member(
+        rows::over_kinds::kind_all_ends(sheet, n, a),
+        node.0 as usize,
+    )
 }
 
 // Whether an arrow of any kind does.
-fn has_arrow(sheet: &[u8], node: usize) -> bool
-    requires { ⌜ Sound (now sheet) × (node < graphOf (now sheet) .n) ⌝ }
-    ensures { λ r. ⌜ r ≡ hasArrow (graphOf (now (sheet .entry))) node ⌝ }
+fn has_arrow(sheet: &[u8], node: Node) -> bool
+    requires { ⌜ Sound (now sheet) × (node .0 < graphOf (now sheet) .n) ⌝ }
+    ensures { λ r. ⌜ r ≡ hasArrow (graphOf (now (sheet .entry))) (node .0) ⌝ }
 {
     let n = Sheet::node_count(sheet);
     let mut a = 0;
@@ -92,9 +95,9 @@ fn has_arrow(sheet: &[u8], node: usize) -> bool
 }
 
 // 54: the node has no label and no arrow, and another one is in use.
-fn can_close(sheet: &[u8], node: usize) -> bool
-    requires { ⌜ Sound (now sheet) × (node < graphOf (now sheet) .n) ⌝ }
-    ensures { λ r. ⌜ r ≡ canClose (graphOf (now (sheet .entry))) node ⌝ }
+fn can_close(sheet: &[u8], node: Node) -> bool
+    requires { ⌜ Sound (now sheet) × (node .0 < graphOf (now sheet) .n) ⌝ }
+    ensures { λ r. ⌜ r ≡ canClose (graphOf (now (sheet .entry))) (node .0) ⌝ }
 {
     if has_label(sheet, node) {
         return false;
@@ -105,7 +108,15 @@ fn can_close(sheet: &[u8], node: usize) -> bool
     with_use(Sheet::all_nodes(sheet), node, false) != 0
 }
 
-// Sheet, book and range: 1 to 4, 11 to 16 and 7.
+// Whether the node is in use.
+fn in_use(sheet: &[u8], node: Node) -> bool
+    requires { ⌜ Sound (now sheet) × (node .0 < graphOf (now sheet) .n) ⌝ }
+    ensures { λ r. ⌜ r ≡ graphOf (now (sheet .entry)) .inUse (node .0) ⌝ }
+{
+    words::member(Sheet::all_nodes(sheet), node.0 as usize)
+}
+
+// Sheet, book and range: 1 to 4, 11 to 16 and 7. The node is a number of any size here, and a `Node` once this has passed.
 fn ask(sheet: &[u8], book: &[u8], node: usize) -> Answer
     ensures { λ r. ⌜ asked r ≡ outcome (askNode (now (sheet .entry)) (now (book .entry)) node) ⌝ }
 {
@@ -125,14 +136,14 @@ fn ask(sheet: &[u8], book: &[u8], node: usize) -> Answer
 }
 
 // 41 of the sheet with that node in use, or not; a refusal puts it back. Inner: it is not so before, a sheet can store it so, and the book was read.
-fn judge_with(sheet: &mut [u8], book: &[u8], node: usize, used: bool) -> Answer
+fn judge_with(sheet: &mut [u8], book: &[u8], node: Node, used: bool) -> Answer
     requires { ⌜ Sound (now sheet)
-        × (node < graphOf (now sheet) .n)
-        × (graphOf (now sheet) .inUse node ≡ not used)
-        × Within (setUse (graphOf (now sheet)) node used)
+        × (node .0 < graphOf (now sheet) .n)
+        × (graphOf (now sheet) .inUse (node .0) ≡ not used)
+        × Within (setUse (graphOf (now sheet)) (node .0) used)
         × SomeRulesStand (ranges (graphOf (now sheet) .n)) (now book) 0 (length (now book)) ⌝ }
     ensures { λ r. ⌜ ((rules : List (Expr rule)) → RulesStand (ranges (graphOf (now (sheet .entry)) .n)) (now (book .entry)) 0 (length (now (book .entry))) rules
-        → Judged rules (setUse (graphOf (now (sheet .entry))) node used) r (now (sheet .entry)) (now (sheet .exit))) ⌝ }
+        → Judged rules (setUse (graphOf (now (sheet .entry))) (node .0) used) r (now (sheet .entry)) (now (sheet .exit))) ⌝ }
 {
     put_use(sheet, node, used);
     let verdict = judge::judge_rules(sheet, book, book.len());
@@ -153,13 +164,14 @@ pub fn close(sheet: &mut [u8], book: &[u8], node: usize) -> Answer
     let Answer::Done = answer else {
         return answer;
     };
-    if !words::member(Sheet::all_nodes(sheet), node) {
+    let it = Node(node as u8);
+    if !in_use(sheet, it) {
         return Answer::Done;
     }
-    if !can_close(sheet, node) {
+    if !can_close(sheet, it) {
         return Answer::Refused(Refusal::NodeTaken { place: node });
     }
-    judge_with(sheet, book, node, false)
+    judge_with(sheet, book, it, false)
 }
 
 // Opens a node of the sheet, or leaves the sheet as it is.
@@ -171,8 +183,9 @@ pub fn open(sheet: &mut [u8], book: &[u8], node: usize) -> Answer
     let Answer::Done = answer else {
         return answer;
     };
-    if words::member(Sheet::all_nodes(sheet), node) {
+    let it = Node(node as u8);
+    if in_use(sheet, it) {
         return Answer::Done;
     }
-    judge_with(sheet, book, node, true)
+    judge_with(sheet, book, it, true)
 }

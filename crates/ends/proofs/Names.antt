@@ -4,18 +4,28 @@ use mathlib.Core.Bool.{Bool, true, false, cond}
 use mathlib.Core.Logic.{⊎-elim}
 use Prim.Native.Nat.{ℕ, _<_}
 use native.Mathlib.Omega.{arith}
+use borrow.Author.Tests.{ne-eqb}
 use Rattle.tree.specs.Tree.{same}
 use Rattle.tree.proofs.Measured.{same-eq, same-self}
-use Rattle.ends.specs.Shapes.{Named, cell}
+use Rattle.ends.specs.Shapes.{Named, labelCell, arrowCell, cell}
+
+-- a label's and an arrow's
+pub cell-label : (c k : ℕ) → c ≡ 0x03 → cell c k ≡ labelCell k
+unfolding cell
+cell-label c k e = ap (λ (x : ℕ). cell x k) e
+
+pub cell-arrow : (c k : ℕ) → (c ≡ 0x03 → ⊥) → cell c k ≡ arrowCell k
+unfolding cell
+cell-arrow c k f = ap (λ (b : Bool). cond b (labelCell k) (arrowCell k)) (ne-eqb c 0x03 f)
 
 pub named-lt : (c k : ℕ) → Named c k → cell c k < 64
-named-lt c k n = ⊎-elim (λ (p : (c ≡ 0x03) × (k < 48)). omega (arith, p .0, p .1)) (λ (p : (c ≡ 0x11) × (k < 16)). omega (arith, p .0, p .1)) n
+named-lt c k n = ⊎-elim (λ p. omega (arith, cell-label c k (p .0), p .1)) (λ p. omega (arith, cell-arrow c k (λ e. omega (arith, p .0)), p .1)) n
 
 -- different names have different cells
 cell-inj : (c k c′ k′ : ℕ) → Named c k → Named c′ k′ → cell c k ≡ cell c′ k′ → (c ≡ c′) × (k ≡ k′)
 cell-inj c k c′ k′ n m e = ⊎-elim
-    (λ (p : (c ≡ 0x03) × (k < 48)). ⊎-elim (λ (q : (c′ ≡ 0x03) × (k′ < 48)). (omega (arith, p .0, q .0), omega (arith, p .0, q .0, e))) (λ (q : (c′ ≡ 0x11) × (k′ < 16)). absurd (omega (arith, p .0, p .1, q .0, q .1, e))) m)
-    (λ (p : (c ≡ 0x11) × (k < 16)). ⊎-elim (λ (q : (c′ ≡ 0x03) × (k′ < 48)). absurd (omega (arith, p .0, p .1, q .0, q .1, e))) (λ (q : (c′ ≡ 0x11) × (k′ < 16)). (omega (arith, p .0, q .0), omega (arith, p .0, q .0, e))) m)
+    (λ p. let x : cell c k ≡ labelCell k = cell-label c k (p .0) in ⊎-elim (λ q. (omega (arith, p .0, q .0), omega (arith, cell-label c′ k′ (q .0)))) (λ q. absurd (omega (arith, p .1, cell-arrow c′ k′ (λ f. omega (arith, q .0))))) m)
+    (λ p. let x : cell c k ≡ arrowCell k = cell-arrow c k (λ e. omega (arith, p .0)) in ⊎-elim (λ q. absurd (omega (arith, q .1, cell-label c′ k′ (q .0)))) (λ q. (omega (arith, p .0, q .0), omega (arith, cell-arrow c′ k′ (λ f. omega (arith, q .0))))) m)
     n
 
 false-true : {b : Bool} → b ≡ false → b ≡ true → ⊥

@@ -1,9 +1,12 @@
 -- How each code goes on: its length with its numbers, plus 4 for each operand, plus 16 for a name; 0 for no code of an expression.
 use mathlib.Core.Path.{_≡_}
 use mathlib.Core.List.{List, [], _∷_, _++_}
+use mathlib.Core.Bool.{cond}
 use mathlib.Core.Logic.{_⊎_}
-use Prim.Native.Nat.{ℕ, _+_, _*_, _/_, _<_}
+use Prim.Native.Nat.{ℕ, _+_, _*_, _<_}
+use lib.Dec.{eqb}
 use lib.ListN.{length, getD, drop}
+use Rattle.logic.specs.Limits.{labelCount}
 use Rattle.tree.specs.Tree.{Tree, name, leaf, one, two, treeCode}
 
 unfoldable pub shapes : List ℕ
@@ -19,9 +22,16 @@ shapeOf c = getD shapes c 0
 abbrev pub Named : ℕ → ℕ → Type 0
 Named c k = ((c ≡ 0x03) × (k < 48)) ⊎ ((c ≡ 0x11) × (k < 16))
 
--- a name's place among 64
-abbrev pub cell : ℕ → ℕ → ℕ
-cell c k = c / 16 * 48 + k
+-- The 64 cells, a column for each label and each arrow kind in the tables of measuring and writing: a cell is of either sort on purpose.
+abbrev pub labelCell : ℕ → ℕ
+labelCell k = k
+
+abbrev pub arrowCell : ℕ → ℕ
+arrowCell a = labelCount + a
+
+-- the cell of a name
+unfoldable pub cell : ℕ → ℕ → ℕ
+cell c k = cond (eqb c 0x03) (labelCell k) (arrowCell k)
 
 pub record Head (h : List ℕ) (n : ℕ) : Type 0 where
   pub pos : 0 < length h

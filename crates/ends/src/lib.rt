@@ -1,14 +1,16 @@
 // Where expressions, steps and edits end, found from the code bytes alone: a table says of each code how long it is and how many operands follow.
-// At the end of the file: the 64 cells of names, in which numbers of each name are kept.
+// At the end of the file: the 64 cells of names.
 ghost use mathlib.Core.Path.{_≡_};
-ghost use Prim.Native.Nat.{_+_, _*_, _/_, _<_};
+ghost use Prim.Native.Nat.{_+_, _<_};
 ghost use lib.ListN.{length, getD};
 ghost use Rattle.logic.specs.Syntax.{Edit};
 ghost use Rattle.text.specs.Code.{editCode};
 ghost use Rattle.tree.specs.Tree.{Tree, size};
 ghost use Rattle.tree.specs.Stack.{touched};
-ghost use Rattle.ends.specs.Shapes.{shapeOf, cell, At, Some};
+ghost use Rattle.ends.specs.Shapes.{shapeOf, labelCell, arrowCell, cell, At, Some};
 ghost use Rattle.ends.specs.Edits.{EditAt, SomeEdit, NextAt};
+use logic::Arrow;
+use logic::Label;
 
 // How each code goes on: the length of the code byte with its numbers, plus 4 for each operand, plus 16 for a name (03, 11); 0 for no code.
 // The table is in specs/Shapes.antt. One `match` with constants: the compiler makes it a table in read-only memory.
@@ -91,14 +93,32 @@ pub fn end_of(text: &[u8], at: usize) -> usize
     p + 1
 }
 
-// The cell of a name: 03 k at k, 11 a at 48 + a.
+// The cells: a column for each of the 64 names in the tables of measuring and writing, so that a cell stands for a label or an arrow on purpose.
+// A label comes to its own here, an arrow to its own, and no other function makes a cell of a number.
+fn label_cell(k: Label) -> usize
+    ensures { λ r. ⌜ r ≡ labelCell (k .0) ⌝ }
+{
+    k.0 as usize
+}
+
+fn arrow_cell(a: Arrow) -> usize
+    ensures { λ r. ⌜ r ≡ arrowCell (a .0) ⌝ }
+{
+    Label::COUNT as usize + a.0 as usize
+}
+
+// The cell of a name as it stands in a text, 03 k or 11 a: its code says of which sort the number is.
 pub fn cell_of(code: u8, number: u8) -> usize
     ensures { λ r. ⌜ r ≡ cell code number ⌝ }
 {
-    code as usize / 16 * 48 + number as usize
+    if code == 0x03 {
+        label_cell(Label(number))
+    } else {
+        arrow_cell(Arrow(number))
+    }
 }
 
-// The code of the names that a step touches.
+// The code of the names that a step touches: it stands before the step's number where that is read as a name.
 pub fn name_code(op: u8) -> u8
     ensures { λ r. ⌜ r ≡ touched op ⌝ }
 {

@@ -1,5 +1,5 @@
-// The 130 numbers that are kept of the carried text, each cut at one more than a carried book may have bytes: how often each of the 64 names stands there (cells 0 to 63: labels, then
-// arrows), its deepest level (64 to 127, 0 where it stands nowhere), the length (128) and the levels (129).
+// The 130 numbers that are kept of the carried text, each cut at one more than a carried book may have bytes: how often each of the 64 names stands there
+// (cells 0 to 63 of `ends::cell_of`, of labels and arrows alike), its deepest level (64 to 127, 0 where it stands nowhere), the length (128) and the levels (129).
 ghost use mathlib.Core.Path.{_≡_};
 ghost use Prim.Native.Nat.{_+_, _<_, max};
 ghost use lib.ListN.{length, getD, set};

@@ -9,7 +9,7 @@ ghost use Rattle.ends.specs.Kept.{Kept};
 ghost use Rattle.write.specs.Work.{mostSteps, workLength, stackOf};
 ghost use Rattle.write.specs.Links.{lastIn, SomeLinks, linkStep};
 
-// A name: its code and its number.
+// A name as it stands in a text, 03 k or 11 a, of either sort on purpose: both bytes are copied as they are, and a cell of them is made by `ends::cell_of` alone.
 pub struct Name {
     pub code: u8,
     pub number: u8,

@@ -5,52 +5,61 @@ use Rattle.sheet.specs.Sheet.{present, graphOf}
 use Rattle.sheet.proofs.Opening.{opening}
 use Rattle.rows.proofs.Laws.{not-is}
 use Rattle.closing.proofs.Uses.{within-closed}
-use Rattle.closing.proofs.Answers.{ready, in-use, close-stops, close-already, close-kept, close-judged}
+use Rattle.closing.proofs.Answers.{ready, close-stops, close-already, close-kept, close-judged}
 use Rattle.closing.proofs.close.Statement.{statement}
 use Rattle.closing.proofs.close.Tie as tie
 
 returns : tie.Need-returns
 returns c = close-stops _ _ _ _ _ (c .before .before .ask .ensures) (c .enum-told2 .given .1)
 
-all-nodes-requires : tie.Need-all-nodes-requires
-all-nodes-requires c κs = ready _ _ _ _ (c .before .before .before .ask .ensures) (c .before .enum-told .given .1) .sound
+cast-it : tie.Need-cast-t8
+cast-it t =
+    let q = ready _ _ _ _ (t .before .before .ask .ensures) (t .enum-told .given .1) in
+    omega (arith, q .below, opening present _ (λ p. omega (arith, t .before .before .before .before .before .slice-known .given p)) (q .sound) .within .few-nodes)
 
-member-requires : tie.Need-member-requires
-member-requires c κs =
-    let q = ready _ _ _ _ (c .before .before .before .before .ask .ensures) (c .before .before .enum-told .given .1) in
-    omega (arith, q .below, opening present _ (λ p. omega (arith, c .before .before .before .before .before .before .before .slice-known .given p)) (q .sound) .within .few-nodes)
+in-use-requires : tie.Need-in-use-requires
+in-use-requires c κs =
+    let t = c .before in
+    let q = ready _ _ _ _ (t .before .before .ask .ensures) (t .enum-told .given .1) in
+    (q .sound, q .below)
 
 returns-2 : tie.Need-returns-2
 returns-2 c =
-    let s = c .before .before .before .before .before .before .before .before .before .before in
-    let q = ready _ _ _ _ (c .before .before .before .before .before .before .ask .ensures) (c .before .before .before .before .enum-told .given .1) in
-    close-already _ _ _ q (λ p. omega (arith, c .before .before .before .before .before .before .before .before .before .slice-known .given p)) (sym (in-use _ (s .args .book .now) _ _ (c .before .before .all-nodes .ensures) (q .below)) ∙ sym (c .before .member .ensures) ∙ not-is _ _ (c .if1 .taken))
+    let t = c .before .before .before in
+    let q = ready _ _ _ _ (t .before .before .ask .ensures) (t .enum-told .given .1) in
+    close-already _ _ _ q (λ p. omega (arith, t .before .before .before .before .before .slice-known .given p)) (sym (c .before .in-use .ensures) ∙ not-is _ _ (c .if1 .taken))
 
 can-close-requires : tie.Need-can-close-requires
-can-close-requires c κs = let q = ready _ _ _ _ (c .before .before .before .before .before .before .before .ask .ensures) (c .before .before .before .before .before .enum-told .given .1) in (q .sound, q .below)
+can-close-requires c κs =
+    let t = c .before .before .before .before in
+    let q = ready _ _ _ _ (t .before .before .ask .ensures) (t .enum-told .given .1) in
+    (q .sound, q .below)
 
 returns-3 : tie.Need-returns-3
 returns-3 c =
-    let s = c .before .before .before .before .before .before .before .before .before .before .before .before .before in
-    let q = ready _ _ _ _ (c .before .before .before .before .before .before .before .before .before .ask .ensures) (c .before .before .before .before .before .before .before .enum-told .given .1) in
-    close-kept _ _ _ q (sym (in-use _ (s .args .book .now) _ _ (c .before .before .before .before .before .all-nodes .ensures) (q .below)) ∙ sym (c .before .before .before .before .member .ensures) ∙ not-is _ _ (c .before .before .before .if1 .left)) (sym (c .before .can-close .ensures) ∙ not-is _ _ (c .if2 .taken))
+    let t = c .before .before .before .before .before .before in
+    let q = ready _ _ _ _ (t .before .before .ask .ensures) (t .enum-told .given .1) in
+    close-kept _ _ _ q (sym (c .before .before .before .before .in-use .ensures) ∙ not-is _ _ (c .before .before .before .if1 .left)) (sym (c .before .can-close .ensures) ∙ not-is _ _ (c .if2 .taken))
 
 judge-with-requires : tie.Need-judge-with-requires
 judge-with-requires c κs =
-    let s = c .before .before .before .before .before .before .before .before .before .before .before .before .before .before in
-    let q = ready _ _ _ _ (c .before .before .before .before .before .before .before .before .before .before .ask .ensures) (c .before .before .before .before .before .before .before .before .enum-told .given .1) in (
+    let t = c .before .before .before .before .before .before .before in
+    let q = ready _ _ _ _ (t .before .before .ask .ensures) (t .enum-told .given .1) in
+    let s = t .before .before .before .before .before .before in (
       q .sound,
       q .below,
-      sym (in-use _ (s .args .book .now) _ _ (c .before .before .before .before .before .before .all-nodes .ensures) (q .below)) ∙ sym (c .before .before .before .before .before .member .ensures) ∙ not-is _ _ (c .before .before .before .before .if1 .left),
-      within-closed (graphOf (s .args .sheet .now)) _ (opening present _ (λ p. omega (arith, c .before .before .before .before .before .before .before .before .before .before .before .before .before .slice-known .given p)) (q .sound) .within) (sym (c .before .before .can-close .ensures) ∙ not-is _ _ (c .before .if2 .left)),
+      sym (c .before .before .before .before .before .in-use .ensures) ∙ not-is _ _ (c .before .before .before .before .if1 .left),
+      within-closed (graphOf (s .args .sheet .now)) _ (opening present _ (λ p. omega (arith, t .before .before .before .before .before .slice-known .given p)) (q .sound) .within) (sym (c .before .before .can-close .ensures) ∙ not-is _ _ (c .before .if2 .left)),
       record { what = q .rules; stand = q .stand },
     )
 
 returns-4 : tie.Need-returns-4
 returns-4 c =
-    let s = c .before .before .before .before .before .before .before .before .before .before .before .before .before .before .before .before .before in
-    let q = ready _ _ _ _ (c .before .before .before .before .before .before .before .before .before .before .before .before .before .ask .ensures) (c .before .before .before .before .before .before .before .before .before .before .before .enum-told .given .1) in
-    close-judged _ _ _ q (sym (in-use _ (s .args .book .now) _ _ (c .before .before .before .before .before .before .before .before .before .all-nodes .ensures) (q .below)) ∙ sym (c .before .before .before .before .before .before .before .before .member .ensures) ∙ not-is _ _ (c .before .before .before .before .before .before .before .if1 .left)) (sym (c .before .before .before .before .before .can-close .ensures) ∙ not-is _ _ (c .before .before .before .before .if2 .left)) _ _ (c .before .before .judge-with .ensures (q .rules) (q .stand))
+    let e = c .before .before .before .before in
+    let t = e .before .before .before .before .before .before in
+    let q = ready _ _ _ _ (t .before .before .ask .ensures) (t .enum-told .given .1) in
+    close-judged _ _ _ q (sym (e .before .before .before .before .in-use .ensures) ∙ not-is _ _ (e .before .before .before .if1 .left)) (sym (e .before .can-close .ensures) ∙ not-is _ _ (e .if2 .left)) _ _
+    (c .before .before .judge-with .ensures (q .rules) (q .stand))
 
 pub close-spec : {M : Type 1} → statement M
 close-spec =
@@ -61,8 +70,8 @@ close-spec =
     (λ c. search needs)
     (λ c. search needs)
     returns
-    all-nodes-requires
-    member-requires
+    cast-it
+    in-use-requires
     (λ c. search needs)
     returns-2
     can-close-requires

@@ -11,7 +11,7 @@ use Rattle.closing.proofs.has_arrow.Statement.{statement}
 use Rattle.closing.proofs.has_arrow.Tie as tie
 
 abbrev Inv-loop : tie.InvT-loop
-Inv-loop sheet node n a₀ a = (a ≤ arrowCount) × ((b : ℕ) → b < a → arrowsAt (graphOf sheet) node b ≡ false)
+Inv-loop sheet node n a₀ a = (a ≤ arrowCount) × ((b : ℕ) → b < a → arrowsAt (graphOf sheet) (node .0) b ≡ false)
 
 abbrev μ-loop : tie.MeasureT-loop
 μ-loop sheet node n a₀ a = arrowCount - a
@@ -26,7 +26,7 @@ returns : tie.Need-returns Inv-loop μ-loop
 returns c =
     let s = c .before .before .before .before .before .before in
     let g = graphOf (s .args .sheet .now) in
-    let i = s .args .node in
+    let i = s .args .node .0 in
     let a = c .before .before .before .loop .a in
     arrow-found g i a (c .before .before .loop-test .taken)
     (ap (λ (m : ℕ). anyBelow m (λ j. g .joined a i j || g .joined a j i)) (sym (c .before .before .before .before .node-count .ensures .0)) ∙ sym (c .before .touched .ensures) ∙ c .if1 .taken)
@@ -35,7 +35,7 @@ loop-again : tie.Need-loop-again Inv-loop μ-loop
 loop-again c =
     let s = c .before .before .before .before .before .before in
     let g = graphOf (s .args .sheet .now) in
-    let i = s .args .node in
+    let i = s .args .node .0 in
     let a = c .before .before .before .loop .a in
     (search needs, none-next (arrowsAt g i) _ (c .before .before .before .loop .inv .1) (ap (λ (m : ℕ). anyBelow m (λ j. g .joined a i j || g .joined a j i)) (sym (c .before .before .before .before .node-count .ensures .0)) ∙ sym (c .before .touched .ensures) ∙ c .if1 .left))
 

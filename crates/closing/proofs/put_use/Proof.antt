@@ -29,7 +29,7 @@ returns c =
     let t = st .args .sheet .now in
     let o = opening present t (λ p. omega (arith, c .before .before .before .before .before .before .before .slice-known .given p)) (st .pre .0) in
     ap (_++ drop blockBytes t) (c .before .before .put-word .ensures)
-    ∙ reused present (graphOf t) (update (graphOf t .inUse) (st .args .node) (st .args .used)) _ t refl (o .stored)
+    ∙ reused present (graphOf t) (update (graphOf t .inUse) (st .args .node .0) (st .args .used)) _ t refl (o .stored)
     (c .before .before .before .before .with-use .ensures (graphOf t) (omega (arith, o .within .few-nodes)) (st .pre .1) (c .before .before .before .before .before .all-nodes .ensures))
 
 pub put-use-spec : {M : Type 1} → statement M
