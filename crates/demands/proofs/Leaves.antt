@@ -1,5 +1,5 @@
 -- What enter leaves in sheet and scratch.
-use mathlib.Core.Path.{_≡_, refl, sym, ap, subst}
+use mathlib.Core.Path.{_≡_, refl, sym, _∙_, ap, subst}
 use mathlib.Core.Logic.{_≢_, _⊎_, inl, inr}
 use mathlib.Core.Bool.{Bool, true, false}
 use mathlib.Core.List.{List, [], _∷_}
@@ -10,14 +10,18 @@ use Rattle.answer.specs.Asked.{Asked, passed, refused, _>>=_, _>>_, after, outc
 use Rattle.logic.specs.Syntax.{Expr, rule, Edit}
 use Rattle.logic.specs.Graph.{Graph}
 use Rattle.logic.specs.Meaning.{value}
+use Rattle.logic.specs.Carry.{carriedBook}
 use Rattle.sheet.specs.Sheet.{graphOf}
 use Rattle.judge.specs.Questions.{askSheetAndBook, askRules}
-use Rattle.single.specs.Scratch.{writings}
+use Rattle.text.specs.Reading.{textLimits}
+use Rattle.text.specs.Questions.{askEdit}
+use Rattle.single.specs.Scratch.{askScratch, writings}
 use Rattle.apply.specs.Apply.{afterSteps}
 use Rattle.demands.specs.Enter.{StepsAndCarried, askBefore41, askEnter, enterAnswer, enterSheet, enterScratch}
 use Rattle.demands.specs.Run.{Call, log}
 use Rattle.demands.specs.Demand3.{Each}
 use Rattle.demands.specs.Leaves.{ScratchWritten, Leaves}
+use Rattle.demands.proofs.Passing.{passed-same, bind-passed, then-passed}
 use Rattle.demands.proofs.Numbers.{Below, before-41-below}
 
 stays : (sheet book edit : List ℕ) (room q p : ℕ) → enterAnswer sheet book edit room ≡ refused q p → enterSheet sheet book edit room ≡ sheet
@@ -70,6 +74,36 @@ module _ (sheet book edit scratch : List ℕ) where
       go (passed c) f b e = record { what = c; passes = f; written = ap (λ a. after a (λ c. writings (graphOf sheet) (c .carried) scratch) scratch) f }
       go (refused n m) f b (inl e) = let z : _≡_ {A = ℕ} 0 1 = cc in absurd (omega arith)
       go (refused n m) f b (inr e) = let z : n ≡ 41 = cc in absurd (omega arith)
+
+-- What is known when 1 to 33 have passed.
+pub record Passed33 (sheet book edit : List ℕ) (room : ℕ) (c : StepsAndCarried) : Type 0 where
+  pub rules : List (Expr rule)
+  pub read : askSheetAndBook sheet book ≡ passed rules
+  pub carried-are : c .carried ≡ carriedBook (c .steps) rules
+  pub fits : askScratch (c .carried) room ≡ passed tt
+  pub answer : enterAnswer sheet book edit room ≡ askRules (graphOf sheet) (c .carried) 0
+
+pub passed-33 : (sheet book edit : List ℕ) (room : ℕ) (c : StepsAndCarried) → askBefore41 sheet book edit room ≡ passed c → Passed33 sheet book edit room c
+unfolding askEnter askBefore41 outcome _>>=_ _>>_
+passed-33 sheet book edit room c e =
+    let (rules, read, e₁) = bind-passed (askSheetAndBook sheet book) _ c e in
+    let (Z, edit-read, e₂) = bind-passed (askEdit (textLimits (graphOf sheet .n)) edit) _ c e₁ in
+    let (u, fits, e₃) = then-passed (askScratch (carriedBook Z rules) room) _ c e₂ in
+    let same : record { steps = Z; carried = carriedBook Z rules } ≡ c = passed-same e₃ in
+    record {
+      rules = rules;
+      read = read;
+      carried-are = subst (λ (k : StepsAndCarried). k .carried ≡ carriedBook (k .steps) rules) same refl;
+      fits = subst (λ (k : StepsAndCarried). askScratch (k .carried) room ≡ passed tt) same fits;
+      answer = ap (λ (a : Asked StepsAndCarried). outcome (a >>= judge)) e ∙ go (askRules (graphOf sheet) (c .carried) 0);
+    }
+  where
+    judge : StepsAndCarried → Asked Edit
+    judge k = askRules (graphOf sheet) (k .carried) 0 >> passed (k .steps)
+
+    go : (r : Asked (Unit {0})) → outcome (r >> passed (c .steps)) ≡ r
+    go (passed u) = refl
+    go (refused n p) = refl
 
 -- A sheet or book that is refused, through all calls.
 answers : (sheet book edit : List ℕ) (room q p : ℕ) → askSheetAndBook sheet book ≡ refused q p → enterAnswer sheet book edit room ≡ refused q p

@@ -1,4 +1,4 @@
--- Item 10 of document 02 moved 33 alone.
+-- Item 10 of document 02 moved 33 alone; and the scratch decides nothing else.
 use mathlib.Core.Path.{_≡_, refl, sym, _∙_, ap}
 use mathlib.Core.Logic.{_≢_, _⊎_, inl, inr}
 use mathlib.Core.List.{List}
@@ -18,7 +18,7 @@ use Rattle.carry.specs.Carrying.{askSize}
 use Rattle.carry.proofs.Asking.{sized, no-31, no-32, no-33, all-so}
 use Rattle.single.specs.Scratch.{longestRule, askScratch}
 use Rattle.single.proofs.Longest.{longest-short}
-use Rattle.single.proofs.Asking.{split}
+use Rattle.single.proofs.Rooms.{split, scratch-is, any-room}
 use Rattle.apply.specs.Apply.{afterSteps}
 use Rattle.demands.specs.Enter.{StepsAndCarried, askBefore41, askEnter, enterAnswer, enterSheet}
 use Rattle.demands.specs.Former.{formerEnter, formerAnswer, formerSheet}
@@ -34,10 +34,6 @@ module _ (carried : List (Expr rule)) (room : ℕ) where
   size-is : (r : ℕ) → askSize carried r ≡ sized whole (bookLevels carried) whole r
   unfolding askSize sized _>>_
   size-is r = refl
-
-  scratch-is : askScratch carried room ≡ sized whole (bookLevels carried) (longestRule carried) room
-  unfolding askScratch sized _>>_
-  scratch-is = refl
 
   -- both refuse with a number that is not 33, both pass, or the whole alone is too long
   pub record Alike : Type 0 where
@@ -56,16 +52,16 @@ module _ (carried : List (Expr rule)) (room : ℕ) where
       split whole longestCarried
       (λ short. split (bookLevels carried) deepestCarried
       (λ shallow. split whole room
-      (λ l. inl (alike (scratch-is ∙ all-so _ _ _ _ short shallow (omega (arith, longest-short carried, l))) (size-is room ∙ all-so _ _ _ _ short shallow l) (λ p g. let z : _≡_ {A = ℕ} 0 1 = cc in absurd (omega arith))))
+      (λ l. inl (alike (scratch-is carried room ∙ all-so _ _ _ _ short shallow (omega (arith, longest-short carried, l))) (size-is room ∙ all-so _ _ _ _ short shallow l) (λ p g. let z : _≡_ {A = ℕ} 0 1 = cc in absurd (omega arith))))
       (λ l. inr (record {
         size = size-is room ∙ no-33 _ _ _ _ short shallow l;
         now =
             split (longestRule carried) room
-            (λ m. inl (scratch-is ∙ all-so _ _ _ _ short shallow m, size-is whole ∙ all-so _ _ _ _ short shallow (omega arith)))
-            (λ m. inr (scratch-is ∙ no-33 _ _ _ _ short shallow m, m));
+            (λ m. inl (scratch-is carried room ∙ all-so _ _ _ _ short shallow m, size-is whole ∙ all-so _ _ _ _ short shallow (omega arith)))
+            (λ m. inr (scratch-is carried room ∙ no-33 _ _ _ _ short shallow m, m));
       })))
-      (λ d. inl (alike (scratch-is ∙ no-32 _ _ _ _ short d) (size-is room ∙ no-32 _ _ _ _ short d) (λ p g. let z : _≡_ {A = ℕ} 32 33 = cc in absurd (omega arith)))))
-      (λ d. inl (alike (scratch-is ∙ no-31 _ _ _ _ d) (size-is room ∙ no-31 _ _ _ _ d) (λ p g. let z : _≡_ {A = ℕ} 31 33 = cc in absurd (omega arith))))
+      (λ d. inl (alike (scratch-is carried room ∙ no-32 _ _ _ _ short d) (size-is room ∙ no-32 _ _ _ _ short d) (λ p g. let z : _≡_ {A = ℕ} 32 33 = cc in absurd (omega arith)))))
+      (λ d. inl (alike (scratch-is carried room ∙ no-31 _ _ _ _ d) (size-is room ∙ no-31 _ _ _ _ d) (λ p g. let z : _≡_ {A = ℕ} 31 33 = cc in absurd (omega arith))))
 
 -- What follows 31 to 33 is not refused with 33.
 then-not-33 : (g : Graph) (carried : List (Expr rule)) (Z : Edit) (p : ℕ) (x : Asked (Unit {0})) → x ≢ refused 33 p → outcome (x >> (askRules g carried 0 >> passed Z)) ≢ refused 33 p
@@ -178,6 +174,20 @@ module _ (sheet book edit : List ℕ) where
       go (passed rules) (passed Z) a b e = then-not-33 (graphOf sheet) (carriedBook Z rules) Z p (askScratch (carriedBook Z rules) room) (not-33 (carriedBook Z rules)) e
       go (passed rules) (refused m o) a b e = let z : m ≡ 33 = cc in absurd (omega (arith, b))
       go (refused m o) r a b e = let z : m ≡ 33 = cc in absurd (omega (arith, a))
+
+  -- Where 33 is not answered, the room does not matter.
+  pub any-room-asks : (room : ℕ) → ((p : ℕ) → enterAnswer sheet book edit room ≢ refused 33 p) → askEnter sheet book edit room ≡ askEnter sheet book edit longestCarried
+  unfolding asksBy outcome _>>=_ _>>_
+  any-room-asks room h =
+      now-asks room ∙ go (askSheetAndBook sheet book) (askEdit (textLimits (graphOf sheet .n)) edit) (λ p e. h p (ap outcome (now-asks room) ∙ e)) ∙ sym (now-asks longestCarried)
+    where
+      judged : List (Expr rule) → Edit → Asked (Unit {0}) → Asked Edit
+      judged rules Z x = x >> (askRules (graphOf sheet) (carriedBook Z rules) 0 >> passed Z)
+
+      go : (q : Asked (List (Expr rule))) (r : Asked Edit) → ((p : ℕ) → outcome (asksBy (λ c. askScratch c room) q r) ≢ refused 33 p) → asksBy (λ c. askScratch c room) q r ≡ asksBy (λ c. askScratch c longestCarried) q r
+      go (passed rules) (passed Z) n = ap (judged rules Z) (any-room (carriedBook Z rules) room (λ p e. n p (ap (λ x. outcome (judged rules Z x)) e)))
+      go (passed rules) (refused m p) n = refl
+      go (refused m p) r n = refl
 
 pub unmoved : Unmoved
 unmoved = record { same = same-else; where-33 = given-33; suffices = enough }

@@ -1,12 +1,9 @@
 -- 31 to 33 by the measured sizes, and then the rules one by one, with the edit without its idle steps.
 use mathlib.Core.Path.{_≡_, refl, sym, ap, _∙_, subst}
 use mathlib.Core.List.{List, [], _∷_, append-nil}
-use mathlib.Core.Bool.{Bool, true, false}
 use Prim.Native.Nat.{ℕ, _≤_, _<_}
 use native.Mathlib.Omega.{arith}
-use lib.Dec.{leb}
 use lib.ListN.{length}
-use borrow.Author.Tests.{leb-true, leb-false}
 use Rattle.answer.specs.Asked.{Asked, passed, refused, _>>_, after}
 use Rattle.answer.specs.Answers.{refusalNumber, refusalPlace}
 use Rattle.answer.specs.declared.Refusal.{Refusal}
@@ -27,20 +24,14 @@ use Rattle.measure.specs.Pruned.{pruned}
 use Rattle.measure.specs.Book.{BookSized, BookKept}
 use Rattle.measure.proofs.Idle.{pruned-codes, kept-stands}
 use Rattle.write.specs.Rules.{SomeBookFits}
-use Rattle.carry.proofs.Asking.{sized, no-31, no-32, no-33, all-so, book-fits}
+use Rattle.carry.proofs.Asking.{no-31, no-32, no-33, all-so, book-fits}
 use Rattle.judge.specs.Questions.{askRules}
 use Rattle.judge.specs.Judging.{RulesStand}
 use Rattle.judge.proofs.Rules.{none-left}
 use Rattle.single.specs.Scratch.{longest, longestRule, askScratch, upToBroken, overwritten, writings}
 use Rattle.single.proofs.Longest.{longest-short}
+use Rattle.single.proofs.Rooms.{split, scratch-is}
 use Rattle.single.specs.Singly.{BothRead, Singly, EachFits, EachJudged}
-
-pub split : (m n : ℕ) {P : Type 0} → (m ≤ n → P) → (n < m → P) → P
-split m n {P} f g = go (leb m n) (leb-true m n) (leb-false m n)
-  where
-    go : (b : Bool) → (b ≡ true → m ≤ n) → (b ≡ false → n < m) → P
-    go true t u = f (t refl)
-    go false t u = g (u refl)
 
 module _ (g : Graph) (carried : List (Expr rule)) (scratch : List ℕ) where
   stops : (r : Refusal) → askScratch carried (length scratch) ≡ refused (refusalNumber r) (refusalPlace r) → Singly g carried (Refused r) scratch scratch
@@ -57,17 +48,13 @@ module _ (g : Graph) (carried : List (Expr rule)) (scratch : List ℕ) where
     scratch-is = j .scratch-is ∙ sym (ap (λ (q : Asked (Unit {0})). after q (λ u. writings g carried scratch) scratch) e);
   }
 
-  asks : askScratch carried (length scratch) ≡ sized (length (bookCode carried)) (bookLevels carried) (longestRule carried) (length scratch)
-  unfolding askScratch sized _>>_
-  asks = refl
-
 -- The sizes of the carried book, measured.
 module _ (g : Graph) {Z : Edit} {rules : List (Expr rule)} {len tall : ℕ} (s : BookSized Z rules len tall) (scratch : List ℕ) where
   abbrev carried : List (Expr rule)
   carried = carriedBook Z rules
 
   pub too-long : longestCarried < len → Singly g carried (Refused (CarriedLength 0)) scratch scratch
-  too-long h = stops g carried scratch (CarriedLength 0) (asks g carried scratch ∙ no-31 _ _ _ _ (omega (arith, s .len-is)))
+  too-long h = stops g carried scratch (CarriedLength 0) (scratch-is carried (length scratch) ∙ no-31 _ _ _ _ (omega (arith, s .len-is)))
 
   module _ (h : len ≤ longestCarried) where
     len-exact : len ≡ length (bookCode carried)
@@ -77,20 +64,20 @@ module _ (g : Graph) {Z : Edit} {rules : List (Expr rule)} {len tall : ℕ} (s :
     short = omega (arith, s .len-is)
 
     pub too-deep : deepestCarried < tall → Singly g carried (Refused (CarriedLevels 0)) scratch scratch
-    too-deep k = stops g carried scratch (CarriedLevels 0) (asks g carried scratch ∙ no-32 _ _ _ _ short (omega (arith, s .tall-is)))
+    too-deep k = stops g carried scratch (CarriedLevels 0) (scratch-is carried (length scratch) ∙ no-32 _ _ _ _ short (omega (arith, s .tall-is)))
 
     module _ (k : tall ≤ deepestCarried) (needed : ℕ) (all : len ≤ length scratch → needed ≡ len) (one : length scratch < len → needed ≡ longestRule carried) where
       shallow : bookLevels carried ≤ deepestCarried
       shallow = omega (arith, s .tall-is)
 
       pub no-room : length scratch < needed → Singly g carried (Refused (OutputLength needed)) scratch scratch
-      no-room i = split len (length scratch) (λ l. absurd (omega (arith, all l, l, i))) (λ l. stops g carried scratch (OutputLength needed) (asks g carried scratch ∙ no-33 _ _ _ _ short shallow (omega (arith, one l, i)) ∙ ap (refused 33) (sym (one l))))
+      no-room i = split len (length scratch) (λ l. absurd (omega (arith, all l, l, i))) (λ l. stops g carried scratch (OutputLength needed) (scratch-is carried (length scratch) ∙ no-33 _ _ _ _ short shallow (omega (arith, one l, i)) ∙ ap (refused 33) (sym (one l))))
 
       pub fits : needed ≤ length scratch → longestRule carried ≤ length scratch
       fits i = split len (length scratch) (λ l. omega (arith, longest-short carried, len-exact, l)) (λ l. omega (arith, one l, i))
 
       pub judged : needed ≤ length scratch → (a : Answer) (scratch′ : List ℕ) → EachJudged g carried a scratch scratch′ → Singly g carried a scratch scratch′
-      judged i = goes-on g carried scratch (asks g carried scratch ∙ all-so _ _ _ _ short shallow (fits i))
+      judged i = goes-on g carried scratch (scratch-is carried (length scratch) ∙ all-so _ _ _ _ short shallow (fits i))
 
 -- What was read.
 module _ {n : ℕ} {book edit : List ℕ} {rules : List (Expr rule)} {Z : Edit} (b : BothRead (ranges n) book edit rules Z) where
@@ -109,7 +96,7 @@ module _ {n : ℕ} {book edit : List ℕ} {rules : List (Expr rule)} {Z : Edit} 
   nothing-judged e g scratch = subst (λ (l : List (Expr rule)). Singly g (carriedBook Z l) Done scratch scratch) (sym (none-left n book 0 (length book) rules rules-stand (omega (arith, e)))) none
     where
       none : Singly g [] Done scratch scratch
-      none = goes-on g [] scratch (asks g [] scratch ∙ all-so _ _ _ _ (omega arith) (omega arith) (omega arith)) Done scratch (record { answer-is = refl; scratch-is = refl })
+      none = goes-on g [] scratch (scratch-is [] (length scratch) ∙ all-so _ _ _ _ (omega arith) (omega arith) (omega arith)) Done scratch (record { answer-is = refl; scratch-is = refl })
 
   module _ (ne : length book ≡ 0 → ⊥) {start : ℕ} {kept : List ℕ} (k : BookKept Z rules start kept) where
     some-rule : length rules ≡ 0 → ⊥

@@ -5,7 +5,7 @@ use mathlib.Core.List.{List, _∷_, map}
 use Prim.Native.Nat.{ℕ, _+_, _≤_, _<_}
 use native.Mathlib.Numerals.{add-one}
 use native.Mathlib.Omega.{arith}
-use lib.ListN.{length, drop, length-append, length-drop}
+use lib.ListN.{length, drop}
 use Rattle.answer.specs.Asked.{passed, refused}
 use Rattle.answer.specs.Outputs.{writtenAtStart}
 use Rattle.logic.specs.Syntax.{Expr, rule, Edit}
@@ -25,9 +25,7 @@ use Rattle.judge.specs.Judging.{RulesStand}
 use Rattle.judge.proofs.Rules.{First, first-of, none-left}
 use Rattle.single.specs.Scratch.{longest, longestRule, upToBroken, overwritten, writings}
 use Rattle.single.specs.Singly.{EachFits}
-
-pub length-written : (bytes buffer : List ℕ) → length bytes ≤ length buffer → length (writtenAtStart bytes buffer) ≡ length buffer
-length-written bytes buffer h = omega (arith, h, length-append bytes (drop (length bytes) buffer), length-drop (length bytes) buffer)
+use Rattle.single.proofs.Writings.{length-written}
 
 heads : {x y : List ℕ} {xs ys : List (List ℕ)} → x ∷ xs ≡ y ∷ ys → x ≡ y
 heads e = cc

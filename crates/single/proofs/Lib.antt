@@ -1,3 +1,5 @@
 pub mod Longest
+pub mod Rooms
+pub mod Writings
 mod Each
 pub mod Asking
