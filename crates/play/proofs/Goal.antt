@@ -68,7 +68,18 @@ module _ (l : Limits) (t : List ℕ) where
           go (got K [] p) q w = ap outcome (book-asks ∙ rules-step l 31 t 0 K [] p q) ∙ sym (ap outcome (goal-asks ∙ ap alone q))
           go (got K (x ∷ r) p) q w = absurd (omega (arith, got-end q, got-length K (x ∷ r) p w))
 
-  -- A goal that has passed is one rule.
+  -- A goal that has passed is read as a book of one rule,
+  pub goal-read : (K : Expr rule) → askGoal l t ≡ passed K → askBook l t ≡ passed (K ∷ [])
+  unfolding askGoal askBook readRules is alone _>>_ _>>=_
+  goal-read K e = go (leb (length t) (l .longest)) (readAs l (expr rule) t 0) refl e
+    where
+      go : (b : Bool) (x : Read (Expr rule)) → readAs l (expr rule) t 0 ≡ x → (is b 11 0 >> alone x) ≡ passed K → (is b 11 0 >> readRules l mostRules t 0) ≡ passed (K ∷ [])
+      go false x q h = let z : _≡_ {A = ℕ} 0 1 = cc in absurd (omega arith)
+      go true (fault why p) q h = let z : _≡_ {A = ℕ} 0 1 = cc in absurd (omega arith)
+      go true (got L (x ∷ r) p) q h = let z : _≡_ {A = ℕ} 0 1 = cc in absurd (omega arith)
+      go true (got L [] p) q h = let same : L ≡ K = cc in rules-step l 31 t 0 L [] p q ∙ ap (λ M. passed (M ∷ [])) same
+
+  -- and stands there as one.
   abbrev Goal : Asked (Expr rule) → Type 0
   Goal (passed K) = RulesStand (l .numbers) t 0 (length t) (K ∷ [])
   Goal (refused q p) = Unit {0}

@@ -18,11 +18,14 @@ use Rattle.sheet.proofs.Small.{store-small}
 use Rattle.text.specs.Reading.{Limits, textLimits, longestCarried, deepestCarried}
 use Rattle.text.specs.Code.{bookCode, bookLevels}
 use Rattle.text.specs.Questions.{askBook, askEdit}
+use Rattle.judge.specs.Questions.{askSheetAndBook}
 use Rattle.single.specs.Scratch.{longestRule, askScratch}
 use Rattle.apply.specs.Apply.{afterSteps, askApply}
-use Rattle.demands.specs.Enter.{enterAnswer}
+use Rattle.demands.specs.Clerk.{Fed}
+use Rattle.demands.specs.Enter.{askEnter, enterAnswer}
 use Rattle.demands.specs.Run.{Given}
-use Rattle.demands.proofs.Passing.{passed-same, bind-passed, then-passed, hold-asked, asked-hold}
+use Rattle.demands.proofs.Passing.{passed-same, bind-passed, then-passed, outcome-passed, hold-asked, asked-hold}
+use Rattle.demands.proofs.OneCall.{enter-asks, when-passed}
 use Rattle.demands.proofs.After.{applied-is, applies, after-sound, after-graph, after-n}
 use Rattle.demands.proofs.Demand3.{demand-3}
 use Rattle.game.specs.Game.{Side, dispatcher, disruption, Game, editsOf, leaves, canMake}
@@ -132,11 +135,29 @@ module _ (sheet book goal edits lengths : List ℕ) (d moves : ℕ) (G : Game) (
         let w = demand-3 .entered-when (for-enter i l) room (long-enough carried room (each-fits rules (take d Zs) (p .fit) i l) h) in
         ((λ t. w .1 (asked-hold (graphOf held) carried 0 (m .0 t))), (λ e. m .1 (hold-asked (graphOf held) carried 0 (w .0 e))))
 
+    -- Enter that answers done had room for each carried rule.
+    had-room : (i : ℕ) → i < length (take d Zs) → (room : ℕ) → enterAnswer held book (getD texts i []) room ≡ passed tt → askScratch (carriedBook (getD (take d Zs) i finish) rules) room ≡ passed tt
+    unfolding askSheetAndBook _>>_
+    had-room i l room e =
+        let given = for-enter i l in
+        let call : Fed = record { edit = getD texts i []; room = room } in
+        let read-both : askSheetAndBook held book ≡ passed rules = ap (_>> askBook (textLimits (graphOf held .n)) book) (k .sound) ∙ given .book-read in
+        let (Z, a) = outcome-passed (askEnter held book (getD texts i []) room) e in
+        let w = when-passed rules (graphOf held) call Z (sym (enter-asks held book rules call read-both) ∙ a) in
+        let same : Z ≡ getD (take d Zs) i finish = passed-same (sym (w .edit-read) ∙ given .edit-read) in
+        subst (λ Y. askScratch (carriedBook Y rules) room ≡ passed tt) same (w .fits)
+
+    made-if : (i : ℕ) → i < length (take d Zs) → (room : ℕ) → enterAnswer held book (getD texts i []) room ≡ passed tt → T (canMake read dispatcher (graphOf held) i)
+    made-if i l room e =
+        let carried : List (Expr rule) = carriedBook (getD (take d Zs) i finish) rules in
+        made-entered read (graphOf held) i l .1 (hold-asked (graphOf held) carried 0 (demand-3 .entered-when (for-enter i l) room (had-room i l room e) .0 e))
+
     by-calls-read : ByCalls nodes book texts read held
     unfolding outcome
     by-calls-read =
         record {
           made-when = can-make;
+          made-if = made-if;
           entered = λ i l room e. made nodes held k (getD texts i []) (getD (take d Zs) i finish) (dispatcher-read i l) read dispatcher i refl _ (demand-3 .entered-leaves (for-enter i l) room e);
           applies = λ i l. ap outcome (carried-out i l);
           applied = λ i l. made nodes held k (getD texts (length (take d Zs) + i) []) (getD (drop d Zs) i finish) (disruption-read i l) read disruption i refl _ (applied-is held _ _ (carried-out i l));
@@ -147,6 +168,21 @@ module _ (sheet book goal edits lengths : List ℕ) (d moves : ℕ) (G : Game) (
 
     pub by-calls : ByCalls nodes book texts G held
     by-calls = subst (λ H. ByCalls nodes book texts H held) (p .is) by-calls-read
+
+-- As many of the texts are a side's as the game has edits of it.
+length-cut : (edits lengths : List ℕ) → length (cut edits lengths) ≡ length lengths
+unfolding cut
+length-cut edits [] = refl
+length-cut edits (l ∷ ls) = ap suc (length-cut (drop l edits) ls)
+
+pub lists-split : (sheet book goal edits lengths : List ℕ) (d moves : ℕ) (G : Game) → Passed sheet book goal edits lengths d moves G
+    → (length (G .dispatchers) ≡ d) × (length (cut edits lengths) ≡ length (G .dispatchers) + length (G .disruptions))
+lists-split sheet book goal edits lengths d moves G p =
+    let Zs = p .edits-read .what in
+    let many = edits-stand (graphOf sheet .n) edits lengths Zs (p .edits-read .is) .many in
+    let d-of = first-d sheet book goal edits lengths d moves G p in
+    subst (λ H. (length (H .dispatchers) ≡ d) × (length (cut edits lengths) ≡ length (H .dispatchers) + length (H .disruptions))) (p .is)
+    (d-of, omega (arith, length-cut edits lengths, many, d-of, length-drop d Zs, as-many sheet book goal edits lengths d moves G p))
 
 pub played-by-calls : PlayedByCalls
 played-by-calls =

@@ -34,6 +34,8 @@ pub record ByCalls (nodes : ℕ) (book : List ℕ) (texts : List (List ℕ)) (G 
   -- "the dispatcher's edits go through enter": with a scratch that is long enough, one can be made exactly when enter answers done,
   pub made-when : (i : ℕ) → i < length (G .dispatchers) → (room : ℕ) → longestRule (carriedBook (getD (G .dispatchers) i finish) (G .book)) ≤ room
       → T (canMake G dispatcher (graphOf sheet) i) ↔ (enterAnswer sheet book (getD texts i []) room ≡ passed tt)
+  -- and whatever the scratch, whenever enter answers done,
+  pub made-if : (i : ℕ) → i < length (G .dispatchers) → (room : ℕ) → enterAnswer sheet book (getD texts i []) room ≡ passed tt → T (canMake G dispatcher (graphOf sheet) i)
   -- which then makes the move.
   pub entered : (i : ℕ) → i < length (G .dispatchers) → (room : ℕ) → enterAnswer sheet book (getD texts i []) room ≡ passed tt
       → Made nodes G dispatcher i sheet (enterSheet sheet book (getD texts i []) room)
