@@ -12,7 +12,8 @@ use Rattle.logic.specs.Graph.{Graph, countBelow}
 use Rattle.logic.specs.Steps.{run}
 use Rattle.logic.specs.Limits.{maxNodes}
 use Rattle.counts.specs.Small.{Small, bits, smallSheet, holdAll, fourOf, fourCounts}
-use Rattle.counts.specs.Exactly.{In, Once, Exactly, Counted}
+use Rattle.counts.specs.Exactly.{In, Once, Exactly}
+use Rattle.counts.specs.declared.Four.{Four}
 use Rattle.counts.proofs.Numbering.{true-false, numbered-once, each-numbered, number-small}
 
 module _ (n : ℕ) (P : Graph → Bool) where
@@ -42,7 +43,7 @@ module _ (n : ℕ) (P : Graph → Bool) where
       more : Numbered m g → Numbered (suc m) g
       more (x, l, e, p) = (x, omega arith, e, p)
 
-      go : (b : Bool) → P (smallSheet n m) ≡ b → (In g (listed m) → Numbered m g) → In g (elim b [ true ↦ smallSheet n m ∷ listed m | false ↦ listed m ]) → Numbered (suc m) g
+      go : (b : Bool) → P (smallSheet n m) ≡ b → (In g (listed m) → Numbered m g) → In {A = Graph} g (elim b [ true ↦ smallSheet n m ∷ listed m | false ↦ listed m ]) → Numbered (suc m) g
       go true p rest (inl e) = (m, omega arith, e, ap P (sym e) ∙ p)
       go true p rest (inr i) = more (rest i)
       go false p rest i = more (rest i)
@@ -52,7 +53,7 @@ module _ (n : ℕ) (P : Graph → Bool) where
   listed-all zero g (x, l, e, p) = absurd (omega arith)
   listed-all (suc m) g (x, l, e, p) = go (decLt x m) (λ k. listed-all m g (x, k, e, p)) (P (smallSheet n m)) refl
     where
-      go : Dec (x < m) → (x < m → In g (listed m)) → (b : Bool) → P (smallSheet n m) ≡ b → In g (elim b [ true ↦ smallSheet n m ∷ listed m | false ↦ listed m ])
+      go : Dec (x < m) → (x < m → In g (listed m)) → (b : Bool) → P (smallSheet n m) ≡ b → In {A = Graph} g (elim b [ true ↦ smallSheet n m ∷ listed m | false ↦ listed m ])
       go (yes k) rest true q = inr (rest k)
       go (yes k) rest false q = rest k
       go (no k) rest true q = inl (ap (smallSheet n) (same k) ∙ e)
@@ -75,22 +76,31 @@ module _ (n : ℕ) (P : Graph → Bool) where
           let same : x ≡ m = numbered-once n x m some (omega arith) (omega arith) e in
           absurd (omega arith)
 
-      go : (b : Bool) → Once (listed m) → Once (elim b [ true ↦ smallSheet n m ∷ listed m | false ↦ listed m ])
+      go : (b : Bool) → Once (listed m) → Once {A = Graph} (elim b [ true ↦ smallSheet n m ∷ listed m | false ↦ listed m ])
       go true h = (new, h)
       go false h = h
 
-  pub exactly : 1 ≤ n → n ≤ maxNodes → Exactly n P (countBelow (2 ^ bits n) (λ x. P (smallSheet n x)))
+  pub exactly : 1 ≤ n → n ≤ maxNodes → Exactly (λ g. Small n g × (P g ≡ true)) (countBelow (2 ^ bits n) (λ x. P (smallSheet n x)))
   exactly some few =
       record {
         list = listed (2 ^ bits n);
         many = listed-many (2 ^ bits n);
         once = listed-once some (2 ^ bits n) (omega arith);
         only-those = λ g i. let (x, l, e, p) = listed-has (2 ^ bits n) g i in (subst (Small n) e (number-small n x some few), p);
-        all-those = λ g s p. let (x, l, e) = each-numbered n g s in listed-all (2 ^ bits n) g (x, l, e, p);
+        all-those = λ g (s, p). let (x, l, e) = each-numbered n g s in listed-all (2 ^ bits n) g (x, l, e, p);
       }
 
--- "give four counts over every such sheet .. and each is the exact number by the definitions"
-pub counted : (n : ℕ) (book : List (Expr rule)) (Z : Edit) → 1 ≤ n → n ≤ maxNodes → Counted n book Z (fourCounts n book Z)
+-- The four counts are those numbers, by what is so of the book before and after.
+abbrev pub SmallAnd : (n : ℕ) → (Graph → Bool) → Graph → Type 0
+SmallAnd n P g = Small n g × (P g ≡ true)
+
+pub record CountedGraphs (n : ℕ) (book : List (Expr rule)) (Z : Edit) (f : Four) : Type 0 where
+  pub kept-are : Exactly (SmallAnd n (λ g. holdAll g book && holdAll (run Z g) book)) (f .kept)
+  pub lost-are : Exactly (SmallAnd n (λ g. holdAll g book && not (holdAll (run Z g) book))) (f .lost)
+  pub repaired-are : Exactly (SmallAnd n (λ g. not (holdAll g book) && holdAll (run Z g) book)) (f .repaired)
+  pub broken-are : Exactly (SmallAnd n (λ g. not (holdAll g book) && not (holdAll (run Z g) book))) (f .broken)
+
+pub counted : (n : ℕ) (book : List (Expr rule)) (Z : Edit) → 1 ≤ n → n ≤ maxNodes → CountedGraphs n book Z (fourCounts n book Z)
 unfolding fourCounts fourOf
 counted n book Z some few =
     record {

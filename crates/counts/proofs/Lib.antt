@@ -1,6 +1,7 @@
 pub mod Numbering
 pub mod Totals
 pub mod Exact
+pub mod Matched
 pub mod Walks
 pub mod Others
 pub mod Counting

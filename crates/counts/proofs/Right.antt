@@ -1,4 +1,4 @@
--- Item 12, proved.
+-- The counts that are answered: on graphs, what they total, and that those kept after the edit are those on which the carried rules hold.
 use mathlib.Core.Path.{_≡_, refl, sym, ap, ap₂, _∙_, subst}
 use mathlib.Core.Bool.{Bool, true, false, not, _&&_, cond}
 use mathlib.Core.List.{List, [], _∷_}
@@ -14,12 +14,10 @@ use Rattle.logic.proofs.Theorem.{carried}
 use Rattle.logic.proofs.Below.{count-cong}
 use Rattle.counts.specs.declared.Four.{Four}
 use Rattle.counts.specs.Small.{bits, smallSheet, holdAll, fourOf, fourCounts, total}
-use Rattle.counts.specs.Exactly.{Exactly, Counted}
+use Rattle.counts.specs.Exactly.{Exactly}
 use Rattle.counts.specs.Questions.{Texts, askCount, noCounts, countsOf}
-use Rattle.counts.specs.Right.{NumberedOnce, CountsRight, Item12}
-use Rattle.counts.proofs.Numbering.{numbered-once, each-numbered, number-small}
 use Rattle.counts.proofs.Totals.{totals}
-use Rattle.counts.proofs.Exact.{exactly, counted}
+use Rattle.counts.proofs.Exact.{SmallAnd, CountedGraphs, exactly, counted}
 use Rattle.counts.proofs.Asking.{found}
 
 -- The carried book holds before exactly when the book holds after.
@@ -48,26 +46,24 @@ kept-after n rules Z =
     next-counted (2 ^ bits n) (λ x. holdAll (smallSheet n x) rules) (λ x. holdAll (run Z (smallSheet n x)) rules)
     ∙ count-cong (2 ^ bits n) _ _ (λ x l. sym (hold-carried Z rules (smallSheet n x)))
 
-numbered : (n : ℕ) → 1 ≤ n → n ≤ maxNodes → NumberedOnce n
-numbered n some few = record { small = λ x. number-small n x some few; each = each-numbered n; once = λ x y l k e. numbered-once n x y some l k e }
-
 module _ (n : ℕ) (book edit : List ℕ) (t : Texts) (is-read : askCount n book edit ≡ passed t) where
   counts : countsOf n book edit ≡ fourCounts n (t .rules) (t .edit)
   unfolding countsOf after
   counts = ap (λ (q : Asked Texts). after q (λ u. fourCounts n (u .rules) (u .edit)) noCounts) is-read
 
-  counts-right : CountsRight n book edit t
+  pub in-range : (1 ≤ n) × (n ≤ maxNodes)
   unfolding outcome
-  counts-right =
-      let q = found n book edit (sym (ap outcome is-read)) in
-      let few : n ≤ maxNodes = omega (arith, q .few) in
-      record {
-        numbered = numbered n (q .some) few;
-        counted = subst (Counted n (t .rules) (t .edit)) (sym counts) (counted n (t .rules) (t .edit) (q .some) few);
-        totals = ap total counts ∙ totals n (t .rules) (t .edit);
-        carried-hold = subst (Exactly n (λ g. holdAll g (carriedBook (t .edit) (t .rules)))) (sym (kept-after n (t .rules) (t .edit)) ∙ sym (ap (λ (f : Four). f .kept + f .repaired) counts))
-            (exactly n (λ g. holdAll g (carriedBook (t .edit) (t .rules))) (q .some) few);
-      }
+  in-range = let q = found n book edit (sym (ap outcome is-read)) in (q .some, omega (arith, q .few))
 
-pub item-12 : Item12
-item-12 = record { right = counts-right; one = refl; two = refl; three = refl }
+  -- "each is the exact number by the definitions", on graphs; crate `promises`, Item12, says it of sheets
+  pub counted-graphs : CountedGraphs n (t .rules) (t .edit) (countsOf n book edit)
+  counted-graphs = subst (CountedGraphs n (t .rules) (t .edit)) (sym counts) (counted n (t .rules) (t .edit) (in-range .0) (in-range .1))
+
+  pub total-is : total (countsOf n book edit) ≡ 2 ^ bits n
+  total-is = ap total counts ∙ totals n (t .rules) (t .edit)
+
+  -- Those that are kept after the edit are those on which all carried rules hold before it.
+  pub carried-counted : Exactly (SmallAnd n (λ g. holdAll g (carriedBook (t .edit) (t .rules)))) (countsOf n book edit .kept + countsOf n book edit .repaired)
+  carried-counted =
+      subst (Exactly (SmallAnd n (λ g. holdAll g (carriedBook (t .edit) (t .rules))))) (sym (kept-after n (t .rules) (t .edit)) ∙ sym (ap (λ (f : Four). f .kept + f .repaired) counts))
+      (exactly n (λ g. holdAll g (carriedBook (t .edit) (t .rules))) (in-range .0) (in-range .1))

@@ -4,5 +4,4 @@ pub mod Names
 pub mod Questions
 pub mod Walk
 pub mod Counting
-pub mod Right
 pub mod Examples
