@@ -1,1 +1,19 @@
 -- Item 2 of document 02 is kept.
+use mathlib.Core.Path.{ap, _∙_}
+use mathlib.Core.List.{List}
+use Prim.Native.Nat.{ℕ}
+use lib.ListN.{drop}
+use Rattle.words.specs.Words.{bytes}
+use Rattle.seal.specs.Seal.{modulo257, modulo255, sealed, stored}
+use Rattle.seal.proofs.Noticed.{block-1, old-block-1}
+use Rattle.sheet.specs.Sheet.{present, former, chunks, block}
+use Rattle.sheet.proofs.Blanks.{block-1-without-arrows}
+use Rattle.promises.specs.Item2.{Item2}
+
+pub item-2 : Item2
+unfolding block chunks bytes sealed stored
+item-2 =
+    record {
+      block-1 = λ sheet w. ap (drop 508) (block-1-without-arrows present sheet (w .are-bytes) (w .sound) (w .none)) ∙ ap (stored modulo257) block-1;
+      old-block-1 = λ card w. ap (drop 510) (block-1-without-arrows (former modulo255) card (w .are-bytes) (w .sound) (w .none)) ∙ ap (stored modulo255) old-block-1;
+    }

@@ -46,7 +46,7 @@ module _ (k : List ℕ) (h : length k ≡ blockBytes) where
   unfolding sealRight
   right-257 = seal-of (take 508 k)
 
-  pub right-255 : (s t : ℕ) → s < 255 → t < 255 → s ≡ sums modulo255 (take 510 k) .s → t ≡ sums modulo255 (take 510 k) .t → sealRight modulo255 k ≡ (eqb (getD k 510 0) s && eqb (getD k 511 0) t)
+  pub right-255 : (s t : ℕ) → s < modulo255 .modulus → t < modulo255 .modulus → s ≡ sums modulo255 (take 510 k) .s → t ≡ sums modulo255 (take 510 k) .t → sealRight modulo255 k ≡ (eqb (getD k 510 0) s && eqb (getD k 511 0) t)
   unfolding sealRight sealOf sameBytes stored bytes
   right-255 s t l m e f =
       let a : s % 256 ≡ s = omega arith in

@@ -9,7 +9,7 @@ use borrow.Author.Tests.{ltb-true, ltb-false}
 use lib.Dec.{ltb}
 use lib.ListN.{length, getD, take, drop, set, replicate, length-set}
 use lib.Seq.{getD-take, getD-drop, getD-set-same, getD-set-other, take-set-lt, take-set-le, drop-set-lt}
-use Rattle.seal.specs.Seal.{blockBytes, Form, modulo257, sums, sumsFrom, seal, sealRight, exchanged}
+use Rattle.seal.specs.Seal.{blockBytes, Form, modulo257, modulo255, sums, sumsFrom, seal, sealRight, exchanged}
 use Rattle.seal.specs.Lanes.{total, weighed}
 use Rattle.seal.proofs.TotalLaws.{sums-total, sums-weighed, total-set, weighed-set}
 use Rattle.seal.proofs.SealLaws.{right-check, stored-told, s-low, t-low, length-body}
@@ -92,7 +92,11 @@ module _ (f : Form) (above : 256 ≤ f .modulus) where
     pub exchange-noticed : (p : ℕ) → suc p < f .bodyBytes → (getD k p 0 ≡ getD k (suc p) 0 → ⊥) → sealRight f (exchanged k p) ≡ false
     exchange-noticed p l other = refused (sealRight f (exchanged k p)) (λ g. other (sym (neighbours-told p l g)))
 
--- block 1 without arrows
+-- Block 1 without arrows; and in the old form, where document 01 has 3 and 254.
 pub block-1 : sums modulo257 (2 ∷ 1 ∷ replicate 506 0) ≡ record { s = 3; t = 238 }
 unfolding sumsFrom
 block-1 = refl
+
+pub old-block-1 : sums modulo255 (2 ∷ 1 ∷ replicate 508 0) ≡ record { s = 3; t = 254 }
+unfolding sumsFrom
+old-block-1 = refl

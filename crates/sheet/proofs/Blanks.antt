@@ -1,5 +1,5 @@
 -- A blank sheet, block by block.
-use mathlib.Core.Path.{_≡_, refl, sym, ap, ap₂, _∙_}
+use mathlib.Core.Path.{_≡_, refl, sym, ap, ap₂, _∙_, fun-ext}
 use mathlib.Core.Bool.{true, false, and-false}
 use mathlib.Core.List.{List, [], _∷_, _++_, append-assoc, append-nil}
 use Prim.Native.Nat.{ℕ, _+_, _-_, _*_, _≤_, _<_}
@@ -7,17 +7,18 @@ use native.Mathlib.Numerals.{add-one}
 use native.Mathlib.Omega.{arith}
 use borrow.Author.Tests.{eq-eqb, ne-eqb, le-leb, lt-leb, lt-ltb}
 use lib.Dec.{ltb}
-use lib.ListN.{length, take, drop, set, replicate, length-append, length-drop}
+use lib.ListN.{length, getD, take, drop, set, replicate, length-append, length-drop}
 use lib.Seq.{take-at, take-all, length-take-le}
 use Rattle.answer.specs.Asked.{passed, refused, _>>_, is}
 use Rattle.logic.specs.Limits.{maxNodes, labelCount, arrowCount}
 use Rattle.words.specs.Words.{setOf, bytes, putWord}
 use Rattle.words.proofs.SetLaws.{setOf-none, setOf-cong, setOf-lowest}
-use Rattle.seal.specs.Seal.{sumsFrom, stored, sealed, reseal, blockBytes}
-use Rattle.sheet.specs.Sheet.{present, sheetBytes, chunks, lineCount, labelBlock, arrowBlock, storeIn, store, blank}
-use Rattle.sheet.specs.Questions.{askBlank}
+use Rattle.seal.specs.Seal.{reseal, blockBytes}
+use Rattle.sheet.specs.Sheet.{SheetForm, present, sheetBytes, chunks, block, lineCount, labelBlock, arrowBlock, storeIn, store, graphIn, blank}
+use Rattle.sheet.specs.Questions.{blockOf, SoundIn, askBlank}
 use Rattle.sheet.specs.Writes.{bareBlock, blankBlock}
-use Rattle.sheet.proofs.Blocks.{labelHead, labelWord, line-label, arrowHead, length-arrowBlock, length-labelBlock, labels-fit, rows-fit}
+use Rattle.sheet.proofs.Blocks.{labelHead, labelWord, line-label, arrowHead, length-arrowBlock, length-labelBlock, labels-fit, rows-fit, later-block}
+use Rattle.sheet.proofs.Opening.{opening}
 use Rattle.sheet.proofs.Writes.{put-raw, seal-raw, chunks-more}
 
 pub heads : (l : List ℕ) (m x y z : ℕ) → l ≡ replicate m 0 → m ≡ blockBytes → set (set (set l 0 x) 1 y) 2 z ≡ bareBlock x y z
@@ -96,7 +97,10 @@ module _ (n len : ℕ) where
     unfolding askBlank is _>>_
     room h = rw (le-leb 1 n l, le-leb n maxNodes u, eq-eqb _ _ h)
 
--- Block 1 without arrows has s 3 and t 238, each in two bytes.
-pub block-1-without-arrows : (n : ℕ) → drop (present .sums .bodyBytes) (arrowBlock present (blank n) 0) ≡ 3 ∷ 0 ∷ 238 ∷ 0 ∷ []
-unfolding reseal sealed stored bytes sumsFrom bareBlock blankBlock putWord
-block-1-without-arrows n = ap (drop (present .sums .bodyBytes)) (sym (blank-arrows n 0))
+-- Block 1 of a sheet without arrows of kind 0, in any form: its words are zero.
+pub block-1-without-arrows : (φ : SheetForm) (t : List ℕ) → ((p : ℕ) → getD t p 0 < 256) → SoundIn φ t → ((i j : ℕ) → graphIn φ t .joined 0 i j ≡ false) → blockOf t 1 ≡ block (φ .sums) (2 ∷ 1 ∷ 0 ∷ []) maxNodes (λ i. 0)
+unfolding arrowBlock
+block-1-without-arrows φ t small sound none =
+    let g = graphIn φ t in
+    ap (λ (s : List ℕ). blockOf s 1) (opening φ t small sound .stored) ∙ later-block φ g 0 (omega arith)
+    ∙ ap (block (φ .sums) (2 ∷ 1 ∷ 0 ∷ []) maxNodes) (fun-ext (λ i. ap (setOf (g .n)) (fun-ext (none i)) ∙ setOf-none (g .n)))
