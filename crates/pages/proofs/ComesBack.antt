@@ -10,22 +10,25 @@ use lib.Dec.{eqb, ltb, leb}
 use lib.ListN.{length, getD}
 use Rattle.answer.specs.Asked.{passed, _>>_, is, after}
 use Rattle.answer.specs.Outputs.{askRoom}
-use Rattle.logic.specs.Graph.{Graph, Nodes, Pairs, isNode}
+use Rattle.logic.specs.Graph.{Graph, Nodes, isNode}
 use Rattle.logic.specs.Limits.{Within, labelCount, arrowCount}
-use Rattle.logic.specs.Steps.{update}
+use Rattle.logic.specs.Steps.{update, rejoin}
 use Rattle.logic.proofs.Inside.{no-node}
-use Rattle.sheet.specs.Sheet.{present, store, graphOf}
+use Rattle.sheet.specs.Sheet.{present, store, graphOf, relabelAll}
 use Rattle.sheet.specs.Questions.{askSheet, Sound}
 use Rattle.sheet.proofs.Blocks.{line-label}
 use Rattle.sheet.proofs.Opening.{opening, is-yes}
 use Rattle.pages.specs.Page.{arrowPage, labelPage}
 use Rattle.pages.specs.Print.{askPrintArrow, askPrintLabels}
 use Rattle.pages.specs.Typed.{pageLine, marks, Block, arrows, labels, linesOf, askPage, marked, typed, askType, typedSheet}
-use Rattle.pages.specs.Prints.{pageOf, HasBlock}
+use Rattle.pages.specs.Prints.{pageOf, HasBlock, Alike}
 use Rattle.pages.proofs.TypeLaws.{both-passed}
 use Rattle.pages.proofs.PageParts.{setAt, page-line}
-use Rattle.pages.proofs.RightLines.{marks-of-line, nodes-kept, pairs-kept}
+use Rattle.pages.proofs.RightLines.{marks-of-line, nodes-kept, pairs-kept, same-node}
 use Rattle.pages.proofs.Accepted.{printed-right, right-accepted}
+
+itself : (g : Graph) → Alike g g
+itself g = record { nodes = refl; in-use = refl }
 
 -- the marks of a printed page are what the graph has
 module _ (g : Graph) (w : Within g) where
@@ -56,58 +59,74 @@ module _ (g : Graph) (w : Within g) where
           ap (λ y. ltb k labelCount && (y && marks (pageLine (labelPage g) (suc k)) i)) e ∙ and-false (ltb k labelCount) ∙ sym (w .labels-in k i e)
       go (no l) m = ap (λ x. x && marked g (labelPage g) k i) (le-ltb k labelCount (omega arith)) ∙ sym (w .no-more-labels k i (omega arith))
 
-  -- so the graph with them is the graph
+  -- so a graph alike with them has what the graph has
+  module _ (h : Graph) (e : Alike h g) where
+    pub arrows-into : (a : ℕ) → typed h (arrowPage g a) (arrows a) ≡ rejoin h a (g .joined a)
+    unfolding typed
+    arrows-into a =
+        ap (rejoin h a) (fun-ext (λ i. fun-ext (λ j. ap₂ (λ x y. x && (y && marks (pageLine (arrowPage g a) (suc i)) j)) (same-node h g e i) (same-node h g e j) ∙ arrow-marks a i j)))
+
+    pub labels-into : typed h (labelPage g) labels ≡ relabelAll h (g .labelled)
+    unfolding typed
+    labels-into = ap (relabelAll h) (fun-ext (λ k. fun-ext (λ i. ap (λ x. ltb k labelCount && (x && marks (pageLine (labelPage g) (suc k)) i)) (same-node h g e i) ∙ label-marks k i)))
+
+  -- and the graph itself is as it was
   pub same-graph : (b : Block) → typed g (pageOf g b) b ≡ g
-  unfolding typed update
-  same-graph (arrows a) = λ t. record { n = g .n; inUse = g .inUse; labelled = g .labelled; joined = all-same t }
+  unfolding update
+  same-graph (arrows a) = arrows-into g (itself g) a ∙ (λ t. record { n = g .n; inUse = g .inUse; labelled = g .labelled; joined = fun-ext (λ c. go c (eqb c a) refl) t })
     where
-      rows : Pairs
-      rows i j = isNode g i && marked g (arrowPage g a) i j
-
-      go : (c : ℕ) (x : Bool) → eqb c a ≡ x → cond x rows (g .joined c) ≡ g .joined c
-      go c true e = fun-ext (λ i. fun-ext (λ j. arrow-marks a i j)) ∙ ap (g .joined) (sym (eqb-true c a e))
+      go : (c : ℕ) (x : Bool) → eqb c a ≡ x → cond x (g .joined a) (g .joined c) ≡ g .joined c
+      go c true e = ap (g .joined) (sym (eqb-true c a e))
       go c false e = refl
+  same-graph labels = labels-into g (itself g)
 
-      all-same : update (g .joined) a rows ≡ g .joined
-      all-same = fun-ext (λ c. go c (eqb c a) refl)
-  same-graph labels = λ t. record { n = g .n; inUse = g .inUse; labelled = (λ k. fun-ext (λ i. label-marks k i) t); joined = g .joined }
-
--- A sound sheet, and the page of one of its blocks.
-module _ (sheet : List ℕ) (are-bytes : (p : ℕ) → getD sheet p 0 < 256) (sound : Sound sheet) where
-  abbrev g : Graph
-  g = graphOf sheet
-
-  pub page-accepted : (b : Block) → HasBlock b → askType sheet (pageOf g b) ≡ passed b
+-- The page of a block of a sound sheet, typed into a sound sheet alike.
+module _ (first second : List ℕ) (first-bytes : (p : ℕ) → getD first p 0 < 256) (first-sound : Sound first) (second-sound : Sound second) (e : Alike (graphOf second) (graphOf first)) where
+  pub page-accepted : (b : Block) → HasBlock b → askType second (pageOf (graphOf first) b) ≡ passed b
   unfolding askType _>>_
-  page-accepted b h = ap (λ x. x >> askPage g (pageOf g b)) sound ∙ right-accepted g (pageOf g b) b (printed-right g g (opening present sheet are-bytes sound .within) (record { nodes = refl; in-use = refl }) b h)
+  page-accepted b h =
+      ap (λ x. x >> askPage (graphOf second) (pageOf (graphOf first) b)) second-sound
+      ∙ right-accepted (graphOf second) (pageOf (graphOf first) b) b (printed-right (graphOf second) (graphOf first) (opening present first first-bytes first-sound .within) e b h)
 
-  pub sheet-back : (b : Block) → HasBlock b → typedSheet sheet (pageOf g b) ≡ sheet
-  unfolding typedSheet after
-  sheet-back b h =
-      let o = opening present sheet are-bytes sound in
-      ap (λ x. after x (λ c. store (typed g (pageOf g b) c)) sheet) (page-accepted b h) ∙ ap store (same-graph g (o .within) b) ∙ sym (o .stored)
+-- What printing asks: the sheet is sound, has the block, and the page is that block's.
+pub record Printed (sheet page : List ℕ) (b : Block) : Type 0 where
+  pub sound : Sound sheet
+  pub block : HasBlock b
+  pub is-page : page ≡ pageOf (graphOf sheet) b
+
+module _ (sheet : List ℕ) (room : ℕ) (page : List ℕ) where
+  room-page : (p : List ℕ) → askRoom p room ≡ passed page → page ≡ p
+  unfolding askRoom
+  room-page p e = let f : passed p ≡ passed page = both-passed (is (leb (length p) room) 33 (length p)) (passed p) page e .1 in cc
+
+  pub arrow-printed : (a : ℕ) → askPrintArrow sheet a room ≡ passed page → Printed sheet page (arrows a)
+  unfolding askPrintArrow
+  arrow-printed a e =
+      let r = both-passed (askSheet sheet) (is (ltb a arrowCount) 7 0 >> askRoom (arrowPage (graphOf sheet) a) room) page e in
+      let q = both-passed (is (ltb a arrowCount) 7 0) (askRoom (arrowPage (graphOf sheet) a) room) page (r .1) in
+      record { sound = r .0; block = ltb-true a arrowCount (is-yes (ltb a arrowCount) 7 0 (q .0)); is-page = room-page (arrowPage (graphOf sheet) a) (q .1) }
+
+  pub labels-printed : askPrintLabels sheet room ≡ passed page → Printed sheet page labels
+  unfolding askPrintLabels
+  labels-printed e =
+      let r = both-passed (askSheet sheet) (askRoom (labelPage (graphOf sheet)) room) page e in
+      record { sound = r .0; block = tt; is-page = room-page (labelPage (graphOf sheet)) (r .1) }
 
 -- EVERY PAGE PRINTED: what either call writes is typed back as the block it came from, and the sheet is as it was.
 module _ (sheet : List ℕ) (are-bytes : (p : ℕ) → getD sheet p 0 < 256) (room : ℕ) (page : List ℕ) where
   abbrev Back : Block → Type 0
   Back b = (askType sheet page ≡ passed b) × (typedSheet sheet page ≡ sheet)
 
-  back : (b : Block) → HasBlock b → Sound sheet → page ≡ pageOf (graphOf sheet) b → Back b
-  back b h s e = (ap (askType sheet) e ∙ page-accepted sheet are-bytes s b h, ap (typedSheet sheet) e ∙ sheet-back sheet are-bytes s b h)
-
-  room-page : (p : List ℕ) → askRoom p room ≡ passed page → page ≡ p
-  unfolding askRoom
-  room-page p e = let f : passed p ≡ passed page = both-passed (is (leb (length p) room) 33 (length p)) (passed p) page e .1 in cc
+  back : (b : Block) → Printed sheet page b → Back b
+  unfolding typedSheet after
+  back b s =
+      let g : Graph = graphOf sheet in
+      let o = opening present sheet are-bytes (s .sound) in
+      let p = page-accepted sheet sheet are-bytes (s .sound) (s .sound) (itself g) b (s .block) in
+      (ap (askType sheet) (s .is-page) ∙ p, ap (typedSheet sheet) (s .is-page) ∙ ap (λ x. after x (λ c. store (typed g (pageOf g b) c)) sheet) p ∙ ap store (same-graph g (o .within) b) ∙ sym (o .stored))
 
   pub arrow-page-back : (a : ℕ) → askPrintArrow sheet a room ≡ passed page → Back (arrows a)
-  unfolding askPrintArrow
-  arrow-page-back a e =
-      let r = both-passed (askSheet sheet) (is (ltb a arrowCount) 7 0 >> askRoom (arrowPage (graphOf sheet) a) room) page e in
-      let q = both-passed (is (ltb a arrowCount) 7 0) (askRoom (arrowPage (graphOf sheet) a) room) page (r .1) in
-      back (arrows a) (ltb-true a arrowCount (is-yes (ltb a arrowCount) 7 0 (q .0))) (r .0) (room-page (arrowPage (graphOf sheet) a) (q .1))
+  arrow-page-back a e = back (arrows a) (arrow-printed sheet room page a e)
 
   pub label-page-back : askPrintLabels sheet room ≡ passed page → Back labels
-  unfolding askPrintLabels
-  label-page-back e =
-      let r = both-passed (askSheet sheet) (askRoom (labelPage (graphOf sheet)) room) page e in
-      back labels tt (r .0) (room-page (labelPage (graphOf sheet)) (r .1))
+  label-page-back e = back labels (labels-printed sheet room page e)

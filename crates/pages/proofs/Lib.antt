@@ -8,3 +8,4 @@ pub mod Accepted
 pub mod ComesBack
 pub mod PlaceOf51
 pub mod AfterTyping
+pub mod FromAnother

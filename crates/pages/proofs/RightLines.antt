@@ -64,6 +64,11 @@ nodes-kept g v h i = go (isNode g i) (v i) (h i)
 pub pairs-kept : (g : Graph) (v : Pairs) → PairsIn g v → (i j : ℕ) → (isNode g i && (isNode g j && v i j)) ≡ v i j
 pairs-kept g v h i j = ap (isNode g i &&_) (nodes-kept g (v i) (λ k e. h .ends i k e) j) ∙ nodes-kept g (λ k. v k j) (λ k e. h .starts k j e) i
 
+-- the nodes of graphs alike
+pub same-node : (g h : Graph) → Alike g h → (i : ℕ) → isNode g i ≡ isNode h i
+unfolding isNode
+same-node g h e i = sym (ap₂ (λ m (u : Nodes). ltb i m && u i) (e .nodes) (e .in-use))
+
 -- the set that a line has by its marks: a graph's own, the same for graphs alike
 module _ (g : Graph) (x : ℕ) where
   shown-own : Within g → (b : Block) (j : ℕ) → setShown g (hasRows b) x (setAt g b x) j ≡ setAt g b x j
@@ -79,13 +84,9 @@ module _ (g : Graph) (x : ℕ) where
   shown-cong false v w j e = ap (λ b. cond (ltb x labelCount) (isNode g j && b) (g .inUse j)) e
 
   module _ (h : Graph) (e : Alike g h) where
-    same-node : (i : ℕ) → isNode g i ≡ isNode h i
-    unfolding isNode
-    same-node i = sym (ap₂ (λ m (u : Nodes). ltb i m && u i) (e .nodes) (e .in-use))
-
     shown-alike : (r : Bool) (v : Nodes) (j : ℕ) → setShown g r x v j ≡ setShown h r x v j
-    shown-alike true v j = ap₂ (λ a b. a && (b && v j)) (same-node x) (same-node j)
-    shown-alike false v j = ap₂ (λ a b. cond (ltb x labelCount) (a && v j) b) (same-node j) (sym (ap (λ (u : Nodes). u j) (e .in-use)))
+    shown-alike true v j = ap₂ (λ a b. a && (b && v j)) (same-node g h e x) (same-node g h e j)
+    shown-alike false v j = ap₂ (λ a b. cond (ltb x labelCount) (a && v j) b) (same-node g h e j) (sym (ap (λ (u : Nodes). u j) (e .in-use)))
 
     -- the line of a graph alike
     pub alike-line : (b : Block) → x < linesOf (g .n) b → pageLine (pageOf h b) (suc x) ≡ setLine (g .n) x (setAt h b x)
