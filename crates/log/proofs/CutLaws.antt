@@ -4,7 +4,7 @@ use mathlib.Core.List.{List, [], _∷_, _++_}
 use Prim.Native.Nat.{ℕ, zero, suc, _+_, _-_, _*_, _≤_}
 use native.Mathlib.Nat.{zero-add, suc-add}
 use native.Mathlib.Omega.{arith}
-use lib.ListN.{length, take, drop, take-append-drop, length-drop}
+use lib.ListN.{length, take, drop, take-append-drop, length-take, length-drop}
 use lib.Seq.{drop-nil, take-nil, drop-drop, take-take, take-at, drop-at}
 use Rattle.log.specs.Log.{cut, blocksOf}
 use Rattle.log.specs.Making.{joined}
@@ -54,6 +54,21 @@ blocks-take (suc m) (x ∷ l) =
     (take-take 512 (suc (511 + 512 * m)) (x ∷ l) (omega arith))
     (ap (λ n. drop 512 (take n (x ∷ l))) d ∙ drop-take 512 (512 * m) (x ∷ l))
     ∙ ap (take 512 (x ∷ l) ∷_) (blocks-take m (drop 512 (x ∷ l))) ∙ ap (take (suc m)) (sym (blocks-cons x l))
+
+-- each has a byte
+unfoldable pub Filled : List (List ℕ) → Type 0
+Filled [] = Unit {0}
+Filled (k ∷ ks) = (length k ≡ 0 → ⊥) × Filled ks
+
+cut-filled : (f : ℕ) (l : List ℕ) → Filled (cut f l)
+unfolding cut Filled
+cut-filled zero l = tt
+cut-filled (suc f) [] = tt
+cut-filled (suc f) (x ∷ l) = (λ e. omega (arith, length-take 512 (x ∷ l)), cut-filled f (drop 512 (x ∷ l)))
+
+pub blocks-filled : (l : List ℕ) → Filled (blocksOf l)
+unfolding blocksOf
+blocks-filled l = cut-filled (length l) l
 
 -- blocks joined, and cut again
 joined-cut : (f : ℕ) (l : List ℕ) → length l ≤ f → joined (cut f l) ≡ l

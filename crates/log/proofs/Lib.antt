@@ -1,6 +1,9 @@
 pub mod FieldLaws
 pub mod TakeLaws
 pub mod ReadLaws
+pub mod PassedLaws
+pub mod StepLaws
+pub mod FaultLaws
 pub mod StopLaws
 pub mod CutLaws
 pub mod MakeLaws

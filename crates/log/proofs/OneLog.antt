@@ -5,39 +5,21 @@ use mathlib.Core.Bool.{Bool, true, false, _&&_, _||_, and-eq-true-iff, or-false}
 use mathlib.Core.List.{List, [], _∷_, _++_, append-assoc}
 use Prim.Native.Nat.{ℕ, zero, suc, _+_, _-_, _*_, _/_, _%_, _≤_, _<_}
 use native.Mathlib.Omega.{arith}
-use borrow.Author.Tests.{eqb-true, leb-true, leb-false, lt-ltb}
+use borrow.Author.Tests.{eqb-true, leb-true, leb-false}
 use lib.Dec.{eqb, leb}
 use lib.ListN.{length, getD, take, drop, replicate, take-append-drop, length-append, length-drop}
 use lib.Seq.{length-take-le, take-take, drop-drop, drop-cons, getD-take, take-at, drop-at, length-slice}
-use Rattle.answer.specs.Asked.{passed, _>>_, is}
-use Rattle.seal.specs.Seal.{modulo257, sealed, sealRight}
+use Rattle.answer.specs.Asked.{passed, is}
+use Rattle.seal.specs.Seal.{modulo257, sealed}
 use Rattle.seal.proofs.SealLaws.{right-sealed}
-use Rattle.log.specs.Log.{isLast, markRight, count, countRight, content, allZero, zerosBehind, fieldsRight, isBegun, askLogBlock, askLogEnd, Recorded, recorded}
+use Rattle.log.specs.Log.{isLast, markRight, count, countRight, content, allZero, zerosBehind, isBegun, askLogBlock, askLogEnd, Recorded, recorded}
 use Rattle.log.specs.Making.{block, editBlocks, logBlocks, CanHold}
-use Rattle.log.proofs.FieldLaws.{Right, right, count-small}
-use Rattle.log.proofs.TakeLaws.{asks, are}
+use Rattle.log.proofs.PassedLaws.{Passed, passes, count-few, content-length, content-some, still-begun}
 use Rattle.log.proofs.ReadLaws.{read-bad, read-last, read-more, Block, bad, last, more, block-is}
 use Rattle.log.proofs.CutLaws.{drop-take}
 use Rattle.log.proofs.MakeLaws.{body}
 use Rattle.log.proofs.MakeLaws as make
 use Rattle.log.proofs.ReadBack.{first, one-block, more-blocks}
-
--- what the questions that passed say
-pub record Passed (begun : Bool) (number : ℕ) (k : List ℕ) : Type 0 where
-  pub whole : length k ≡ 512
-  pub sums : sealRight modulo257 k ≡ true
-  pub fields : Right begun k
-
-pub passes : (begun : Bool) (number : ℕ) (k : List ℕ) → askLogBlock begun number k ≡ passed tt → Passed begun number k
-unfolding asks is _>>_
-passes begun number k e = go (eqb (length k) 512) (sealRight modulo257 k) (leb number 65534) (fieldsRight begun k) refl refl refl refl
-  where
-    go : (w s l f : Bool) → eqb (length k) 512 ≡ w → sealRight modulo257 k ≡ s → leb number 65534 ≡ l → fieldsRight begun k ≡ f → Passed begun number k
-    go true true true true a b c d = record { whole = eqb-true (length k) 512 a; sums = b; fields = right begun k d }
-    go true true true false a b c d = let z : _≡_ {A = ℕ} 0 1 = cc (are begun number k true true true false a b c d) in absurd (omega arith)
-    go true true false f a b c d = let z : _≡_ {A = ℕ} 0 1 = cc (are begun number k true true false f a b c d) in absurd (omega arith)
-    go true false l f a b c d = let z : _≡_ {A = ℕ} 0 1 = cc (are begun number k true false l f a b c d) in absurd (omega arith)
-    go false s l f a b c d = let z : _≡_ {A = ℕ} 0 1 = cc (are begun number k false s l f a b c d) in absurd (omega arith)
 
 -- zeros, and nothing else
 all-zero : (l : List ℕ) → allZero l ≡ true → l ≡ replicate (length l) 0
@@ -55,13 +37,6 @@ two-bytes a b c h k e =
 
 -- a block that passed is the block of its content
 module _ (begun : Bool) (number : ℕ) (k : List ℕ) (bytes : (p : ℕ) → getD k p 0 < 256) (p : Passed begun number k) where
-  few : count k ≤ 504
-  few = count-small (isLast k) (count k) (p .fields .few)
-
-  pub length-content : length (content k) ≡ count k
-  unfolding content
-  length-content = length-take-le (count k) (drop 4 k) (omega (arith, few, p .whole, length-drop 4 k))
-
   first-four : take 508 k ≡ getD k 0 0 ∷ getD k 1 0 ∷ getD k 2 0 ∷ getD k 3 0 ∷ drop 4 (take 508 k)
   first-four =
       let h : length (take 508 k) ≡ 508 = length-take-le 508 k (omega (arith, p .whole)) in
@@ -75,14 +50,14 @@ module _ (begun : Bool) (number : ℕ) (k : List ℕ) (bytes : (p : ℕ) → get
   inner =
       let z : List ℕ = drop (4 + count k) (take 508 k) in
       let n : length z ≡ 508 - (4 + count k) = length-slice (4 + count k) 508 k (omega (arith, p .whole)) in
-      let m : length z ≡ 504 - length (content k) = omega (arith, n, length-content) in
+      let m : length z ≡ 504 - length (content k) = omega (arith, n, content-length p) in
       sym (take-append-drop (count k) (drop 4 (take 508 k)))
-      ∙ ap₂ _++_ (ap (take (count k)) (drop-take 4 504 k) ∙ take-take (count k) 504 (drop 4 k) few) (drop-drop (count k) 4 (take 508 k) ∙ all-zero z (p .fields .zeros) ∙ ap (λ n. replicate n 0) m)
+      ∙ ap₂ _++_ (ap (take (count k)) (drop-take 4 504 k) ∙ take-take (count k) 504 (drop 4 k) (count-few p)) (drop-drop (count k) 4 (take 508 k) ∙ all-zero z (p .fields .zeros) ∙ ap (λ n. replicate n 0) m)
 
   body-is : take 508 k ≡ body (getD k 1 0) (content k)
   unfolding body count
   body-is =
-      let c : length (content k) ≡ getD k 2 0 + 256 * getD k 3 0 = length-content in
+      let c : length (content k) ≡ getD k 2 0 + 256 * getD k 3 0 = content-length p in
       let two = two-bytes (getD k 2 0) (getD k 3 0) (length (content k)) (bytes 2) (bytes 3) c in
       first-four ∙ ap₂ (λ x y. x ∷ getD k 1 0 ∷ y) (p .fields .three) (ap₂ _∷_ (two .0) (ap₂ _∷_ (two .1) inner))
 
@@ -115,10 +90,6 @@ of-more false m a b =
     ⊎-elim (λ x. eqb-true m 1 x) (λ x. let z : _≡_ {A = ℕ} 0 1 = cc (none-of (eqb m 2) (eqb m 3) b .1) in absurd (omega arith)) (one-of (eqb m 1) (eqb m 3) a)
 
 -- its count
-some : (l : Bool) (c : ℕ) → countRight l c ≡ true → 0 < c
-unfolding countRight
-some l c e = leb-true 1 c (and-eq-true-iff (leb 1 c) (leb c 504 && (eqb c 504 || l)) .0 e .0)
-
 all-of : (c : ℕ) → countRight false c ≡ true → c ≡ 504
 unfolding countRight
 all-of c e =
@@ -161,10 +132,10 @@ module _ (number : ℕ) (g : List ℕ) (k : List ℕ) (ks : List (List ℕ)) (by
   c = length (content k)
 
   counts : c ≡ count k
-  counts = length-content (isBegun g) number k bytes it
+  counts = content-length it
 
   has-some : 0 < c
-  has-some = omega (arith, counts, some (isLast k) (count k) (it .fields .few))
+  has-some = content-some it
 
   the-block : (mark : ℕ) → getD k 1 0 ≡ mark → k ≡ block mark (content k)
   the-block mark m = is-block (isBegun g) number k bytes it ∙ ap (λ x. block x (content k)) m
@@ -176,7 +147,7 @@ module _ (number : ℕ) (g : List ℕ) (k : List ℕ) (ks : List (List ℕ)) (by
       edit (content k) es refl has-some
       (ap₂ _∷_ (the-block (first (isBegun g) + 2) (of-last (isBegun g) (getD k 1 0) (it .fields .marked) l)) r
       ∙ ap (_++ logBlocks es) (sym (ap (λ x. editBlocks x (first (isBegun g)) (content k)) n
-      ∙ one-block (c - 1) (first (isBegun g)) (content k) (omega (arith, counts, few (isBegun g) number k bytes it))))) h
+      ∙ one-block (c - 1) (first (isBegun g)) (content k) (omega (arith, counts, count-few it))))) h
 
   rest-more : isLast k ≡ false → (part : List ℕ) (es : List (List ℕ)) → 0 < length part → ks ≡ editBlocks (length part) 0 part ++ logBlocks es → CanHold es
       → Rest (isBegun g) g (((g ++ content k) ++ part) ∷ es) (k ∷ ks)
@@ -193,11 +164,8 @@ module _ (number : ℕ) (g : List ℕ) (k : List ℕ) (ks : List (List ℕ)) (by
       edit (content k ++ part) es (ap (_∷ es) (append-assoc g (content k) part)) (omega (arith, size))
       (ap₂ _∷_ (the-block (first (isBegun g)) (of-more (isBegun g) (getD k 1 0) (it .fields .marked) l)) r ∙ ap (_++ logBlocks es) (sym whole)) h
 
-  still-begun : isBegun (g ++ content k) ≡ true
-  still-begun = lt-ltb 0 (length (g ++ content k)) (omega (arith, has-some, length-append g (content k)))
-
   rest-on : isLast k ≡ false → (edits : List (List ℕ)) → Rest (isBegun (g ++ content k)) (g ++ content k) edits ks → Rest (isBegun g) g edits (k ∷ ks)
-  rest-on l edits r = go (subst (λ (x : Bool). Rest x (g ++ content k) edits ks) still-begun r)
+  rest-on l edits r = go (subst (λ (x : Bool). Rest x (g ++ content k) edits ks) (still-begun g it) r)
     where
       go : Rest true (g ++ content k) edits ks → Rest (isBegun g) g edits (k ∷ ks)
       go (none b i j) = let z : _≡_ {A = ℕ} 0 1 = cc in absurd (omega arith)

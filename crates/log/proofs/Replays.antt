@@ -1,10 +1,10 @@
 -- A replay is the run of its edits; stopping and going on; block by block.
 use mathlib.Core.Path.{_≡_, refl, sym, _∙_, ap, ap₂, subst}
-use mathlib.Core.Bool.{Bool, true, false, cond}
+use mathlib.Core.Bool.{true, false, cond}
 use mathlib.Core.List.{List, [], _∷_, _++_, append-assoc}
 use Prim.Native.Nat.{ℕ, suc, _≤_, _/_}
 use lib.ListN.{length, take, drop, length-replicate, take-append-drop}
-use Rattle.answer.specs.Asked.{passed, refused}
+use Rattle.answer.specs.Asked.{Asked, passed, refused}
 use Rattle.line.specs.Line.{askedLine}
 use Rattle.demands.specs.Clerk.{Line}
 use Rattle.demands.specs.Enter.{enterAnswer, enterSheet}
@@ -16,8 +16,11 @@ use Rattle.log.specs.Log.{isLast, content, isBegun, askLogBlock, askLogE
 use Rattle.log.specs.Stops.{partOf, restOf}
 use Rattle.log.specs.Taken.{kept, keptBehind}
 use Rattle.log.specs.Replay.{editLines, sheetHeld, stopLine, replayLines, replaySheet}
-use Rattle.log.specs.Replays.{programScratch, calls, printedLog, lastSheet, unlessStopped, written, Replays}
+use Rattle.log.specs.Step.{Step, due, stopped, replayStep}
+use Rattle.log.specs.Replays.{programScratch, calls, printedLog, lastSheet, written, Replays}
 use Rattle.log.proofs.ReadLaws.{read-bad, read-last, read-more, Block, bad, last, more, block-is}
+use Rattle.log.proofs.CutLaws.{Filled, blocks-filled}
+use Rattle.log.proofs.StepLaws.{step-bad, step-last, step-more}
 use Rattle.log.proofs.KeptLaws.{kept-begun, kept-append}
 use Rattle.log.proofs.Answering.{kept-line, kept-sheet}
 use Rattle.log.proofs.Logs.{logs}
@@ -77,23 +80,28 @@ module _ (book : List ℕ) where
   unfolding all editLines sheetHeld
   follows-all sheet edit r = regroup (printedLine sheet book edit) (editLines (printedSheet sheet book edit) book (r .edits)) (stopLine (r .ending)) (sheetHeld (printedSheet sheet book edit) book (r .edits))
 
-  module _ (number : ℕ) (part sheet : List ℕ) (k : List ℕ) (ks : List (List ℕ)) where
-    abbrev onward : Bool → List ℕ
-    onward l =
-        cond l (printedLine sheet book (keptBehind part k) ++ written (suc number) [] (printedSheet sheet book (keptBehind part k)) book ks) (written (suc number) (keptBehind part k) sheet book ks)
+  -- a stop writes its line and the sheet
+  stop-writes : (x : Asked (Unit {0})) (number : ℕ) (part sheet : List ℕ) → due (stopped x number part sheet) ++ stopped x number part sheet .sheet ≡ stopLine x ++ sheet
+  unfolding due stopped stopLine
+  stop-writes (passed u) number part sheet = refl
+  stop-writes (refused q p) number part sheet = refl
+
+  module _ (number : ℕ) (part sheet : List ℕ) (k : List ℕ) (ks : List (List ℕ)) (some : length k ≡ 0 → ⊥) where
+    abbrev onward : Step → List ℕ
+    onward s = due s ++ cond (s .goesOn) (written (s .number) (s .part) (s .sheet) book ks) (s .sheet)
 
     written-stop : (q p : ℕ) → askLogBlock (isBegun part) number k ≡ refused q p → written number part sheet book (k ∷ ks) ≡ stopLine (refused q p) ++ sheet
-    unfolding written unlessStopped
-    written-stop q p e = ap (λ x. unlessStopped x sheet (onward (isLast k))) e
+    unfolding written due stopped stopLine
+    written-stop q p e = ap onward (step-bad number part sheet book k some q p e)
 
     written-last : askLogBlock (isBegun part) number k ≡ passed tt → isLast k ≡ true
         → written number part sheet book (k ∷ ks) ≡ printedLine sheet book (keptBehind part k) ++ written (suc number) [] (printedSheet sheet book (keptBehind part k)) book ks
-    unfolding written unlessStopped
-    written-last e l = ap₂ (λ x y. unlessStopped x sheet (onward y)) e l
+    unfolding written due
+    written-last e l = ap onward (step-last number part sheet book k some e l)
 
     written-more : askLogBlock (isBegun part) number k ≡ passed tt → isLast k ≡ false → written number part sheet book (k ∷ ks) ≡ written (suc number) (keptBehind part k) sheet book ks
-    unfolding written unlessStopped
-    written-more e l = ap₂ (λ x y. unlessStopped x sheet (onward y)) e l
+    unfolding written due
+    written-more e l = ap onward (step-more number part sheet book k some e l)
 
   module _ (number : ℕ) (g sheet : List ℕ) (k : List ℕ) (ks : List (List ℕ)) where
     asked-alike : askLogBlock (isBegun (kept g)) number k ≡ askLogBlock (isBegun g) number k
@@ -103,27 +111,28 @@ module _ (book : List ℕ) where
     unfolding keptBehind
     kept-alike = kept-append g (content k)
 
-    block-behind : Block number g k
+    block-behind : (length k ≡ 0 → ⊥) → Block number g k
         → ((s : List ℕ) → written (suc number) [] s book ks ≡ all s (recorded (suc number) [] ks))
         → written (suc number) (kept (g ++ content k)) sheet book ks ≡ all sheet (recorded (suc number) (g ++ content k) ks)
         → written number (kept g) sheet book (k ∷ ks) ≡ all sheet (recorded number g (k ∷ ks))
     unfolding all editLines sheetHeld
-    block-behind (bad q p e) new on = written-stop number (kept g) sheet k ks q p (asked-alike ∙ e) ∙ ap (all sheet) (sym (read-bad number g k ks q p e))
-    block-behind (last e l) new on =
+    block-behind some (bad q p e) new on = written-stop number (kept g) sheet k ks some q p (asked-alike ∙ e) ∙ ap (all sheet) (sym (read-bad number g k ks q p e))
+    block-behind some (last e l) new on =
         let edit : List ℕ = g ++ content k in
-        written-last number (kept g) sheet k ks (asked-alike ∙ e) l
+        written-last number (kept g) sheet k ks some (asked-alike ∙ e) l
         ∙ ap (λ x. printedLine sheet book x ++ written (suc number) [] (printedSheet sheet book x) book ks) kept-alike
         ∙ ap₂ (λ x y. x ++ written (suc number) [] y book ks) (kept-line sheet book edit) (kept-sheet sheet book edit)
         ∙ ap (printedLine sheet book edit ++_) (new (printedSheet sheet book edit))
         ∙ sym (follows-all sheet edit (recorded (suc number) [] ks)) ∙ ap (all sheet) (sym (read-last number g k ks e l))
-    block-behind (more e l) new on =
-        written-more number (kept g) sheet k ks (asked-alike ∙ e) l ∙ ap (λ x. written (suc number) x sheet book ks) kept-alike ∙ on
+    block-behind some (more e l) new on =
+        written-more number (kept g) sheet k ks some (asked-alike ∙ e) l ∙ ap (λ x. written (suc number) x sheet book ks) kept-alike ∙ on
         ∙ ap (all sheet) (sym (read-more number g k ks e l))
 
-  block-by-block : (number : ℕ) (g sheet : List ℕ) (ks : List (List ℕ)) → written number (kept g) sheet book ks ≡ all sheet (recorded number g ks)
-  unfolding written recorded all editLines sheetHeld kept
-  block-by-block number g sheet [] = ap (λ b. stopLine (askLogEnd b number) ++ sheet) (kept-begun g)
-  block-by-block number g sheet (k ∷ ks) = block-behind number g sheet k ks (block-is number g k) (λ s. block-by-block (suc number) [] s ks) (block-by-block (suc number) (g ++ content k) sheet ks)
+  block-by-block : (number : ℕ) (g sheet : List ℕ) (ks : List (List ℕ)) → Filled ks → written number (kept g) sheet book ks ≡ all sheet (recorded number g ks)
+  unfolding written recorded all editLines sheetHeld kept replayStep Filled
+  block-by-block number g sheet [] h = stop-writes (askLogEnd (isBegun (kept g)) number) number (kept g) sheet ∙ ap (λ b. stopLine (askLogEnd b number) ++ sheet) (kept-begun g)
+  block-by-block number g sheet (k ∷ ks) h =
+      block-behind number g sheet k ks (h .0) (block-is number g k) (λ s. block-by-block (suc number) [] s ks (h .1)) (block-by-block (suc number) (g ++ content k) sheet ks (h .1))
 
 module _ (sheet book bytes : List ℕ) where
   lines-run : replayLines sheet book bytes ≡ printedLog (log book sheet (calls (readLog bytes .edits))) ++ stopLine (readLog bytes .ending)
@@ -141,7 +150,7 @@ module _ (sheet book bytes : List ℕ) where
 
   in-blocks : written 0 [] sheet book (blocksOf bytes) ≡ replayLines sheet book bytes ++ replaySheet sheet book bytes
   unfolding replayLines replaySheet all kept
-  in-blocks = block-by-block book 0 [] sheet (blocksOf bytes)
+  in-blocks = block-by-block book 0 [] sheet (blocksOf bytes) (blocks-filled bytes)
 
 pub replays : Replays
 replays = record {

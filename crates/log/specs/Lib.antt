@@ -1,7 +1,9 @@
 pub mod Log
 pub mod Making
 pub mod Stops
+pub mod Faults
 pub mod Logs
 pub mod Taken
+pub mod Step
 pub mod Replay
 pub mod Replays

@@ -4,16 +4,15 @@ use mathlib.Core.Bool.{cond}
 use mathlib.Core.List.{List, [], _∷_, _++_, map}
 use Prim.Native.Nat.{ℕ, suc, _/_, _≤_}
 use lib.ListN.{length, replicate}
-use Rattle.answer.specs.Asked.{Asked, passed, refused}
 use Rattle.seal.specs.Seal.{blockBytes}
 use Rattle.line.specs.Line.{askedLine}
 use Rattle.demands.specs.Clerk.{Line}
 use Rattle.demands.specs.Run.{Keeps, Call, log, Bytes}
 use Rattle.demands.specs.Demand3.{RunRight}
-use Rattle.printed.specs.Printed.{scratchBytes, printedLine, printedSheet}
-use Rattle.log.specs.Log.{isLast, isBegun, askLogBlock, askLogEnd, lastNumber, blocksOf, readLog}
+use Rattle.printed.specs.Printed.{scratchBytes}
+use Rattle.log.specs.Log.{lastNumber, blocksOf, readLog}
 use Rattle.log.specs.Stops.{partOf, restOf}
-use Rattle.log.specs.Taken.{keptBehind}
+use Rattle.log.specs.Step.{Step, due, replayStep}
 use Rattle.log.specs.Replay.{stopLine, replayLines, replaySheet}
 
 -- The calls of enter for edits, each with the program's scratch.
@@ -32,18 +31,12 @@ unfoldable pub lastSheet : List ℕ → List Line → List ℕ
 lastSheet sheet [] = sheet
 lastSheet sheet (l ∷ ls) = lastSheet (l .sheet) ls
 
--- What the program writes, block by block, when it reads these blocks. It holds the sheet and what it keeps of one edit, and no more of the log.
-unfoldable pub unlessStopped : Asked (Unit {0}) → (sheet onward : List ℕ) → List ℕ
-unlessStopped (passed u) sheet onward = onward
-unlessStopped (refused q p) sheet onward = stopLine (refused q p) ++ sheet
-
+-- What the program writes when it reads these blocks: a step for each, and one where nothing is left to read. It holds the sheet and what it keeps of one edit, and no more of the log; last it writes the sheet.
 unfoldable pub written : (number : ℕ) (part sheet book : List ℕ) → List (List ℕ) → List ℕ
-written number part sheet book [] = stopLine (askLogEnd (isBegun part) number) ++ sheet
+written number part sheet book [] = let s : Step = replayStep number part sheet book [] in due s ++ s .sheet
 written number part sheet book (k ∷ ks) =
-    unlessStopped (askLogBlock (isBegun part) number k) sheet
-    (cond (isLast k)
-    (printedLine sheet book (keptBehind part k) ++ written (suc number) [] (printedSheet sheet book (keptBehind part k)) book ks)
-    (written (suc number) (keptBehind part k) sheet book ks))
+    let s : Step = replayStep number part sheet book k in
+    due s ++ cond (s .goesOn) (written (s .number) (s .part) (s .sheet) book ks) (s .sheet)
 
 pub record Replays : Type 0 where
   -- The lines and the sheet are those of the run of the log's edits,
@@ -56,5 +49,5 @@ pub record Replays : Type 0 where
   -- In a log of at most 65,535 blocks (a part of one more may follow them), stopping after any edit it has answered and starting again from the sheet then held, with the rest of the log, ends in the same sheet.
   pub stop-and-go-on : (sheet book bytes : List ℕ) (i : ℕ) → i ≤ length (readLog bytes .edits) → length bytes / blockBytes ≤ suc lastNumber
       → replaySheet (replaySheet sheet book (partOf i bytes)) book (restOf i bytes) ≡ replaySheet sheet book bytes
-  -- Kept bytes suffice: what is written block by block is the lines and the sheet.
+  -- Kept bytes suffice: what the steps write is the lines and the sheet.
   pub block-by-block : (sheet book bytes : List ℕ) → written 0 [] sheet book (blocksOf bytes) ≡ replayLines sheet book bytes ++ replaySheet sheet book bytes

@@ -1,4 +1,4 @@
-// A log of edits (document 02, item 4), block by block: what a block is to the edit begun before it.
+// A log of edits (document 02, item 4), block by block: what a block is to the edit begun before it, and what a replay does with it.
 ghost use mathlib.Core.Path.{_≡_};
 ghost use mathlib.Core.List.{List};
 ghost use Prim.Native.Nat.{ℕ, _+_, _-_, _*_, _≤_, min};
@@ -9,8 +9,8 @@ ghost use Rattle.answer.specs.Asked.{after};
 ghost use Rattle.answer.specs.Outputs.{writtenAtStart};
 ghost use Rattle.seal.specs.Seal.{blockBytes, modulo257};
 ghost use Rattle.log.specs.Log.{isLast, markRight, count, countRight, contentBytes, allZero, fieldsRight, isBegun, askLogBlock, askLogEnd};
-ghost use Rattle.printed.specs.Printed.{printedLine, printedSheet};
-ghost use Rattle.log.specs.Taken.{keptBytes, kept, keptBehind, askTaken, takenAsked, takenLength};
+ghost use Rattle.log.specs.Step.{stopped, replayStep, editThen, said};
+ghost use Rattle.log.specs.Taken.{keptBytes, keptBehind, askTaken, takenAsked, takenLength};
 use answer::Answer;
 use answer::Refusal;
 use seal::BLOCK;
@@ -30,10 +30,24 @@ const LAST: usize = 65534;
 pub const KEPT: usize = Text::LONGEST + 1;
 
 // What a block says: the edit goes on or has finished, and so many bytes are kept of it; or why the block is bad.
-pub enum Taken {
+enum Taken {
     GoesOn(usize),
     Finished(usize),
     Refused(Refusal),
+}
+
+// What is held between blocks: the number of the next one, and how many bytes are kept of the edit that is begun.
+pub struct Held {
+    pub number: usize,
+    pub kept: usize,
+}
+
+// What a step says: whether a line is due, and the line, zeros where none is; whether to go on, and what is held then.
+pub struct Stepped {
+    pub prints: bool,
+    pub line: [u8; line::BYTES],
+    pub onward: bool,
+    pub held: Held,
 }
 
 // The number that two bytes say, the low one first.
@@ -143,7 +157,7 @@ fn keep(block: &[u8], c: usize, n: usize, edit: &mut [u8]) -> usize
 }
 
 // Takes the next block of a log, whole or cut short, behind n kept bytes of the edit begun before it; n is 0 where none is begun. Inner: the buffer has room for what is kept.
-pub fn take_block(block: &[u8], number: usize, n: usize, edit: &mut [u8]) -> Taken
+fn take_block(block: &[u8], number: usize, n: usize, edit: &mut [u8]) -> Taken
     requires { ⌜ (length (now edit) ≡ keptBytes) × (n ≤ keptBytes) ⌝ }
     ensures { λ r. ⌜ (takenAsked r ≡ askTaken (take n (now (edit .entry))) number (now (block .entry))) × (takenLength r ≤ keptBytes) ⌝ }
     ensures { λ _. ⌜ now (edit .exit) ≡ after (askLogBlock (isBegun (take n (now (edit .entry)))) number (now (block .entry))) (λ _. writtenAtStart (keptBehind (take n (now (edit .entry))) (now (block .entry))) (now (edit .entry))) (now (edit .entry)) ⌝ }
@@ -168,7 +182,7 @@ pub fn take_block(block: &[u8], number: usize, n: usize, edit: &mut [u8]) -> Tak
 }
 
 // The end of a log of so many blocks.
-pub fn take_end(blocks: usize, n: usize) -> Answer
+fn take_end(blocks: usize, n: usize) -> Answer
     ensures { λ r. ⌜ asked r ≡ askLogEnd (ltb 0 n) blocks ⌝ }
 {
     if n > 0 {
@@ -177,10 +191,57 @@ pub fn take_end(blocks: usize, n: usize) -> Answer
     Answer::Done
 }
 
-// Answers a finished edit on the sheet, from the bytes kept of it: the line that `enter` would print for the whole edit, and the sheet that it leaves.
-pub fn answer_edit(sheet: &mut [u8], book: &[u8], part: &[u8]) -> [u8; line::BYTES]
-    ensures { λ r. ⌜ ((edit : List ℕ) → kept edit ≡ now (part .entry) → r ≡ printedLine (now (sheet .entry)) (now (book .entry)) edit) ⌝ }
-    ensures { λ _. ⌜ ((edit : List ℕ) → kept edit ≡ now (part .entry) → now (sheet .exit) ≡ printedSheet (now (sheet .entry)) (now (book .entry)) edit) ⌝ }
+// Stops, with the line of a no, or with none at a good end.
+fn stop(answer: Answer, held: Held) -> Stepped
+    ensures { λ r. ⌜ ((edit sheet : List ℕ) → said r edit sheet ≡ stopped (asked answer) (held .number) (take (held .kept) edit) sheet) × (r .held .kept ≡ held .kept) ⌝ }
 {
-    printed::enter_line(sheet, book, part)
+    let Answer::Refused(_) = answer else {
+        return Stepped {
+            prints: false,
+            line: [0u8; line::BYTES],
+            onward: false,
+            held,
+        };
+    };
+    Stepped {
+        prints: true,
+        line: line::line_of(answer),
+        onward: false,
+        held,
+    }
+}
+
+// One step of a replay. What was read of the log is a block, whole or cut short, or nothing at its end. Inner: the buffer has room for what is kept.
+pub fn step(block: &[u8], held: Held, edit: &mut [u8], sheet: &mut [u8], book: &[u8]) -> Stepped
+    requires { ⌜ (length (now edit) ≡ keptBytes) × (held .kept ≤ keptBytes) ⌝ }
+    ensures { λ r. ⌜ said r (now (edit .exit)) (now (sheet .exit)) ≡ replayStep (held .number) (take (held .kept) (now (edit .entry))) (now (sheet .entry)) (now (book .entry)) (now (block .entry)) ⌝ }
+    ensures { λ r. ⌜ r .held .kept ≤ keptBytes ⌝ }
+    ensures { λ _. ⌜ now (edit .exit) ≡ editThen (held .number) (take (held .kept) (now (edit .entry))) (now (block .entry)) (now (edit .entry)) ⌝ }
+{
+    let number = held.number;
+    let kept = held.kept;
+    if block.len() == 0 {
+        return stop(take_end(number, kept), held);
+    }
+    match take_block(block, number, kept, edit) {
+        Taken::Refused(r) => stop(Answer::Refused(r), held),
+        Taken::GoesOn(n) => Stepped {
+            prints: false,
+            line: [0u8; line::BYTES],
+            onward: true,
+            held: Held {
+                number: number + 1,
+                kept: n,
+            },
+        },
+        Taken::Finished(n) => Stepped {
+            prints: true,
+            line: printed::enter_line(sheet, book, &edit[0..n]),
+            onward: true,
+            held: Held {
+                number: number + 1,
+                kept: 0,
+            },
+        },
+    }
 }

@@ -1,0 +1,184 @@
+-- A step of a replay: what it is at the log's end, at a bad block, at an edit's last block and at another.
+use mathlib.Core.Path.{_≡_, refl, sym, _∙_, ap, ap₂}
+use mathlib.Core.Bool.{Bool, true, false, cond}
+use mathlib.Core.List.{List, [], _∷_}
+use Prim.Native.Nat.{ℕ, suc, _+_, _-_, _≤_, _<_}
+use native.Mathlib.Numerals.{add-one}
+use native.Mathlib.Omega.{arith}
+use lib.Dec.{ltb}
+use lib.ListN.{length, take, drop}
+use lib.Seq.{take-at}
+use Rattle.answer.specs.declared.Answer.{Answer}
+use Rattle.answer.specs.declared.Answer.the-variants.{Done, Refused}
+use Rattle.answer.specs.declared.Refusal.{Refusal}
+use Rattle.answer.specs.Answers.{asked}
+use Rattle.answer.specs.Asked.{Asked, passed, refused, _>>_, after, askedNumber, askedPlace}
+use Rattle.answer.specs.Outputs.{writtenAtStart}
+use Rattle.line.specs.Line.{askedLine}
+use Rattle.printed.specs.Printed.{printedLine, printedSheet}
+use Rattle.log.specs.Log.{isLast, isBegun, askLogBlock, askLogEnd}
+use Rattle.log.specs.Taken.{keptBehind, goesOn, finished, askTaken}
+use Rattle.log.specs.Step.{Step, stopped, gathered, answered, blockStep, replayStep, editThen}
+use Rattle.log.proofs.TakeLaws.{begun-kept}
+use Rattle.log.proofs.ReadLaws.{Block, bad, last, more, block-is}
+use Rattle.log.proofs.PassedLaws.{passes}
+
+abbrev stopsWith : (line : List ℕ) (number : ℕ) (part sheet : List ℕ) → Step
+stopsWith line number part sheet = record { prints = true; line = line; goesOn = false; number = number; part = part; sheet = sheet }
+
+abbrev answers : (line : List ℕ) (number : ℕ) (sheet : List ℕ) → Step
+answers line number sheet = record { prints = true; line = line; goesOn = true; number = number; part = []; sheet = sheet }
+
+-- the line of a no
+pub with-line : (a : Answer) (r : Refusal) → a ≡ Refused r → (line : List ℕ) → line ≡ askedLine (asked a) → (number : ℕ) (part sheet : List ℕ)
+    → stopsWith line number part sheet ≡ stopped (asked a) number part sheet
+unfolding stopped askedNumber askedPlace
+with-line Done r e line l number part sheet = let z : _≡_ {A = ℕ} 0 1 = cc in absurd (omega arith)
+with-line (Refused x) r e line l number part sheet = ap (λ y. stopsWith y number part sheet) l
+
+pub stopped-no-more : (x : Asked (Unit {0})) (number : ℕ) (part sheet : List ℕ) → stopped x number part sheet .goesOn ≡ false
+unfolding stopped
+stopped-no-more (passed u) number part sheet = refl
+stopped-no-more (refused q p) number part sheet = refl
+
+module _ (number : ℕ) (part sheet book : List ℕ) where
+  pub at-end : (k : List ℕ) → length k ≡ 0 → replayStep number part sheet book k ≡ stopped (askLogEnd (isBegun part) number) number part sheet
+  unfolding replayStep
+  at-end [] h = refl
+  at-end (b ∷ k) h = absurd (omega arith)
+
+  at-block : (k : List ℕ) → (length k ≡ 0 → ⊥) → replayStep number part sheet book k ≡ blockStep number part sheet book k
+  unfolding replayStep
+  at-block [] h = absurd (h refl)
+  at-block (b ∷ k) h = refl
+
+  module _ (k : List ℕ) (some : length k ≡ 0 → ⊥) where
+    abbrev onward : Asked (Unit {0}) → Bool → Step
+    onward x l = after x (λ _. cond l (answered (suc number) (keptBehind part k) sheet book) (gathered (suc number) (keptBehind part k) sheet)) (stopped x number part sheet)
+
+    pub step-bad : (q p : ℕ) → askLogBlock (isBegun part) number k ≡ refused q p → replayStep number part sheet book k ≡ stopped (refused q p) number part sheet
+    unfolding blockStep after
+    step-bad q p e = at-block k some ∙ ap (λ x. onward x (isLast k)) e
+
+    pub step-last : askLogBlock (isBegun part) number k ≡ passed tt → isLast k ≡ true → replayStep number part sheet book k ≡ answered (suc number) (keptBehind part k) sheet book
+    unfolding blockStep after
+    step-last e l = at-block k some ∙ ap₂ onward e l
+
+    pub step-more : askLogBlock (isBegun part) number k ≡ passed tt → isLast k ≡ false → replayStep number part sheet book k ≡ gathered (suc number) (keptBehind part k) sheet
+    unfolding blockStep after
+    step-more e l = at-block k some ∙ ap₂ onward e l
+
+-- what a taken block says of the questions
+module _ (before : List ℕ) (number : ℕ) (k : List ℕ) where
+  abbrev keptThen : ℕ
+  keptThen = length (keptBehind before k)
+
+  bad-taken : (q p : ℕ) → refused q p ≡ askTaken before number k → askLogBlock (isBegun before) number k ≡ refused q p
+  unfolding askTaken _>>_
+  bad-taken q p e = go (askLogBlock (isBegun before) number k) e
+    where
+      go : (x : Asked (Unit {0})) → refused q p ≡ (x >> passed (cond (isLast k) (finished keptThen) (goesOn keptThen))) → x ≡ refused q p
+      go (passed u) f = let z : _≡_ {A = ℕ} 0 1 = cc in absurd (omega arith)
+      go (refused a b) f = cc
+
+  pub last-taken : (n : ℕ) → passed (finished n) ≡ askTaken before number k → (askLogBlock (isBegun before) number k ≡ passed tt) × (isLast k ≡ true) × (keptThen ≡ n)
+  unfolding askTaken _>>_
+  last-taken n e = go (askLogBlock (isBegun before) number k) (isLast k) refl refl e
+    where
+      go : (x : Asked (Unit {0})) (l : Bool) → askLogBlock (isBegun before) number k ≡ x → isLast k ≡ l → passed (finished n) ≡ (x >> passed (cond l (finished keptThen) (goesOn keptThen)))
+          → (askLogBlock (isBegun before) number k ≡ passed tt) × (isLast k ≡ true) × (keptThen ≡ n)
+      go (passed u) true a b f = (a, b, (cc))
+      go (passed u) false a b f = let z : _≡_ {A = ℕ} 0 1 = cc in absurd (omega arith)
+      go (refused q p) l a b f = let z : _≡_ {A = ℕ} 0 1 = cc in absurd (omega arith)
+
+  pub more-taken : (n : ℕ) → passed (goesOn n) ≡ askTaken before number k → (askLogBlock (isBegun before) number k ≡ passed tt) × (isLast k ≡ false) × (keptThen ≡ n)
+  unfolding askTaken _>>_
+  more-taken n e = go (askLogBlock (isBegun before) number k) (isLast k) refl refl e
+    where
+      go : (x : Asked (Unit {0})) (l : Bool) → askLogBlock (isBegun before) number k ≡ x → isLast k ≡ l → passed (goesOn n) ≡ (x >> passed (cond l (finished keptThen) (goesOn keptThen)))
+          → (askLogBlock (isBegun before) number k ≡ passed tt) × (isLast k ≡ false) × (keptThen ≡ n)
+      go (passed u) false a b f = (a, b, (cc))
+      go (passed u) true a b f = let z : _≡_ {A = ℕ} 0 1 = cc in absurd (omega arith)
+      go (refused q p) l a b f = let z : _≡_ {A = ℕ} 0 1 = cc in absurd (omega arith)
+
+-- the step as the code makes it, over the buffer of the kept bytes
+module _ (edit : List ℕ) (n number : ℕ) (sheet book : List ℕ) where
+  abbrev before : List ℕ
+  before = take n edit
+
+  pub stepped-end : (k : List ℕ) → length k ≡ 0 → n ≤ length edit → (x : Asked (Unit {0})) → x ≡ askLogEnd (ltb 0 n) number
+      → stopped x number before sheet ≡ replayStep number before sheet book k
+  stepped-end k none h x e =
+      ap (λ y. stopped y number before sheet) (e ∙ ap (λ b. askLogEnd b number) (begun-kept edit n h)) ∙ sym (at-end number before sheet book k none)
+
+  pub edit-stays : (k : List ℕ) → length k ≡ 0 → edit ≡ editThen number before k edit
+  unfolding editThen
+  edit-stays [] none = refl
+  edit-stays (b ∷ k) none = absurd (omega arith)
+
+  module _ (k : List ℕ) (some : length k ≡ 0 → ⊥) (out : List ℕ) where
+    abbrev Kept : Asked (Unit {0}) → Type 0
+    Kept x = out ≡ after x (λ _. writtenAtStart (keptBehind before k) edit) edit
+
+    pub edit-then : Kept (askLogBlock (isBegun before) number k) → out ≡ editThen number before k edit
+    unfolding editThen
+    edit-then o = o ∙ go k some
+      where
+        go : (k : List ℕ) → (length k ≡ 0 → ⊥) → after (askLogBlock (isBegun before) number k) (λ _. writtenAtStart (keptBehind before k) edit) edit ≡ editThen number before k edit
+        go [] h = absurd (h refl)
+        go (b ∷ k) h = refl
+
+    module _ (o : Kept (askLogBlock (isBegun before) number k)) where
+      unmoved : (q p : ℕ) → askLogBlock (isBegun before) number k ≡ refused q p → out ≡ edit
+      unfolding after
+      unmoved q p e = o ∙ ap (λ x. after x (λ _. writtenAtStart (keptBehind before k) edit) edit) e
+
+      part-then : (m : ℕ) → askLogBlock (isBegun before) number k ≡ passed tt → length (keptBehind before k) ≡ m → take m out ≡ keptBehind before k
+      unfolding after
+      part-then m e l =
+          ap (take m) (o ∙ ap (λ x. after x (λ _. writtenAtStart (keptBehind before k) edit) edit) e)
+          ∙ take-at (keptBehind before k) (drop (length (keptBehind before k)) edit) m l
+
+      pub stepped-bad : (q p : ℕ) → refused q p ≡ askTaken before number k → stopped (refused q p) number (take n out) sheet ≡ replayStep number before sheet book k
+      stepped-bad q p t =
+          let e = bad-taken before number k q p t in
+          ap (λ x. stopped (refused q p) number (take n x) sheet) (unmoved q p e) ∙ sym (step-bad number before sheet book k some q p e)
+
+      pub stepped-more : (m : ℕ) → passed (goesOn m) ≡ askTaken before number k → gathered (number + 1) (take m out) sheet ≡ replayStep number before sheet book k
+      stepped-more m t =
+          let e = more-taken before number k m t in
+          ap₂ (λ x y. gathered x y sheet) (add-one number) (part-then m (e .0) (e .2)) ∙ sym (step-more number before sheet book k some (e .0) (e .1))
+
+      -- the part is cut from place 0 to m
+      pub stepped-last : (m : ℕ) → passed (finished m) ≡ askTaken before number k → (line left : List ℕ) → line ≡ printedLine sheet book (take (m - 0) out) → left ≡ printedSheet sheet book (take (m - 0) out)
+          → answers line (number + 1) left ≡ replayStep number before sheet book k
+      stepped-last m t line left a b =
+          let e = last-taken before number k m t in
+          let z : m - 0 ≡ m = omega arith in
+          let same = ap (λ x. take x out) z ∙ part-then m (e .0) (e .2) in
+          ap₂ (λ x y. answers x (number + 1) y) (a ∙ ap (printedLine sheet book) same) (b ∙ ap (printedSheet sheet book) same)
+          ∙ ap (λ x. answered x (keptBehind before k) sheet book) (add-one number) ∙ sym (step-last number before sheet book k some (e .0) (e .1))
+
+-- A step that goes on counts the block, which has a number that is allowed.
+module _ (number : ℕ) (part sheet book : List ℕ) where
+  pub counts-on : (k : List ℕ) (s : Step) → s ≡ replayStep number part sheet book k → s .goesOn ≡ true → (s .number ≡ suc number) × (number ≤ 65534)
+  unfolding stopped
+  counts-on [] s d e =
+      let z : _≡_ {A = ℕ} 0 1 = cc (at-end number part sheet book [] refl, stopped-no-more (askLogEnd (isBegun part) number) number part sheet) in absurd (omega arith)
+  counts-on (b ∷ k) s d e = go (block-is number part (b ∷ k))
+    where
+      some : length (b ∷ k) ≡ 0 → ⊥
+      some h = omega arith
+
+      go : Block number part (b ∷ k) → (s .number ≡ suc number) × (number ≤ 65534)
+      go (bad q p f) = let z : _≡_ {A = ℕ} 0 1 = cc (ap (λ (x : Step). x .goesOn) (d ∙ step-bad number part sheet book (b ∷ k) some q p f)) in absurd (omega arith)
+      go (last f l) = (ap (λ (x : Step). x .number) (d ∙ step-last number part sheet book (b ∷ k) some f l), passes (isBegun part) number (b ∷ k) f .low)
+      go (more f l) = (ap (λ (x : Step). x .number) (d ∙ step-more number part sheet book (b ∷ k) some f l), passes (isBegun part) number (b ∷ k) f .low)
+
+  -- nothing is read after a block of a higher number
+  pub no-further : (k : List ℕ) → 65534 < number → replayStep number part sheet book k .goesOn ≡ false
+  no-further k h = go (replayStep number part sheet book k .goesOn) refl
+    where
+      go : (b : Bool) → replayStep number part sheet book k .goesOn ≡ b → replayStep number part sheet book k .goesOn ≡ false
+      go false e = e
+      go true e = absurd (omega (arith, counts-on k (replayStep number part sheet book k) refl e .1))
