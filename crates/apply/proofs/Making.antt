@@ -12,8 +12,8 @@ use Rattle.logic.specs.Meaning.{Value, value}
 use Rattle.logic.specs.Steps.{relabel, rejoin, run}
 use Rattle.logic.specs.Limits.{PairsIn, Within, ranges, EditInRange, labelCount, arrowCount}
 use Rattle.logic.proofs.Inside.{value-in, run-within}
-use Rattle.words.specs.Words.{setOf, combined}
-use Rattle.words.proofs.SetLaws.{setOf-cong, combined-sets}
+use Rattle.bitset.specs.Words.{setOf, combined}
+use Rattle.bitset.proofs.SetLaws.{setOf-cong, combined-sets}
 use Rattle.rows.specs.Operations.{arrowOperation}
 use Rattle.sheet.specs.Sheet.{present, sheetBytes, store, graphOf, Rows}
 use Rattle.sheet.specs.Questions.{Sound}

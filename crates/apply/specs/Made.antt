@@ -9,7 +9,7 @@ use Rattle.logic.specs.Syntax.{Edit}
 use Rattle.logic.specs.Graph.{isNode}
 use Rattle.logic.specs.Steps.{run}
 use Rattle.logic.specs.Limits.{Within, ranges}
-use Rattle.words.specs.Words.{setOf}
+use Rattle.bitset.specs.Words.{setOf}
 use Rattle.sheet.specs.Sheet.{store, graphOf}
 use Rattle.text.specs.Code.{editCode}
 use Rattle.text.specs.Stands.{EditStands}

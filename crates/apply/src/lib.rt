@@ -7,7 +7,7 @@ ghost use Rattle.answer.specs.Asked.{outcome};
 ghost use Rattle.answer.specs.Answers.{asked};
 ghost use Rattle.logic.specs.Syntax.{Edit};
 ghost use Rattle.logic.specs.Limits.{ranges};
-ghost use Rattle.words.specs.Words.{combined};
+ghost use Rattle.bitset.specs.Words.{combined};
 ghost use Rattle.sheet.specs.Sheet.{graphOf};
 ghost use Rattle.sheet.specs.Questions.{Sound};
 ghost use Rattle.text.specs.Stands.{EditStands, SomeEditStands};
@@ -24,9 +24,9 @@ fn changed_label(c: u8, x: u64, e: u64) -> u64
     ensures { λ r. ⌜ r ≡ combined (labelOperation c) x e ⌝ }
 {
     if c == 0x31 {
-        words::either(x, e)
+        bitset::either(x, e)
     } else {
-        words::minus(x, e)
+        bitset::minus(x, e)
     }
 }
 

@@ -18,7 +18,7 @@ use Rattle.text.specs.Questions.{askBook, askEdit}
 use Rattle.text.proofs.Books.{EachAllowed, SpellsBook, book-is-spelled, spelled-book-passes, edit-is-spelled}
 use Rattle.text.proofs.Carried.{carry-in}
 use Rattle.carry.specs.Carrying.{askSize, askCarry, carryAnswer, carryOutput}
-use Rattle.chain.proofs.Passes.{Joins}
+use Rattle.join_edits.proofs.Passes.{Joins}
 use Rattle.chained.specs.Chained.{CarriedThrough, IsCarried}
 use Rattle.chained.proofs.Reading.{read-for-60}
 

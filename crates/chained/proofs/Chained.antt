@@ -3,9 +3,9 @@ use mathlib.Core.Path.{_≡_, _∙_, ap}
 use mathlib.Core.List.{List}
 use Prim.Native.Nat.{ℕ}
 use Rattle.answer.specs.Asked.{passed, outcome}
-use Rattle.chain.specs.Chain.{askJoined, askJoinEdits}
-use Rattle.chain.proofs.Joining.{bytes-are}
-use Rattle.chain.proofs.Passes.{Joins, joins, call-joins}
+use Rattle.join_edits.specs.Chain.{askJoined, askJoinEdits}
+use Rattle.join_edits.proofs.Joining.{bytes-are}
+use Rattle.join_edits.proofs.Passes.{Joins, joins, call-joins}
 use Rattle.chained.specs.Chained.{Chained}
 use Rattle.chained.proofs.Reading.{read-for-60, passes-when}
 use Rattle.chained.proofs.Carried.{is-carried, same-answer, same-output}

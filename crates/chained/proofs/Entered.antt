@@ -15,12 +15,12 @@ use Rattle.text.specs.Reading.{textLimits}
 use Rattle.text.specs.Questions.{askBook, askEdit}
 use Rattle.judge.specs.Questions.{askSheetAndBook, askRules}
 use Rattle.apply.specs.Apply.{afterSteps, appliedSheet}
-use Rattle.demands.specs.Enter.{StepsAndCarried, askBefore41, askEnter, enterAnswer, enterSheet}
-use Rattle.demands.specs.Run.{Hold, Keeps, Bytes}
-use Rattle.demands.proofs.Passing.{passed-same, bind-passed, then-passed, outcome-passed, hold-asked, asked-hold, hold-carried, carried-hold}
-use Rattle.demands.proofs.Runs.{keeps}
-use Rattle.demands.proofs.After.{after-within, after-n, after-graph}
-use Rattle.chain.proofs.Passes.{Joins}
+use Rattle.runs.specs.Enter.{StepsAndCarried, askBefore41, askEnter, enterAnswer, enterSheet}
+use Rattle.runs.specs.Run.{Hold, Keeps, Bytes}
+use Rattle.runs.proofs.Passing.{passed-same, bind-passed, then-passed, outcome-passed, hold-asked, asked-hold, hold-carried, carried-hold}
+use Rattle.runs.proofs.Runs.{keeps}
+use Rattle.runs.proofs.After.{after-within, after-n, after-graph}
+use Rattle.join_edits.proofs.Passes.{Joins}
 use Rattle.chained.proofs.Reading.{ReadFor, from-both, from-joined}
 use Rattle.chained.proofs.Sheets.{few, two-leave, after-both}
 

@@ -7,9 +7,9 @@ use Rattle.text.specs.Code.{code, editCode}
 use Rattle.text.specs.Reading.{codes, choice, follow}
 use Rattle.text.specs.Reading as reading
 use Rattle.text.specs.Questions.{whole, askEdit}
-use Rattle.demands.specs.Examples.{Result, enteredOnT, calls, results}
-use Rattle.demands.proofs.Examples.{examples}
-use Rattle.chain.specs.Chain.{askJoined}
+use Rattle.runs.specs.Examples.{Result, enteredOnT, calls, results}
+use Rattle.runs.proofs.Examples.{examples}
+use Rattle.join_edits.specs.Chain.{askJoined}
 use Rattle.chained.specs.OnlyJoined.{takes, adds, takesThenAdds, OnlyJoined}
 
 -- the answers of the first two calls

@@ -12,9 +12,9 @@ use Rattle.logic.specs.Limits.{maxNodes, ranges, EditInRange}
 use Rattle.text.specs.Reading.{textLimits}
 use Rattle.text.specs.Questions.{askEdit}
 use Rattle.text.proofs.Books.{edit-is-spelled}
-use Rattle.rewrite.proofs.Wider.{edit-wider, now-below}
-use Rattle.demands.proofs.Passing.{outcome-passed}
-use Rattle.chain.proofs.Passes.{Joins, joined-passes, both-pass}
+use Rattle.rewrite_counts.proofs.Wider.{edit-wider, now-below}
+use Rattle.runs.proofs.Passing.{outcome-passed}
+use Rattle.join_edits.proofs.Passes.{Joins, joined-passes, both-pass}
 use Rattle.chained.specs.Chained.{Passes}
 
 -- an edit that passes for n is the one that it is for 60

@@ -15,10 +15,10 @@ use Rattle.sheet.proofs.Opening.{opening}
 use Rattle.text.specs.Reading.{textLimits}
 use Rattle.text.specs.Questions.{askEdit}
 use Rattle.apply.specs.Apply.{afterSteps, askApply, appliedSheet}
-use Rattle.demands.specs.Run.{Bytes}
-use Rattle.demands.proofs.Passing.{outcome-passed}
-use Rattle.demands.proofs.After.{applied-is, applies, applied-read, after-sound, after-graph, after-n}
-use Rattle.chain.proofs.Passes.{Joins}
+use Rattle.runs.specs.Run.{Bytes}
+use Rattle.runs.proofs.Passing.{outcome-passed}
+use Rattle.runs.proofs.After.{applied-is, applies, applied-read, after-sound, after-graph, after-n}
+use Rattle.join_edits.proofs.Passes.{Joins}
 use Rattle.chained.specs.Chained.{Applies}
 use Rattle.chained.proofs.Reading.{ReadFor, from-both, from-joined}
 

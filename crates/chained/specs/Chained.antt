@@ -14,9 +14,9 @@ use Rattle.text.specs.Reading.{longestText, deepestText, textLimits}
 use Rattle.text.specs.Questions.{askBook, askEdit}
 use Rattle.carry.specs.Carrying.{carryAnswer, carryOutput}
 use Rattle.apply.specs.Apply.{askApply, appliedSheet}
-use Rattle.demands.specs.Enter.{askBefore41, enterAnswer, enterSheet}
-use Rattle.demands.specs.Run.{Keeps, Bytes}
-use Rattle.chain.specs.Chain.{withoutLast}
+use Rattle.runs.specs.Enter.{askBefore41, enterAnswer, enterSheet}
+use Rattle.runs.specs.Run.{Keeps, Bytes}
+use Rattle.join_edits.specs.Chain.{withoutLast}
 
 -- An edit passes its questions for n nodes; it is carried out without a refusal.
 abbrev pub Passes : (n : ℕ) → List ℕ → Type 0

@@ -5,8 +5,8 @@ use Prim.Native.Nat.{ℕ}
 use Rattle.answer.specs.Asked.{passed, refused}
 use Rattle.sheet.specs.Sheet.{store}
 use Rattle.text.specs.Marked.{sheetT, B}
-use Rattle.demands.specs.Enter.{enterAnswer}
-use Rattle.chain.specs.Chain.{askJoined}
+use Rattle.runs.specs.Enter.{enterAnswer}
+use Rattle.join_edits.specs.Chain.{askJoined}
 
 -- Label 1 taken from node 2, and added to it again.
 abbrev pub takes : List ℕ

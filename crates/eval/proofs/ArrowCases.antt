@@ -10,7 +10,7 @@ use Rattle.logic.specs.Syntax.{node, arrow, Expr, arrowKind, reversed, union, c
 use Rattle.logic.specs.Graph.{Graph, Nodes, Pairs, isNode}
 use Rattle.logic.specs.Meaning.{value}
 use Rattle.logic.specs.Limits.{ranges, InRange}
-use Rattle.words.specs.Words.{setOf}
+use Rattle.bitset.specs.Words.{setOf}
 use Rattle.sheet.specs.Sheet.{graphOf, Rows}
 use Rattle.text.specs.Code.{code}
 use Rattle.text.specs.Stands.{Stands}

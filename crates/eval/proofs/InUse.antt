@@ -11,8 +11,8 @@ use Rattle.logic.specs.Graph.{Nodes, Pairs, isNode}
 use Rattle.logic.specs.Meaning.{value}
 use Rattle.logic.specs.Limits.{NodesIn, PairsIn}
 use Rattle.logic.proofs.Inside.{no-node, value-in}
-use Rattle.words.specs.Words.{setOf, member, combined}
-use Rattle.words.proofs.SetLaws.{setOf-cong, setOf-none, member-zero, setOf-member-lt, member-of, combined-sets}
+use Rattle.bitset.specs.Words.{setOf, member, combined}
+use Rattle.bitset.proofs.SetLaws.{setOf-cong, setOf-none, member-zero, setOf-member-lt, member-of, combined-sets}
 use Rattle.sheet.specs.Sheet.{graphOf}
 use Rattle.rows.specs.Operations.{Among}
 use Rattle.rows.proofs.Quantifiers.{set-small}

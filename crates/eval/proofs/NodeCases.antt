@@ -11,8 +11,8 @@ use Rattle.logic.specs.Syntax.{node, arrow, Expr, all, none, label, nominal, co
 use Rattle.logic.specs.Graph.{Graph, Nodes, isNode}
 use Rattle.logic.specs.Meaning.{value}
 use Rattle.logic.specs.Limits.{ranges, InRange}
-use Rattle.words.specs.Words.{setOf, member, combined}
-use Rattle.words.proofs.SetLaws.{setOf-cong, setOf-none, setOf-member-lt, member-setOf, combined-sets}
+use Rattle.bitset.specs.Words.{setOf, member, combined}
+use Rattle.bitset.proofs.SetLaws.{setOf-cong, setOf-none, setOf-member-lt, member-setOf, combined-sets}
 use Rattle.sheet.specs.Sheet.{graphOf}
 use Rattle.text.specs.Code.{code}
 use Rattle.text.specs.Stands.{Stands}

@@ -13,8 +13,8 @@ use Rattle.logic.specs.Meaning.{value}
 use Rattle.logic.specs.Limits.{ranges, InRange}
 use Rattle.logic.proofs.Below.{all-cong}
 use Rattle.logic.proofs.Inside.{value-in}
-use Rattle.words.specs.Words.{setOf, member}
-use Rattle.words.proofs.SetLaws.{member-setOf}
+use Rattle.bitset.specs.Words.{setOf, member}
+use Rattle.bitset.proofs.SetLaws.{member-setOf}
 use Rattle.sheet.specs.Sheet.{graphOf, Rows}
 use Rattle.text.specs.Code.{code}
 use Rattle.text.specs.Stands.{Stands}

@@ -9,7 +9,7 @@ use Rattle.logic.specs.Syntax.{Expr, node, arrow, rule}
 use Rattle.logic.specs.Graph.{Graph, Pairs, isNode}
 use Rattle.logic.specs.Meaning.{value}
 use Rattle.logic.specs.Limits.{maxNodes, ranges, Within, NodesIn}
-use Rattle.words.specs.Words.{setOf, member}
+use Rattle.bitset.specs.Words.{setOf, member}
 use Rattle.sheet.specs.Sheet.{graphOf, Rows}
 use Rattle.sheet.specs.Questions.{Sound}
 use Rattle.text.specs.Code.{code}

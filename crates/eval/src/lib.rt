@@ -53,7 +53,7 @@ fn leaf_node(sheet: &[u8], n: usize, within: u64, text: &[u8], at: usize) -> Nod
         }
     } else if c <= 0x03 {
         NodeSet {
-            set: words::both(within, Sheet::label_word(sheet, Label(text[at + 1]))),
+            set: bitset::both(within, Sheet::label_word(sheet, Label(text[at + 1]))),
             next: at + 2,
         }
     } else {
@@ -157,7 +157,7 @@ fn node_within(sheet: &[u8], n: usize, all: u64, within: u64, text: &[u8], at: u
     } else if c <= 0x05 {
         let e = node_within(sheet, n, all, within, text, at + 1);
         NodeSet {
-            set: words::minus(within, e.set),
+            set: bitset::minus(within, e.set),
             next: e.next,
         }
     } else if c <= 0x06 {
@@ -165,9 +165,9 @@ fn node_within(sheet: &[u8], n: usize, all: u64, within: u64, text: &[u8], at: u
         node_within(sheet, n, all, e.set, text, e.next)
     } else if c <= 0x07 {
         let e = node_within(sheet, n, all, within, text, at + 1);
-        let f = node_within(sheet, n, all, words::minus(within, e.set), text, e.next);
+        let f = node_within(sheet, n, all, bitset::minus(within, e.set), text, e.next);
         NodeSet {
-            set: words::either(e.set, f.set),
+            set: bitset::either(e.set, f.set),
             next: f.next,
         }
     } else {

@@ -12,13 +12,13 @@ use Rattle.logic.specs.Steps.{update}
 use Rattle.sheet.specs.Sheet.{present, graphOf, store}
 use Rattle.sheet.specs.Questions.{askSheet}
 use Rattle.sheet.proofs.Opening as sheets
-use Rattle.plans.specs.Store.{planCount, storeBytes, Plan, unfilled, filled, Plans, noPlans, isFilled, planBytes, storeOf, plansOf, placeIn, filledIn}
-use Rattle.plans.specs.Questions.{nameRight, SoundStore, askName, askFilled, askKept, askBlankStore, askKeep, askReturn, askDrop}
-use Rattle.plans.specs.Calls.{blankStore, keptStore, returnedSheet, droppedStore}
-use Rattle.plans.proofs.Asks.{Named, name-told, Filled, filled-told, store-told}
-use Rattle.plans.proofs.Laws.{opening, place-storeOf, filled-storeOf}
-use Rattle.plans.proofs.Small.{FewNodes, storeOf-small}
-use Rattle.demands.specs.Run.{Bytes}
+use Rattle.plan_store.specs.Store.{planCount, storeBytes, Plan, unfilled, filled, Plans, noPlans, isFilled, planBytes, storeOf, plansOf, placeIn, filledIn}
+use Rattle.plan_store.specs.Questions.{nameRight, SoundStore, askName, askFilled, askKept, askBlankStore, askKeep, askReturn, askDrop}
+use Rattle.plan_store.specs.Calls.{blankStore, keptStore, returnedSheet, droppedStore}
+use Rattle.plan_store.proofs.Asks.{Named, name-told, Filled, filled-told, store-told}
+use Rattle.plan_store.proofs.Laws.{opening, place-storeOf, filled-storeOf}
+use Rattle.plan_store.proofs.Small.{FewNodes, storeOf-small}
+use Rattle.runs.specs.Run.{Bytes}
 use Rattle.history.specs.History.{All}
 use Rattle.history.specs.Store.{StoreCall, blank, keep, return, drop, KeepsBytes, storeAfter, storeAtEnd, Kept, nothing, some, told, lastKept, heldIn, GivesBack}
 use Rattle.history.proofs.Bytes.{n-bytes, plans-bytes}

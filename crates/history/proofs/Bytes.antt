@@ -12,14 +12,14 @@ use Rattle.logic.specs.Steps.{update, run}
 use Rattle.logic.specs.Closing.{closeNode, openNode}
 use Rattle.logic.proofs.Inside.{run-n}
 use Rattle.sheet.specs.Sheet.{sheetBytes, graphIn, graphOf, store}
-use Rattle.closing.specs.Questions.{askClose, askOpen, closedSheet, openedSheet}
-use Rattle.demands.specs.Enter.{askEnter, enterSheet}
-use Rattle.demands.specs.Run.{Bytes}
-use Rattle.plans.specs.Store.{Plan, unfilled, filled, storeOf, plansOf, placeIn, placeStart, filledIn}
-use Rattle.plans.specs.Questions.{askKeep, askReturn, askDrop}
-use Rattle.plans.specs.Calls.{keptStore, returnedSheet, droppedStore}
+use Rattle.close_node.specs.Questions.{askClose, askOpen, closedSheet, openedSheet}
+use Rattle.runs.specs.Enter.{askEnter, enterSheet}
+use Rattle.runs.specs.Run.{Bytes}
+use Rattle.plan_store.specs.Store.{Plan, unfilled, filled, storeOf, plansOf, placeIn, placeStart, filledIn}
+use Rattle.plan_store.specs.Questions.{askKeep, askReturn, askDrop}
+use Rattle.plan_store.specs.Calls.{keptStore, returnedSheet, droppedStore}
 use Rattle.sheet.proofs.Small.{store-small}
-use Rattle.plans.proofs.Small.{FewNodes, storeOf-small}
+use Rattle.plan_store.proofs.Small.{FewNodes, storeOf-small}
 use Rattle.history.specs.History.{Event, entering, closing, opening, leaves}
 use Rattle.history.specs.Plans.{Step, making, keeping, returning, dropping, State, left}
 

@@ -6,11 +6,11 @@ use Rattle.logic.specs.Syntax.{Expr, rule}
 use Rattle.logic.specs.Closing.{closeNode, openNode}
 use Rattle.sheet.specs.Sheet.{present, store, graphOf}
 use Rattle.sheet.proofs.Opening as sheets
-use Rattle.closing.specs.Questions.{askClose, askOpen, closedSheet, openedSheet}
-use Rattle.demands.specs.Run.{Keeps, Call, Bytes}
-use Rattle.demands.specs.Demand3.{RunRight}
-use Rattle.demands.proofs.Runs.{keeps}
-use Rattle.demands.proofs.Demand3.{stored-right}
+use Rattle.close_node.specs.Questions.{askClose, askOpen, closedSheet, openedSheet}
+use Rattle.runs.specs.Run.{Keeps, Call, Bytes}
+use Rattle.runs.specs.Demand3.{RunRight}
+use Rattle.runs.proofs.Runs.{keeps}
+use Rattle.runs.proofs.Demand3.{stored-right}
 use Rattle.history.specs.History.{Event, entering, closing, opening, leaves, sheetsAfter, Run, runs, enterLines, All, HistoryRight}
 use Rattle.history.proofs.Steps.{Stores, stores-next}
 use Rattle.history.proofs.Runs.{Begins, opened, added, ended}

@@ -6,12 +6,12 @@ use Rattle.answer.specs.Asked.{Asked, passed, refused, after}
 use Rattle.logic.specs.Closing.{closeNode, openNode}
 use Rattle.sheet.specs.Sheet.{present, store, graphOf}
 use Rattle.sheet.proofs.Opening as sheets
-use Rattle.closing.specs.Questions.{askClose, askOpen, closedSheet, openedSheet}
-use Rattle.plans.specs.Store.{placeIn}
-use Rattle.plans.specs.Questions.{askReturn}
-use Rattle.plans.specs.Calls.{returnedSheet}
-use Rattle.demands.specs.Run.{Keeps}
-use Rattle.demands.specs.Demand3.{RunRight}
+use Rattle.close_node.specs.Questions.{askClose, askOpen, closedSheet, openedSheet}
+use Rattle.plan_store.specs.Store.{placeIn}
+use Rattle.plan_store.specs.Questions.{askReturn}
+use Rattle.plan_store.specs.Calls.{returnedSheet}
+use Rattle.runs.specs.Run.{Keeps}
+use Rattle.runs.specs.Demand3.{RunRight}
 use Rattle.history.specs.History.{entering, closing, opening, Run, All}
 use Rattle.history.specs.Plans.{Step, making, keeping, returning, dropping, State, left, sheetsThrough, runsThrough, linesThrough, PlannedRight}
 use Rattle.history.proofs.Steps.{stores-next}

@@ -11,13 +11,13 @@ use Rattle.sheet.proofs.Opening as sheets
 use Rattle.text.specs.Reading.{textLimits}
 use Rattle.text.specs.Questions.{askBook}
 use Rattle.judge.specs.Questions.{askRules}
-use Rattle.plans.specs.Store.{placeIn}
-use Rattle.plans.specs.Questions.{askKept, askReturn}
-use Rattle.plans.specs.Calls.{returnedSheet}
-use Rattle.plans.proofs.Laws.{place-small, place-sound}
-use Rattle.demands.specs.Run.{Keeps, Call, Bytes}
-use Rattle.demands.specs.Demand3.{RunRight}
-use Rattle.demands.proofs.Passing.{asked-hold}
+use Rattle.plan_store.specs.Store.{placeIn}
+use Rattle.plan_store.specs.Questions.{askKept, askReturn}
+use Rattle.plan_store.specs.Calls.{returnedSheet}
+use Rattle.plan_store.proofs.Laws.{place-small, place-sound}
+use Rattle.runs.specs.Run.{Keeps, Call, Bytes}
+use Rattle.runs.specs.Demand3.{RunRight}
+use Rattle.runs.proofs.Passing.{asked-hold}
 use Rattle.history.proofs.Steps.{Stores}
 use Rattle.history.proofs.History.{keeps-stored, right-stored}
 use Rattle.history.proofs.Back.{return-told, is-returned}

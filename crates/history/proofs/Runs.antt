@@ -3,8 +3,8 @@ use mathlib.Core.Path.{_≡_, refl, sym, ap, _∙_, subst}
 use mathlib.Core.List.{List, [], _∷_, _++_}
 use Prim.Native.Nat.{ℕ}
 use Rattle.answer.specs.Asked.{Asked, passed, refused, after}
-use Rattle.demands.specs.Clerk.{Line}
-use Rattle.demands.specs.Run.{Call, enterLine, log}
+use Rattle.runs.specs.Clerk.{Line}
+use Rattle.runs.specs.Run.{Call, enterLine, log}
 use Rattle.history.specs.History.{Run, onto, ends, logs, All}
 
 module _ (book : List ℕ) (P : List ℕ → Type 0) where

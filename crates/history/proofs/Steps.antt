@@ -15,13 +15,13 @@ use Rattle.logic.proofs.Closing.{close-within, open-within}
 use Rattle.sheet.specs.Sheet.{store, graphOf}
 use Rattle.sheet.proofs.ReadBack.{read-back}
 use Rattle.judge.specs.Questions.{askRules}
-use Rattle.closing.specs.Questions.{askNode, askClose, askOpen, closedSheet, openedSheet}
-use Rattle.closing.proofs.Uses.{use-same}
-use Rattle.demands.specs.Run.{fed}
-use Rattle.demands.specs.Clerk.{Line, clerkGraph}
-use Rattle.demands.proofs.Passing.{asked-hold}
-use Rattle.demands.proofs.OneCall.{asked-of-stored, enter-line}
-use Rattle.demands.proofs.Runs.{Kept, still-kept}
+use Rattle.close_node.specs.Questions.{askNode, askClose, askOpen, closedSheet, openedSheet}
+use Rattle.close_node.proofs.Uses.{use-same}
+use Rattle.runs.specs.Run.{fed}
+use Rattle.runs.specs.Clerk.{Line, clerkGraph}
+use Rattle.runs.proofs.Passing.{asked-hold}
+use Rattle.runs.proofs.OneCall.{asked-of-stored, enter-line}
+use Rattle.runs.proofs.Runs.{Kept, still-kept}
 use Rattle.history.specs.History.{Event, entering, closing, opening, leaves}
 
 module _ (book : List ℕ) (rules : List (Expr rule)) where

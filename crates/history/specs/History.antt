@@ -5,11 +5,11 @@ use mathlib.Core.List.{List, [], _∷_, _++_}
 use Prim.Native.Nat.{ℕ}
 use lib.ListN.{length}
 use Rattle.answer.specs.Asked.{Asked, passed, refused}
-use Rattle.closing.specs.Questions.{askClose, askOpen, closedSheet, openedSheet}
-use Rattle.demands.specs.Enter.{enterSheet}
-use Rattle.demands.specs.Clerk.{Line}
-use Rattle.demands.specs.Run.{Keeps, Call, enterLine, log}
-use Rattle.demands.specs.Demand3.{RunRight}
+use Rattle.close_node.specs.Questions.{askClose, askOpen, closedSheet, openedSheet}
+use Rattle.runs.specs.Enter.{enterSheet}
+use Rattle.runs.specs.Clerk.{Line}
+use Rattle.runs.specs.Run.{Keeps, Call, enterLine, log}
+use Rattle.runs.specs.Demand3.{RunRight}
 
 -- A call of a history.
 pub data Event : Type 0 where

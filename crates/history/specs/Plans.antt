@@ -3,12 +3,12 @@
 use mathlib.Core.Path.{_≡_}
 use mathlib.Core.List.{List, [], _∷_}
 use Prim.Native.Nat.{ℕ}
-use Rattle.closing.specs.Questions.{askClose, askOpen}
-use Rattle.plans.specs.Questions.{askReturn}
-use Rattle.plans.specs.Calls.{keptStore, returnedSheet, droppedStore}
-use Rattle.demands.specs.Clerk.{Line}
-use Rattle.demands.specs.Run.{Keeps, enterLine}
-use Rattle.demands.specs.Demand3.{RunRight}
+use Rattle.close_node.specs.Questions.{askClose, askOpen}
+use Rattle.plan_store.specs.Questions.{askReturn}
+use Rattle.plan_store.specs.Calls.{keptStore, returnedSheet, droppedStore}
+use Rattle.runs.specs.Clerk.{Line}
+use Rattle.runs.specs.Run.{Keeps, enterLine}
+use Rattle.runs.specs.Demand3.{RunRight}
 use Rattle.history.specs.History.{Event, entering, closing, opening, leaves, Run, onto, ends, logs, All}
 
 -- A call: enter, close or open; keep the sheet under a name, return to the one kept there, drop it.

@@ -7,10 +7,10 @@ use Prim.Native.Nat.{ℕ, _-_}
 use lib.Dec.{eqb}
 use lib.ListN.{length}
 use Rattle.answer.specs.Asked.{passed, after}
-use Rattle.plans.specs.Store.{placeIn, filledIn}
-use Rattle.plans.specs.Questions.{nameRight, askBlankStore, askKeep, askReturn, askDrop}
-use Rattle.plans.specs.Calls.{blankStore, keptStore, returnedSheet, droppedStore}
-use Rattle.demands.specs.Run.{Bytes}
+use Rattle.plan_store.specs.Store.{placeIn, filledIn}
+use Rattle.plan_store.specs.Questions.{nameRight, askBlankStore, askKeep, askReturn, askDrop}
+use Rattle.plan_store.specs.Calls.{blankStore, keptStore, returnedSheet, droppedStore}
+use Rattle.runs.specs.Run.{Bytes}
 
 -- "Blank [..], keep, return, drop"
 pub data StoreCall : Type 0 where

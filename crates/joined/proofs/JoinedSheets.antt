@@ -17,12 +17,12 @@ use Rattle.sheet.proofs.Passes.{stored-passes}
 use Rattle.sheet.proofs.ReadBack.{read-back}
 use Rattle.text.specs.Reading.{textLimits}
 use Rattle.text.specs.Questions.{askBook}
-use Rattle.demands.specs.Run.{Hold, Keeps}
-use Rattle.join.specs.Joined.{joinedGraph, nodesTotal, askJoin, joinedSheet}
-use Rattle.join.specs.Joinable.{JoinableBook}
-use Rattle.join.proofs.Joined.{nodes-joined, pairs-joined, rule-joined}
-use Rattle.join.proofs.Together.{join-within, join-assoc}
-use Rattle.join.proofs.Answers.{joins, passes, joined-is}
+use Rattle.runs.specs.Run.{Hold, Keeps}
+use Rattle.join_sheets.specs.Joined.{joinedGraph, nodesTotal, askJoin, joinedSheet}
+use Rattle.join_sheets.specs.Joinable.{JoinableBook}
+use Rattle.join_sheets.proofs.Joined.{nodes-joined, pairs-joined, rule-joined}
+use Rattle.join_sheets.proofs.Together.{join-within, join-assoc}
+use Rattle.join_sheets.proofs.Answers.{joins, passes, joined-is}
 use Rattle.joined.specs.JoinedSheets.{TwoJoined, ThreeJoined, JoinedRight}
 use Rattle.joined.proofs.Ranges.{read-alike}
 

@@ -8,7 +8,7 @@ use Rattle.logic.specs.Limits.{ranges, InRange}
 use Rattle.text.specs.Reading.{textLimits}
 use Rattle.text.specs.Questions.{askBook}
 use Rattle.text.proofs.Books.{EachAllowed, book-is-spelled, spelled-book-passes}
-use Rattle.join.specs.Joinable.{Joinable, JoinableBook}
+use Rattle.join_sheets.specs.Joinable.{Joinable, JoinableBook}
 
 module _ (n m : ℕ) where
   any-range : {s : Sort} (e : Expr s) → Joinable e → InRange (ranges n) e → InRange (ranges m) e

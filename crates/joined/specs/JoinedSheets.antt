@@ -12,9 +12,9 @@ use Rattle.sheet.specs.Sheet.{graphOf}
 use Rattle.sheet.specs.Questions.{Sound}
 use Rattle.text.specs.Reading.{textLimits}
 use Rattle.text.specs.Questions.{askBook}
-use Rattle.demands.specs.Run.{Bytes, Keeps}
-use Rattle.join.specs.Joined.{sideBySide, pairsBySide, joinedGraph, nodesTotal, askJoin, joinedSheet}
-use Rattle.join.specs.Joinable.{Joinable, JoinableBook}
+use Rattle.runs.specs.Run.{Bytes, Keeps}
+use Rattle.join_sheets.specs.Joined.{sideBySide, pairsBySide, joinedGraph, nodesTotal, askJoin, joinedSheet}
+use Rattle.join_sheets.specs.Joinable.{Joinable, JoinableBook}
 
 -- Of two sheets that are joined.
 pub record TwoJoined (first second : List ℕ) : Type 0 where

@@ -11,7 +11,7 @@ use Rattle.logic.specs.Syntax.{Expr, rule}
 use Rattle.logic.specs.Graph.{isNode}
 use Rattle.logic.specs.Meaning.{value}
 use Rattle.logic.specs.Limits.{maxNodes, ranges}
-use Rattle.words.specs.Words.{setOf}
+use Rattle.bitset.specs.Words.{setOf}
 use Rattle.sheet.specs.Sheet.{present, graphOf}
 use Rattle.sheet.specs.Questions.{Sound}
 use Rattle.sheet.proofs.Opening.{opening}

@@ -9,7 +9,7 @@ use Rattle.sheet.specs.Sheet.{graphOf}
 use Rattle.judge.specs.Questions.{askSheetAndBook, askRules}
 use Rattle.single.specs.Scratch.{askScratch}
 use Rattle.apply.specs.Apply.{afterSteps}
-use Rattle.demands.specs.Enter.{StepsAndCarried, askBefore41, askEnter, enterSheet}
+use Rattle.runs.specs.Enter.{StepsAndCarried, askBefore41, askEnter, enterSheet}
 use Rattle.line.specs.Line.{askedLine}
 use Rattle.printed.specs.Printed.{scratchBytes, printedLine, printedSheet}
 use Rattle.log.specs.Taken.{kept}

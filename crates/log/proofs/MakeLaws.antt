@@ -8,7 +8,7 @@ use lib.Dec.{eqb}
 use lib.ListN.{length, getD, take, drop, replicate, length-append, length-replicate}
 use lib.Seq.{take-at, drop-at, drop-drop}
 use Rattle.answer.specs.Asked.{passed}
-use Rattle.words.specs.Words.{bytes}
+use Rattle.bitset.specs.Words.{bytes}
 use Rattle.seal.specs.Seal.{modulo257, seal, sealed, sealRight}
 use Rattle.seal.proofs.SealLaws.{sealed-right, length-sealed}
 use Rattle.log.specs.Log.{isLast, markRight, count, countRight, content, allZero, zerosBehind, askLogBlock}

@@ -6,11 +6,11 @@ use Prim.Native.Nat.{ℕ, suc, _≤_, _/_}
 use lib.ListN.{length, take, drop, length-replicate, take-append-drop}
 use Rattle.answer.specs.Asked.{Asked, passed, refused}
 use Rattle.line.specs.Line.{askedLine}
-use Rattle.demands.specs.Clerk.{Line}
-use Rattle.demands.specs.Enter.{enterAnswer, enterSheet}
-use Rattle.demands.specs.Run.{Keeps, Call, log, Bytes}
-use Rattle.demands.specs.Demand3.{Each}
-use Rattle.demands.proofs.Demand3.{demand-3}
+use Rattle.runs.specs.Clerk.{Line}
+use Rattle.runs.specs.Enter.{enterAnswer, enterSheet}
+use Rattle.runs.specs.Run.{Keeps, Call, log, Bytes}
+use Rattle.runs.specs.Demand3.{Each}
+use Rattle.runs.proofs.Demand3.{demand-3}
 use Rattle.printed.specs.Printed.{scratchBytes, printedLine, printedSheet}
 use Rattle.log.specs.Log.{isLast, content, isBegun, askLogBlock, askLogEnd, Recorded, follows, recorded, blocksOf, readLog}
 use Rattle.log.specs.Stops.{partOf, restOf}

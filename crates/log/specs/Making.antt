@@ -4,7 +4,7 @@ use mathlib.Core.List.{List, [], _∷_, _++_}
 use Prim.Native.Nat.{ℕ, zero, suc, _+_, _-_, _<_}
 use lib.Dec.{leb}
 use lib.ListN.{length, take, drop, replicate}
-use Rattle.words.specs.Words.{bytes}
+use Rattle.bitset.specs.Words.{bytes}
 use Rattle.seal.specs.Seal.{modulo257, sealed}
 use Rattle.log.specs.Log.{contentBytes}
 

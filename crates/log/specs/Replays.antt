@@ -6,9 +6,9 @@ use Prim.Native.Nat.{ℕ, suc, _/_, _≤_}
 use lib.ListN.{length, replicate}
 use Rattle.seal.specs.Seal.{blockBytes}
 use Rattle.line.specs.Line.{askedLine}
-use Rattle.demands.specs.Clerk.{Line}
-use Rattle.demands.specs.Run.{Keeps, Call, log, Bytes}
-use Rattle.demands.specs.Demand3.{RunRight}
+use Rattle.runs.specs.Clerk.{Line}
+use Rattle.runs.specs.Run.{Keeps, Call, log, Bytes}
+use Rattle.runs.specs.Demand3.{RunRight}
 use Rattle.printed.specs.Printed.{scratchBytes}
 use Rattle.log.specs.Log.{lastNumber, blocksOf, readLog}
 use Rattle.log.specs.Stops.{partOf, restOf}

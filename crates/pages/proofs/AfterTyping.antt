@@ -11,7 +11,7 @@ use Rattle.answer.specs.Asked.{passed, after}
 use Rattle.logic.specs.Graph.{Graph, isNode}
 use Rattle.logic.specs.Limits.{Within, maxNodes}
 use Rattle.logic.specs.Steps.{update}
-use Rattle.words.specs.Words.{setOf}
+use Rattle.bitset.specs.Words.{setOf}
 use Rattle.sheet.specs.Sheet.{present, store, graphOf, block, labelBlock, arrowBlock, blockCount}
 use Rattle.sheet.specs.Questions.{blockOf, askSheet, Sound}
 use Rattle.sheet.proofs.Opening.{opening}

@@ -10,7 +10,7 @@ use Rattle.answer.specs.Asked.{passed}
 use Rattle.logic.specs.Graph.{Graph, Nodes}
 use Rattle.logic.specs.Limits.{Within, maxNodes, labelCount}
 use Rattle.logic.specs.Steps.{update, rejoin}
-use Rattle.words.specs.Words.{setOf}
+use Rattle.bitset.specs.Words.{setOf}
 use Rattle.sheet.specs.Sheet.{present, store, graphOf, block, labelBlock, arrowBlock, lineCount, relabelAll}
 use Rattle.sheet.specs.Questions.{blockOf, Sound}
 use Rattle.sheet.proofs.Opening.{opening}

@@ -11,8 +11,8 @@ use lib.Dec.{eqb, ltb}
 use lib.ListN.{length, getD, set, take, drop, replicate, length-append, length-set, length-drop, drop-of-length-le}
 use lib.Seq.{drop-cons, take-suc-set, take-at, set-split, length-take-le}
 use Rattle.logic.specs.Graph.{Graph, Nodes, isNode}
-use Rattle.words.specs.Words.{setOf, member}
-use Rattle.words.proofs.SetLaws.{setOf-cong, member-setOf}
+use Rattle.bitset.specs.Words.{setOf, member}
+use Rattle.bitset.proofs.SetLaws.{setOf-cong, member-setOf}
 use Rattle.seal.specs.Seal.{sameBytes}
 use Rattle.line.specs.Line.{digits}
 use Rattle.line.proofs.LineLaws.{digits-length}

@@ -18,8 +18,8 @@ use Rattle.answer.specs.Answers.{refusalNumber, refusalPlace, asked}
 use Rattle.answer.specs.Asked.{Asked, passed, refused, _>>=_, _>>_, is, after, outcome}
 use Rattle.logic.specs.Graph.{Graph, Nodes, isNode}
 use Rattle.logic.specs.Limits.{maxNodes, labelCount, arrowCount}
-use Rattle.words.specs.Words.{setOf, member, combined}
-use Rattle.words.proofs.SetLaws.{setOf-none, member-of, combined-sets}
+use Rattle.bitset.specs.Words.{setOf, member, combined}
+use Rattle.bitset.proofs.SetLaws.{setOf-none, member-of, combined-sets}
 use Rattle.sheet.specs.Sheet.{store, graphOf}
 use Rattle.sheet.specs.Questions.{askSheet, Sound}
 use Rattle.seal.specs.Seal.{sameBytes}

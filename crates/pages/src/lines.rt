@@ -3,7 +3,7 @@ ghost use mathlib.Core.Path.{_≡_};
 ghost use Prim.Native.Nat.{_<_, _≤_};
 ghost use lib.ListN.{length};
 ghost use Rattle.logic.specs.Limits.{maxNodes};
-ghost use Rattle.words.specs.Words.{setOf, member};
+ghost use Rattle.bitset.specs.Words.{setOf, member};
 ghost use Rattle.seal.specs.Seal.{sameBytes};
 ghost use Rattle.pages.specs.Page.{lineBytes, headLine, square, setLine};
 ghost use Rattle.pages.specs.Typed.{marks};
@@ -23,7 +23,7 @@ fn square(n: usize, row: u64, j: usize) -> u8
     if j >= n {
         return b' ';
     }
-    if words::member(row, j) { b'#' } else { b'.' }
+    if bitset::member(row, j) { b'#' } else { b'.' }
 }
 
 // Makes the line that of number x of a set.

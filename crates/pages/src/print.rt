@@ -4,7 +4,7 @@ ghost use Prim.Native.Nat.{_*_, _<_, _≤_};
 ghost use lib.ListN.{length};
 ghost use Rattle.answer.specs.Outputs.{writtenAsked, writtenLength, writtenAtStart, writtenOutput};
 ghost use Rattle.logic.specs.Limits.{maxNodes, arrowCount};
-ghost use Rattle.words.specs.Words.{setOf};
+ghost use Rattle.bitset.specs.Words.{setOf};
 ghost use Rattle.sheet.specs.Sheet.{graphOf, lineOf};
 ghost use Rattle.sheet.specs.Questions.{Sound};
 ghost use Rattle.pages.specs.Page.{lineBytes, rowLines, labelPageLines, labelLines};

@@ -7,7 +7,7 @@ ghost use Rattle.answer.specs.Answers.{asked};
 ghost use Rattle.answer.specs.Asked.{passed, after, outcome};
 ghost use Rattle.logic.specs.Graph.{Graph, Nodes, isNode};
 ghost use Rattle.logic.specs.Limits.{maxNodes, arrowCount};
-ghost use Rattle.words.specs.Words.{setOf};
+ghost use Rattle.bitset.specs.Words.{setOf};
 ghost use Rattle.sheet.specs.Sheet.{store, graphOf};
 ghost use Rattle.sheet.specs.Questions.{Sound};
 ghost use Rattle.pages.specs.Page.{lineBytes, labelPageLines};
@@ -68,9 +68,9 @@ fn set_shown(used: u64, rows: bool, x: usize, marked: u64) -> u64
     requires { ⌜ x < 64 ⌝ }
     ensures { λ r. ⌜ ((g : Graph) (v : Nodes) → g .n ≤ maxNodes → used ≡ setOf (g .n) (isNode g) → marked ≡ setOf (g .n) v → r ≡ setOf (g .n) (setShown g rows x v)) ⌝ }
 {
-    let kept = words::both(used, marked);
+    let kept = bitset::both(used, marked);
     if rows {
-        if !words::member(used, x) {
+        if !bitset::member(used, x) {
             return 0;
         }
         return kept;

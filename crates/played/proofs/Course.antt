@@ -20,9 +20,9 @@ use Rattle.text.specs.Questions.{askBook}
 use Rattle.judge.specs.Questions.{askRules, askSheetAndBook, askJudge}
 use Rattle.single.specs.Scratch.{longestRule}
 use Rattle.apply.specs.Apply.{appliedSheet}
-use Rattle.demands.specs.Enter.{enterSheet}
-use Rattle.demands.specs.Run.{Hold, Bytes}
-use Rattle.demands.proofs.Passing.{hold-asked, asked-hold}
+use Rattle.runs.specs.Enter.{enterSheet}
+use Rattle.runs.specs.Run.{Hold, Bytes}
+use Rattle.runs.proofs.Passing.{hold-asked, asked-hold}
 use Rattle.game.specs.Game.{Side, dispatcher, disruption, Game, Move, pass, edit, editsOf, leaves, mayLeave, canMake, allowed, Outcome, answer}
 use Rattle.game.specs.Play.{Plan, since, Play, Course, ended, wrong, course, Fair, Won, Broken, Wins, CanFollow, SomeBreaks, Begins, Right}
 use Rattle.game.proofs.Bools.{true-false, so, is-true, is-false}

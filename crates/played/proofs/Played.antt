@@ -21,13 +21,13 @@ use Rattle.text.specs.Questions.{askBook, askEdit}
 use Rattle.judge.specs.Questions.{askSheetAndBook}
 use Rattle.single.specs.Scratch.{longestRule, askScratch}
 use Rattle.apply.specs.Apply.{afterSteps, askApply}
-use Rattle.demands.specs.Clerk.{Fed}
-use Rattle.demands.specs.Enter.{askEnter, enterAnswer}
-use Rattle.demands.specs.Run.{Given}
-use Rattle.demands.proofs.Passing.{passed-same, bind-passed, then-passed, outcome-passed, hold-asked, asked-hold}
-use Rattle.demands.proofs.OneCall.{enter-asks, when-passed}
-use Rattle.demands.proofs.After.{applied-is, applies, after-sound, after-graph, after-n}
-use Rattle.demands.proofs.Demand3.{demand-3}
+use Rattle.runs.specs.Clerk.{Fed}
+use Rattle.runs.specs.Enter.{askEnter, enterAnswer}
+use Rattle.runs.specs.Run.{Given}
+use Rattle.runs.proofs.Passing.{passed-same, bind-passed, then-passed, outcome-passed, hold-asked, asked-hold}
+use Rattle.runs.proofs.OneCall.{enter-asks, when-passed}
+use Rattle.runs.proofs.After.{applied-is, applies, after-sound, after-graph, after-n}
+use Rattle.runs.proofs.Demand3.{demand-3}
 use Rattle.game.specs.Game.{Side, dispatcher, disruption, Game, editsOf, leaves, canMake}
 use Rattle.play.specs.Questions.{cut, askEdits, askCarried}
 use Rattle.play.proofs.Edits.{edits-stand}

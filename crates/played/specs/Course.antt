@@ -9,7 +9,7 @@ use Rattle.logic.specs.Graph.{Graph}
 use Rattle.sheet.specs.Sheet.{graphOf}
 use Rattle.judge.specs.Questions.{askJudge}
 use Rattle.apply.specs.Apply.{askApply, appliedSheet}
-use Rattle.demands.specs.Enter.{enterAnswer, enterSheet}
+use Rattle.runs.specs.Enter.{enterAnswer, enterSheet}
 use Rattle.game.specs.Game.{Side, dispatcher, disruption, Game, Move, pass, edit, Outcome, cannot, first}
 use Rattle.game.specs.Play.{Plan, since, Play, ended, course, Won, Wins, CanFollow, SomeBreaks}
 use Rattle.played.specs.Played.{Held}

@@ -13,8 +13,8 @@ use Rattle.sheet.specs.Sheet.{graphOf}
 use Rattle.sheet.specs.Questions.{Sound}
 use Rattle.single.specs.Scratch.{longestRule}
 use Rattle.apply.specs.Apply.{askApply, appliedSheet}
-use Rattle.demands.specs.Enter.{enterAnswer, enterSheet}
-use Rattle.demands.specs.Run.{Bytes}
+use Rattle.runs.specs.Enter.{enterAnswer, enterSheet}
+use Rattle.runs.specs.Run.{Bytes}
 use Rattle.game.specs.Game.{Side, dispatcher, disruption, Game, edit, leaves, canMake}
 use Rattle.play.specs.Questions.{cut, askGame}
 

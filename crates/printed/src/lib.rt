@@ -12,5 +12,5 @@ pub fn enter_line(sheet: &mut [u8], book: &[u8], edit: &[u8]) -> [u8; line::BYTE
     ensures { λ _. ⌜ now (sheet .exit) ≡ printedSheet (now (sheet .entry)) (now (book .entry)) (now (edit .entry)) ⌝ }
 {
     let mut scratch = [0u8; SCRATCH_BYTES];
-    line::line_of(entry::enter(sheet, book, edit, &mut scratch))
+    line::line_of(enter_edit::enter(sheet, book, edit, &mut scratch))
 }

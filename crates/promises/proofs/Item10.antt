@@ -19,11 +19,11 @@ use Rattle.single.specs.Scratch.{longestRule, askScratch, upToBroken, overwritt
 use Rattle.single.proofs.Rooms.{passed-fits}
 use Rattle.single.proofs.Writings.{length-stays, rest-stays, last-at-start, longest-written, Broken, broken-at, all-written}
 use Rattle.apply.specs.Apply.{afterSteps}
-use Rattle.demands.specs.Enter.{StepsAndCarried, askBefore41, askEnter, enterAnswer, enterSheet, enterScratch}
-use Rattle.demands.specs.Leaves.{ScratchWritten}
-use Rattle.demands.proofs.Passing.{then-passed}
-use Rattle.demands.proofs.Leaves.{Passed33, passed-33, leaves}
-use Rattle.demands.proofs.Unmoved.{any-room-asks, unmoved}
+use Rattle.runs.specs.Enter.{StepsAndCarried, askBefore41, askEnter, enterAnswer, enterSheet, enterScratch}
+use Rattle.runs.specs.Leaves.{ScratchWritten}
+use Rattle.runs.proofs.Passing.{then-passed}
+use Rattle.runs.proofs.Leaves.{Passed33, passed-33, leaves}
+use Rattle.runs.proofs.Unmoved.{any-room-asks, unmoved}
 use Rattle.promises.specs.Item10.{Written, Item10}
 
 any-scratch : (sheet book edit : List ℕ) (room : ℕ) → ((p : ℕ) → enterAnswer sheet book edit room ≢ refused 33 p)

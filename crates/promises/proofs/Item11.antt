@@ -13,11 +13,11 @@ use Rattle.sheet.proofs.Opening.{opening}
 use Rattle.text.specs.Reading.{textLimits, carriedLimits}
 use Rattle.text.specs.Questions.{askBook}
 use Rattle.judge.specs.Questions.{askRules, askSheetAndBook, askJudge}
-use Rattle.laws.specs.Asking.{CheckPasses}
-use Rattle.laws.specs.SameTruth.{SameTruth}
-use Rattle.laws.proofs.Checked.{check-passes, check-means}
-use Rattle.laws.proofs.OneReading.{one-rule-book}
-use Rattle.demands.specs.Run.{Bytes}
+use Rattle.shortening.specs.Asking.{CheckPasses}
+use Rattle.shortening.specs.SameTruth.{SameTruth}
+use Rattle.shortening.proofs.Checked.{check-passes, check-means}
+use Rattle.shortening.proofs.OneReading.{one-rule-book}
+use Rattle.runs.specs.Run.{Bytes}
 use Rattle.promises.specs.Item11.{Accepts, BookAs, Item11}
 
 module _ (carried steps sent : List ℕ) (accepts : Accepts carried steps sent) (sheet : List ℕ) (bytes : Bytes sheet) where

@@ -21,19 +21,19 @@ use Rattle.sheet.proofs.Small.{store-small}
 use Rattle.text.specs.Reading.{textLimits}
 use Rattle.text.specs.Questions.{askBook, askEdit}
 use Rattle.apply.specs.Apply.{afterSteps}
-use Rattle.demands.specs.Run.{Hold, Keeps}
-use Rattle.demands.proofs.Passing.{passed-same, bind-passed, then-passed}
-use Rattle.demands.proofs.Runs.{steps-within, keeps}
-use Rattle.counts.specs.Small.{Small, holdAll}
-use Rattle.counts.specs.Names.{rulesOnlyFirst, editOnlyFirst}
-use Rattle.counts.specs.Exactly.{Exactly}
-use Rattle.counts.specs.Questions.{mostSmall, Texts, askCount, countsOf}
-use Rattle.counts.specs.Examples.{cases}
-use Rattle.counts.proofs.Numbering.{true-false, and-both}
-use Rattle.counts.proofs.Matched.{matched}
-use Rattle.counts.proofs.Exact.{SmallAnd}
-use Rattle.counts.proofs.Right.{counted-graphs, total-is}
-use Rattle.counts.proofs.Examples.{cases-right}
+use Rattle.runs.specs.Run.{Hold, Keeps}
+use Rattle.runs.proofs.Passing.{passed-same, bind-passed, then-passed}
+use Rattle.runs.proofs.Runs.{steps-within, keeps}
+use Rattle.count_small.specs.Small.{Small, holdAll}
+use Rattle.count_small.specs.Names.{rulesOnlyFirst, editOnlyFirst}
+use Rattle.count_small.specs.Exactly.{Exactly}
+use Rattle.count_small.specs.Questions.{mostSmall, Texts, askCount, countsOf}
+use Rattle.count_small.specs.Examples.{cases}
+use Rattle.count_small.proofs.Numbering.{true-false, and-both}
+use Rattle.count_small.proofs.Matched.{matched}
+use Rattle.count_small.proofs.Exact.{SmallAnd}
+use Rattle.count_small.proofs.Right.{counted-graphs, total-is}
+use Rattle.count_small.proofs.Examples.{cases-right}
 use Rattle.promises.specs.Item12.{SmallSheet, Counted, Item12}
 
 -- A test or its contrary, and a statement or its contrary.

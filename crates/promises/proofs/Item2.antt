@@ -1,9 +1,7 @@
 -- Item 2 of document 02 is kept.
 use mathlib.Core.Path.{ap, _∙_}
-use mathlib.Core.List.{List}
-use Prim.Native.Nat.{ℕ}
 use lib.ListN.{drop}
-use Rattle.words.specs.Words.{bytes}
+use Rattle.bitset.specs.Words.{bytes}
 use Rattle.seal.specs.Seal.{modulo257, modulo255, sealed, stored}
 use Rattle.seal.proofs.Noticed.{block-1, old-block-1}
 use Rattle.sheet.specs.Sheet.{present, former, chunks, block}

@@ -30,10 +30,10 @@ use Rattle.sheet.proofs.Opening.{opening, one-sheet}
 use Rattle.sheet.proofs.ReadBack.{read-back}
 use Rattle.sheet.proofs.Converted.{converted-reads}
 use Rattle.apply.specs.Apply.{afterSteps, askApply, appliedSheet}
-use Rattle.demands.specs.Enter.{askEnter, enterSheet}
-use Rattle.demands.specs.Run.{Bytes}
-use Rattle.demands.proofs.After.{applied-is, applied-read, after-graph}
-use Rattle.closing.proofs.Answers.{found, close-already, close-kept, open-already}
+use Rattle.runs.specs.Enter.{askEnter, enterSheet}
+use Rattle.runs.specs.Run.{Bytes}
+use Rattle.runs.proofs.After.{applied-is, applied-read, after-graph}
+use Rattle.close_node.proofs.Answers.{found, close-already, close-kept, open-already}
 use Rattle.chained.proofs.Entered.{entered, enter-leaves}
 use Rattle.history.proofs.History.{history-right}
 use Rattle.promises.specs.Item6.{Closed, UpTo4, Item6}

@@ -9,9 +9,9 @@ use Rattle.logic.specs.Syntax.{Expr, rule}
 use Rattle.text.specs.Code.{code}
 use Rattle.text.specs.Reading.{longestCarried}
 use Rattle.single.specs.Scratch.{longestRule}
-use Rattle.demands.specs.Enter.{StepsAndCarried, askBefore41, enterAnswer, enterSheet, enterScratch}
-use Rattle.demands.specs.Leaves.{Leaves}
-use Rattle.demands.specs.Unmoved.{Unmoved}
+use Rattle.runs.specs.Enter.{StepsAndCarried, askBefore41, enterAnswer, enterSheet, enterScratch}
+use Rattle.runs.specs.Leaves.{Leaves}
+use Rattle.runs.specs.Unmoved.{Unmoved}
 
 -- The carried rules up to `last` were written into the scratch, each at its start over the one before: what is left.
 pub record Written (sheet book edit scratch : List ℕ) : Type 0 where

@@ -10,8 +10,8 @@ use Rattle.sheet.specs.Questions.{Sound}
 use Rattle.text.specs.Reading.{textLimits, carriedLimits}
 use Rattle.text.specs.Questions.{askBook, askRule}
 use Rattle.judge.specs.Questions.{askJudge}
-use Rattle.laws.specs.Asking.{askCheck, CheckPasses}
-use Rattle.demands.specs.Run.{Bytes}
+use Rattle.shortening.specs.Asking.{askCheck, CheckPasses}
+use Rattle.runs.specs.Run.{Bytes}
 
 -- The check accepts the text sent for the carried one.
 abbrev pub Accepts : (carried steps sent : List ℕ) → Type 0

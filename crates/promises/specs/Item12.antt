@@ -7,11 +7,11 @@ use Rattle.logic.specs.Syntax.{Edit}
 use Rattle.sheet.specs.Sheet.{graphOf}
 use Rattle.sheet.specs.Questions.{Sound}
 use Rattle.apply.specs.Apply.{afterSteps}
-use Rattle.demands.specs.Run.{Bytes, Keeps}
-use Rattle.counts.specs.declared.Four.{Four}
-use Rattle.counts.specs.Small.{Small, total}
-use Rattle.counts.specs.Exactly.{Exactly}
-use Rattle.counts.specs.Questions.{Texts, askCount, countsOf}
+use Rattle.runs.specs.Run.{Bytes, Keeps}
+use Rattle.count_small.specs.declared.Four.{Four}
+use Rattle.count_small.specs.Small.{Small, total}
+use Rattle.count_small.specs.Exactly.{Exactly}
+use Rattle.count_small.specs.Questions.{Texts, askCount, countsOf}
 
 -- "all nodes in use, only label 0 and arrow 0 in sheet": a sound sheet of n nodes that is such.
 pub record SmallSheet (n : ℕ) (sheet : List ℕ) : Type 0 where

@@ -7,7 +7,7 @@ use lib.ListN.{drop}
 use Rattle.seal.specs.Seal.{modulo255}
 use Rattle.sheet.specs.Sheet.{SheetForm, present, former, graphIn}
 use Rattle.sheet.specs.Questions.{blockOf, SoundIn}
-use Rattle.demands.specs.Run.{Bytes}
+use Rattle.runs.specs.Run.{Bytes}
 
 -- A sound sheet of a form, block 1 of which has no arrows.
 pub record WithoutArrows (φ : SheetForm) (t : List ℕ) : Type 0 where

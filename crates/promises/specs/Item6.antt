@@ -19,9 +19,9 @@ use Rattle.sheet.specs.Sheet.{present, former, sheetBytes, bitIn, store, blank,
 use Rattle.sheet.specs.Questions.{blockOf, headRight, askBlock, askSheet, SoundIn, Sound}
 use Rattle.sheet.specs.Converted.{converted}
 use Rattle.apply.specs.Apply.{appliedSheet}
-use Rattle.demands.specs.Enter.{enterSheet}
-use Rattle.demands.specs.Run.{Bytes, Keeps}
-use Rattle.closing.specs.Questions.{askNode, askClose, askOpen, closedSheet, openedSheet}
+use Rattle.runs.specs.Enter.{enterSheet}
+use Rattle.runs.specs.Run.{Bytes, Keeps}
+use Rattle.close_node.specs.Questions.{askNode, askClose, askOpen, closedSheet, openedSheet}
 use Rattle.history.specs.History.{Event, HistoryRight}
 
 -- A node is closed when it is not in use.

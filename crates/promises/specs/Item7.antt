@@ -3,10 +3,10 @@ use mathlib.Core.Path.{_≡_}
 use mathlib.Core.List.{List, _∷_}
 use Prim.Native.Nat.{ℕ}
 use Rattle.answer.specs.Asked.{passed}
-use Rattle.plans.specs.Questions.{askReturn}
-use Rattle.plans.specs.Calls.{returnedSheet}
-use Rattle.demands.specs.Run.{Bytes, Keeps, Call}
-use Rattle.demands.specs.Demand3.{RunRight}
+use Rattle.plan_store.specs.Questions.{askReturn}
+use Rattle.plan_store.specs.Calls.{returnedSheet}
+use Rattle.runs.specs.Run.{Bytes, Keeps, Call}
+use Rattle.runs.specs.Demand3.{RunRight}
 use Rattle.history.specs.History.{All}
 use Rattle.history.specs.Store.{StoreCall, blank, KeepsBytes, nothing, heldIn, GivesBack}
 

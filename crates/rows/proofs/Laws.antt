@@ -13,8 +13,8 @@ use lib.Seq.{getD-set-same, getD-set-other}
 use borrow.Author.Tests.{ne-eqb, eqb-true, eqb-false, lt-ltb, ltb-true}
 use Rattle.logic.specs.Graph.{Nodes, Pairs, anyBelow, allBelow, countBelow, implies}
 use Rattle.logic.proofs.Below.{none-outside}
-use Rattle.words.specs.Words.{digit, setOf, member, combined}
-use Rattle.words.proofs.SetLaws.{setOf-cong, setOf-empty, setOf-none, setOf-wide, member-of, member-setOf, combined-sets, common-sets}
+use Rattle.bitset.specs.Words.{digit, setOf, member, combined}
+use Rattle.bitset.proofs.SetLaws.{setOf-cong, setOf-empty, setOf-none, setOf-wide, member-of, member-setOf, combined-sets, common-sets}
 use Rattle.sheet.specs.Sheet.{Rows}
 use Rattle.rows.specs.Operations.{arrowOperation, Masked, Columns}
 

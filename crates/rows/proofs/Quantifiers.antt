@@ -8,8 +8,8 @@ use lib.Dec.{eqb, leb}
 use borrow.Author.Tests.{leb-true, leb-false, le-leb, lt-leb, eq-eqb, eqb-false}
 use Rattle.logic.specs.Graph.{Nodes, Pairs, anyBelow, allBelow, countBelow, implies}
 use Rattle.logic.proofs.Below.{none-outside, count-cong, one-or-more}
-use Rattle.words.specs.Words.{setOf, member, combined}
-use Rattle.words.proofs.SetLaws.{setOf-lt, setOf-cong, setOf-member-lt, setOf-none, member-setOf, combined-sets}
+use Rattle.bitset.specs.Words.{setOf, member, combined}
+use Rattle.bitset.proofs.SetLaws.{setOf-lt, setOf-cong, setOf-member-lt, setOf-none, member-setOf, combined-sets}
 use Rattle.rows.specs.Operations.{quantified, enough, least, looked, answered, Among}
 
 -- An end is a node.

@@ -7,8 +7,8 @@ use lib.Dec.{eqb, ltb, leb}
 use borrow.Author.Tests.{eqb-true, eq-eqb, lt-ltb, le-leb, lt-leb}
 use Rattle.logic.specs.Graph.{Nodes, Pairs, countBelow}
 use Rattle.logic.proofs.Below.{count-cong, leave, count-leave}
-use Rattle.words.specs.Words.{setOf, member, combined}
-use Rattle.words.proofs.SetLaws.{setOf-cong, setOf-none, setOf-only, member-zero, member-of, combined-sets}
+use Rattle.bitset.specs.Words.{setOf, member, combined}
+use Rattle.bitset.proofs.SetLaws.{setOf-cong, setOf-none, setOf-only, member-zero, member-of, combined-sets}
 use Rattle.rows.specs.Operations.{enough}
 
 -- what is left is of the set

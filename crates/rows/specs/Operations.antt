@@ -7,7 +7,7 @@ use lib.Dec.{eqb, leb}
 use lib.ListN.{getD}
 use Rattle.logic.specs.Graph.{Nodes, Pairs, anyBelow, allBelow, countBelow, implies}
 use Rattle.logic.specs.Limits.{maxNodes, arrowCount}
-use Rattle.words.specs.Words.{setOf, member, combined}
+use Rattle.bitset.specs.Words.{setOf, member, combined}
 use Rattle.sheet.specs.Sheet.{graphOf}
 use Rattle.sheet.specs.Questions.{Sound}
 use Rattle.rows.specs.declared.counting.Wanted.{Wanted}

@@ -3,7 +3,7 @@ ghost use mathlib.Core.Path.{_≡_};
 ghost use mathlib.Core.Bool.{_&&_};
 ghost use Prim.Native.Nat.{ℕ, _^_, _<_, _≤_};
 ghost use Rattle.logic.specs.Graph.{Nodes};
-ghost use Rattle.words.specs.Words.{setOf, member};
+ghost use Rattle.bitset.specs.Words.{setOf, member};
 ghost use Rattle.rows.specs.Operations.{number, enough, least, looked, answered};
 
 // How many ends are looked for: some one (08, 09), or a number of them that is counted (0A, 0B).
@@ -17,8 +17,8 @@ pub fn enough(k: Wanted, row: u64, e: u64) -> bool
     ensures { λ r. ⌜ ((n : ℕ) (v w : Nodes) → n ≤ 64 → row ≡ setOf n v → e ≡ setOf n w → r ≡ enough (number k) n v w) ⌝ }
 {
     match k {
-        Wanted::One => words::both(row, e) != 0,
-        Wanted::Count(m) => m <= words::count_common(row, e) as usize,
+        Wanted::One => bitset::both(row, e) != 0,
+        Wanted::Count(m) => m <= bitset::count_common(row, e) as usize,
     }
 }
 
@@ -44,7 +44,7 @@ pub fn looked(c: u8, all: u64, e: u64) -> u64
     if c == 0x08 {
         e
     } else if c == 0x09 {
-        words::minus(all, e)
+        bitset::minus(all, e)
     } else {
         e
     }
@@ -55,12 +55,12 @@ pub fn answered(c: u8, within: u64, r: u64) -> u64
     ensures { λ x. ⌜ ((n : ℕ) (p : Nodes) → n ≤ 64 → within < 2 ^ n → r ≡ setOf n p → x ≡ setOf n (λ i. member within i && answered c (p i))) ⌝ }
 {
     if c == 0x08 {
-        words::both(within, r)
+        bitset::both(within, r)
     } else if c == 0x09 {
-        words::minus(within, r)
+        bitset::minus(within, r)
     } else if c == 0x0A {
-        words::both(within, r)
+        bitset::both(within, r)
     } else {
-        words::minus(within, r)
+        bitset::minus(within, r)
     }
 }

@@ -7,7 +7,7 @@ ghost use Prim.Native.Nat.{ℕ, _<_, _≤_};
 ghost use lib.Dec.{eqb};
 ghost use Rattle.logic.specs.Graph.{Nodes, allBelow, implies};
 ghost use Rattle.logic.specs.Limits.{maxNodes};
-ghost use Rattle.words.specs.Words.{setOf};
+ghost use Rattle.bitset.specs.Words.{setOf};
 use logic::Node;
 
 mod counting;
@@ -19,7 +19,7 @@ pub mod relations;
 pub fn set_in(x: u64, y: u64) -> bool
     ensures { λ r. ⌜ ((n : ℕ) (v w : Nodes) → n ≤ 64 → x ≡ setOf n v → y ≡ setOf n w → r ≡ allBelow n (λ i. implies (v i) (w i))) ⌝ }
 {
-    words::minus(x, y) == 0
+    bitset::minus(x, y) == 0
 }
 
 // A node's number as an index of rows and bits.
@@ -34,7 +34,7 @@ pub fn nominal(all: u64, i: Node) -> u64
     requires { ⌜ i .0 < maxNodes ⌝ }
     ensures { λ r. ⌜ ((n : ℕ) (nodes : Nodes) → n ≤ 64 → all ≡ setOf n nodes → r ≡ setOf n (λ k. nodes k && eqb k (i .0))) ⌝ }
 {
-    words::both(all, words::only(index(i)))
+    bitset::both(all, bitset::only(index(i)))
 }
 
 // 23: whether node i is in the set.
@@ -42,5 +42,5 @@ pub fn node_in(x: u64, i: Node) -> bool
     requires { ⌜ i .0 < maxNodes ⌝ }
     ensures { λ r. ⌜ ((n : ℕ) (v : Nodes) → i .0 < n → x ≡ setOf n v → r ≡ v (i .0)) ⌝ }
 {
-    words::member(x, index(i))
+    bitset::member(x, index(i))
 }

@@ -3,7 +3,7 @@ ghost use mathlib.Core.Path.{_≡_};
 ghost use mathlib.Core.Bool.{true, _&&_};
 ghost use Prim.Native.Nat.{_^_, _<_, _≤_};
 ghost use Rattle.logic.specs.Graph.{Nodes, anyBelow};
-ghost use Rattle.words.specs.Words.{setOf, member};
+ghost use Rattle.bitset.specs.Words.{setOf, member};
 ghost use Rattle.sheet.specs.Sheet.{graphOf};
 ghost use Rattle.rows.specs.Operations.{number, quantified, enough, turn, Among, OfSheet};
 use crate::counting::Wanted;
@@ -24,11 +24,11 @@ fn kind_starts(k: Wanted, sheet: &[u8], n: usize, within: u64, a: Arrow, e: u64)
     let mut r: u64 = 0;
     let mut left = within;
     while 0 < left {
-        let i = words::first(left);
+        let i = bitset::first(left);
         if enough(k, Sheet::row_word(sheet, a, Node(i as u8)), e) {
-            r = words::either(r, words::only(i));
+            r = bitset::either(r, bitset::only(i));
         }
-        left = words::but_first(left);
+        left = bitset::but_first(left);
     }
     r
 }
@@ -57,9 +57,9 @@ fn kind_ends_of_one(sheet: &[u8], n: usize, a: Arrow, e: u64) -> u64
     let mut one: u64 = 0;
     let mut left = e;
     while 0 < left {
-        let i = words::first(left);
-        one = words::either(one, Sheet::row_word(sheet, a, Node(i as u8)));
-        left = words::but_first(left);
+        let i = bitset::first(left);
+        one = bitset::either(one, Sheet::row_word(sheet, a, Node(i as u8)));
+        left = bitset::but_first(left);
     }
     one
 }
@@ -72,7 +72,7 @@ pub fn kind_all_ends(sheet: &[u8], n: usize, a: Arrow) -> u64
     let mut r: u64 = 0;
     let mut i = 0;
     while i < n {
-        r = words::either(r, Sheet::row_word(sheet, a, Node(i as u8)));
+        r = bitset::either(r, Sheet::row_word(sheet, a, Node(i as u8)));
         i += 1;
     }
     r

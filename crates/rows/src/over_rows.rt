@@ -5,7 +5,7 @@ ghost use Prim.Native.Nat.{_^_, _<_, _≤_};
 ghost use lib.ListN.{length};
 ghost use Rattle.logic.specs.Graph.{Nodes, Pairs, anyBelow};
 ghost use Rattle.logic.specs.Limits.{maxNodes};
-ghost use Rattle.words.specs.Words.{setOf, member};
+ghost use Rattle.bitset.specs.Words.{setOf, member};
 ghost use Rattle.sheet.specs.Sheet.{Rows};
 ghost use Rattle.rows.specs.Operations.{number, quantified, enough, turn, Among};
 use crate::counting::Wanted;
@@ -23,11 +23,11 @@ fn starts(k: Wanted, n: usize, within: u64, rows: &[u64], e: u64) -> u64
     let mut r: u64 = 0;
     let mut left = within;
     while 0 < left {
-        let i = words::first(left);
+        let i = bitset::first(left);
         if enough(k, rows[i], e) {
-            r = words::either(r, words::only(i));
+            r = bitset::either(r, bitset::only(i));
         }
-        left = words::but_first(left);
+        left = bitset::but_first(left);
     }
     r
 }
@@ -56,9 +56,9 @@ fn ends_of_one(n: usize, rows: &[u64], e: u64) -> u64
     let mut one: u64 = 0;
     let mut left = e;
     while 0 < left {
-        let i = words::first(left);
-        one = words::either(one, rows[i]);
-        left = words::but_first(left);
+        let i = bitset::first(left);
+        one = bitset::either(one, rows[i]);
+        left = bitset::but_first(left);
     }
     one
 }
@@ -71,7 +71,7 @@ fn all_ends(n: usize, rows: &[u64]) -> u64
     let mut r: u64 = 0;
     let mut i = 0;
     while i < n {
-        r = words::either(r, rows[i]);
+        r = bitset::either(r, rows[i]);
         i += 1;
     }
     r
@@ -95,7 +95,7 @@ fn asked_starts(k: Wanted, n: usize, all: u64, within: u64, rows: &[u64], e: u64
     ensures { λ r. ⌜ ((v : Pairs) (w : Nodes) → Rows n v (now (rows .entry)) → e ≡ setOf n w → r ≡ setOf n (λ i. member within i && enough (number k) n (v i) w)) ⌝ }
 {
     if within == all {
-        words::both(within, all_starts(k, n, rows, e))
+        bitset::both(within, all_starts(k, n, rows, e))
     } else {
         starts(k, n, within, rows, e)
     }

@@ -8,7 +8,7 @@ ghost use mathlib.Core.List.{[], _∷_};
 ghost use lib.ListN.{length, getD, replicate};
 ghost use Rattle.logic.specs.Graph.{Nodes, Pairs, allBelow, implies};
 ghost use Rattle.logic.specs.Limits.{maxNodes, arrowCount};
-ghost use Rattle.words.specs.Words.{setOf, member, combined};
+ghost use Rattle.bitset.specs.Words.{setOf, member, combined};
 ghost use Rattle.sheet.specs.Sheet.{graphOf, Rows};
 ghost use Rattle.sheet.specs.Questions.{Sound};
 ghost use Rattle.rows.specs.Operations.{arrowOperation, Masked, Columns};
@@ -25,11 +25,11 @@ fn combined_row(c: u8, x: u64, y: u64) -> u64
     ensures { λ r. ⌜ r ≡ combined (arrowOperation c) x y ⌝ }
 {
     if c == 0x13 {
-        words::either(x, y)
+        bitset::either(x, y)
     } else if c == 0x14 {
-        words::both(x, y)
+        bitset::both(x, y)
     } else {
-        words::minus(x, y)
+        bitset::minus(x, y)
     }
 }
 
@@ -76,7 +76,7 @@ fn mask_rows(n: usize, rows: &mut [u64], e: u64)
 {
     let mut i = 0;
     while i < n {
-        rows[i] = words::both(rows[i], e);
+        rows[i] = bitset::both(rows[i], e);
         i += 1;
     }
 }
@@ -117,11 +117,11 @@ pub fn reverse_rows(n: usize, rows: &mut [u64])
 {
     if n <= 3 {
         reverse_three(rows);
-        mask_rows(n, rows, words::lowest(n));
+        mask_rows(n, rows, bitset::lowest(n));
         return;
     }
-    words::transpose(rows);
-    mask_rows(n, rows, words::lowest(n));
+    bitset::transpose(rows);
+    mask_rows(n, rows, bitset::lowest(n));
 }
 
 // 22: whether each arrow of a is one of b.
@@ -144,7 +144,7 @@ fn pair_row(all: u64, i: Node, j: Node) -> u64
     requires { ⌜ (i .0 < maxNodes) × (j .0 < maxNodes) ⌝ }
     ensures { λ r. ⌜ ((n : ℕ) (nodes : Nodes) → n ≤ 64 → i .0 < n → all ≡ setOf n nodes → r ≡ setOf n (λ l. nodes (i .0) && (nodes l && eqb l (j .0)))) ⌝ }
 {
-    if words::member(all, index(i)) {
+    if bitset::member(all, index(i)) {
         nominal(all, j)
     } else {
         0

@@ -9,8 +9,8 @@ use borrow.Author.Tests.{eqb-true, eqb-false, eq-eqb, ne-eqb}
 use lib.Dec.{eqb}
 use lib.ListN.{length, getD, take, drop, drop-of-length-le, set, replicate, length-replicate}
 use lib.Seq.{drop-cons, sets-eq}
-use Rattle.words.specs.Words.{bytes, wordAt}
-use Rattle.words.proofs.WordLaws.{sumOfBytes, loaded}
+use Rattle.bitset.specs.Words.{bytes, wordAt}
+use Rattle.bitset.proofs.WordLaws.{sumOfBytes, loaded}
 use Rattle.seal.specs.Seal.{blockBytes, modulo255, modulo257, sums, stored, sameBytes, sealOf, sealRight}
 use Rattle.seal.specs.Lanes.{total, weighed}
 use Rattle.seal.proofs.TotalLaws.{sums-total, sums-weighed}

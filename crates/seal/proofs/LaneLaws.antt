@@ -6,8 +6,8 @@ use native.Mathlib.Omega.{arith}
 use lib.Bits.{bitAnd, and-block, and-mask}
 use lib.Dec.{lit<}
 use lib.ListN.{length, getD}
-use Rattle.words.specs.Words.{wordAt}
-use Rattle.words.proofs.WordLaws.{sumOfBytes, loaded}
+use Rattle.bitset.specs.Words.{wordAt}
+use Rattle.bitset.proofs.WordLaws.{sumOfBytes, loaded}
 use Rattle.seal.specs.Lanes.{pack, oddsAt, pairsAt}
 
 -- a mask of 00FF for each two bytes leaves the first of each two

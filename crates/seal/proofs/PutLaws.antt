@@ -7,8 +7,8 @@ use native.Mathlib.Nat.{mod-add-mod, le-trans, mul-le-mul-right}
 use native.Mathlib.Omega.{arith}
 use lib.ListN.{length, getD, take, drop, length-append}
 use lib.Seq.{take-at, take-append-le, length-take-le}
-use Rattle.words.specs.Words.{bytes, putWord}
-use Rattle.words.proofs.WordLaws.{length-putWord, putWord-other}
+use Rattle.bitset.specs.Words.{bytes, putWord}
+use Rattle.bitset.proofs.WordLaws.{length-putWord, putWord-other}
 use Rattle.seal.specs.Seal.{blockBytes, modulo257, Form, sums, stored, sealed, reseal}
 use Rattle.seal.specs.Lanes.{pack, oddsAt, pairsAt, laneSum, lanePlaces, total, weighed}
 use Rattle.seal.proofs.TotalLaws.{sums-total, sums-weighed, alike}

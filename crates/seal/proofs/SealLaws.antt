@@ -8,8 +8,8 @@ use native.Mathlib.Omega.{arith}
 use lib.Dec.{T, eqb, eqb-refl, eqb→eq}
 use lib.ListN.{length, getD, take, drop, replicate, getD-replicate, take-append-drop, length-append, List·getD-append}
 use lib.Seq.{length-take-le, getD-take, ext-getD, take-at, drop-at}
-use Rattle.words.specs.Words.{bytes, numberOf}
-use Rattle.words.proofs.WordLaws.{length-bytes, numberOf-bytes}
+use Rattle.bitset.specs.Words.{bytes, numberOf}
+use Rattle.bitset.proofs.WordLaws.{length-bytes, numberOf-bytes}
 use Rattle.seal.specs.Seal.{blockBytes, modulo257, Form, Sums, sums, stored, seal, sealed, sameBytes, sealOf, sealRight}
 use Rattle.seal.specs.Lanes.{total, weighed}
 use Rattle.seal.proofs.TotalLaws.{sums-total, sums-weighed}

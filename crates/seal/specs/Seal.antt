@@ -5,7 +5,7 @@ use mathlib.Core.List.{List, [], _∷_, _++_}
 use Prim.Native.Nat.{ℕ, suc, _+_, _%_, _^_, _<_, _≤_}
 use lib.Dec.{eqb, lit<, lit≤}
 use lib.ListN.{take, drop, getD, set}
-use Rattle.words.specs.Words.{bytes}
+use Rattle.bitset.specs.Words.{bytes}
 
 -- A block has 512 bytes: a body and its check bytes.
 abbrev pub blockBytes : ℕ

@@ -4,7 +4,7 @@ ghost use mathlib.Core.Bool.{true};
 ghost use Prim.Native.Nat.{_<_, _≤_, _+_, _*_, _%_};
 ghost use mathlib.Core.List.{_∷_, _++_};
 ghost use lib.ListN.{length, getD, take, replicate};
-ghost use Rattle.words.specs.Words.{putWord};
+ghost use Rattle.bitset.specs.Words.{putWord};
 ghost use Rattle.seal.specs.Seal.{blockBytes, modulo255, modulo257, sums, stored, sealOf, sealRight, reseal};
 ghost use Rattle.seal.specs.Forms.{formOf};
 ghost use Rattle.seal.specs.Lanes.{oddsAt, pairsAt, fourAt, beforeAt, laneSum, lanePlaces, total, weighed};
@@ -61,7 +61,7 @@ fn lanes(s: &[u8], at: usize) -> Word
     ensures { λ r. ⌜ (r .pairs ≡ pairsAt (now (s .entry)) at) × (r .odds ≡ oddsAt (now (s .entry)) at) ⌝ }
     ensures { λ r. ⌜ (r .pairs ≤ 0x01FE01FE01FE01FE) × (r .odds ≤ 0x00FF00FF00FF00FF) ⌝ }
 {
-    let w = words::load(s, at);
+    let w = bitset::load(s, at);
     let odds = w / 0x100 & 0x00FF00FF00FF00FF;
     Word {
         pairs: (w & 0x00FF00FF00FF00FF) + odds,
@@ -239,7 +239,7 @@ pub fn bare_seal(block: &[u8], b: usize) -> bool
     ensures { λ r. ⌜ r ≡ sealOf modulo257 (2 ∷ b ∷ replicate 506 0) (now (block .entry)) ⌝ }
 {
     let n = b as u64;
-    words::load(block, BODY - 4) / 0x100000000 == 2 + n + 0x10000 * (245 - 7 * n)
+    bitset::load(block, BODY - 4) / 0x100000000 == 2 + n + 0x10000 * (245 - 7 * n)
 }
 
 // Puts sums behind a block's body. Inner: it is a block, and they are sums.
@@ -273,7 +273,7 @@ pub fn put_word(block: &mut [u8], at: usize, x: u64)
     let s = pair(block, S);
     let t = pair(block, T);
     let before = lanes(block, at);
-    words::store(block, at, x);
+    bitset::store(block, at, x);
     let after = lanes(block, at);
     let pairs = after.pairs + 0x0202020202020202 - before.pairs;
     let odds = after.odds + 0x0101010101010101 - before.odds;

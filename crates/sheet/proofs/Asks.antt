@@ -16,9 +16,9 @@ use Rattle.logic.specs.Graph.{Nodes, isNode, anyBelow}
 use Rattle.logic.specs.Limits.{maxNodes, labelCount}
 use Rattle.logic.proofs.Inside.{no-node}
 use Rattle.logic.proofs.Below.{any-found, any-one}
-use Rattle.words.specs.Words.{setOf, member, combined, wordAt}
-use Rattle.words.proofs.SetLaws.{setOf-cong, setOf-empty, member-setOf}
-use Rattle.words.proofs.WordLaws.{member-wordAt}
+use Rattle.bitset.specs.Words.{setOf, member, combined, wordAt}
+use Rattle.bitset.proofs.SetLaws.{setOf-cong, setOf-empty, member-setOf}
+use Rattle.bitset.proofs.WordLaws.{member-wordAt}
 use Rattle.seal.specs.Seal.{sealRight}
 use Rattle.sheet.specs.Sheet.{SheetForm, sheetBytes, blockCount, bitIn, usedIn, graphIn}
 use Rattle.sheet.specs.Questions.{blockOf, nodeCountRight, headRight, zeroRight, askBlock, askBlocks, askSheetIn}

@@ -12,8 +12,8 @@ use lib.ListN.{length, getD, take, replicate}
 use Rattle.answer.specs.Asked.{passed}
 use Rattle.logic.specs.Graph.{Nodes, allBelow}
 use Rattle.logic.proofs.Below.{all-each}
-use Rattle.words.specs.Words.{wordAt}
-use Rattle.words.proofs.SetLaws.{member-zero}
+use Rattle.bitset.specs.Words.{wordAt}
+use Rattle.bitset.proofs.SetLaws.{member-zero}
 use Rattle.seal.specs.Seal.{blockBytes, modulo257, sealOf, sealRight}
 use Rattle.seal.specs.declared.Modulo.{Modulo}
 use Rattle.seal.specs.declared.Modulo.the-variants.{M257, M255}

@@ -11,8 +11,8 @@ use lib.ListN.{length, getD, take, drop, set, replicate, length-append, length-d
 use lib.Seq.{take-at, take-all, length-take-le}
 use Rattle.answer.specs.Asked.{passed, refused, _>>_, is}
 use Rattle.logic.specs.Limits.{maxNodes, labelCount, arrowCount}
-use Rattle.words.specs.Words.{setOf, bytes, putWord}
-use Rattle.words.proofs.SetLaws.{setOf-none, setOf-cong, setOf-lowest}
+use Rattle.bitset.specs.Words.{setOf, bytes, putWord}
+use Rattle.bitset.proofs.SetLaws.{setOf-none, setOf-cong, setOf-lowest}
 use Rattle.seal.specs.Seal.{reseal, blockBytes}
 use Rattle.sheet.specs.Sheet.{SheetForm, present, sheetBytes, chunks, block, lineCount, labelBlock, arrowBlock, storeIn, store, graphIn, blank}
 use Rattle.sheet.specs.Questions.{blockOf, SoundIn, askBlank}

@@ -10,10 +10,10 @@ use lib.ListN.{getD, length, take, drop, replicate, length-append, length-replic
 use lib.Seq.{getD-append-add, getD-take, getD-drop, take-at, drop-append-add}
 use Rattle.logic.specs.Graph.{Graph}
 use Rattle.logic.specs.Limits.{maxNodes, labelCount, arrowCount}
-use Rattle.words.specs.Words.{setOf, member, bytes}
-use Rattle.words.proofs.SetLaws.{member-low}
-use Rattle.words.proofs.BitLaws.{member-shr}
-use Rattle.words.proofs.WordLaws.{length-bytes, getD-bytes}
+use Rattle.bitset.specs.Words.{setOf, member, bytes}
+use Rattle.bitset.proofs.SetLaws.{member-low}
+use Rattle.bitset.proofs.BitLaws.{member-shr}
+use Rattle.bitset.proofs.WordLaws.{length-bytes, getD-bytes}
 use Rattle.seal.specs.Seal.{blockBytes, Form}
 use Rattle.seal.proofs.SealLaws.{length-sealed, getD-sealed}
 use Rattle.sheet.specs.Sheet.{sheetBytes, chunks, block, SheetForm, lineOf, lineCount, labelBlock, arrowBlock, storeIn, padding}

@@ -11,7 +11,7 @@ use lib.Seq.{take-at, drop-at, drop-append-add, take-add, drop-drop, take-all, l
 use Rattle.answer.specs.Asked.{Asked, refused, after}
 use Rattle.logic.specs.Graph.{Graph}
 use Rattle.logic.specs.Limits.{maxNodes, labelCount, arrowCount}
-use Rattle.words.specs.Words.{setOf, bytes, putWord}
+use Rattle.bitset.specs.Words.{setOf, bytes, putWord}
 use Rattle.seal.specs.Seal.{blockBytes, Form, seal, sealed, reseal}
 use Rattle.sheet.specs.Sheet.{present, former, sheetBytes, blockCount, padding, block, labelBlock, arrowBlock, storeIn, store, graphIn, graphOf}
 use Rattle.sheet.specs.Questions.{blockOf, askSheetIn, SoundIn, Sound}
@@ -21,7 +21,7 @@ use Rattle.sheet.proofs.Writes.{chunks-same, chunks-more, put-raw, seal
 use Rattle.seal.specs.declared.Modulo.{Modulo}
 use Rattle.seal.specs.declared.Modulo.the-variants.{M257, M255}
 use Rattle.seal.specs.Forms.{formOf}
-use Rattle.words.proofs.WordLaws.{length-putWord}
+use Rattle.bitset.proofs.WordLaws.{length-putWord}
 use Rattle.sheet.proofs.Blanks.{all-used}
 use Rattle.sheet.proofs.Loads.{sound-length, sound-n}
 use Rattle.sheet.proofs.Opening.{opening}

@@ -7,8 +7,8 @@ use native.Mathlib.Decide.{decLt}
 use native.Mathlib.Omega.{arith}
 use lib.Bits.{bitOr}
 use lib.ListN.{length, getD}
-use Rattle.words.specs.Words.{wordAt}
-use Rattle.words.proofs.ZeroLaws.{high-zero, zero-high, low-zero, zero-low}
+use Rattle.bitset.specs.Words.{wordAt}
+use Rattle.bitset.proofs.ZeroLaws.{high-zero, zero-high, low-zero, zero-low}
 use Rattle.seal.specs.Seal.{blockBytes, Form}
 use Rattle.sheet.specs.Sheet.{padding}
 use Rattle.sheet.specs.Masks.{wordCount, zerosAt, Edges}

@@ -12,8 +12,8 @@ use lib.ListN.{length, getD, take, length-take}
 use lib.Seq.{getD-take, ext-getD}
 use lib.Pow.{pow-pos}
 use Rattle.logic.specs.Graph.{Nodes}
-use Rattle.words.specs.Words.{setOf, member}
-use Rattle.words.proofs.SetLaws.{member-setOf, member-beyond}
+use Rattle.bitset.specs.Words.{setOf, member}
+use Rattle.bitset.proofs.SetLaws.{member-setOf, member-beyond}
 use Rattle.seal.specs.Seal.{blockBytes, sealed, sealRight}
 use Rattle.seal.proofs.SealLaws.{right-sealed}
 use Rattle.sheet.specs.Sheet.{block, SheetForm, bitIn}

@@ -12,8 +12,8 @@ use lib.ListN.{getD}
 use Rattle.logic.specs.Graph.{Nodes, allBelow, implies}
 use Rattle.logic.specs.Limits.{maxNodes, labelCount}
 use Rattle.logic.proofs.Below.{all-true, all-each}
-use Rattle.words.specs.Words.{member}
-use Rattle.words.proofs.SetLaws.{member-zero, is-setOf, setOf-member-lt}
+use Rattle.bitset.specs.Words.{member}
+use Rattle.bitset.proofs.SetLaws.{member-zero, is-setOf, setOf-member-lt}
 use Rattle.sheet.specs.Sheet.{SheetForm, lineCount, bitIn}
 use Rattle.sheet.specs.Questions.{free, zeroRight}
 

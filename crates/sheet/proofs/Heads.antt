@@ -9,8 +9,8 @@ use lib.Dec.{eqb, leb}
 use lib.ListN.{length, getD}
 use Rattle.logic.specs.Graph.{anyBelow}
 use Rattle.logic.specs.Limits.{maxNodes}
-use Rattle.words.specs.Words.{wordAt}
-use Rattle.words.proofs.WordLaws.{sumOfBytes, loaded}
+use Rattle.bitset.specs.Words.{wordAt}
+use Rattle.bitset.proofs.WordLaws.{sumOfBytes, loaded}
 use Rattle.seal.specs.Seal.{blockBytes}
 use Rattle.sheet.specs.Sheet.{SheetForm, blockCount, usedIn}
 use Rattle.sheet.specs.Questions.{nodeCountRight, headRight}

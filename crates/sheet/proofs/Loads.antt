@@ -11,9 +11,9 @@ use lib.Pow.{pow-mono}
 use Rattle.logic.specs.Graph.{Graph, Nodes, isNode}
 use Rattle.logic.proofs.Inside.{some-n}
 use Rattle.logic.specs.Limits.{Within, maxNodes, labelCount, arrowCount}
-use Rattle.words.specs.Words.{setOf, wordAt}
-use Rattle.words.proofs.SetLaws.{setOf-lt, setOf-cong}
-use Rattle.words.proofs.WordLaws.{wordAt-of}
+use Rattle.bitset.specs.Words.{setOf, wordAt}
+use Rattle.bitset.proofs.SetLaws.{setOf-lt, setOf-cong}
+use Rattle.bitset.proofs.WordLaws.{wordAt-of}
 use Rattle.seal.specs.Seal.{sealRight, blockBytes}
 use Rattle.sheet.specs.Sheet.{SheetForm, lineOf, lineCount, sheetBytes, storeIn, graphIn}
 use Rattle.sheet.specs.Questions.{blockOf, SoundIn}

@@ -14,8 +14,8 @@ use lib.ListN.{getD}
 use Rattle.logic.specs.Graph.{Nodes}
 use Rattle.logic.specs.Limits.{maxNodes, labelCount}
 use Rattle.logic.proofs.Below.{all-true, all-each}
-use Rattle.words.specs.Words.{setOf, member, combined, wordAt}
-use Rattle.words.proofs.SetLaws.{member-zero, member-setOf, member-beyond}
+use Rattle.bitset.specs.Words.{setOf, member, combined, wordAt}
+use Rattle.bitset.proofs.SetLaws.{member-zero, member-setOf, member-beyond}
 use Rattle.sheet.specs.Masks.{wordCount, within, zeroBut, lineMask, rowMask, Outside, Edges, Bare, Over}
 use Rattle.sheet.specs.Sheet.{SheetForm, lineCount}
 use Rattle.seal.specs.Seal.{Form}

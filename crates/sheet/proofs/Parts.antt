@@ -11,7 +11,7 @@ use lib.ListN.{length, getD, drop, length-take, length-drop, List·getD-eq-defau
 use lib.Seq.{getD-take, getD-drop, ext-getD, length-take-le}
 use Rattle.logic.specs.Graph.{isNode}
 use Rattle.logic.specs.Limits.{labelCount}
-use Rattle.words.specs.Words.{member}
+use Rattle.bitset.specs.Words.{member}
 use Rattle.seal.specs.Seal.{blockBytes}
 use Rattle.sheet.specs.Sheet.{SheetForm, sheetBytes, blockCount, bitIn, usedIn, graphIn}
 use Rattle.sheet.specs.Questions.{blockOf}

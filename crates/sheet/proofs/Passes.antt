@@ -14,8 +14,8 @@ use Rattle.logic.specs.Graph.{Graph, Nodes, isNode, anyBelow, implies}
 use Rattle.logic.specs.Limits.{Within, maxNodes, labelCount, arrowCount}
 use Rattle.logic.proofs.Inside.{some-n}
 use Rattle.logic.proofs.Below.{any-cong}
-use Rattle.words.specs.Words.{setOf, member}
-use Rattle.words.proofs.SetLaws.{member-setOf, member-beyond}
+use Rattle.bitset.specs.Words.{setOf, member}
+use Rattle.bitset.proofs.SetLaws.{member-setOf, member-beyond}
 use Rattle.seal.specs.Seal.{sealRight}
 use Rattle.seal.proofs.SealLaws.{sealed-right}
 use Rattle.sheet.specs.Sheet.{block, SheetForm, present, lineOf, lineCount, labelBlock, arrowBlock, storeIn, store, usedIn, graphIn, Storable}

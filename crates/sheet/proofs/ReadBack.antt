@@ -11,8 +11,8 @@ use borrow.Author.Tests.{lt-ltb}
 use Rattle.logic.specs.Graph.{Graph, Nodes, isNode}
 use Rattle.logic.specs.Limits.{NodesIn, Within, maxNodes, labelCount, arrowCount}
 use Rattle.logic.proofs.Inside.{no-node}
-use Rattle.words.specs.Words.{setOf, member}
-use Rattle.words.proofs.SetLaws.{member-setOf, member-beyond}
+use Rattle.bitset.specs.Words.{setOf, member}
+use Rattle.bitset.proofs.SetLaws.{member-setOf, member-beyond}
 use Rattle.seal.specs.Seal.{blockBytes}
 use Rattle.sheet.specs.Sheet.{SheetForm, present, lineOf, lineCount, storeIn, store, bitIn, usedIn, graphIn, graphOf, Storable}
 use Rattle.sheet.proofs.Blocks.{byteOf, bit-of-byte, line-label, label-lines, n-is, label-byte, arrow-byte}

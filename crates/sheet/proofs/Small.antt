@@ -8,7 +8,7 @@ use lib.ListN.{length, getD, replicate, length-replicate, getD-replicate, List·
 use lib.Seq.{getD-append-add}
 use Rattle.logic.specs.Graph.{Graph}
 use Rattle.logic.specs.Limits.{maxNodes, arrowCount}
-use Rattle.words.specs.Words.{setOf, bytes}
+use Rattle.bitset.specs.Words.{setOf, bytes}
 use Rattle.seal.specs.Seal.{Form, modulo257, sums, stored, sealed}
 use Rattle.sheet.specs.Sheet.{chunks, block, present, lineOf, lineCount, labelBlock, arrowBlock, storeIn, store, padding}
 

@@ -16,9 +16,9 @@ use Rattle.logic.specs.Limits.{Within, PairsIn, maxNodes, labelCount, arrowCoun
 use Rattle.logic.specs.Closing.{withUse}
 use Rattle.logic.specs.Steps.{update, relabel, rejoin}
 use Rattle.logic.proofs.Inside.{no-node}
-use Rattle.words.specs.Words.{setOf, bytes, putWord}
-use Rattle.words.proofs.SetLaws.{setOf-cong}
-use Rattle.words.proofs.WordLaws.{length-bytes}
+use Rattle.bitset.specs.Words.{setOf, bytes, putWord}
+use Rattle.bitset.proofs.SetLaws.{setOf-cong}
+use Rattle.bitset.proofs.WordLaws.{length-bytes}
 use Rattle.seal.specs.Seal.{seal, sealed, reseal, blockBytes, Form}
 use Rattle.sheet.specs.Sheet.{chunks, block, SheetForm, lineOf, lineCount, labelBlock, arrowBlock, storeIn, withLines, relabelAll, Rows, padding}
 use Rattle.sheet.specs.Writes.{putRows}

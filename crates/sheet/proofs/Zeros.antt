@@ -12,9 +12,9 @@ use lib.ListN.{getD}
 use Rattle.logic.specs.Graph.{Nodes, allBelow, implies}
 use Rattle.logic.specs.Limits.{maxNodes, labelCount}
 use Rattle.logic.proofs.Below.{all-cong, all-true, all-each, none-outside}
-use Rattle.words.specs.Words.{setOf, member, wordAt}
-use Rattle.words.proofs.SetLaws.{setOf-empty, setOf-none, member-setOf}
-use Rattle.words.proofs.WordLaws.{member-wordAt}
+use Rattle.bitset.specs.Words.{setOf, member, wordAt}
+use Rattle.bitset.proofs.SetLaws.{setOf-empty, setOf-none, member-setOf}
+use Rattle.bitset.proofs.WordLaws.{member-wordAt}
 use Rattle.seal.specs.Seal.{Form}
 use Rattle.sheet.specs.Questions.{free, zeroRight}
 use Rattle.sheet.specs.Masks.{wordCount, zerosAt, within, zeroBut, lineMask, rowMask}

@@ -7,7 +7,7 @@ use lib.Dec.{eqb, ltb}
 use lib.ListN.{getD}
 use Rattle.logic.specs.Graph.{Nodes, allBelow}
 use Rattle.logic.specs.Limits.{labelCount, maxNodes}
-use Rattle.words.specs.Words.{setOf, member, combined, wordAt}
+use Rattle.bitset.specs.Words.{setOf, member, combined, wordAt}
 use Rattle.seal.specs.Seal.{Form, modulo257, sealRight}
 use Rattle.seal.specs.declared.Modulo.{Modulo}
 use Rattle.seal.specs.declared.Modulo.the-variants.{M257, M255}

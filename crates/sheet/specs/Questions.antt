@@ -8,7 +8,7 @@ use lib.ListN.{length, getD, take, drop}
 use Rattle.answer.specs.Asked.{Asked, passed, _>>_, is}
 use Rattle.logic.specs.Graph.{Nodes, isNode, anyBelow, allBelow, implies}
 use Rattle.logic.specs.Limits.{maxNodes, labelCount, arrowCount}
-use Rattle.words.specs.Words.{member}
+use Rattle.bitset.specs.Words.{member}
 use Rattle.seal.specs.Seal.{blockBytes, sealRight}
 use Rattle.sheet.specs.Sheet.{blockCount, sheetBytes, SheetForm, lineCount, usedIn, graphIn, graphOf, present}
 

@@ -8,7 +8,7 @@ use lib.Dec.{ltb}
 use lib.ListN.{getD, replicate}
 use Rattle.logic.specs.Graph.{Graph, Nodes, Pairs}
 use Rattle.logic.specs.Limits.{maxNodes, labelCount, arrowCount}
-use Rattle.words.specs.Words.{setOf, member, bytes}
+use Rattle.bitset.specs.Words.{setOf, member, bytes}
 use Rattle.seal.specs.Seal.{blockBytes, Form, modulo257, sealed}
 
 -- A block of labels, and one for each arrow kind: 8,704 bytes.

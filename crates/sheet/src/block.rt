@@ -7,7 +7,7 @@ ghost use lib.ListN.{length};
 ghost use Rattle.logic.specs.Graph.{Nodes};
 ghost use Rattle.logic.specs.Limits.{maxNodes};
 ghost use Rattle.answer.specs.Answers.{asked};
-ghost use Rattle.words.specs.Words.{setOf, member};
+ghost use Rattle.bitset.specs.Words.{setOf, member};
 ghost use Rattle.seal.specs.Seal.{blockBytes, reseal};
 ghost use Rattle.seal.specs.Forms.{formOf};
 ghost use Rattle.sheet.specs.Sheet.{blockCount, present, padding, SheetForm};
@@ -36,7 +36,7 @@ fn head_right(block: &[u8], b: usize, all: u64) -> bool
     requires { ⌜ (length (now block) ≡ blockBytes) × (b < blockCount) ⌝ }
     ensures { λ r. ⌜ ((φ : SheetForm) (n : ℕ) (nodes : Nodes) → Told φ (now (block .entry)) b n all nodes → r ≡ headRight φ b (now (block .entry))) ⌝ }
 {
-    let head = words::load(block, 0) % 0x100_0000;
+    let head = bitset::load(block, 0) % 0x100_0000;
     if b == 0 {
         if head % 0x1_0000 == 1 {
             let n = head / 0x1_0000;
@@ -66,8 +66,8 @@ fn edges(form: Modulo, block: &[u8]) -> u64
     requires { ⌜ length (now block) ≡ blockBytes ⌝ }
     ensures { λ r. ⌜ Edges (formOf form) (now (block .entry)) r ⌝ }
 {
-    let last = words::load(block, seal::BLOCK - 8);
-    words::load(block, 0) / 0x100_0000 | words::load(block, 8) | behind_words(form, last)
+    let last = bitset::load(block, seal::BLOCK - 8);
+    bitset::load(block, 0) / 0x100_0000 | bitset::load(block, 8) | behind_words(form, last)
 }
 
 // What lies outside the mask in the words `from` to `to`, all together. Inner: a block has that many.
@@ -78,7 +78,7 @@ fn outside(block: &[u8], from: usize, to: usize, mask: u64) -> u64
     let mut r = 0;
     let mut j = from;
     while j < to {
-        r = r | words::minus(words::load(block, 16 + 8 * j), mask);
+        r = r | bitset::minus(bitset::load(block, 16 + 8 * j), mask);
         j += 1;
     }
     r
@@ -89,7 +89,7 @@ fn use_mask(held: bool, n: usize) -> u64
     requires { ⌜ n ≤ maxNodes ⌝ }
     ensures { λ r. ⌜ r ≡ cond held (setOf 64 (λ i. ltb i n)) 0 ⌝ }
 {
-    if held { words::lowest(n) } else { 0 }
+    if held { bitset::lowest(n) } else { 0 }
 }
 
 // What lies outside the masks of block 0, all together.
@@ -110,8 +110,8 @@ fn bare(block: &[u8], set: u64) -> u64
     let mut r = 0;
     let mut left = set;
     while 0 < left {
-        r = r | words::minus(words::load(block, 16 + 8 * words::first(left)), 0);
-        left = words::but_first(left);
+        r = r | bitset::minus(bitset::load(block, 16 + 8 * bitset::first(left)), 0);
+        left = bitset::but_first(left);
     }
     r
 }
@@ -123,7 +123,7 @@ fn rows_over(block: &[u8], n: usize, all: u64) -> u64
     ensures { λ r. ⌜ ((nodes : Nodes) → ((i : ℕ) → n ≤ i → nodes i ≡ false) → all ≡ setOf 64 nodes → Over (now (block .entry)) (rowMask all) r) ⌝ }
 {
     let rows = outside(block, 0, WORDS, all);
-    let closed = bare(block, words::minus(words::lowest(n), all));
+    let closed = bare(block, bitset::minus(bitset::lowest(n), all));
     rows | closed | outside(block, n, WORDS, 0)
 }
 
@@ -151,7 +151,7 @@ fn blank_arrow(sums: Modulo, block: &[u8], b: usize) -> bool
     if b == 0 {
         return false;
     }
-    if words::load(block, 0) != 2 + 0x100 * b as u64 {
+    if bitset::load(block, 0) != 2 + 0x100 * b as u64 {
         return false;
     }
     if !seal::bare_seal(block, b) {
@@ -187,7 +187,7 @@ pub fn put_words(block: &mut [u8], n: usize, rows: [u64; 64])
 {
     let mut i = 0;
     while i < n {
-        words::store(block, 16 + 8 * i, rows[i]);
+        bitset::store(block, 16 + 8 * i, rows[i]);
         i += 1;
     }
     seal::seal(block);
@@ -198,10 +198,10 @@ pub fn blank_block(block: &mut [u8], x: u8, y: u8, z: u8, used: u64)
     requires { ⌜ length (now block) ≡ blockBytes ⌝ }
     ensures { λ _. ⌜ now (block .exit) ≡ reseal (present .sums) (blankBlock x y z used) ⌝ }
 {
-    words::wipe(block);
+    bitset::wipe(block);
     block[0] = x;
     block[1] = y;
     block[2] = z;
-    words::store(block, 16 + 8 * Sheet::LABELS, used);
+    bitset::store(block, 16 + 8 * Sheet::LABELS, used);
     seal::seal(block);
 }

@@ -7,7 +7,7 @@ ghost use Rattle.answer.specs.Asked.{after};
 ghost use Rattle.logic.specs.Graph.{Nodes, Pairs, isNode};
 ghost use Rattle.logic.specs.Limits.{maxNodes, labelCount, arrowCount, PairsIn};
 ghost use Rattle.logic.specs.Steps.{relabel, rejoin};
-ghost use Rattle.words.specs.Words.{setOf};
+ghost use Rattle.bitset.specs.Words.{setOf};
 ghost use Rattle.sheet.specs.Sheet.{SheetForm, sheetBytes, store, graphIn, graphOf, blank, relabelAll, Rows};
 ghost use Rattle.sheet.specs.Forms.{formIn};
 ghost use Rattle.seal.specs.Forms.{formOf};
@@ -62,9 +62,9 @@ impl Sheet {
         if n > Sheet::NODES {
             return 0;
         }
-        let below = words::lowest(n);
+        let below = bitset::lowest(n);
         if held {
-            return words::both(below, words::load(sheet, 16 + 8 * Sheet::LABELS));
+            return bitset::both(below, bitset::load(sheet, 16 + 8 * Sheet::LABELS));
         }
         below
     }
@@ -105,7 +105,7 @@ impl Sheet {
         if buf.len() != Sheet::BYTES {
             return Answer::Refused(Refusal::SheetLength { place: 0 });
         }
-        block::blank_block(&mut buf[0..Sheet::BLOCK], 1, 0, n as u8, words::lowest(n));
+        block::blank_block(&mut buf[0..Sheet::BLOCK], 1, 0, n as u8, bitset::lowest(n));
         let mut a = 0;
         while a < Sheet::ARROWS {
             let from = Sheet::BLOCK * a + Sheet::BLOCK;
@@ -126,10 +126,10 @@ impl Sheet {
             return answer;
         };
         let n = index(card[2]);
-        words::store(
+        bitset::store(
             &mut card[0..Sheet::BLOCK],
             16 + 8 * Sheet::LABELS,
-            words::lowest(n),
+            bitset::lowest(n),
         );
         let mut b = 0;
         while b < Sheet::BLOCKS {
@@ -151,7 +151,7 @@ impl Sheet {
         }
         if index(k.0) < Sheet::LABELS {
             if index(i.0) < Sheet::node_count(sheet) {
-                return BitRead::Bit(words::member(Sheet::label_word(sheet, k), index(i.0)));
+                return BitRead::Bit(bitset::member(Sheet::label_word(sheet, k), index(i.0)));
             }
         }
         BitRead::Refused(Refusal::BitRange { place: 0 })
@@ -169,7 +169,7 @@ impl Sheet {
             let n = Sheet::node_count(sheet);
             if index(i.0) < n {
                 if index(j.0) < n {
-                    return BitRead::Bit(words::member(Sheet::row_word(sheet, a, i), index(j.0)));
+                    return BitRead::Bit(bitset::member(Sheet::row_word(sheet, a, i), index(j.0)));
                 }
             }
         }
@@ -189,7 +189,7 @@ impl Sheet {
         requires { ⌜ Sound (now sheet) ⌝ }
         ensures { λ r. ⌜ r ≡ setOf (graphOf (now (sheet .entry)) .n) (isNode (graphOf (now (sheet .entry)))) ⌝ }
     {
-        words::load(sheet, 16 + 8 * Sheet::LABELS)
+        bitset::load(sheet, 16 + 8 * Sheet::LABELS)
     }
 
     // The set of the nodes with label k. Inner: the sheet is sound and has that label.
@@ -197,7 +197,7 @@ impl Sheet {
         requires { ⌜ Sound (now sheet) × (k .0 < labelCount) ⌝ }
         ensures { λ r. ⌜ r ≡ setOf (graphOf (now (sheet .entry)) .n) (graphOf (now (sheet .entry)) .labelled (k .0)) ⌝ }
     {
-        words::load(sheet, 16 + 8 * index(k.0))
+        bitset::load(sheet, 16 + 8 * index(k.0))
     }
 
     // The set of the nodes to which arrow a goes from node i. Inner: the sheet is sound and has that arrow and node.
@@ -205,7 +205,7 @@ impl Sheet {
         requires { ⌜ Sound (now sheet) × (a .0 < arrowCount) × (i .0 < graphOf (now sheet) .n) ⌝ }
         ensures { λ r. ⌜ r ≡ setOf (graphOf (now (sheet .entry)) .n) (graphOf (now (sheet .entry)) .joined (a .0) (i .0)) ⌝ }
     {
-        words::load(
+        bitset::load(
             sheet,
             Sheet::BLOCK * (index(a.0) + 1) + (16 + 8 * index(i.0)),
         )

@@ -8,10 +8,10 @@ use Rattle.sheet.specs.Questions.{askSheet, Sound, askLabelBit, askArrowBit}
 use Rattle.sheet.specs.Noticed.{AsksSheetFirst}
 use Rattle.judge.specs.Questions.{askSheetAndBook, askJudge}
 use Rattle.apply.specs.Apply.{askApply}
-use Rattle.demands.specs.Enter.{askBefore41, askEnter, enterAnswer}
-use Rattle.closing.specs.Questions.{askNode, askClose, askOpen}
-use Rattle.plans.specs.Questions.{askKeep, askReturn}
-use Rattle.join.specs.Joined.{askJoin}
+use Rattle.runs.specs.Enter.{askBefore41, askEnter, enterAnswer}
+use Rattle.close_node.specs.Questions.{askNode, askClose, askOpen}
+use Rattle.plan_store.specs.Questions.{askKeep, askReturn}
+use Rattle.join_sheets.specs.Joined.{askJoin}
 use Rattle.pages.specs.Print.{askPrintArrow, askPrintLabels}
 use Rattle.pages.specs.Typed.{askType}
 use Rattle.play.specs.Questions.{listsRight, askAims, askGame, askPlay}

@@ -1,6 +1,6 @@
 -- The numbers that counting answers: number and place, and the four counts.
 use Rattle.answer.specs.Asked.{Asked, askedNumber, askedPlace}
-use Rattle.counts.specs.declared.Four.{Four}
+use Rattle.count_small.specs.declared.Four.{Four}
 use Rattle.suite.specs.declared.CountNumbers.{CountNumbers}
 
 abbrev pub countNumbers : {A : Type 0} → Asked A → Four → CountNumbers

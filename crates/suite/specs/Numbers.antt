@@ -4,7 +4,7 @@ use mathlib.Core.List.{List}
 use Prim.Native.Nat.{ℕ}
 use lib.ListN.{length}
 use Rattle.answer.specs.Asked.{Asked, passed, refused, askedNumber, askedPlace, _>>=_}
-use Rattle.words.specs.Words.{digit}
+use Rattle.bitset.specs.Words.{digit}
 use Rattle.text.specs.Code.{code}
 use Rattle.text.specs.Part.{Part}
 use Rattle.text.specs.Questions.{askRuleEnd}

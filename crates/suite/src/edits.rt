@@ -4,8 +4,8 @@ ghost use lib.ListN.{length};
 ghost use Rattle.answer.specs.Outputs.{writtenLength, writtenOutput};
 ghost use Rattle.apply.specs.Apply.{askApply, appliedSheet};
 ghost use Rattle.carry.specs.Carrying.{carryAnswer, carryOutput};
-ghost use Rattle.chain.specs.Chain.{askJoinEdits};
-ghost use Rattle.demands.specs.Enter.{enterAnswer, enterSheet, enterScratch};
+ghost use Rattle.join_edits.specs.Chain.{askJoinEdits};
+ghost use Rattle.runs.specs.Enter.{enterAnswer, enterSheet, enterScratch};
 ghost use Rattle.suite.specs.Numbers.{numbers, lengthNumbers};
 use crate::LengthNumbers;
 use crate::Numbers;
@@ -15,7 +15,7 @@ pub extern "C" fn zamiathen_join_edits(p: &[u8], q: &[u8], output: &mut [u8]) ->
     ensures { λ r. ⌜ r ≡ lengthNumbers (writtenLength (askJoinEdits (now (p .entry)) (now (q .entry)) (length (now (output .entry))))) ⌝ }
     ensures { λ _. ⌜ now (output .exit) ≡ writtenOutput (askJoinEdits (now (p .entry)) (now (q .entry)) (length (now (output .entry)))) (now (output .entry)) ⌝ }
 {
-    crate::written_numbers(chain::join_edits(p, q, output))
+    crate::written_numbers(join_edits::join_edits(p, q, output))
 }
 
 #[no_mangle]
@@ -45,5 +45,5 @@ pub extern "C" fn zamiathen_enter(
     ensures { λ _. ⌜ now (sheet .exit) ≡ enterSheet (now (sheet .entry)) (now (book .entry)) (now (edit .entry)) (length (now (scratch .entry))) ⌝ }
     ensures { λ _. ⌜ now (scratch .exit) ≡ enterScratch (now (sheet .entry)) (now (book .entry)) (now (edit .entry)) (now (scratch .entry)) ⌝ }
 {
-    crate::answer_numbers(entry::enter(sheet, book, edit, scratch))
+    crate::answer_numbers(enter_edit::enter(sheet, book, edit, scratch))
 }

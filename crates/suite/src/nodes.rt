@@ -1,6 +1,6 @@
 // Closing and opening a node.
 ghost use mathlib.Core.Path.{_≡_};
-ghost use Rattle.closing.specs.Questions.{askClose, askOpen, closedSheet, openedSheet};
+ghost use Rattle.close_node.specs.Questions.{askClose, askOpen, closedSheet, openedSheet};
 ghost use Rattle.suite.specs.Numbers.{numbers};
 use crate::Numbers;
 
@@ -9,7 +9,7 @@ pub extern "C" fn zamiathen_close(sheet: &mut [u8], book: &[u8], node: usize) ->
     ensures { λ r. ⌜ r ≡ numbers (askClose (now (sheet .entry)) (now (book .entry)) node) ⌝ }
     ensures { λ _. ⌜ now (sheet .exit) ≡ closedSheet (now (sheet .entry)) (now (book .entry)) node ⌝ }
 {
-    crate::answer_numbers(closing::close(sheet, book, node))
+    crate::answer_numbers(close_node::close(sheet, book, node))
 }
 
 #[no_mangle]
@@ -17,5 +17,5 @@ pub extern "C" fn zamiathen_open(sheet: &mut [u8], book: &[u8], node: usize) -> 
     ensures { λ r. ⌜ r ≡ numbers (askOpen (now (sheet .entry)) (now (book .entry)) node) ⌝ }
     ensures { λ _. ⌜ now (sheet .exit) ≡ openedSheet (now (sheet .entry)) (now (book .entry)) node ⌝ }
 {
-    crate::answer_numbers(closing::open(sheet, book, node))
+    crate::answer_numbers(close_node::open(sheet, book, node))
 }

@@ -6,8 +6,8 @@ ghost use Rattle.text.specs.Reading.{textLimits};
 ghost use Rattle.text.specs.Questions.{ruleStart};
 ghost use Rattle.judge.specs.Judging.{judgedPart};
 ghost use Rattle.judge.specs.Questions.{askJudge};
-ghost use Rattle.rewrite.specs.Rewritten.{askRewrite};
-ghost use Rattle.laws.specs.Asking.{askCheck};
+ghost use Rattle.rewrite_counts.specs.Rewritten.{askRewrite};
+ghost use Rattle.shortening.specs.Asking.{askCheck};
 ghost use Rattle.suite.specs.Numbers.{numbers, lengthNumbers, partNumbers, ruleEnd};
 use crate::LengthNumbers;
 use crate::Numbers;
@@ -53,12 +53,12 @@ pub extern "C" fn zamiathen_rewrite(book: &[u8], output: &mut [u8]) -> LengthNum
     ensures { λ r. ⌜ r ≡ lengthNumbers (writtenLength (askRewrite (now (book .entry)) (length (now (output .entry))))) ⌝ }
     ensures { λ _. ⌜ now (output .exit) ≡ writtenOutput (askRewrite (now (book .entry)) (length (now (output .entry)))) (now (output .entry)) ⌝ }
 {
-    crate::written_numbers(rewrite::rewrite(book, output))
+    crate::written_numbers(rewrite_counts::rewrite(book, output))
 }
 
 #[no_mangle]
 pub extern "C" fn zamiathen_check_steps(rule: &[u8], steps: &[u8], sent: &[u8]) -> Numbers
     ensures { λ r. ⌜ r ≡ numbers (askCheck (now (rule .entry)) (now (steps .entry)) (now (sent .entry))) ⌝ }
 {
-    crate::answer_numbers(shorter::check_steps(rule, steps, sent))
+    crate::answer_numbers(check_steps::check_steps(rule, steps, sent))
 }

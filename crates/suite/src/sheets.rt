@@ -8,8 +8,8 @@ ghost use Rattle.sheet.specs.Sheet.{store, blank};
 ghost use Rattle.sheet.specs.Questions.{askSheet, askBlank, askLabelBit, askArrowBit};
 ghost use Rattle.sheet.specs.Converted.{askConvert, converted};
 ghost use Rattle.sheet.specs.BitReads.{bitAsked};
-ghost use Rattle.words.specs.Words.{digit};
-ghost use Rattle.join.specs.Joined.{askJoin, joinedSheet};
+ghost use Rattle.bitset.specs.Words.{digit};
+ghost use Rattle.join_sheets.specs.Joined.{askJoin, joinedSheet};
 ghost use Rattle.suite.specs.Numbers.{numbers, bitNumbers};
 use crate::BitNumbers;
 use crate::Numbers;
@@ -56,7 +56,7 @@ pub extern "C" fn zamiathen_join_sheets(first: &mut [u8], second: &[u8]) -> Numb
     ensures { λ r. ⌜ r ≡ numbers (askJoin (now (first .entry)) (now (second .entry))) ⌝ }
     ensures { λ _. ⌜ now (first .exit) ≡ joinedSheet (now (first .entry)) (now (second .entry)) ⌝ }
 {
-    crate::answer_numbers(join::join_sheets(first, second))
+    crate::answer_numbers(join_sheets::join_sheets(first, second))
 }
 
 fn digit(b: bool) -> usize

@@ -23,7 +23,7 @@ use Rattle.eval.proofs.+eval_arrow+join_arrow+node_within.Lts-node_with
 use Rattle.eval.proofs.ahead.Reads as ahead-reads
 use Rattle.eval.proofs.behind_turns.Reads as behind-turns-reads
 use Rattle.ends.proofs.past.Reads as past-reads
-use Rattle.words.proofs.either.Reads as either-reads
+use Rattle.bitset.proofs.either.Reads as either-reads
 use Rattle.eval.proofs.arrow_kind.Reads as arrow-kind-reads
 use Rattle.eval.proofs.join_kind.Reads as join-kind-reads
 use Rattle.eval.proofs.join_pair.Reads as join-pair-reads
@@ -36,7 +36,7 @@ use Rattle.rows.proofs.relations.combine_rows.Reads as combine-rows-reads
 use Rattle.rows.proofs.relations.end_rows.Reads as end-rows-reads
 use Rattle.rows.proofs.over_rows.quantified.Reads as quantified-reads
 use Rattle.rows.proofs.relations.reverse_rows.Reads as reverse-rows-reads
-use Rattle.words.proofs.minus.Reads as minus-reads
+use Rattle.bitset.proofs.minus.Reads as minus-reads
 use Rattle.eval.proofs.+eval_arrow+join_arrow+node_within.{statement}
 use Rattle.eval.proofs.+eval_arrow+join_arrow+node_within.Tie.{close}
 

@@ -3,7 +3,7 @@ use Prim.Native.Nat.{_<_}
 use native.Mathlib.Omega.{arith}
 use lib.ListN.{length}
 use borrow.Author.Needs.{needs}
-use Rattle.words.proofs.SetLaws.{setOf-member-lt}
+use Rattle.bitset.proofs.SetLaws.{setOf-member-lt}
 use Rattle.eval.proofs.Places.{starts-inside}
 use Rattle.eval.proofs.NodeCases.{as-all, as-none, as-label, as-nominal, all-set, none-set, label-set, nominal-set}
 use Rattle.eval.proofs.leaf_node.Statement.{statement}

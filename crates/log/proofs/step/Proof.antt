@@ -24,7 +24,9 @@ add-more c =
     omega (arith, passes _ (s .args .held .number) (now (s .args .block)) (e .0) .low)
 
 part-enter-line-end : tie.Need-part-enter-line-end
-part-enter-line-end c = omega (arith, ap takenLength (c .before .before .before .n2 .given .1), c .before .before .before .before .before .before .before .take-block .ensures .0 .1, c .before .before .before .before .before .before .before .before .before .before .before .before .before .before .pre .0, c .before .before .before .before .before .before .edit .given)
+part-enter-line-end c =
+    let t = c .before .before .before .before .before .before .before .take-block .ensures in
+    omega (arith, ap takenLength (c .before .before .before .n2 .given .1), t .0 .1, c .before .before .before .before .before .before .before .before .before .before .before .before .before .before .pre .0, c .before .before .before .before .before .before .edit .given)
 
 add-last : tie.Need-add-t29
 add-last c =

@@ -1,7 +1,7 @@
 use mathlib.Core.Path.{ap₂, _∙_}
 use borrow.Author.Needs.{needs}
-use Rattle.words.proofs.SetLaws.{member-setOf}
-use Rattle.words.specs.Words.{member}
+use Rattle.bitset.proofs.SetLaws.{member-setOf}
+use Rattle.bitset.specs.Words.{member}
 use Rattle.rows.proofs.node_in.Statement.{statement}
 use Rattle.rows.proofs.node_in.Tie as tie
 

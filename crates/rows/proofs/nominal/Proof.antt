@@ -3,7 +3,7 @@ use mathlib.Core.Path.{ap, ap₂, _∙_}
 use Prim.Native.Nat.{ℕ}
 use borrow.Author.Needs.{needs}
 use lib.Dec.{eqb}
-use Rattle.words.specs.Words.{setOf, combined}
+use Rattle.bitset.specs.Words.{setOf, combined}
 use Rattle.rows.proofs.Laws.{combined-wide}
 use Rattle.rows.proofs.nominal.Statement.{statement}
 use Rattle.rows.proofs.nominal.Tie as tie

@@ -3,7 +3,7 @@ use mathlib.Core.Bool.{not, _&&_}
 use Prim.Native.Nat.{ℕ}
 use borrow.Author.Needs.{needs}
 use lib.Dec.{eqb}
-use Rattle.words.specs.Words.{combined}
+use Rattle.bitset.specs.Words.{combined}
 use Rattle.rows.proofs.Laws.{minus-empty}
 use Rattle.rows.proofs.set_in.Statement.{statement}
 use Rattle.rows.proofs.set_in.Tie as tie

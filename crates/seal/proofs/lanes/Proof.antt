@@ -5,7 +5,7 @@ use native.Mathlib.Omega.{arith}
 use borrow.Author.Needs.{needs}
 use lib.Bits.{bitAnd}
 use lib.ListN.{length, getD}
-use Rattle.words.specs.Words.{wordAt}
+use Rattle.bitset.specs.Words.{wordAt}
 use Rattle.seal.specs.Lanes.{oddsAt, pairsAt}
 use Rattle.seal.proofs.LaneLaws.{odds-are, pairs-are, odds-low, pairs-low}
 use Rattle.seal.proofs.lanes.Statement.{statement}

@@ -6,7 +6,7 @@ use native.Mathlib.Omega.{arith}
 use borrow.Author.Needs.{needs}
 use lib.Dec.{lit<}
 use lib.ListN.{length, getD, take}
-use Rattle.words.proofs.WordLaws.{length-putWord}
+use Rattle.bitset.proofs.WordLaws.{length-putWord}
 use Rattle.seal.specs.Seal.{modulo257, stored, reseal}
 use Rattle.seal.specs.Lanes.{laneSum, lanePlaces}
 use Rattle.seal.proofs.CodeLaws.{check-bytes}

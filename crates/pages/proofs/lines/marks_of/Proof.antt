@@ -5,8 +5,8 @@ use native.Mathlib.Omega.{arith}
 use borrow.Author.Needs.{needs}
 use borrow.Author.Tests.{eq-eqb, ne-eqb}
 use denote.Ref.{now}
-use Rattle.words.specs.Words.{digit, setOf}
-use Rattle.words.proofs.SetLaws.{setOf-zero, setOf-more, setOf-same, setOf-end}
+use Rattle.bitset.specs.Words.{digit, setOf}
+use Rattle.bitset.proofs.SetLaws.{setOf-zero, setOf-more, setOf-same, setOf-end}
 use Rattle.pages.specs.Typed.{marks}
 use Rattle.pages.proofs.lines.marks_of.Statement.{statement}
 use Rattle.pages.proofs.lines.marks_of.Tie as tie

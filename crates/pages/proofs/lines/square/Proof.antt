@@ -2,7 +2,7 @@ use mathlib.Core.Path.{sym, _∙_}
 use borrow.Author.Needs.{needs}
 use borrow.Author.Tests.{lt-ltb, le-ltb}
 use native.Mathlib.Omega.{arith}
-use Rattle.words.specs.Words.{member}
+use Rattle.bitset.specs.Words.{member}
 use Rattle.pages.specs.Page.{square}
 use Rattle.pages.proofs.lines.square.Statement.{statement}
 use Rattle.pages.proofs.lines.square.Tie as tie

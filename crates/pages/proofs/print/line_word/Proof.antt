@@ -1,6 +1,6 @@
 use mathlib.Core.Path.{sym, _∙_, ap}
 use denote.Ref.{now}
-use Rattle.words.specs.Words.{setOf}
+use Rattle.bitset.specs.Words.{setOf}
 use Rattle.sheet.specs.Sheet.{graphOf}
 use Rattle.sheet.proofs.Blocks.{line-label, line-use}
 use Rattle.pages.proofs.LineLaws.{nodes-used}

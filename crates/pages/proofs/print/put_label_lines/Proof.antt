@@ -5,7 +5,7 @@ use borrow.Author.Needs.{needs}
 use denote.Ref.{now}
 use Rattle.answer.specs.Outputs.{writtenAtStart}
 use Rattle.sheet.specs.Sheet.{graphOf, lineOf, chunks}
-use Rattle.words.specs.Words.{setOf}
+use Rattle.bitset.specs.Words.{setOf}
 use Rattle.pages.specs.Page.{setLine, labelPageLines, labelLines}
 use Rattle.pages.proofs.LineLaws.{setLine-word}
 use Rattle.pages.proofs.PageLaws.{Grown, grown-first, grown-length, grown-part, grown-next, grown-last}

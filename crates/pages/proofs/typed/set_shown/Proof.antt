@@ -1,6 +1,6 @@
 use mathlib.Core.Path.{sym, _∙_, ap}
 use borrow.Author.Tests.{not-true, not-false}
-use Rattle.words.specs.Words.{setOf}
+use Rattle.bitset.specs.Words.{setOf}
 use Rattle.pages.specs.Typed.{setShown}
 use Rattle.pages.proofs.TypeLaws.{closed-row, open-row, label-set, used-set}
 use borrow.Author.Needs.{needs}

@@ -2,8 +2,8 @@ use mathlib.Core.Path.{refl, ap₂, _∙_}
 use mathlib.Core.Bool.{not, _&&_}
 use borrow.Author.Needs.{needs}
 use borrow.Author.Tests.{eq-eqb, ne-eqb}
-use Rattle.words.specs.Words.{combined}
-use Rattle.words.proofs.SetLaws.{combined-sets}
+use Rattle.bitset.specs.Words.{combined}
+use Rattle.bitset.proofs.SetLaws.{combined-sets}
 use Rattle.rows.proofs.counting.looked.Statement.{statement}
 use Rattle.rows.proofs.counting.looked.Tie as tie
 

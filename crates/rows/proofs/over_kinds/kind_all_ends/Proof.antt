@@ -4,7 +4,7 @@ use native.Mathlib.Omega.{arith}
 use borrow.Author.Needs.{needs}
 use Rattle.logic.specs.Graph.{anyBelow}
 use Rattle.sheet.specs.Sheet.{graphOf}
-use Rattle.words.specs.Words.{setOf}
+use Rattle.bitset.specs.Words.{setOf}
 use Rattle.rows.proofs.Quantifiers.{any-none, any-more, any-end}
 use Rattle.rows.proofs.over_kinds.kind_all_ends.Statement.{statement}
 use Rattle.rows.proofs.over_kinds.kind_all_ends.Tie as tie

@@ -6,8 +6,8 @@ use borrow.Author.Needs.{needs}
 use Rattle.rows.specs.Operations.{number, enough}
 use Rattle.logic.specs.Graph.{Nodes}
 use Rattle.sheet.specs.Sheet.{graphOf}
-use Rattle.words.proofs.SetLaws.{setOf-zero, setOf-more, setOf-same, setOf-end}
-use Rattle.words.specs.Words.{digit, setOf}
+use Rattle.bitset.proofs.SetLaws.{setOf-zero, setOf-more, setOf-same, setOf-end}
+use Rattle.bitset.specs.Words.{digit, setOf}
 use Rattle.rows.proofs.over_kinds.kind_all_starts.Statement.{statement}
 use Rattle.rows.proofs.over_kinds.kind_all_starts.Tie as tie
 

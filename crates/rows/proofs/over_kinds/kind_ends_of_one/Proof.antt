@@ -3,8 +3,8 @@ use Prim.Native.Nat.{ℕ, _^_, _<_}
 use native.Mathlib.Omega.{arith}
 use borrow.Author.Needs.{needs}
 use Rattle.sheet.specs.Sheet.{graphOf}
-use Rattle.words.specs.Words.{setOf}
-use Rattle.words.proofs.MemberLaws.{member-small}
+use Rattle.bitset.specs.Words.{setOf}
+use Rattle.bitset.proofs.MemberLaws.{member-small}
 use Rattle.rows.proofs.Walks.{Inside, inside-less, Counted, counted-none, counted-one, counted-end}
 use Rattle.rows.proofs.over_kinds.kind_ends_of_one.Statement.{statement}
 use Rattle.rows.proofs.over_kinds.kind_ends_of_one.Tie as tie

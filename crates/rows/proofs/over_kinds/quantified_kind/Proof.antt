@@ -2,8 +2,8 @@ use mathlib.Core.Bool.{Bool, _&&_}
 use mathlib.Core.Path.{sym, ap, _∙_}
 use native.Mathlib.Omega.{arith}
 use borrow.Author.Needs.{needs}
-use Rattle.words.specs.Words.{setOf, member}
-use Rattle.words.proofs.SetLaws.{setOf-member-lt}
+use Rattle.bitset.specs.Words.{setOf, member}
+use Rattle.bitset.proofs.SetLaws.{setOf-member-lt}
 use Rattle.sheet.specs.Sheet.{graphOf}
 use Rattle.rows.specs.Operations.{quantified, turn}
 use Rattle.rows.proofs.Quantifiers.{by-columns, by-rows, set-small, one-wanted}

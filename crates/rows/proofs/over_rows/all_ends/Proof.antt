@@ -4,7 +4,7 @@ use native.Mathlib.Omega.{arith}
 use borrow.Author.Needs.{needs}
 use Rattle.logic.specs.Graph.{Pairs, anyBelow}
 use Rattle.sheet.specs.Sheet.{Rows}
-use Rattle.words.specs.Words.{setOf}
+use Rattle.bitset.specs.Words.{setOf}
 use Rattle.rows.proofs.Quantifiers.{any-none, any-more, any-end}
 use Rattle.rows.proofs.over_rows.all_ends.Statement.{statement}
 use Rattle.rows.proofs.over_rows.all_ends.Tie as tie

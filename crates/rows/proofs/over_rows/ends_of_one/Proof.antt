@@ -3,7 +3,7 @@ use native.Mathlib.Omega.{arith}
 use borrow.Author.Needs.{needs}
 use Rattle.logic.specs.Graph.{Pairs}
 use Rattle.sheet.specs.Sheet.{Rows}
-use Rattle.words.proofs.MemberLaws.{member-small}
+use Rattle.bitset.proofs.MemberLaws.{member-small}
 use Rattle.rows.proofs.Walks.{Inside, inside-less, Counted, counted-none, counted-one, counted-end}
 use Rattle.rows.proofs.over_rows.ends_of_one.Statement.{statement}
 use Rattle.rows.proofs.over_rows.ends_of_one.Tie as tie

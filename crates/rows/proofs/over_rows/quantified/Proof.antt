@@ -2,8 +2,8 @@ use mathlib.Core.Bool.{Bool, _&&_}
 use mathlib.Core.Path.{sym, ap, _∙_}
 use native.Mathlib.Omega.{arith}
 use borrow.Author.Needs.{needs}
-use Rattle.words.specs.Words.{setOf, member}
-use Rattle.words.proofs.SetLaws.{setOf-member-lt}
+use Rattle.bitset.specs.Words.{setOf, member}
+use Rattle.bitset.proofs.SetLaws.{setOf-member-lt}
 use Rattle.rows.specs.Operations.{number, quantified, turn}
 use Rattle.rows.proofs.Quantifiers.{by-columns, by-rows, set-small}
 use Rattle.rows.proofs.over_rows.quantified.Statement.{statement}

@@ -5,8 +5,8 @@ use native.Mathlib.Omega.{arith}
 use borrow.Author.Needs.{needs}
 use Rattle.logic.specs.Graph.{Nodes, Pairs}
 use Rattle.sheet.specs.Sheet.{Rows}
-use Rattle.words.specs.Words.{setOf}
-use Rattle.words.proofs.MemberLaws.{member-small}
+use Rattle.bitset.specs.Words.{setOf}
+use Rattle.bitset.proofs.MemberLaws.{member-small}
 use Rattle.rows.specs.Operations.{number, enough}
 use Rattle.rows.proofs.Walks.{Inside, inside-less, Picked, picked-none, picked-yes, picked-no, picked-end}
 use Rattle.rows.proofs.over_rows.starts.Statement.{statement}

@@ -3,7 +3,7 @@ use Prim.Native.Nat.{_≤_, _-_}
 use native.Mathlib.Omega.{arith}
 use borrow.Author.Needs.{needs}
 use lib.ListN.{length, length-set}
-use Rattle.words.specs.Words.{setOf}
+use Rattle.bitset.specs.Words.{setOf}
 use Rattle.sheet.specs.Sheet.{graphOf}
 use Rattle.rows.proofs.Laws.{Changed, changed-none, changed-more, rows-of-arrow}
 use Rattle.rows.proofs.relations.arrow_rows.Statement.{statement}

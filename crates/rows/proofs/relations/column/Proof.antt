@@ -1,6 +1,6 @@
 use native.Mathlib.Omega.{arith}
 use borrow.Author.Needs.{needs}
-use Rattle.words.specs.Words.{setOf}
+use Rattle.bitset.specs.Words.{setOf}
 use Rattle.rows.proofs.Laws.{bit-digit}
 use Rattle.rows.proofs.relations.column.Statement.{statement}
 use Rattle.rows.proofs.relations.column.Tie as tie

@@ -5,7 +5,7 @@ use borrow.Author.Needs.{needs}
 use lib.ListN.{length, getD, length-set}
 use Rattle.rows.specs.Operations.{arrowOperation}
 use Rattle.rows.proofs.Laws.{Changed, changed-none, changed-more, rows-combined-kind}
-use Rattle.words.specs.Words.{setOf, combined}
+use Rattle.bitset.specs.Words.{setOf, combined}
 use Rattle.sheet.specs.Sheet.{graphOf}
 use Rattle.rows.proofs.relations.combine_kind.Statement.{statement}
 use Rattle.rows.proofs.relations.combine_kind.Tie as tie

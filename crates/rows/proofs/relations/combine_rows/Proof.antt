@@ -5,7 +5,7 @@ use borrow.Author.Needs.{needs}
 use lib.ListN.{length, getD, length-set}
 use Rattle.rows.specs.Operations.{arrowOperation}
 use Rattle.rows.proofs.Laws.{Changed, changed-none, changed-more, rows-combined}
-use Rattle.words.specs.Words.{combined}
+use Rattle.bitset.specs.Words.{combined}
 use Rattle.rows.proofs.relations.combine_rows.Statement.{statement}
 use Rattle.rows.proofs.relations.combine_rows.Tie as tie
 

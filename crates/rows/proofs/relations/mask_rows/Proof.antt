@@ -5,7 +5,7 @@ use native.Mathlib.Omega.{arith}
 use borrow.Author.Needs.{needs}
 use lib.ListN.{length, getD, length-set}
 use Rattle.rows.proofs.Laws.{Changed, changed-none, changed-more}
-use Rattle.words.specs.Words.{combined}
+use Rattle.bitset.specs.Words.{combined}
 use Rattle.rows.proofs.relations.mask_rows.Statement.{statement}
 use Rattle.rows.proofs.relations.mask_rows.Tie as tie
 

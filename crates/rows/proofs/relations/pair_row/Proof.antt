@@ -1,7 +1,7 @@
 use mathlib.Core.Path.{sym, ap, _∙_}
 use borrow.Author.Needs.{needs}
 use Rattle.rows.proofs.Laws.{pair-there, pair-gone}
-use Rattle.words.specs.Words.{member}
+use Rattle.bitset.specs.Words.{member}
 use Rattle.rows.proofs.relations.pair_row.Statement.{statement}
 use Rattle.rows.proofs.relations.pair_row.Tie as tie
 

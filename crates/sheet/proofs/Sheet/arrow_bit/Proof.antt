@@ -7,8 +7,8 @@ use borrow.Author.Tests.{lt-ltb, le-ltb}
 use lib.Dec.{ltb}
 use Rattle.answer.specs.Asked.{passed}
 use Rattle.logic.specs.Limits.{arrowCount}
-use Rattle.words.specs.Words.{member}
-use Rattle.words.proofs.SetLaws.{member-setOf}
+use Rattle.bitset.specs.Words.{member}
+use Rattle.bitset.proofs.SetLaws.{member-setOf}
 use Rattle.sheet.specs.Sheet.{present, graphOf}
 use Rattle.sheet.specs.Questions.{askArrowBit}
 use Rattle.sheet.proofs.Bits.{done-sound, read-refused, read-outside, read-bit}

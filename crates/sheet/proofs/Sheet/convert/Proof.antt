@@ -8,7 +8,7 @@ use lib.Dec.{ltb}
 use lib.ListN.{length, getD, take, drop, length-drop}
 use lib.Seq.{length-take-le}
 use Rattle.answer.specs.Answers.{asked}
-use Rattle.words.specs.Words.{setOf, putWord}
+use Rattle.bitset.specs.Words.{setOf, putWord}
 use Rattle.seal.specs.Seal.{blockBytes, reseal}
 use Rattle.seal.specs.declared.Modulo.{Modulo}
 use Rattle.seal.specs.Forms.{formOf}

@@ -2,7 +2,7 @@ use mathlib.Core.Path.{ap, _∙_}
 use Prim.Native.Nat.{ℕ, _+_, _*_}
 use native.Mathlib.Omega.{arith}
 use borrow.Author.Needs.{needs}
-use Rattle.words.specs.Words.{wordAt}
+use Rattle.bitset.specs.Words.{wordAt}
 use Rattle.sheet.proofs.Loads.{sound-length, sound-label}
 use Rattle.sheet.proofs.Sheet.label_word.Statement.{statement}
 use Rattle.sheet.proofs.Sheet.label_word.Tie as tie

@@ -2,7 +2,7 @@ use mathlib.Core.Path.{sym, ap, _∙_}
 use mathlib.Core.Bool.{_&&_}
 use native.Mathlib.Omega.{arith}
 use borrow.Author.Needs.{needs}
-use Rattle.words.specs.Words.{combined}
+use Rattle.bitset.specs.Words.{combined}
 use Rattle.sheet.proofs.Asks.{told-held, told-all}
 use Rattle.sheet.proofs.Sheet.nodes_told.Statement.{statement}
 use Rattle.sheet.proofs.Sheet.nodes_told.Tie as tie

@@ -4,7 +4,7 @@ use Prim.Native.Nat.{ℕ, _+_, _*_}
 use native.Mathlib.Omega.{arith}
 use borrow.Author.Needs.{needs}
 use lib.ListN.{take, drop}
-use Rattle.words.specs.Words.{putWord}
+use Rattle.bitset.specs.Words.{putWord}
 use Rattle.seal.specs.Seal.{reseal, blockBytes}
 use Rattle.sheet.specs.Sheet.{present, graphOf}
 use Rattle.sheet.proofs.Opening.{opening}

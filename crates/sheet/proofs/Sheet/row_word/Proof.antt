@@ -2,7 +2,7 @@ use mathlib.Core.Path.{ap₂, _∙_}
 use Prim.Native.Nat.{ℕ, _+_, _*_}
 use native.Mathlib.Omega.{arith}
 use borrow.Author.Needs.{needs}
-use Rattle.words.specs.Words.{wordAt}
+use Rattle.bitset.specs.Words.{wordAt}
 use Rattle.seal.specs.Seal.{blockBytes}
 use Rattle.sheet.proofs.Loads.{sound-length, sound-n, sound-row}
 use Rattle.sheet.proofs.Sheet.row_word.Statement.{statement}

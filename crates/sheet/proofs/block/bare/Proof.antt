@@ -3,7 +3,7 @@ use mathlib.Core.Bool.{Bool, not, _&&_}
 use Prim.Native.Nat.{ℕ}
 use native.Mathlib.Omega.{arith}
 use borrow.Author.Needs.{needs}
-use Rattle.words.specs.Words.{combined}
+use Rattle.bitset.specs.Words.{combined}
 use Rattle.sheet.proofs.Outside.{Barely, barely-none, barely-more, barely-all}
 use Rattle.sheet.proofs.block.bare.Statement.{statement}
 use Rattle.sheet.proofs.block.bare.Tie as tie

@@ -4,7 +4,7 @@ use Prim.Native.Nat.{ℕ}
 use native.Mathlib.Omega.{arith}
 use borrow.Author.Needs.{needs}
 use lib.ListN.{length, set, length-set}
-use Rattle.words.specs.Words.{putWord}
+use Rattle.bitset.specs.Words.{putWord}
 use Rattle.seal.specs.Seal.{reseal}
 use Rattle.sheet.specs.Sheet.{present}
 use Rattle.sheet.specs.Writes.{blankBlock}

@@ -3,7 +3,7 @@ use mathlib.Core.Bool.{Bool, not, _&&_}
 use Prim.Native.Nat.{ℕ, _-_, _≤_}
 use native.Mathlib.Nat.{le-antisymm}
 use borrow.Author.Needs.{needs}
-use Rattle.words.specs.Words.{combined}
+use Rattle.bitset.specs.Words.{combined}
 use Rattle.sheet.specs.Masks.{Outside}
 use Rattle.sheet.proofs.Outside.{outside-none, outside-more}
 use Rattle.sheet.proofs.block.outside.Statement.{statement}

@@ -5,8 +5,8 @@ use native.Mathlib.Numerals.{add-one}
 use native.Mathlib.Omega.{arith}
 use borrow.Author.Needs.{needs}
 use lib.ListN.{length, getD}
-use Rattle.words.specs.Words.{putWord}
-use Rattle.words.proofs.WordLaws.{length-putWord}
+use Rattle.bitset.specs.Words.{putWord}
+use Rattle.bitset.proofs.WordLaws.{length-putWord}
 use Rattle.seal.specs.Seal.{blockBytes, reseal}
 use Rattle.sheet.specs.Writes.{putRows}
 use Rattle.sheet.proofs.block.put_words.Statement.{statement}

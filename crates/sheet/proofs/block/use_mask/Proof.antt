@@ -2,7 +2,7 @@ use mathlib.Core.Path.{sym, ap, _∙_}
 use mathlib.Core.Bool.{cond}
 use borrow.Author.Needs.{needs}
 use lib.Dec.{ltb}
-use Rattle.words.specs.Words.{setOf}
+use Rattle.bitset.specs.Words.{setOf}
 use Rattle.sheet.proofs.block.use_mask.Statement.{statement}
 use Rattle.sheet.proofs.block.use_mask.Tie as tie
 

@@ -1,7 +1,7 @@
 use borrow.Author.Needs.{needs}
 use mathlib.Core.Path.{ap, _∙_}
 use Rattle.answer.proofs.AnswerLaws.{number-of, place-of}
-use Rattle.counts.specs.declared.Four.{Four}
+use Rattle.count_small.specs.declared.Four.{Four}
 use Rattle.suite.proofs.small.zamiathen_count.Statement.{statement}
 use Rattle.suite.proofs.small.zamiathen_count.Tie as tie
 

@@ -1,0 +1,204 @@
+-- What the loops over a raised text keep.
+use mathlib.Core.Path.{_≡_, refl, sym, ap, ap₂, _∙_}
+use mathlib.Core.Bool.{Bool, true, false, _&&_, cond}
+use mathlib.Core.List.{List, [], _∷_, _++_}
+use Prim.Native.Nat.{ℕ, zero, suc, _+_, _-_, _*_, _%_, _≤_, _<_}
+use native.Mathlib.Nat.{zero-add}
+use native.Mathlib.Numerals.{add-one}
+use native.Mathlib.Omega.{arith}
+use lib.Dec.{leb, eqb}
+use lib.ListN.{length, getD, set, drop, length-drop, drop-of-length-le, List·getD-eq-default}
+use lib.Seq.{drop-cons, take-length, paste, paste-zero, paste-suc, length-paste}
+use borrow.Author.Tests.{le-leb, lt-leb, eq-eqb, ne-eqb, leb-true}
+use Rattle.ends.specs.Shapes.{shapes, shapeOf}
+use Rattle.answer.specs.Outputs.{writtenAtStart}
+use Rattle.logic.proofs.Below.{all-stop, all-end}
+use Rattle.check_steps.specs.Raised.{numbersOf, operandsOf, nextNumbers, raisedByte, raised, nextWanted, width, behindAt, alike, againAt}
+
+pub shape-none : (c : ℕ) → 40 ≤ c → 0 ≡ shapeOf c
+unfolding shapes
+shape-none c h = sym (List·getD-eq-default shapes 0 h)
+
+-- One byte more.
+module _ (n x : ℕ) where
+  pub numbers-less : 0 < n → n - 1 ≡ nextNumbers n x
+  unfolding nextNumbers
+  numbers-less h = go n h
+    where
+      go : (n : ℕ) → 0 < n → n - 1 ≡ nextNumbers n x
+      go zero h = absurd (omega arith)
+      go (suc n) h = omega arith
+
+  pub numbers-new : n ≤ 0 → numbersOf x ≡ nextNumbers n x
+  unfolding nextNumbers
+  numbers-new h = let e : n ≡ 0 = omega arith in sym (ap (λ k. nextNumbers k x) e)
+
+  pub byte-raised : 0 < n → x % 128 + 128 ≡ raisedByte n x
+  unfolding raisedByte
+  byte-raised h = go n h
+    where
+      go : (n : ℕ) → 0 < n → x % 128 + 128 ≡ raisedByte n x
+      go zero h = absurd (omega arith)
+      go (suc n) h = refl
+
+  pub byte-left : n ≤ 0 → x ≡ raisedByte n x
+  unfolding raisedByte
+  byte-left h = let e : n ≡ 0 = omega arith in sym (ap (λ k. raisedByte k x) e)
+
+  pub wanted-same : (w : ℕ) → 0 < n → w ≡ nextWanted n w x
+  unfolding nextWanted
+  wanted-same w h = go n h
+    where
+      go : (n : ℕ) → 0 < n → w ≡ nextWanted n w x
+      go zero h = absurd (omega arith)
+      go (suc n) h = refl
+
+  pub wanted-new : (w : ℕ) → n ≤ 0 → w - 1 + operandsOf x ≡ nextWanted n w x
+  unfolding nextWanted
+  wanted-new w h = let e : n ≡ 0 = omega arith in sym (ap (λ k. nextWanted k w x) e)
+
+pub raised-length : (n : ℕ) (t : List ℕ) → length (raised n t) ≡ length t
+unfolding raised
+raised-length n [] = refl
+raised-length n (x ∷ t) = ap suc (raised-length (nextNumbers n x) t)
+
+-- The bytes before a place are raised; those from it on begin with so many numbers.
+pub record Raising (text work₀ : List ℕ) (p n : ℕ) (work : List ℕ) : Type 0 where
+  pub on : p ≤ length text
+  pub written : work ≡ paste work₀ 0 (raised 0 text) p
+  pub to-come : drop p (raised 0 text) ≡ raised n (drop p text)
+
+pub raising-first : (text work₀ : List ℕ) → Raising text work₀ 0 0 work₀
+raising-first text work₀ = record { on = omega arith; written = paste-zero work₀ 0 (raised 0 text); to-come = refl }
+
+module _ {text work₀ work : List ℕ} {p n : ℕ} (r : Raising text work₀ p n work) where
+  pub raising-length : length text ≤ length work₀ → length work ≡ length work₀
+  raising-length h = ap length (r .written) ∙ length-paste work₀ 0 (raised 0 text) p (omega (arith, r .on)) (omega (arith, r .on, raised-length 0 text))
+
+  module _ (l : p < length text) (room : length text ≤ length work₀) where
+    cons-is : {x y : ℕ} {s t : List ℕ} → _≡_ {A = List ℕ} (x ∷ s) (y ∷ t) → (x ≡ y) × (s ≡ t)
+    cons-is e = (ap (λ z. getD z 0 0) e, ap (drop 1) e)
+
+    next : (getD (raised 0 text) p 0 ≡ raisedByte n (getD text p 0)) × (drop (suc p) (raised 0 text) ≡ raised (nextNumbers n (getD text p 0)) (drop (suc p) text))
+    unfolding raised
+    next = cons-is (sym (drop-cons (raised 0 text) p 0 (omega (arith, l, raised-length 0 text))) ∙ r .to-come ∙ ap (raised n) (drop-cons text p 0 l))
+
+    pub raising-next : (b m : ℕ) → b ≡ raisedByte n (getD text p 0) → m ≡ nextNumbers n (getD text p 0) → Raising text work₀ (p + 1) m (set work p b)
+    raising-next b m e f = record {
+      on = omega arith;
+      written =
+          ap₂ (λ w x. set w p x) (r .written) (e ∙ sym (next .0))
+          ∙ ap (λ z. set (paste work₀ 0 (raised 0 text) p) z (getD (raised 0 text) p 0)) (sym (zero-add p))
+          ∙ paste-suc work₀ 0 (raised 0 text) p 0 (omega arith) (omega (arith, raised-length 0 text))
+          ∙ ap (paste work₀ 0 (raised 0 text)) (sym (add-one p));
+      to-come = ap (λ k. drop k (raised 0 text)) (add-one p) ∙ next .1 ∙ ap₂ (λ k z. raised k (drop z text)) (sym f) (sym (add-one p));
+    }
+
+  pub raising-end : length text ≤ p → work ≡ writtenAtStart (raised 0 text) work₀
+  raising-end h =
+      let e : p ≡ length (raised 0 text) = omega (arith, r .on, raised-length 0 text) in
+      r .written ∙ ap (paste work₀ 0 (raised 0 text)) e ∙ ap₂ (λ z k. z ++ drop k work₀) (take-length (raised 0 text)) (zero-add (length (raised 0 text)))
+
+-- The expression at a place ends where what is still to come of it ends.
+pub record Passing (text : List ℕ) (at p n w : ℕ) : Type 0 where
+  pub on : p ≤ length text
+  pub from : at ≤ p
+  pub few : w ≤ 1 + 3 * p
+  pub low : n ≤ 3
+  pub ends : p + width n w (drop p text) ≡ behindAt text at
+
+module _ (text : List ℕ) (at : ℕ) where
+  pub passing-first : at ≤ length text → Passing text at at 0 1
+  passing-first h = record { on = h; from = omega arith; few = omega arith; low = omega arith; ends = refl }
+
+  module _ {p n w : ℕ} (r : Passing text at p n w) where
+    pub passing-none : n + w ≡ 0 → p ≡ behindAt text at
+    unfolding width
+    passing-none e = omega (arith, stop (drop p text), r .ends)
+      where
+        stop : (t : List ℕ) → width n w t ≡ 0
+        stop [] = refl
+        stop (x ∷ t) = ap (λ b. cond b 0 (suc (width (nextNumbers n x) (nextWanted n w x) t))) (eq-eqb (n + w) 0 e)
+
+    pub passing-over : length text ≤ p → p ≡ behindAt text at
+    unfolding width
+    passing-over h = omega (arith, ap (width n w) (drop-of-length-le text h), r .ends)
+
+    module _ (l : p < length text) (some : n + w ≡ 0 → ⊥) where
+      low-next : (n x : ℕ) → n ≤ 3 → nextNumbers n x ≤ 3
+      unfolding nextNumbers
+      low-next zero x h = omega arith
+      low-next (suc n) x h = omega arith
+
+      few-next : (n w x : ℕ) → nextWanted n w x ≤ w + 3
+      unfolding nextWanted
+      few-next zero w x = omega arith
+      few-next (suc n) w x = omega arith
+
+      pub passing-next : (m v : ℕ) → m ≡ nextNumbers n (getD text p 0) → v ≡ nextWanted n w (getD text p 0) → Passing text at (p + 1) m v
+      unfolding width
+      passing-next m v e f = record {
+        on = omega arith;
+        from = omega (arith, r .from);
+        few = omega (arith, r .few, f, few-next n w (getD text p 0));
+        low = omega (arith, e, low-next n (getD text p 0) (r .low));
+        ends =
+            let turned : width n w (drop p text) ≡ suc (width m v (drop (p + 1) text)) =
+            ap (width n w) (drop-cons text p 0 l)
+            ∙ ap (λ b. cond b 0 (suc (width (nextNumbers n (getD text p 0)) (nextWanted n w (getD text p 0)) (drop (suc p) text)))) (ne-eqb (n + w) 0 some)
+            ∙ ap suc (ap₂ (λ k z. width k z (drop (suc p) text)) (sym e) (sym f) ∙ ap (λ z. width m v (drop z text)) (sym (add-one p))) in
+            omega (arith, turned, r .ends);
+      }
+
+-- An expression that stands once more.
+module _ (text : List ℕ) (at gap end : ℕ) (is : end ≡ behindAt text at) where
+  again-is : againAt text at gap ≡ cond (leb (end + gap + (end - at)) (length text) && alike text at (end + gap) (end - at)) (end + gap) 0
+  unfolding againAt
+  again-is = ap (λ z. cond (leb (z + gap + (z - at)) (length text) && alike text at (z + gap) (z - at)) (z + gap) 0) (sym is)
+
+  pub again-short : length text < end + gap + (end - at) → 0 ≡ againAt text at gap
+  again-short h = sym (again-is ∙ ap (λ b. cond (b && alike text at (end + gap) (end - at)) (end + gap) 0) (lt-leb (end + gap + (end - at)) (length text) h))
+
+  module _ (room : end + gap + (end - at) ≤ length text) where
+    whole : (b : Bool) → alike text at (end + gap) (end - at) ≡ b → againAt text at gap ≡ cond b (end + gap) 0
+    whole b e = again-is ∙ ap₂ (λ a b. cond (a && b) (end + gap) 0) (le-leb (end + gap + (end - at)) (length text) room) e
+
+    pub again-differs : (i : ℕ) → i < end - at → (getD text (at + i) 0 ≡ getD text (end + gap + i) 0 → ⊥) → 0 ≡ againAt text at gap
+    again-differs i h d = sym (whole false (all-stop (λ i. eqb (getD text (at + i) 0) (getD text (end + gap + i) 0)) (end - at) i h (ne-eqb (getD text (at + i) 0) (getD text (end + gap + i) 0) d)))
+
+    pub again-found : (i : ℕ) → i ≤ end - at → end - at ≤ i → alike text at (end + gap) i ≡ true → end + gap ≡ againAt text at gap
+    again-found i h l e = sym (whole true (all-end (λ i. eqb (getD text (at + i) 0) (getD text (end + gap + i) 0)) (end - at) i h l e))
+
+-- A place behind an expression is in the text.
+width-in : (n w : ℕ) (t : List ℕ) → width n w t ≤ length t
+unfolding width
+width-in n w [] = omega arith
+width-in n w (x ∷ t) = go (eqb (n + w) 0) (width-in (nextNumbers n x) (nextWanted n w x) t)
+  where
+    go : (b : Bool) → width (nextNumbers n x) (nextWanted n w x) t ≤ length t → cond b 0 (suc (width (nextNumbers n x) (nextWanted n w x) t)) ≤ suc (length t)
+    go true h = omega arith
+    go false h = omega arith
+
+pub behind-in : (text : List ℕ) (at : ℕ) → at ≤ length text → behindAt text at ≤ length text
+behind-in text at h = omega (arith, width-in 0 1 (drop at text), length-drop at text)
+
+-- A place found again lies in the text, and so does all that stands there.
+pub record AgainIn (text : List ℕ) (at gap place : ℕ) : Type 0 where
+  pub low : at + gap ≤ place
+  pub room : place + (place - gap - at) ≤ length text
+  pub same : alike text at place (place - gap - at) ≡ true
+  pub is : place ≡ behindAt text at + gap
+
+pub again-in : (text : List ℕ) (at gap place : ℕ) → place ≡ againAt text at gap → (place ≡ 0 → ⊥) → AgainIn text at gap place
+unfolding againAt
+again-in text at gap place e some = go (leb (end + gap + (end - at)) (length text)) refl (alike text at (end + gap) (end - at)) refl e
+  where
+    end : ℕ
+    end = behindAt text at
+
+    go : (a : Bool) → leb (end + gap + (end - at)) (length text) ≡ a → (b : Bool) → alike text at (end + gap) (end - at) ≡ b → place ≡ cond (a && b) (end + gap) 0 → AgainIn text at gap place
+    go true h true k q =
+        let n : end - at ≡ place - gap - at = omega arith in
+        record { low = omega arith; room = omega (arith, leb-true (end + gap + (end - at)) (length text) h); same = ap₂ (alike text at) q (sym n) ∙ k; is = q }
+    go true h false k q = absurd (some q)
+    go false h b k q = absurd (some q)

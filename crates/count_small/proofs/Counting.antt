@@ -1,0 +1,142 @@
+-- One sheet after another: judged, made the next, counted.
+use mathlib.Core.Path.{_≡_, refl, sym, ap, ap₂, _∙_, subst}
+use mathlib.Core.Bool.{Bool, true, false, not, _&&_, cond, and-comm}
+use mathlib.Core.List.{List, [], _∷_}
+use Prim.Native.Nat.{ℕ, zero, suc, _+_, _*_, _/_, _^_, _≤_, _<_}
+use native.Mathlib.Nat.{add-comm, add-assoc}
+use native.Mathlib.Numerals.{add-one}
+use native.Mathlib.Omega.{arith}
+use native.Mathlib.Decide.{decLt}
+use lib.Dec.{ltb}
+use lib.ListN.{length, getD, set}
+use lib.Seq.{getD-set-same, getD-set-other}
+use borrow.Author.Tests.{lt-ltb}
+use Rattle.answer.specs.Asked.{Asked, passed, refused}
+use Rattle.answer.specs.Answers.{asked, refusalNumber, refusalPlace}
+use Rattle.answer.specs.declared.Refusal.{Refusal}
+use Rattle.answer.specs.declared.Answer.{Answer}
+use Rattle.answer.specs.declared.Answer.the-variants.{Done, Refused}
+use Rattle.logic.specs.Syntax.{Expr, rule, Edit}
+use Rattle.logic.specs.Graph.{Graph, Nodes, countBelow}
+use Rattle.logic.specs.Meaning.{value}
+use Rattle.logic.specs.Steps.{run}
+use Rattle.bitset.specs.Words.{setOf, member, combined}
+use Rattle.bitset.proofs.SetLaws.{setOf-cong, setOf-wide, member-setOf, count-le}
+use Rattle.bitset.proofs.BitLaws.{member-shr}
+use Rattle.judge.specs.Questions.{askRules}
+use Rattle.count_small.specs.declared.Four.{Four}
+use Rattle.count_small.specs.Small.{bits, smallSheet, holdAll, fourOf, fourCounts}
+use Rattle.count_small.specs.Questions.{mostSmall, noCounts}
+use Rattle.count_small.specs.Counting.{tallied, Room, Turned}
+
+-- n is small
+pub square-few : (n : ℕ) → n ≤ mostSmall → n * n ≤ 9
+square-few zero l = omega arith
+square-few (suc zero) l = omega arith
+square-few (suc (suc zero)) l = omega arith
+square-few (suc (suc (suc zero))) l = omega arith
+square-few (suc (suc (suc (suc n)))) l = absurd (omega arith)
+
+pub row-few : (n i : ℕ) → n ≤ mostSmall → i < n → n * i ≤ 6
+row-few zero i l k = absurd (omega arith)
+row-few (suc zero) i l k = omega arith
+row-few (suc (suc zero)) i l k = omega arith
+row-few (suc (suc (suc zero))) i l k = omega arith
+row-few (suc (suc (suc (suc n)))) i l k = absurd (omega arith)
+
+pub powers-few : (n : ℕ) → n ≤ mostSmall → 2 ^ bits n ≤ 4096
+powers-few zero l = omega arith
+powers-few (suc zero) l = omega arith
+powers-few (suc (suc zero)) l = omega arith
+powers-few (suc (suc (suc zero))) l = omega arith
+powers-few (suc (suc (suc (suc n)))) l = absurd (omega arith)
+
+-- Whether all rules hold, from the answer to 41.
+all-held : (g : Graph) (rules : List (Expr rule)) (i : ℕ) → askRules g rules i ≡ passed tt → holdAll g rules ≡ true
+unfolding askRules holdAll
+all-held g [] i e = refl
+all-held g (K ∷ rules) i e = go (all-held g rules (suc i)) (value g K) e
+  where
+    go : (askRules g rules (suc i) ≡ passed tt → holdAll g rules ≡ true) → (b : Bool) → elim b as (λ c. Asked (Unit {0})) [ true ↦ askRules g rules (suc i) | false ↦ refused 41 i ] ≡ passed tt → (b && holdAll g rules) ≡ true
+    go rest true e = rest e
+    go rest false e = let z : _≡_ {A = ℕ} 0 1 = cc in absurd (omega arith)
+
+one-broken : (g : Graph) (rules : List (Expr rule)) (i q p : ℕ) → askRules g rules i ≡ refused q p → holdAll g rules ≡ false
+unfolding askRules holdAll
+one-broken g [] i q p e = let z : _≡_ {A = ℕ} 0 1 = cc in absurd (omega arith)
+one-broken g (K ∷ rules) i q p e = go (one-broken g rules (suc i) q p) (value g K) e
+  where
+    go : (_≡_ {A = Asked (Unit {0})} (askRules g rules (suc i)) (refused q p) → holdAll g rules ≡ false) → (b : Bool) → _≡_ {A = Asked (Unit {0})} (elim b as (λ c. Asked (Unit {0})) [ true ↦ askRules g rules (suc i) | false ↦ refused 41 i ]) (refused q p) → (b && holdAll g rules) ≡ false
+    go rest true e = rest e
+    go rest false e = refl
+
+pub judged-kept : (g : Graph) (rules : List (Expr rule)) (a : Answer) → asked a ≡ askRules g rules 0 → a ≡ Done → true ≡ holdAll g rules
+judged-kept g rules a e d = sym (all-held g rules 0 (sym e ∙ ap asked d))
+
+pub judged-broken : (g : Graph) (rules : List (Expr rule)) (a : Answer) (r : Refusal) → asked a ≡ askRules g rules 0 → a ≡ Refused r → false ≡ holdAll g rules
+judged-broken g rules a r e d = sym (one-broken g rules 0 (refusalNumber r) (refusalPlace r) (sym e ∙ ap asked d))
+
+-- n bits of x, from one on
+pub part-is : (x from n low : ℕ) → n < 64 → low ≡ setOf 64 (λ j. ltb j n) → combined _&&_ (x / 2 ^ from) low ≡ setOf n (λ j. member x (from + j))
+part-is x from n low l e =
+    setOf-cong 64 _ (λ j. ltb j n && member x (from + j)) (λ j k. ap (member (x / 2 ^ from) j &&_) (ap (λ (y : ℕ). member y j) e ∙ member-setOf 64 (λ i. ltb i n) j k)
+    ∙ ap (_&& ltb j n) (member-shr x from j ∙ ap (member x) (add-comm j from)) ∙ and-comm (member x (from + j)) (ltb j n))
+    ∙ setOf-wide n 64 (λ j. member x (from + j)) (omega arith)
+
+-- the words of a small sheet
+pub label-is : (n x w : ℕ) → w ≡ setOf n (λ j. member x (0 + j)) → w ≡ setOf n (smallSheet n x .labelled 0)
+unfolding smallSheet
+label-is n x w e = e ∙ setOf-cong n _ _ (λ j l. let z : 0 + j ≡ j = omega arith in ap (member x) z ∙ ap (_&& member x j) (sym (lt-ltb j n l)))
+
+pub row-is : (n x i w : ℕ) → i < n → w ≡ setOf n (λ j. member x (n + n * i + j)) → w ≡ setOf n (smallSheet n x .joined 0 i)
+unfolding smallSheet
+row-is n x i w k e = e ∙ setOf-cong n _ _ (λ j l. ap (member x) (add-assoc n (n * i) j) ∙ sym (rw (lt-ltb i n k, lt-ltb j n l)))
+
+-- one row more
+pub rows-more : (rows : List ℕ) (i w : ℕ) (f : ℕ → ℕ) → i < length rows → ((k : ℕ) → k < i → getD rows k 0 ≡ f k) → w ≡ f i → (k : ℕ) → k < i + 1 → getD (set rows i w) k 0 ≡ f k
+rows-more rows i w f room before here k l = go (decLt k i)
+  where
+    go : Dec (k < i) → getD (set rows i w) k 0 ≡ f k
+    go (yes h) = getD-set-other rows i k w 0 (λ (e : k ≡ i). absurd (omega arith)) ∙ before k h
+    go (no h) = let e : k ≡ i = omega arith in ap (λ (j : ℕ). getD (set rows i w) j 0) e ∙ getD-set-same rows i w 0 room ∙ here ∙ ap f (sym e)
+
+-- One sheet more is counted.
+pub tally-more : (x : ℕ) (before next : Nodes) → tallied (fourOf x before next) (before x) (next x) ≡ fourOf (x + 1) before next
+unfolding tallied fourOf countBelow
+tally-more x before next =
+    λ t. record {
+      kept = more (λ y. before y && next y) t;
+      lost = more (λ y. before y && not (next y)) t;
+      repaired = more (λ y. not (before y) && next y) t;
+      broken = more (λ y. not (before y) && not (next y)) t;
+    }
+  where
+    more : (v : Nodes) → cond (v x) (countBelow x v + 1) (countBelow x v) ≡ countBelow (x + 1) v
+    more v = ap (λ (m : ℕ). cond (v x) m (countBelow x v)) (add-one (countBelow x v)) ∙ sym (ap (λ (m : ℕ). countBelow m v) (add-one x))
+
+-- There is room for one more.
+pub room : (x : ℕ) (before next : Nodes) (f : Four) → x < 4096 → f ≡ fourOf x before next → Room f
+unfolding fourOf
+room x before next f l e =
+    subst Room (sym e) (record {
+      kept-room = omega (arith, count-le x (λ y. before y && next y));
+      lost-room = omega (arith, count-le x (λ y. before y && not (next y)));
+      repaired-room = omega (arith, count-le x (λ y. not (before y) && next y));
+      broken-room = omega (arith, count-le x (λ y. not (before y) && not (next y)));
+    })
+
+pub none-counted : (before next : Nodes) → noCounts ≡ fourOf 0 before next
+unfolding fourOf countBelow
+none-counted before next = refl
+
+-- The counts so far, with sheet x; and all of them.
+pub counted-more : (n x : ℕ) (rules : List (Expr rule)) (Z : Edit) (four four′ : Four) (b a : Bool) → four ≡ fourOf x (λ y. holdAll (smallSheet n y) rules) (λ y. holdAll (run Z (smallSheet n y)) rules) → Turned n x rules Z b a
+    → four′ ≡ tallied four b a → four′ ≡ fourOf (x + 1) (λ y. holdAll (smallSheet n y) rules) (λ y. holdAll (run Z (smallSheet n y)) rules)
+counted-more n x rules Z four four′ b a e t m =
+    let before : Nodes = λ y. holdAll (smallSheet n y) rules in
+    let next : Nodes = λ y. holdAll (run Z (smallSheet n y)) rules in
+    m ∙ ap (λ (f : Four). tallied f b a) e ∙ ap₂ (tallied (fourOf x before next)) (t .before-is) (t .next-is) ∙ tally-more x before next
+
+pub counted-all : (n x : ℕ) (rules : List (Expr rule)) (Z : Edit) (four : Four) → x ≡ 2 ^ bits n → four ≡ fourOf x (λ y. holdAll (smallSheet n y) rules) (λ y. holdAll (run Z (smallSheet n y)) rules) → four ≡ fourCounts n rules Z
+unfolding fourCounts
+counted-all n x rules Z four e h = h ∙ ap (λ (m : ℕ). fourOf m (λ y. holdAll (smallSheet n y) rules) (λ y. holdAll (run Z (smallSheet n y)) rules)) e

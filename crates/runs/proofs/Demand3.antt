@@ -1,0 +1,128 @@
+-- Demand 3 holds.
+use mathlib.Core.Path.{_≡_, refl, sym, _∙_, ap, subst}
+use mathlib.Core.Logic.{_↔_}
+use mathlib.Core.List.{List, [], map}
+use Prim.Native.Nat.{ℕ}
+use lib.Dec.{T}
+use Rattle.answer.specs.Asked.{Asked, passed, refused, _>>=_, _>>_, after, outcome}
+use Rattle.logic.specs.Syntax.{Expr, rule, Edit}
+use Rattle.logic.specs.Graph.{Graph}
+use Rattle.logic.specs.Meaning.{value}
+use Rattle.logic.specs.Steps.{run}
+use Rattle.logic.specs.Carry.{carry, carriedBook}
+use Rattle.logic.specs.Limits.{Within}
+use Rattle.logic.proofs.Theorem.{carried}
+use Rattle.logic.proofs.Inside.{run-n}
+use Rattle.sheet.specs.Sheet.{present, store, graphOf}
+use Rattle.sheet.proofs.ReadBack.{read-back}
+use Rattle.sheet.proofs.Opening.{Opened, opening}
+use Rattle.text.specs.Reading.{textLimits}
+use Rattle.text.specs.Questions.{askBook}
+use Rattle.judge.specs.Questions.{askSheetAndBook, askRules}
+use Rattle.single.specs.Scratch.{askScratch}
+use Rattle.apply.specs.Apply.{afterSteps}
+use Rattle.runs.specs.Enter.{askEnter, enterAnswer, enterSheet}
+use Rattle.runs.specs.Clerk.{Fed, rulesOf, clerkLog, clerk}
+use Rattle.runs.specs.Run.{Hold, Keeps, Call, fed, log, enteredAfterEach, madeInOrder, Bytes, Given}
+use Rattle.runs.specs.Demand3.{Each, RunRight, Demand3}
+use Rattle.runs.proofs.Passing.{outcome-passed, hold-carried, carried-hold}
+use Rattle.runs.proofs.OneCall.{askSteps, enter-asks, Entered, when-passed, so-passed}
+use Rattle.runs.proofs.Runs.{steps-within, Kept, keeps, kept-each, log-clerk, alone-each}
+
+module _ {book edit sheet : List ℕ} (i : Given book edit sheet) where
+  -- The sheet that the steps leave stores the graph that they leave.
+  within : Within (run (i .steps) (graphOf sheet))
+  within = steps-within (graphOf sheet) edit (i .steps) (opening present sheet (i .are-bytes) (i .sound) .within) (i .edit-read)
+
+  left : graphOf (afterSteps (i .steps) sheet) ≡ run (i .steps) (graphOf sheet)
+  left = read-back (run (i .steps) (graphOf sheet)) within
+
+  carried-before-after : (K : Expr rule) → value (graphOf sheet) (carry (i .steps) K) ≡ value (graphOf (afterSteps (i .steps) sheet)) K
+  carried-before-after K = carried (i .steps) K (graphOf sheet) ∙ ap (λ g. value g K) (sym left)
+
+  -- what keeps the book after the steps has all carried rules before
+  kept-after : Keeps book (afterSteps (i .steps) sheet) → Hold (graphOf sheet) (carriedBook (i .steps) (i .rules))
+  kept-after k =
+      let n-same : graphOf (afterSteps (i .steps) sheet) .n ≡ graphOf sheet .n = ap (λ g. g .n) left ∙ run-n (i .steps) (graphOf sheet) in
+      let read : askBook (textLimits (graphOf sheet .n)) book ≡ passed (k .rules) = subst (λ n. askBook (textLimits n) book ≡ passed (k .rules)) n-same (k .book-read) in
+      let same : k .rules ≡ i .rules = cc in
+      hold-carried (i .steps) (i .rules) (graphOf sheet) (subst (λ g. Hold g (i .rules)) left (subst (Hold (graphOf (afterSteps (i .steps) sheet))) same (k .hold)))
+
+  carried-keeps : Hold (graphOf sheet) (carriedBook (i .steps) (i .rules)) → Keeps book (afterSteps (i .steps) sheet)
+  carried-keeps h =
+      keeps book (i .rules) (run (i .steps) (graphOf sheet))
+      (record { within = within; book-read = rw (run-n (i .steps) (graphOf sheet)) (i .book-read); hold = carried-hold (i .steps) (i .rules) (graphOf sheet) h })
+
+  sheet-and-book : askSheetAndBook sheet book ≡ passed (i .rules)
+  unfolding askSheetAndBook _>>_
+  sheet-and-book = ap (_>> askBook (textLimits (graphOf sheet .n)) book) (i .sound) ∙ i .book-read
+
+  abbrev call : ℕ → Fed
+  call room = record { edit = edit; room = room }
+
+  asks : (room : ℕ) → askEnter sheet book edit room ≡ askSteps (i .rules) (graphOf sheet) (call room)
+  asks room = enter-asks sheet book (i .rules) (call room) sheet-and-book
+
+  -- 31 to 33, and then 41 of the book's own rules on the sheet that the steps leave
+  answers : (room : ℕ) → enterAnswer sheet book edit room ≡ (askScratch (carriedBook (i .steps) (i .rules)) room >> askRules (graphOf (afterSteps (i .steps) sheet)) (i .rules) 0)
+  unfolding askSteps outcome _>>=_ _>>_
+  answers room =
+      ap outcome (asks room)
+      ∙ ap (λ (q : Asked Edit). outcome (q >>= (λ Z. askScratch (carriedBook Z (i .rules)) room >> (askRules (run Z (graphOf sheet)) (i .rules) 0 >> passed Z)))) (i .edit-read)
+      ∙ go (askScratch (carriedBook (i .steps) (i .rules)) room) (askRules (run (i .steps) (graphOf sheet)) (i .rules) 0)
+      ∙ ap (λ g. askScratch (carriedBook (i .steps) (i .rules)) room >> askRules g (i .rules) 0) (sym left)
+    where
+      go : (q r : Asked (Unit {0})) → outcome (q >> (r >> passed (i .steps))) ≡ (q >> r)
+      go (passed u) (passed v) = refl
+      go (passed u) (refused n p) = refl
+      go (refused n p) r = refl
+
+  -- done is answered of this edit, and all else has passed
+  done-with : (room : ℕ) → enterAnswer sheet book edit room ≡ passed tt → Entered (i .rules) (graphOf sheet) (call room) (i .steps)
+  done-with room e =
+      let (Z, a) = outcome-passed (askEnter sheet book edit room) e in
+      let w : Entered (i .rules) (graphOf sheet) (call room) Z = when-passed (i .rules) (graphOf sheet) (call room) Z (sym (asks room) ∙ a) in
+      let same : Z ≡ i .steps = cc in
+      subst (Entered (i .rules) (graphOf sheet) (call room)) same w
+
+  entered-iff : (room : ℕ) → askScratch (carriedBook (i .steps) (i .rules)) room ≡ passed tt → (enterAnswer sheet book edit room ≡ passed tt) ↔ Hold (graphOf sheet) (carriedBook (i .steps) (i .rules))
+  unfolding outcome
+  entered-iff room fits = (
+    λ e. hold-carried (i .steps) (i .rules) (graphOf sheet) (done-with room e .hold),
+    λ h. ap outcome (asks room ∙ so-passed (i .rules) (graphOf sheet) (call room) (i .steps) (record { edit-read = i .edit-read; fits = fits; hold = carried-hold (i .steps) (i .rules) (graphOf sheet) h })),
+  )
+
+  leaves : (room : ℕ) → enterAnswer sheet book edit room ≡ passed tt → enterSheet sheet book edit room ≡ afterSteps (i .steps) sheet
+  unfolding enterSheet after
+  leaves room e = ap (λ q. after q (λ Z. afterSteps Z sheet) sheet) (asks room ∙ so-passed (i .rules) (graphOf sheet) (call room) (i .steps) (done-with room e))
+
+-- A run from the sheet that stores a graph which keeps the book; so from every sheet that keeps it.
+pub stored-right : (book : List ℕ) (rules : List (Expr rule)) (g : Graph) (calls : List Call) → Kept book rules g → RunRight (store g) book calls
+unfolding clerk rulesOf after madeInOrder
+stored-right book rules g calls kept =
+    let same : log book (store g) calls ≡ clerkLog rules g (map fed calls) = log-clerk book rules g calls kept in
+    record {
+      kept = subst (Each (λ l. Keeps book (l .sheet))) (sym same) (kept-each book rules g (map fed calls) kept);
+      alone = subst (λ x. map (λ l. l .sheet) x ≡ map (madeInOrder (store g)) (enteredAfterEach [] x)) (sym same) (alone-each book rules (store g) [] g (map fed calls) kept refl);
+      clerks =
+          same ∙ ap (λ q. clerkLog (after q (λ rules. rules) []) g (map fed calls)) (sym (kept .book-read))
+          ∙ ap (λ h. clerkLog (after (askBook (textLimits (h .n)) book) (λ rules. rules) []) h (map fed calls)) (sym (read-back g (kept .within)));
+    }
+
+run-right : (sheet book : List ℕ) (calls : List Call) → Bytes sheet → Keeps book sheet → RunRight sheet book calls
+run-right sheet book calls bytes k =
+    let o : Opened present sheet = opening present sheet bytes (k .sound) in
+    let kept : Kept book (k .rules) (graphOf sheet) = record { within = o .within; book-read = k .book-read; hold = k .hold } in
+    subst (λ s. RunRight s book calls) (sym (o .stored)) (stored-right book (k .rules) (graphOf sheet) calls kept)
+
+pub demand-3 : Demand3
+demand-3 =
+    record {
+      carried-holds = λ i K. (subst T (carried-before-after i K), subst T (sym (carried-before-after i K)));
+      weakest = λ C h sheet c. kept-after (C .given sheet c) (h sheet c);
+      carried-ensure = λ i h. carried-keeps i h;
+      entered-when = λ i. entered-iff i;
+      entered-leaves = λ i. leaves i;
+      enter-answers = λ i. answers i;
+      every-run = run-right;
+    }

@@ -1,0 +1,119 @@
+-- The eight laws of item 11 of document 02 as a table, steps, and chains of steps.
+use mathlib.Core.Path.{_≡_}
+use mathlib.Core.Bool.{true, false}
+use mathlib.Core.List.{List, [], _∷_}
+use Prim.Native.Nat.{ℕ}
+use lib.Dec.{eqb}
+use lib.ListN.{length}
+use Rattle.logic.specs.Syntax.{Sort, node, arrow, rule, Expr, all, none, label, nominal, complement, and, or, some, every, atLeast, atMost, arrowKind, reversed, union, common, minus, endingIn, pair, subNodes, subArrows, nodeIn, pairIn, both, either, notRule}
+use Rattle.shortening.specs.Place.{Context, put, before}
+
+-- The first and the second operand of a code whose operands are of its own sort; of another the term itself.
+unfoldable pub operand1 : {s : Sort} → Expr s → Expr s
+operand1 all = all
+operand1 none = none
+operand1 (label k) = label k
+operand1 (nominal k) = nominal k
+operand1 (complement E) = E
+operand1 (and E F) = E
+operand1 (or E F) = E
+operand1 (some R E) = some R E
+operand1 (every R E) = every R E
+operand1 (atLeast k R E) = atLeast k R E
+operand1 (atMost k R E) = atMost k R E
+operand1 (arrowKind k) = arrowKind k
+operand1 (reversed R) = R
+operand1 (union R S) = R
+operand1 (common R S) = R
+operand1 (minus R S) = R
+operand1 (endingIn R E) = endingIn R E
+operand1 (pair k l) = pair k l
+operand1 (subNodes E F) = subNodes E F
+operand1 (subArrows R S) = subArrows R S
+operand1 (nodeIn k E) = nodeIn k E
+operand1 (pairIn k l R) = pairIn k l R
+operand1 (both K L) = K
+operand1 (either K L) = K
+operand1 (notRule K) = K
+
+unfoldable pub operand2 : {s : Sort} → Expr s → Expr s
+operand2 all = all
+operand2 none = none
+operand2 (label k) = label k
+operand2 (nominal k) = nominal k
+operand2 (complement E) = complement E
+operand2 (and E F) = F
+operand2 (or E F) = F
+operand2 (some R E) = some R E
+operand2 (every R E) = every R E
+operand2 (atLeast k R E) = atLeast k R E
+operand2 (atMost k R E) = atMost k R E
+operand2 (arrowKind k) = arrowKind k
+operand2 (reversed R) = reversed R
+operand2 (union R S) = S
+operand2 (common R S) = S
+operand2 (minus R S) = S
+operand2 (endingIn R E) = endingIn R E
+operand2 (pair k l) = pair k l
+operand2 (subNodes E F) = subNodes E F
+operand2 (subArrows R S) = subArrows R S
+operand2 (nodeIn k E) = nodeIn k E
+operand2 (pairIn k l R) = pairIn k l R
+operand2 (both K L) = L
+operand2 (either K L) = L
+operand2 (notRule K) = notRule K
+
+-- A law: its number, its two sides, with one variable, and what stands for the variable in a left side (proofs/Exact, `laws-found`).
+pub record Law (s : Sort) : Type 0 where
+  pub number : ℕ
+  pub left : Expr s → Expr s
+  pub right : Expr s → Expr s
+  pub find : Expr s → Expr s
+
+-- "1 05 05 E to E; 2 06 E E to E; 3 07 E E to E; 4 06 E 05 E to 02; 5 07 01 E to 01; 6 06 01 E to E; 7 27 27 K to K; 8 26 K K to K."
+unfoldable pub laws : (s : Sort) → List (Law s)
+laws node =
+    record { number = 1; left = λ E. complement (complement E); right = λ E. E; find = λ e. operand1 (operand1 e) }
+    ∷ record { number = 2; left = λ E. and E E; right = λ E. E; find = operand1 }
+    ∷ record { number = 3; left = λ E. or E E; right = λ E. E; find = operand1 }
+    ∷ record { number = 4; left = λ E. and E (complement E); right = λ E. none; find = operand1 }
+    ∷ record { number = 5; left = λ E. or all E; right = λ E. all; find = operand2 }
+    ∷ record { number = 6; left = λ E. and all E; right = λ E. E; find = operand2 }
+    ∷ []
+laws arrow = []
+laws rule =
+    record { number = 7; left = λ K. notRule (notRule K); right = λ K. K; find = λ e. operand1 (operand1 e) }
+    ∷ record { number = 8; left = λ K. either K K; right = λ K. K; find = operand1 }
+    ∷ []
+
+-- What was made, or nothing for want of a fit.
+pub data Made (A : Type 0) : Type 0 where
+  made : A → Made A
+  unfit : Made A
+
+-- The law of the table with this number.
+unfoldable pub numbered : {s : Sort} → ℕ → List (Law s) → Made (Law s)
+numbered n [] = unfit
+numbered n (l ∷ ls) = elim (eqb n (l .number)) [ true ↦ made l | false ↦ numbered n ls ]
+
+-- "A step is a two-byte little-endian offset and a law's number in one byte"
+pub record Step : Type 0 where
+  pub offset : ℕ
+  pub law : ℕ
+
+-- A step leads from one term to another: at some place the left side of the law with that number, for some term in its variable's place,
+-- becomes the right side. "The offset must be that of the code where the left side begins."
+pub record Fits (x : Step) {t : Sort} (e e′ : Expr t) : Type 0 where
+  pub sort : Sort
+  pub place : Context sort t
+  pub law : Law sort
+  pub number-right : numbered (x .law) (laws sort) ≡ made law
+  pub variable : Expr sort
+  pub offset-right : x .offset ≡ length (before place)
+  pub from : e ≡ put place (law .left variable)
+  pub to : e′ ≡ put place (law .right variable)
+
+-- A chain of fitting steps from K to L.
+unfoldable pub Chain : List Step → Expr rule → Expr rule → Type 0
+Chain [] K L = K ≡ L
+Chain (x ∷ xs) K L = (M : Expr rule) × Fits x K M × Chain xs M L

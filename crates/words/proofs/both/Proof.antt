@@ -1,9 +1,0 @@
-use Rattle.words.proofs.SetLaws.{words-and}
-use Rattle.words.proofs.both.Statement.{statement}
-use Rattle.words.proofs.both.Tie as tie
-
-returns : tie.Need-returns
-returns c = words-and (c .args .x) (c .args .y) (c .fits .x .fits) (c .fits .y .fits)
-
-pub both-spec : {M : Type 1} → statement M
-both-spec = tie.close (tie.spec returns)
