@@ -46,7 +46,7 @@ extern "C" {
 #define ZAMIATHEN_CARRIED_BYTES 16384 /* the longest carried book, and the longest single carried rule (zamiathen_enter) */
 #define ZAMIATHEN_LINE_BYTES 64       /* a line of a page, its line feed included */
 #define ZAMIATHEN_PAGE_BYTES 3904     /* the longest page, of an arrow kind at 60 nodes; a label page has 3200 */
-#define ZAMIATHEN_STACK_BYTES 262144  /* measured: 226,912 at 255 levels, the deepest carried rule */
+#define ZAMIATHEN_STACK_BYTES 262144  /* measured: 230,960 at 255 levels, the deepest carried rule */
 #define ZAMIATHEN_THREAD_BYTES 393216 /* a thread's whole stack */
 
 /* Limits. A sheet has n nodes, n from 1 to ZAMIATHEN_MAX_NODES; n is its byte 2. Numbers count from 0. A node below n may

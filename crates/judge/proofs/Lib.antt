@@ -1,3 +1,4 @@
 mod Parts
 pub mod Rules
 mod Deciding
+pub mod Refusals

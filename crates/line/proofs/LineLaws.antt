@@ -58,7 +58,7 @@ early : earlyLine ≡ 57 ∷ 57 ∷ 32 ∷ 48 ∷ 48 ∷ 48 ∷ 48 ∷ 48 ∷ 10
 unfolding answerLine digits
 early = refl
 
--- The largest place: `33 16384`.
-largest : answerLine 33 16384 ≡ 51 ∷ 51 ∷ 32 ∷ 49 ∷ 54 ∷ 51 ∷ 56 ∷ 52 ∷ 10 ∷ []
+-- The largest place: `53 65535`.
+largest : answerLine 53 65535 ≡ 53 ∷ 51 ∷ 32 ∷ 54 ∷ 53 ∷ 53 ∷ 51 ∷ 53 ∷ 10 ∷ []
 unfolding answerLine digits
 largest = refl

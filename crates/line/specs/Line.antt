@@ -1,6 +1,7 @@
 -- The line that the programs print for an answer ("The program `enter`" of document 01).
 use mathlib.Core.List.{List, [], _∷_, _++_}
-use Prim.Native.Nat.{ℕ, zero, suc, _+_, _/_, _%_}
+use Prim.Native.Nat.{ℕ, zero, suc, _+_, _*_, _-_, _/_, _%_, _<_}
+use lib.ListN.{take, drop}
 use Rattle.answer.specs.Asked.{Asked, askedNumber, askedPlace}
 
 -- The last digits of n in decimal, as many as the width, in ASCII, where 48 is the digit 0.
@@ -9,13 +10,27 @@ digits zero n = []
 digits (suc w) n = digits w (n / 10) ++ ((48 + n % 10) ∷ [])
 
 -- The number in two digits, a blank, the place in five digits, a line feed.
--- Of a place with more digits these are the last five; no answer has one, for the largest place is 65,535, of 53.
 unfoldable pub answerLine : (number place : ℕ) → List ℕ
 answerLine number place = digits 2 number ++ (32 ∷ digits 5 place ++ (10 ∷ []))
 
 -- The line of what the questions answer.
 abbrev pub askedLine : {A : Type 0} → Asked A → List ℕ
 askedLine q = answerLine (askedNumber q) (askedPlace q)
+
+-- Numbers and places that have no more digits. All that the programs answer are such: crate promises, `Lines`.
+abbrev pub Fits : (number place : ℕ) → Type 0
+Fits number place = (number < 100) × (place < 100000)
+
+-- What digits in ASCII say, after those that say n; and what a line says: the number before the blank, the place after it.
+unfoldable pub said : ℕ → List ℕ → ℕ
+said n [] = n
+said n (d ∷ ds) = said (10 * n + (d - 48)) ds
+
+abbrev pub numberOn : List ℕ → ℕ
+numberOn line = said 0 (take 2 line)
+
+abbrev pub placeOn : List ℕ → ℕ
+placeOn line = said 0 (take 5 (drop 3 line))
 
 -- The line when the input ends early, with no sheet behind it.
 abbrev pub earlyLine : List ℕ

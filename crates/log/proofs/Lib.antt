@@ -13,3 +13,4 @@ pub mod Logs
 pub mod KeptLaws
 pub mod Answering
 pub mod Replays
+pub mod Refusals

@@ -1,3 +1,4 @@
+pub mod Lines
 pub mod Item1
 pub mod Item2
 pub mod Item4

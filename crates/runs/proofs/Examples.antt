@@ -1,13 +1,13 @@
 -- Enter on the bytes of sheet T, by computation. That these bytes pass the sheet's questions and store T comes from the laws of sheets.
 use mathlib.Core.Path.{_≡_, refl, sym, _∙_, ap}
 use mathlib.Core.Bool.{false, and-false, and-self}
-use mathlib.Core.List.{List}
+use mathlib.Core.List.{List, [], _∷_}
 use Prim.Native.Nat.{ℕ, _≤_}
 use native.Mathlib.Omega.{arith}
 use lib.Dec.{eqb, ltb}
 use lib.ListN.{length}
-use borrow.Author.Tests.{ne-eqb, le-ltb, ltb-false}
-use Rattle.answer.specs.Asked.{Asked, passed, _>>=_, _>>_, is, after, outcome}
+use borrow.Author.Tests.{ne-eqb, le-leb, le-ltb, ltb-false}
+use Rattle.answer.specs.Asked.{Asked, passed, refused, _>>=_, _>>_, is, after, outcome}
 use Rattle.logic.specs.Syntax.{Expr, rule, Edit}
 use Rattle.logic.specs.Graph.{Graph, isNode, anyBelow, allBelow, countBelow}
 use Rattle.logic.specs.Meaning.{value}
@@ -22,10 +22,10 @@ use Rattle.text.specs.Code.{code, levels, bookCode, bookLevels}
 use Rattle.text.specs.Reading.{textLimits, codes, choice, follow}
 use Rattle.text.specs.Reading as reading
 use Rattle.text.specs.Questions.{whole, readRules, askBook, askEdit}
-use Rattle.text.specs.Marked.{sheetT}
+use Rattle.text.specs.Marked.{sheetT, B}
 use Rattle.judge.specs.Questions.{askRules}
 use Rattle.single.specs.Scratch.{longest, askScratch, upToBroken, overwritten, writings}
-use Rattle.runs.specs.Enter.{StepsAndCarried, askBefore41, askEnter, enterSheet, enterScratch}
+use Rattle.runs.specs.Enter.{StepsAndCarried, askBefore41, askEnter, enterAnswer, enterSheet, enterScratch}
 use Rattle.runs.specs.Examples.{Result, scratchOf, two, enteredOnT, calls, results}
 use Rattle.runs.proofs.OneCall.{asked-of-stored}
 
@@ -81,3 +81,18 @@ on-graph book edit room = λ t. resultOf (read-back sheetT T-within t) (carried-
 pub examples : calls enteredOnT ≡ results
 unfolding calls results two resultOf askOf sheetT storeIn block labelBlock arrowBlock chunks setOf bytes sealed stored sumsFrom value isNode anyBelow allBelow countBelow update run replace putLabel putArrow carry code bookCode levels bookLevels longest askScratch upToBroken overwritten whole readRules askBook askEdit askRules after outcome _>>=_ _>>_ is codes choice follow reading._>>=_
 examples = (λ t. calls (λ book edit room. on-graph book edit room t)) ∙ refl
+
+-- Example 8 with any scratch that holds its carried rule, of 12 bytes.
+abbrev edit-8 : List ℕ
+edit-8 = 0x32 ∷ 0x01 ∷ 0x04 ∷ 0x02 ∷ 0x30 ∷ []
+
+judged-of : Graph → Asked StepsAndCarried → Asked (Unit {0})
+judged-of g a = outcome (a >>= (λ c. askRules g (c .carried) 0 >> passed (c .steps)))
+
+judged-8 : (room : ℕ) → 12 ≤ room → judged-of sheetT (askOf sheetT B edit-8 room) ≡ refused 41 0
+unfolding judged-of askOf sheetT value isNode anyBelow allBelow countBelow update replace putLabel putArrow carry code bookCode levels bookLevels longest askScratch whole readRules askBook askEdit askRules outcome _>>=_ _>>_ is codes choice follow reading._>>=_
+judged-8 room h = rw (le-leb 12 room h)
+
+pub example-8 : (room : ℕ) → 12 ≤ room → enterAnswer (store sheetT) B edit-8 room ≡ refused 41 0
+unfolding askEnter judged-of
+example-8 room h = (λ t. judged-of (read-back sheetT T-within t) (carried-of sheetT B edit-8 room T-within t)) ∙ judged-8 room h

@@ -1,20 +1,19 @@
 -- What enter leaves in sheet and scratch.
 use mathlib.Core.Path.{_≡_, refl, sym, _∙_, ap, subst}
 use mathlib.Core.Logic.{_≢_, _⊎_, inl, inr}
-use mathlib.Core.Bool.{Bool, true, false}
 use mathlib.Core.List.{List, [], _∷_}
-use Prim.Native.Nat.{ℕ, suc}
+use Prim.Native.Nat.{ℕ}
 use native.Mathlib.Omega.{arith}
 use lib.ListN.{length}
 use Rattle.answer.specs.Asked.{Asked, passed, refused, _>>=_, _>>_, after, outcome}
+use Rattle.answer.proofs.Refusals.{Refuses, refuses}
 use Rattle.logic.specs.Syntax.{Expr, rule, Edit}
-use Rattle.logic.specs.Graph.{Graph}
-use Rattle.logic.specs.Meaning.{value}
 use Rattle.logic.specs.Carry.{carriedBook}
 use Rattle.sheet.specs.Sheet.{graphOf}
-use Rattle.judge.specs.Questions.{askSheetAndBook, askRules}
-use Rattle.text.specs.Reading.{textLimits}
+use Rattle.text.specs.Reading.{longestCarried, textLimits}
 use Rattle.text.specs.Questions.{askEdit}
+use Rattle.judge.specs.Questions.{askSheetAndBook, askRules}
+use Rattle.judge.proofs.Refusals.{rules-refuse}
 use Rattle.single.specs.Scratch.{askScratch, writings}
 use Rattle.apply.specs.Apply.{afterSteps}
 use Rattle.runs.specs.Enter.{StepsAndCarried, askBefore41, askEnter, enterAnswer, enterSheet, enterScratch}
@@ -22,7 +21,7 @@ use Rattle.runs.specs.Run.{Call, log}
 use Rattle.runs.specs.Demand3.{Each}
 use Rattle.runs.specs.Leaves.{ScratchWritten, Leaves}
 use Rattle.runs.proofs.Passing.{passed-same, bind-passed, then-passed}
-use Rattle.runs.proofs.Numbers.{Below, before-41-below}
+use Rattle.runs.proofs.Numbers.{before-41-refuses}
 
 stays : (sheet book edit : List ℕ) (room q p : ℕ) → enterAnswer sheet book edit room ≡ refused q p → enterSheet sheet book edit room ≡ sheet
 unfolding enterSheet after outcome
@@ -31,20 +30,6 @@ stays sheet book edit room q p e = go (askEnter sheet book edit room) e
     go : (a : Asked Edit) → outcome a ≡ refused q p → after a (λ Z. afterSteps Z sheet) sheet ≡ sheet
     go (passed Z) e = let z : _≡_ {A = ℕ} 0 1 = cc in absurd (omega arith)
     go (refused n m) e = refl
-
--- Rules are refused with 41 alone.
-abbrev pub Only41 : Asked (Unit {0}) → Type 0
-Only41 (passed u) = Unit {0}
-Only41 (refused q p) = q ≡ 41
-
-pub rules-41 : (g : Graph) (rules : List (Expr rule)) (i : ℕ) → Only41 (askRules g rules i)
-unfolding askRules
-rules-41 g [] i = tt
-rules-41 g (K ∷ rules) i = go (value g K) (rules-41 g rules (suc i))
-  where
-    go : (b : Bool) → Only41 (askRules g rules (suc i)) → Only41 (elim b [ true ↦ askRules g rules (suc i) | false ↦ refused 41 i ])
-    go true h = h
-    go false h = refl
 
 module _ (sheet book edit scratch : List ℕ) where
   abbrev askedHere : Asked StepsAndCarried
@@ -58,22 +43,22 @@ module _ (sheet book edit scratch : List ℕ) where
   unfolding askEnter enterScratch after outcome _>>=_ _>>_
   scratch-same q p e other = go askedHere e
     where
-      by-rules : (c : StepsAndCarried) (r : Asked (Unit {0})) → Only41 r → outcome (r >> passed (c .steps)) ≡ refused q p → q ≡ 41
+      by-rules : (c : StepsAndCarried) {most : ℕ} (r : Asked (Unit {0})) → Refuses 41 41 most r → outcome (r >> passed (c .steps)) ≡ refused q p → q ≡ 41
       by-rules c (passed u) h e = let z : _≡_ {A = ℕ} 0 1 = cc in absurd (omega arith)
-      by-rules c (refused n m) h e = cc
+      by-rules c (refused n m) (refuses _ _ i j k) e = let z : n ≡ q = cc in omega arith
 
       go : (a : Asked StepsAndCarried) → judged a ≡ refused q p → after a (λ c. writings (graphOf sheet) (c .carried) scratch) scratch ≡ scratch
-      go (passed c) e = absurd (other (by-rules c (askRules (graphOf sheet) (c .carried) 0) (rules-41 (graphOf sheet) (c .carried) 0) e))
+      go (passed c) e = absurd (other (by-rules c (askRules (graphOf sheet) (c .carried) 0) (rules-refuse (graphOf sheet) (c .carried) 0) e))
       go (refused n m) e = refl
 
   done-or-41 : (p : ℕ) → (enterAnswer sheet book edit (length scratch) ≡ passed tt) ⊎ (enterAnswer sheet book edit (length scratch) ≡ refused 41 p) → ScratchWritten sheet book edit scratch
   unfolding askEnter enterScratch after outcome _>>=_ _>>_
-  done-or-41 p e = go askedHere refl (before-41-below sheet book edit (length scratch)) e
+  done-or-41 p e = go askedHere refl (before-41-refuses sheet book edit (length scratch)) e
     where
-      go : (a : Asked StepsAndCarried) → askedHere ≡ a → Below 41 a → (judged a ≡ passed tt) ⊎ (judged a ≡ refused 41 p) → ScratchWritten sheet book edit scratch
+      go : (a : Asked StepsAndCarried) → askedHere ≡ a → Refuses 1 33 longestCarried a → (judged a ≡ passed tt) ⊎ (judged a ≡ refused 41 p) → ScratchWritten sheet book edit scratch
       go (passed c) f b e = record { what = c; passes = f; written = ap (λ a. after a (λ c. writings (graphOf sheet) (c .carried) scratch) scratch) f }
       go (refused n m) f b (inl e) = let z : _≡_ {A = ℕ} 0 1 = cc in absurd (omega arith)
-      go (refused n m) f b (inr e) = let z : n ≡ 41 = cc in absurd (omega arith)
+      go (refused n m) f (refuses _ _ i j k) (inr e) = let z : n ≡ 41 = cc in absurd (omega arith)
 
 -- What is known when 1 to 33 have passed.
 pub record Passed33 (sheet book edit : List ℕ) (room : ℕ) (c : StepsAndCarried) : Type 0 where

@@ -6,14 +6,17 @@ use Prim.Native.Nat.{ℕ, _<_, _≤_}
 use native.Mathlib.Omega.{arith}
 use lib.ListN.{length}
 use Rattle.answer.specs.Asked.{Asked, passed, refused, _>>=_, _>>_, after, outcome}
+use Rattle.answer.proofs.Refusals.{Refuses, refuses}
 use Rattle.logic.specs.Syntax.{Expr, rule, Edit}
 use Rattle.logic.specs.Graph.{Graph}
 use Rattle.logic.specs.Carry.{carriedBook}
 use Rattle.sheet.specs.Sheet.{graphOf}
 use Rattle.text.specs.Code.{bookCode, bookLevels}
-use Rattle.text.specs.Reading.{longestCarried, deepestCarried, textLimits}
+use Rattle.text.specs.Reading.{longestText, longestCarried, deepestCarried, textLimits}
 use Rattle.text.specs.Questions.{askEdit}
+use Rattle.text.proofs.Refusals.{edit-refuses}
 use Rattle.judge.specs.Questions.{askSheetAndBook, askRules}
+use Rattle.judge.proofs.Refusals.{rules-refuse}
 use Rattle.carry.specs.Carrying.{askSize}
 use Rattle.carry.proofs.Asking.{sized, no-31, no-32, no-33, all-so}
 use Rattle.single.specs.Scratch.{longestRule, askScratch}
@@ -23,8 +26,7 @@ use Rattle.apply.specs.Apply.{afterSteps}
 use Rattle.runs.specs.Enter.{StepsAndCarried, askBefore41, askEnter, enterAnswer, enterSheet}
 use Rattle.runs.specs.Former.{formerEnter, formerAnswer, formerSheet}
 use Rattle.runs.specs.Unmoved.{AsBefore, StillShort, Unmoved}
-use Rattle.runs.proofs.Numbers.{Below, first-below, edit-below}
-use Rattle.runs.proofs.Leaves.{Only41, rules-41}
+use Rattle.runs.proofs.Numbers.{sheet-and-book-refuse}
 
 -- 31 to 33 of a carried book, by the longest rule and by the whole of it.
 module _ (carried : List (Expr rule)) (room : ℕ) where
@@ -66,11 +68,11 @@ module _ (carried : List (Expr rule)) (room : ℕ) where
 -- What follows 31 to 33 is not refused with 33.
 then-not-33 : (g : Graph) (carried : List (Expr rule)) (Z : Edit) (p : ℕ) (x : Asked (Unit {0})) → x ≢ refused 33 p → outcome (x >> (askRules g carried 0 >> passed Z)) ≢ refused 33 p
 unfolding outcome _>>_
-then-not-33 g carried Z p (passed u) n e = by-rules (askRules g carried 0) (rules-41 g carried 0) e
+then-not-33 g carried Z p (passed u) n e = by-rules (askRules g carried 0) (rules-refuse g carried 0) e
   where
-    by-rules : (x : Asked (Unit {0})) → Only41 x → outcome (x >> passed Z) ≢ refused 33 p
+    by-rules : {most : ℕ} (x : Asked (Unit {0})) → Refuses 41 41 most x → outcome (x >> passed Z) ≢ refused 33 p
     by-rules (passed u) o e = let z : _≡_ {A = ℕ} 0 1 = cc in absurd (omega arith)
-    by-rules (refused m o) i e = let z : _≡_ {A = ℕ} 41 33 = cc in absurd (omega arith)
+    by-rules (refused m o) (refuses _ _ i j k) e = let z : m ≡ 33 = cc in absurd (omega arith)
 then-not-33 g carried Z p (refused m o) n e = n cc
 
 module _ (sheet book edit : List ℕ) where
@@ -160,7 +162,7 @@ module _ (sheet book edit : List ℕ) where
 
   enough : (room p : ℕ) → longestCarried ≤ room → enterAnswer sheet book edit room ≢ refused 33 p
   unfolding asksBy outcome _>>=_ _>>_
-  enough room p long e = go (askSheetAndBook sheet book) (askEdit (textLimits (graphOf sheet .n)) edit) (first-below sheet book) (edit-below (textLimits (graphOf sheet .n)) edit) (sym (ap outcome (now-asks room)) ∙ e)
+  enough room p long e = go (askSheetAndBook sheet book) (askEdit (textLimits (graphOf sheet .n)) edit) (sheet-and-book-refuse sheet book) (edit-refuses (textLimits (graphOf sheet .n)) edit) (sym (ap outcome (now-asks room)) ∙ e)
     where
       not-33 : (c : List (Expr rule)) → askScratch c room ≢ refused 33 p
       not-33 c g =
@@ -170,10 +172,10 @@ module _ (sheet book edit : List ℕ) where
           (λ d. let s : askScratch c room ≡ refused 32 0 = scratch-is c room ∙ no-32 _ _ _ _ short d in let z : _≡_ {A = ℕ} 32 33 = cc in absurd (omega arith)))
           (λ d. let s : askScratch c room ≡ refused 31 0 = scratch-is c room ∙ no-31 _ _ _ _ d in let z : _≡_ {A = ℕ} 31 33 = cc in absurd (omega arith))
 
-      go : (q : Asked (List (Expr rule))) (r : Asked Edit) → Below 31 q → Below 31 r → outcome (asksBy (λ c. askScratch c room) q r) ≢ refused 33 p
+      go : (q : Asked (List (Expr rule))) (r : Asked Edit) → Refuses 1 16 longestText q → Refuses 21 26 longestText r → outcome (asksBy (λ c. askScratch c room) q r) ≢ refused 33 p
       go (passed rules) (passed Z) a b e = then-not-33 (graphOf sheet) (carriedBook Z rules) Z p (askScratch (carriedBook Z rules) room) (not-33 (carriedBook Z rules)) e
-      go (passed rules) (refused m o) a b e = let z : m ≡ 33 = cc in absurd (omega (arith, b))
-      go (refused m o) r a b e = let z : m ≡ 33 = cc in absurd (omega (arith, a))
+      go (passed rules) (refused m o) a (refuses _ _ i j k) e = let z : m ≡ 33 = cc in absurd (omega arith)
+      go (refused m o) r (refuses _ _ i j k) b e = let z : m ≡ 33 = cc in absurd (omega arith)
 
   -- Where 33 is not answered, the room does not matter.
   pub any-room-asks : (room : ℕ) → ((p : ℕ) → enterAnswer sheet book edit room ≢ refused 33 p) → askEnter sheet book edit room ≡ askEnter sheet book edit longestCarried

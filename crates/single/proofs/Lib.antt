@@ -3,3 +3,4 @@ pub mod Rooms
 pub mod Writings
 mod Each
 pub mod Asking
+pub mod Refusals

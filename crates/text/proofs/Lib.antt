@@ -5,6 +5,7 @@ pub mod Standing
 pub mod Converse
 pub mod ReadBack
 pub mod Books
+pub mod Refusals
 pub mod RuleStart
 pub mod Carried
 pub mod Marked
