@@ -1,7 +1,7 @@
 -- Item 13 of document 02 is kept.
 use Rattle.play.proofs.Right.{play-right}
-use Rattle.played.proofs.Played.{played-by-calls}
-use Rattle.played.proofs.Course.{course-by-calls, stated-by-calls}
+use Rattle.promises.proofs.Played.{played-by-calls}
+use Rattle.promises.proofs.Course.{course-by-calls, stated-by-calls}
 use Rattle.promises.specs.Item13.{Item13}
 
 pub item-13 : Item13

@@ -34,8 +34,8 @@ use Rattle.runs.specs.Enter.{askEnter, enterSheet}
 use Rattle.runs.specs.Run.{Bytes}
 use Rattle.runs.proofs.After.{applied-is, applied-read, after-graph}
 use Rattle.close_node.proofs.Answers.{found, close-already, close-kept, open-already}
-use Rattle.chained.proofs.Entered.{entered, enter-leaves}
-use Rattle.history.proofs.History.{history-right}
+use Rattle.promises.proofs.Entered.{entered, enter-leaves}
+use Rattle.promises.proofs.History.{history-right}
 use Rattle.promises.specs.Item6.{Closed, UpTo4, Item6}
 
 -- The nodes in use after apply and after enter: the same after a refusal, and those of the steps after done.

@@ -1,7 +1,7 @@
 -- Item 7 of document 02 is kept.
 use Rattle.plan_store.specs.Calls.{returnedSheet}
-use Rattle.history.proofs.Back.{gives-back, gives-back-from}
-use Rattle.history.proofs.Returns.{good-keeps, good-right, returned-good}
+use Rattle.promises.proofs.Back.{gives-back, gives-back-from}
+use Rattle.promises.proofs.Returns.{good-keeps, good-right, returned-good}
 use Rattle.promises.specs.Item7.{Item7}
 
 pub item-7 : Item7

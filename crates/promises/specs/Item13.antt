@@ -7,8 +7,8 @@ use Rattle.runs.specs.Run.{Bytes}
 use Rattle.game.specs.Game.{Game, Outcome}
 use Rattle.play.specs.Questions.{cut, askGame, askPlay}
 use Rattle.play.specs.Right.{PlayRight}
-use Rattle.played.specs.Played.{PlayedByCalls}
-use Rattle.played.specs.Course.{Lent, OverBytes, StatedByCalls}
+use Rattle.promises.specs.Played.{PlayedByCalls}
+use Rattle.promises.specs.Course.{Lent, OverBytes, StatedByCalls}
 
 -- What the moves of a call's game are made with: the book, and the edits' texts, the dispatcher's first.
 abbrev pub lentTo : (book edits lengths : List ℕ) (dispatchers : ℕ) → Lent

@@ -22,7 +22,7 @@ use Rattle.apply.specs.Apply.{appliedSheet}
 use Rattle.runs.specs.Enter.{enterSheet}
 use Rattle.runs.specs.Run.{Bytes, Keeps}
 use Rattle.close_node.specs.Questions.{askNode, askClose, askOpen, closedSheet, openedSheet}
-use Rattle.history.specs.History.{Event, HistoryRight}
+use Rattle.promises.specs.History.{Event, HistoryRight}
 
 -- A node is closed when it is not in use.
 abbrev pub Closed : Graph → ℕ → Type 0

@@ -1,1 +1,1 @@
-// What the papers promise, sentence by sentence: definitions and theorems only.
+// What the papers promise, sentence by sentence: definitions and theorems only. specs/Promises.antt is the page to read.

@@ -1,1 +1,0 @@
-// Runs with closings and openings between them: definitions and theorems only.

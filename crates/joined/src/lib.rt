@@ -1,1 +1,0 @@
-// What is promised of joined sheets, over bytes: definitions and theorems only.

@@ -1,1 +1,0 @@
-// The moves of a game by enter and apply: definitions and theorems only.

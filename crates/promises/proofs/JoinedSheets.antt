@@ -1,0 +1,138 @@
+-- Item 8's promises, from the laws on graphs: a joined sheet reads as the two graphs side by side.
+use mathlib.Core.Path.{_≡_, sym, _∙_, ap, subst}
+use mathlib.Core.Logic.{_↔_}
+use mathlib.Core.List.{List, [], _∷_}
+use Prim.Native.Nat.{ℕ, _+_, _≤_}
+use native.Mathlib.Omega.{arith}
+use lib.Dec.{T}
+use Rattle.answer.specs.Asked.{Asked, passed, refused}
+use Rattle.logic.specs.Syntax.{Expr, rule}
+use Rattle.logic.specs.Graph.{Graph}
+use Rattle.logic.specs.Meaning.{value}
+use Rattle.logic.specs.Limits.{Within, maxNodes}
+use Rattle.sheet.specs.Sheet.{present, store, graphOf}
+use Rattle.sheet.specs.Questions.{askSheet, Sound}
+use Rattle.sheet.proofs.Opening.{opening}
+use Rattle.sheet.proofs.Passes.{stored-passes}
+use Rattle.sheet.proofs.ReadBack.{read-back}
+use Rattle.text.specs.Reading.{textLimits}
+use Rattle.text.specs.Questions.{askBook}
+use Rattle.runs.specs.Run.{Hold, Keeps}
+use Rattle.join_sheets.specs.Joined.{joinedGraph, nodesTotal, askJoin, joinedSheet}
+use Rattle.join_sheets.specs.Joinable.{JoinableBook}
+use Rattle.join_sheets.proofs.Joined.{nodes-joined, pairs-joined, rule-joined}
+use Rattle.join_sheets.proofs.Together.{join-within, join-assoc}
+use Rattle.join_sheets.proofs.Answers.{joins, passes, joined-is}
+use Rattle.promises.specs.JoinedSheets.{TwoJoined, ThreeJoined, JoinedRight}
+use Rattle.promises.proofs.Ranges.{read-alike}
+
+-- Each rule of a book of such rules.
+book-joined : (g h : Graph) (book : List (Expr rule)) → JoinableBook book → Hold (joinedGraph g h) book ↔ (Hold g book × Hold h book)
+unfolding JoinableBook Hold
+book-joined g h [] q = ((λ t. (tt, tt)), (λ t. tt))
+book-joined g h (K ∷ book) q =
+    let k : T (value (joinedGraph g h) K) ↔ (T (value g K) × T (value h K)) = rule-joined g h K (q .0) in
+    let b : Hold (joinedGraph g h) book ↔ (Hold g book × Hold h book) = book-joined g h book (q .1) in
+    ((λ t. ((k .0 (t .0) .0, b .0 (t .1) .0), (k .0 (t .0) .1, b .0 (t .1) .1))), (λ t. (k .1 (t .0 .0, t .1 .0), b .1 (t .0 .1, t .1 .1))))
+
+-- what is read is one book
+read-once : {A : Type 0} (a b : A) → _≡_ {A = Asked A} (passed a) (passed b) → a ≡ b
+read-once {A} a b e = ap what e
+  where
+    what : Asked A → A
+    what (passed x) = x
+    what (refused q p) = a
+
+keeps-these : (book sheet : List ℕ) (rules : List (Expr rule)) → askBook (textLimits (graphOf sheet .n)) book ≡ passed rules → (k : Keeps book sheet) → Hold (graphOf sheet) rules
+keeps-these book sheet rules e k = subst (Hold (graphOf sheet)) (read-once (k .rules) rules (sym (k .book-read) ∙ e)) (k .hold)
+
+-- Two sheets whose graphs are within the limits.
+module _ (first second : List ℕ) (v : Within (graphOf first)) (w : Within (graphOf second)) (e : askJoin first second ≡ passed tt) where
+  abbrev g : Graph
+  g = graphOf first
+
+  abbrev h : Graph
+  h = graphOf second
+
+  within : Within (joinedGraph g h)
+  within = join-within g h v w (joins first second e .few)
+
+  reads : graphOf (joinedSheet first second) ≡ joinedGraph g h
+  reads = ap graphOf (joined-is first second e) ∙ read-back (joinedGraph g h) within
+
+  is-sound : Sound (joinedSheet first second)
+  is-sound = ap askSheet (joined-is first second e) ∙ stored-passes (joinedGraph g h) within
+
+  is-within : Within (graphOf (joinedSheet first second))
+  is-within = subst Within (sym reads) within
+
+  kept : (book : List ℕ) (n : ℕ) (rules : List (Expr rule)) → askBook (textLimits n) book ≡ passed rules → JoinableBook rules → Keeps book (joinedSheet first second) ↔ (Keeps book first × Keeps book second)
+  kept book n rules r q = (
+    (λ k. let t = book-joined g h rules q .0 (subst (λ x. Hold x rules) reads (keeps-these book (joinedSheet first second) rules (alike (joinedSheet first second)) k)) in (
+      record { sound = joins first second e .first-sound; rules = rules; book-read = alike first; hold = t .0 },
+      record { sound = joins first second e .second-sound; rules = rules; book-read = alike second; hold = t .1 },
+    )),
+    (λ k. record {
+      sound = is-sound;
+      rules = rules;
+      book-read = alike (joinedSheet first second);
+      hold = subst (λ x. Hold x rules) (sym reads) (book-joined g h rules q .1 (keeps-these book first rules (alike first) (k .0), keeps-these book second rules (alike second) (k .1)));
+    }),
+  )
+    where
+      alike : (sheet : List ℕ) → askBook (textLimits (graphOf sheet .n)) book ≡ passed rules
+      alike sheet = read-alike n (graphOf sheet .n) book rules q r
+
+  pub two-joined : TwoJoined first second
+  two-joined =
+      record {
+        sound = is-sound;
+        graph-is = reads;
+        nodes = λ E q. ap (λ x. value x E) reads ∙ nodes-joined g h E q;
+        pairs = λ R q. ap (λ x. value x R) reads ∙ pairs-joined g h R q;
+        rule-holds = λ K q. subst (λ x. T (value x K) ↔ (T (value g K) × T (value h K))) (sym reads) (rule-joined g h K q);
+        book-kept = kept;
+      }
+
+-- Three.
+module _ (first second third : List ℕ) (u : Within (graphOf first)) (v : Within (graphOf second)) (w : Within (graphOf third))
+    (a : Sound first) (b : Sound second) (c : Sound third) (few : nodesTotal first second + graphOf third .n ≤ maxNodes) where
+  one-two : askJoin first second ≡ passed tt
+  one-two = passes first second a b (omega arith)
+
+  two-three : askJoin second third ≡ passed tt
+  two-three = passes second third b c (omega arith)
+
+  left-n : graphOf (joinedSheet first second) .n ≡ nodesTotal first second
+  unfolding joinedGraph
+  left-n = ap (λ x. x .n) (reads first second u v one-two)
+
+  right-n : graphOf (joinedSheet second third) .n ≡ nodesTotal second third
+  unfolding joinedGraph
+  right-n = ap (λ x. x .n) (reads second third v w two-three)
+
+  left : askJoin (joinedSheet first second) third ≡ passed tt
+  left = passes (joinedSheet first second) third (is-sound first second u v one-two) c (omega (arith, left-n))
+
+  right : askJoin first (joinedSheet second third) ≡ passed tt
+  right = passes first (joinedSheet second third) a (is-sound second third v w two-three) (omega (arith, right-n))
+
+  pub three-joined : ThreeJoined first second third
+  three-joined =
+      record {
+        from-the-left = (one-two, left);
+        from-the-right = (two-three, right);
+        same-bytes =
+            joined-is (joinedSheet first second) third left
+            ∙ ap store (ap (λ x. joinedGraph x (graphOf third)) (reads first second u v one-two) ∙ join-assoc (graphOf first) (graphOf second) (graphOf third) ∙ ap (joinedGraph (graphOf first)) (sym (reads second third v w two-three)))
+            ∙ sym (joined-is first (joinedSheet second third) right);
+      }
+
+pub joined-right : JoinedRight
+joined-right =
+    record {
+      two = λ first second p q e.
+          two-joined first second (opening present first p (joins first second e .first-sound) .within) (opening present second q (joins first second e .second-sound) .within) e;
+      three = λ first second third p q r a b c few.
+          three-joined first second third (opening present first p a .within) (opening present second q b .within) (opening present third r c .within) a b c few;
+    }
