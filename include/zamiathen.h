@@ -49,8 +49,8 @@ extern "C" {
 #define ZAMIATHEN_STACK_BYTES 262144  /* measured: 230,960 at 255 levels, the deepest carried rule */
 #define ZAMIATHEN_THREAD_BYTES 393216 /* a thread's whole stack */
 
-/* Limits. A sheet has n nodes, n from 1 to ZAMIATHEN_MAX_NODES; n is its byte 2. Numbers count from 0. A node below n may
- * be named, in use or closed. In books and edits the count of an 0A is from 1 to 60, that of an 0B from 0 to 59,
+/* Limits. A sheet has n nodes, n from 1 to ZAMIATHEN_MAX_NODES; n is its byte 2. Numbers count from 0. A node below n
+ * may be named, in use or closed. In books and edits the count of an 0A is from 1 to 60, that of an 0B from 0 to 59,
  * whatever n. */
 #define ZAMIATHEN_MAX_NODES 60
 #define ZAMIATHEN_LABELS 48    /* labels of every sheet */
@@ -61,8 +61,8 @@ extern "C" {
 #define ZAMIATHEN_MAX_MOVES 6  /* of a game */
 
 /* Answer numbers. Each call below names its questions in the order in which it asks them, and answers the number of the
- * first whose answer is no. A sheet is asked 1, then 2, 3 and 4 of block 0, then of block 1, and so on. A book or an edit
- * is asked its length, and then the other questions from left to right. */
+ * first whose answer is no. A sheet is asked 1, then 2, 3 and 4 of block 0, then of block 1, and so on. A book or an
+ * edit is asked its length, and then the other questions from left to right. */
 enum zamiathen_number {
     ZAMIATHEN_DONE = 0, /* place 0 */
 
@@ -189,31 +189,32 @@ typedef struct {
  * closed node are empty, and 23 and 24 do not hold there. No edit closes or opens a node.
  */
 
-/* Makes the sheet's buffer a sound sheet of n nodes, all in use, without labels and arrows. Its bytes before do not matter.
- * Asks 5, then 1. Every answer but done leaves the buffer as it was. */
+/* Makes the sheet's buffer a sound sheet of n nodes, all in use, without labels and arrows. Its bytes before do not
+ * matter. Asks 5, then 1. Every answer but done leaves the buffer as it was. */
 zamiathen_answer zamiathen_blank(uint8_t *sheet, size_t sheet_length, size_t n);
 
 /* Is the sheet sound? Asks 1 to 4: for whoever loads sheets, without a book to judge. Every other call that is lent a
  * sheet asks the same of it first, but for zamiathen_play, which asks 62 before. Writes nothing. */
 zamiathen_answer zamiathen_check(const uint8_t *sheet, size_t sheet_length);
 
-/* Makes a card that was written under version 1 a sheet, in the card's own buffer: n, labels and arrows stay, all n nodes
- * are in use, and the check bytes become those of a sheet. Asks 1 to 4 of the old form: sums modulo 255
- * over bytes 0 to 509 of a block, s at 510 and t at 511 in one byte each, zeros up to byte 509, in block 0 from byte 400
- * on. Every answer but done leaves the card as it was. A card is converted once: a sheet that is lent as a card is asked
- * by the old form, too. */
+/* Makes a card that was written under version 1 a sheet, in the card's own buffer: n, labels and arrows stay, all n
+ * nodes are in use, and the check bytes become those of a sheet. Asks 1 to 4 of the old form: sums modulo 255 over
+ * bytes 0 to 509 of a block, s at 510 and t at 511 in one byte each, zeros up to byte 509, in block 0 from byte 400 on.
+ * Every answer but done leaves the card as it was. A card is converted once: a sheet that is lent as a card is asked by
+ * the old form, too. */
 zamiathen_answer zamiathen_convert_255(uint8_t *card, size_t card_length);
 
-/* The same for a card that was written under version 2 or 3. Asks 1 to 4 of that form: its sums are those of a sheet, and
- * bytes 400 to 507 of its block 0 are zero. A sound sheet that is lent as such a card is answered 4, place 0, and stays. */
+/* The same for a card that was written under version 2 or 3. Asks 1 to 4 of that form: its sums are those of a sheet,
+ * and bytes 400 to 507 of its block 0 are zero. A sound sheet that is lent as such a card is answered 4, place 0, and
+ * stays. */
 zamiathen_answer zamiathen_convert_257(uint8_t *card, size_t card_length);
 
 /* Joins two sheets into one, in the first's buffer: the second's nodes follow the first's, node i of the second as node
  * n + i with the first's n; labels, arrows and nodes in use likewise, and no arrow goes from the one's nodes to the
- * other's. Asks 1 to 4 of the first sheet, 1 to 4 of the second, then 58. (Which sheet a 1 to 4 is of,
- * zamiathen_check tells.) Only done changes the first sheet, its check bytes too; the second is never written. To join a
- * sheet with itself lend a copy as the second. No book is judged: a rule of 21, 22 and 25 in which 04 and 17 do not appear
- * holds on the joined sheet exactly when it holds on both; of any other zamiathen_judge is asked. */
+ * other's. Asks 1 to 4 of the first sheet, 1 to 4 of the second, then 58. (Which sheet a 1 to 4 is of, zamiathen_check
+ * tells.) Only done changes the first sheet, its check bytes too; the second is never written. To join a sheet with
+ * itself lend a copy as the second. No book is judged: a rule of 21, 22 and 25 in which 04 and 17 do not appear holds
+ * on the joined sheet exactly when it holds on both; of any other zamiathen_judge is asked. */
 zamiathen_answer zamiathen_join_sheets(uint8_t *first, size_t first_length, const uint8_t *second,
                                        size_t second_length);
 
@@ -235,8 +236,8 @@ zamiathen_bit zamiathen_arrow_bit(const uint8_t *sheet, size_t sheet_length, siz
  */
 
 /* Prints the page of an arrow kind, 64 * (n + 1) bytes, and answers its length. Asks 1 to 4, then 7: is the arrow below
- * 16? Then 33. Done writes the page at the start of the output and leaves the rest of it; every other answer leaves the output
- * as it was. */
+ * 16? Then 33. Done writes the page at the start of the output and leaves the rest of it; every other answer leaves the
+ * output as it was. */
 zamiathen_length zamiathen_print_arrow(const uint8_t *sheet, size_t sheet_length, size_t arrow, uint8_t *output,
                                        size_t output_length);
 
@@ -255,7 +256,8 @@ zamiathen_answer zamiathen_type_page(uint8_t *sheet, size_t sheet_length, const 
  */
 
 /* Where does the first rule of a text end? After done it is text[0] to text[length - 1]. Node numbers up to 59 are in
- * range. Asks 11 of the whole text, then 12 to 15 of the first rule; what stands after it is not looked at. An empty text has no first rule: 12. Writes nothing. */
+ * range. Asks 11 of the whole text, then 12 to 15 of the first rule; what stands after it is not looked at. An empty
+ * text has no first rule: 12. Writes nothing. */
 zamiathen_length zamiathen_first_rule(const uint8_t *text, size_t text_length);
 
 /* Where a rule of a book starts, the rules counted from 0. A 41 gives the number of the broken rule, and its bytes go
@@ -268,20 +270,21 @@ size_t zamiathen_rule_start(const uint8_t *book, size_t book_length, size_t n, s
 zamiathen_judged zamiathen_judge(const uint8_t *sheet, size_t sheet_length, const uint8_t *book, size_t book_length);
 
 /* Rewrites a stored book, in which a count may be any byte, into one whose counts are in range: from the inside out an
- * 0A with the count 0 becomes 01, one with a count above 60 becomes 02, an 0B with a count of 60 or more becomes 01, each
- * with its operands, and all other bytes stay as they stand. Each rule holds as before on every sheet that the stored
- * book's node numbers fit. The rewritten book is no longer than the stored one, and a book whose counts are in range is
- * left as it is. Node numbers up to 59 are in range. Asks 11 to 16, then 33, and answers the length. Done writes the rewritten
- * book at the start of the output and leaves the rest of it; every other answer leaves the output as it was. */
+ * 0A with the count 0 becomes 01, one with a count above 60 becomes 02, an 0B with a count of 60 or more becomes 01,
+ * each with its operands, and all other bytes stay as they stand. Each rule holds as before on every sheet that the
+ * stored book's node numbers fit. The rewritten book is no longer than the stored one, and a book whose counts are in
+ * range is left as it is. Node numbers up to 59 are in range. Asks 11 to 16, then 33, and answers the length. Done
+ * writes the rewritten book at the start of the output and leaves the rest of it; every other answer leaves the output
+ * as it was. */
 zamiathen_length zamiathen_rewrite(const uint8_t *book, size_t book_length, uint8_t *output, size_t output_length);
 
 /* Is a text sent by a tool that shortens carried rules what its steps make of the carried rule? A step is three bytes:
- * an offset into the rule's text as it then is, low byte first, and a law: 1 05 05 E to E; 2 06 E E to E; 3 07 E E to E;
- * 4 06 E 05 E to 02; 5 07 01 E to 01; 6 06 01 E to E; 7 27 27 K to K; 8 26 K K to K. The offset is that of the code
+ * an offset into the rule's text as it then is, low byte first, and a law: 1 05 05 E to E; 2 06 E E to E; 3 07 E E to
+ * E; 4 06 E 05 E to 02; 5 07 01 E to 01; 6 06 01 E to E; 7 27 27 K to K; 8 26 K K to K. The offset is that of the code
  * where the left side begins, and E E means the same bytes twice. Done means that both texts have the same truth on
- * every sheet whose node numbers fit, and every chain of fitting steps that ends in the text sent is done. Asks 11 to 16
- * of the carried rule, one rule of at most 16,384 bytes and 255 levels with node numbers up to 59 (16 for a byte after
- * it, 12 for an empty text), then 59 of each step, then 60. Writes nothing. */
+ * every sheet whose node numbers fit, and every chain of fitting steps that ends in the text sent is done. Asks 11 to
+ * 16 of the carried rule, one rule of at most 16,384 bytes and 255 levels with node numbers up to 59 (16 for a byte
+ * after it, 12 for an empty text), then 59 of each step, then 60. Writes nothing. */
 zamiathen_answer zamiathen_check_steps(const uint8_t *rule, size_t rule_length, const uint8_t *steps,
                                        size_t steps_length, const uint8_t *sent, size_t sent_length);
 
@@ -293,12 +296,12 @@ zamiathen_answer zamiathen_check_steps(const uint8_t *rule, size_t rule_length, 
  * last, which is its end, then those of q. Answers the length of the joined edit. Asks 21 to 26 of p, then of q, with
  * node numbers up to 59 in range, then 21 of the joined edit (place 0, more than 4,096 bytes), then 33. (Which of the
  * edits a refusal means: joined with an edit of the one byte 0x30, each is asked alone.) Done writes the joined edit at
- * the start of the output and leaves the rest of it; every other answer leaves the output as it was.
- * The joined edit passes 21 to 26 on a sheet exactly when both edits do, and zamiathen_apply leaves the same sheet with it
- * as with the two one after the other. zamiathen_carry_back answers and writes the same with it as with p for the book
- * carried through q, where that has at most 4,096 bytes and 32 levels. Where zamiathen_enter enters p and then q, it
- * enters the joined edit, if the carried book and the scratch allow; but it may enter the joined edit where it would
- * refuse p, for only the sheet after the last step is judged. */
+ * the start of the output and leaves the rest of it; every other answer leaves the output as it was. The joined edit
+ * passes 21 to 26 on a sheet exactly when both edits do, and zamiathen_apply leaves the same sheet with it as with the
+ * two one after the other. zamiathen_carry_back answers and writes the same with it as with p for the book carried
+ * through q, where that has at most 4,096 bytes and 32 levels. Where zamiathen_enter enters p and then q, it enters the
+ * joined edit, if the carried book and the scratch allow; but it may enter the joined edit where it would refuse p, for
+ * only the sheet after the last step is judged. */
 zamiathen_length zamiathen_join_edits(const uint8_t *p, size_t p_length, const uint8_t *q, size_t q_length,
                                       uint8_t *output, size_t output_length);
 
@@ -317,10 +320,10 @@ zamiathen_length zamiathen_carry_back(const uint8_t *book, size_t book_length, c
  * Asks 1 to 4, 11 to 16, 21 to 26, 31 to 33, then 41. Only done changes the sheet, its check bytes too.
  *
  * The rules are carried back and judged one by one, each written at the start of the scratch over the one before, up to
- * the first that is broken. Done and 41 leave in the scratch what these writings leave: after 41 the broken rule, carried
- * back, stands at its start, after done the last rule, and after it what is left of longer rules before it, and then
- * what the scratch held before the call. Every other answer, and every answer for an empty book, leaves the scratch as it
- * was.
+ * the first that is broken. Done and 41 leave in the scratch what these writings leave: after 41 the broken rule,
+ * carried back, stands at its start, after done the last rule, and after it what is left of longer rules before it, and
+ * then what the scratch held before the call. Every other answer, and every answer for an empty book, leaves the
+ * scratch as it was.
  *
  * 33 is answered, before any rule is judged, when the scratch is shorter than the longest single carried rule of the
  * book, also where that one comes after a broken one; its place is that rule's length. ZAMIATHEN_CARRIED_BYTES suffice
@@ -334,16 +337,17 @@ zamiathen_answer zamiathen_enter(uint8_t *sheet, size_t sheet_length, const uint
  * Closing and opening
  */
 
-/* Closes a node that has no labels and no arrows, if each rule of the book holds on the sheet without it. Asks 1 to 4, 11
- * to 16, 7 (is the node below n?), 54, then 41; but a node that is closed already is done after 7, unjudged, and no byte
- * changes. Only done changes the sheet: the nodes in use, and the check bytes of block 0. A sheet
- * that keeps the book still keeps it, so that calls of zamiathen_enter may follow. */
+/* Closes a node that has no labels and no arrows, if each rule of the book holds on the sheet without it. Asks 1 to 4,
+ * 11 to 16, 7 (is the node below n?), 54, then 41; but a node that is closed already is done after 7, unjudged, and no
+ * byte changes. Only done changes the sheet: the nodes in use, and the check bytes of block 0. A sheet that keeps the
+ * book still keeps it, so that calls of zamiathen_enter may follow. */
 zamiathen_answer zamiathen_close(uint8_t *sheet, size_t sheet_length, const uint8_t *book, size_t book_length,
                                  size_t node);
 
-/* Opens a closed node, which then has no labels and no arrows, if each rule of the book holds on the sheet with it. Asks
- * 1 to 4, 11 to 16, 7, then 41; but a node that is in use already is done after 7, unjudged, and no byte changes. Only
- * done changes the sheet, as above. Opening a node that was closed gives the sheet from before back, byte for byte. */
+/* Opens a closed node, which then has no labels and no arrows, if each rule of the book holds on the sheet with it.
+ * Asks 1 to 4, 11 to 16, 7, then 41; but a node that is in use already is done after 7, unjudged, and no byte changes.
+ * Only done changes the sheet, as above. Opening a node that was closed gives the sheet from before back, byte for
+ * byte. */
 zamiathen_answer zamiathen_open(uint8_t *sheet, size_t sheet_length, const uint8_t *book, size_t book_length,
                                 size_t node);
 
@@ -366,9 +370,10 @@ zamiathen_answer zamiathen_store_blank(uint8_t *store, size_t store_length);
 zamiathen_answer zamiathen_keep(const uint8_t *sheet, size_t sheet_length, uint8_t *store, size_t store_length,
                                 size_t name);
 
-/* Makes the sheet the one that is kept under a name, if each rule of the book holds on it. Asks 1 to 4 of the sheet that is
- * lent, 55, 56, 57, 11 to 16 of the book by the kept sheet's n, then 41 of the book on the kept sheet. Only done changes the sheet; the store is read only. The sheet then keeps the book, so that calls of
- * zamiathen_enter may follow. */
+/* Makes the sheet the one that is kept under a name, if each rule of the book holds on it. Asks 1 to 4 of the sheet
+ * that is lent, 55, 56, 57, 11 to 16 of the book by the kept sheet's n, then 41 of the book on the kept sheet. Only
+ * done changes the sheet; the store is read only. The sheet then keeps the book, so that calls of zamiathen_enter may
+ * follow. */
 zamiathen_answer zamiathen_return(uint8_t *sheet, size_t sheet_length, const uint8_t *store, size_t store_length,
                                   size_t name, const uint8_t *book, size_t book_length);
 
@@ -380,12 +385,13 @@ zamiathen_answer zamiathen_drop(uint8_t *store, size_t store_length, size_t name
  * Counting
  */
 
-/* What an edit does to every small sheet: of all sheets of n nodes, n from 1 to 3, all in use, with no label but 0 and no
- * arrow but 0, how many keep the book before the edit and after it, only before, only after, or neither. The four total
- * 4, 64 or 4,096; the two that are kept after the edit are the sheets on which each rule of the book carried back holds
- * before it. Book and edit may name label 0 and arrow 0 only, in steps that are made and in those that are not, and nodes
- * below n. Asks 61 (is n from 1 to 3?), 11 to 16, 21 to 26, then 61 again, of the names; 31 and 32 are not asked. Needs no sheet and writes nothing. At n = 3 a book and an edit of a few lines take a
- * millisecond or two, the longest up to a second. */
+/* What an edit does to every small sheet: of all sheets of n nodes, n from 1 to 3, all in use, with no label but 0 and
+ * no arrow but 0, how many keep the book before the edit and after it, only before, only after, or neither. The four
+ * total 4, 64 or 4,096; the two that are kept after the edit are the sheets on which each rule of the book carried back
+ * holds before it. Book and edit may name label 0 and arrow 0 only, in steps that are made and in those that are not,
+ * and nodes below n. Asks 61 (is n from 1 to 3?), 11 to 16, 21 to 26, then 61 again, of the names; 31 and 32 are not
+ * asked. Needs no sheet and writes nothing. At n = 3 a book and an edit of a few lines take a millisecond or two, the
+ * longest up to a second. */
 zamiathen_counts zamiathen_count(size_t n, const uint8_t *book, size_t book_length, const uint8_t *edit,
                                  size_t edit_length);
 
@@ -393,22 +399,22 @@ zamiathen_counts zamiathen_count(size_t n, const uint8_t *book, size_t book_leng
  * A game
  */
 
-/* Dispatcher against disruption: single moves, the dispatcher first and then by turns. A dispatcher edit can be made when
- * zamiathen_enter with a long enough scratch would answer done on the sheet then reached; a disruption edit can always be
- * made, and its steps are carried out without the book. Whoever has no edit that can be made passes, and nobody else does.
- * The dispatcher wins when the goal, a rule, holds after the last move. Can the dispatcher force a win, and by which move
- * first? The sheet need not keep the book.
+/* Dispatcher against disruption: single moves, the dispatcher first and then by turns. A dispatcher edit can be made
+ * when zamiathen_enter with a long enough scratch would answer done on the sheet then reached; a disruption edit can
+ * always be made, and its steps are carried out without the book. Whoever has no edit that can be made passes, and
+ * nobody else does. The dispatcher wins when the goal, a rule, holds after the last move. Can the dispatcher force a
+ * win, and by which move first? The sheet need not keep the book.
  *
- * The texts of the edits stand one after the other in edits, the dispatcher's first; lengths has the length of each, and
- * together they must be edits_length: the sum is that of whole numbers, so one that would wrap around to it is 62 too. The
- * first `dispatchers` of the lengths_count edits are the dispatcher's, the others the disruption's. The goal is a book of
- * one rule: an empty one is answered 12, bytes after the rule are 16.
+ * The texts of the edits stand one after the other in edits, the dispatcher's first; lengths has the length of each,
+ * and together they must be edits_length: the sum is that of whole numbers, so one that would wrap around to it is 62
+ * too. The first `dispatchers` of the lengths_count edits are the dispatcher's, the others the disruption's. The goal
+ * is a book of one rule: an empty one is answered 12, bytes after the rule are 16.
  *
- * Answers 62, asked before the sheet, 1 to 4, 11 to 16 of the book and then of the goal, 21 to 26 of each edit in turn,
- * with the place in its own text, 31 or 32 for the first dispatcher edit through which the carried book does not fit, and
- * else 0 with the outcome. After 21 to 26, 31 and 32 the edit says which one is meant; whether 11 to 16 are about the book
- * or the goal is told by zamiathen_judge of the book. Writes nothing. At most 4,096 lines of play of 6 moves are gone
- * through, and each is left as soon as it is decided. */
+ * Asks 62, then 1 to 4, 11 to 16 of the book, 11 to 16 of the goal, 21 to 26 of each edit in turn, with the place in
+ * its own text, then 31 and 32 of each dispatcher edit in turn, for the book carried through it. After 21 to 26, 31 and
+ * 32 the edit says which one is meant; whether 11 to 16 are about the book or the goal is told by zamiathen_judge of
+ * the book. Writes nothing. At most 4,096 lines of play of 6 moves are gone through, and each is left as soon as it is
+ * decided. */
 zamiathen_played zamiathen_play(const uint8_t *sheet, size_t sheet_length, const uint8_t *book, size_t book_length,
                                 const uint8_t *goal, size_t goal_length, const uint8_t *edits, size_t edits_length,
                                 const size_t *lengths, size_t lengths_count, size_t dispatchers, size_t moves);
