@@ -37,8 +37,7 @@ wipe-spec =
     Inv-loop
     μ-loop
     loop-holds
-    (λ c. search needs)
-    (λ c. search needs)
+    (λ c. search needs) (λ c. search needs)
     loop-less
     loop-again
     same-length

@@ -15,11 +15,9 @@ pub compare-spec : {M : Type 1} → statement M
 compare-spec = tie.close (tie.spec Inv-loop μ-loop
     (λ c. comparing-first _ _)
     (λ c. comparing-short (c .before .before .loop .inv) (c .before .loop-test .taken) (c .if1 .taken))
-    (λ c. search needs)
-    (λ c. search needs)
+    (λ c. search needs) (λ c. search needs)
     (λ c. comparing-differs (c .before .before .before .before .before .loop .inv) (c .before .before .before .before .loop-test .taken) (c .before .before .before .if1 .left) (c .if2 .taken))
-    (λ c. search needs)
-    (λ c. search needs)
+    (λ c. search needs) (λ c. search needs)
     (λ c. comparing-next (c .before .before .before .before .before .loop .inv) (c .before .before .before .before .loop-test .taken) (c .before .before .before .if1 .left) (c .if2 .left))
     (λ c. comparing-long (c .before .before .loop .inv) (c .before .loop-test .left) (c .if3 .taken))
     (λ c. comparing-end (c .before .before .loop .inv) (c .before .loop-test .left) (c .if3 .left)))

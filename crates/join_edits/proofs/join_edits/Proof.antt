@@ -70,19 +70,14 @@ pub join-edits-spec : {M : Type 1} → statement M
 join-edits-spec =
     tie.close
     (tie.spec
-    (λ c κs. search needs)
-    (λ c. search needs)
+    (λ c κs. search needs) (λ c. search needs)
     refused-first
-    (λ c. search needs)
-    (λ c κs. search needs)
-    (λ c. search needs)
+    (λ c. search needs) (λ c κs. search needs) (λ c. search needs)
     refused-second
     (λ c. search needs)
     some-byte-first
     (λ c. search needs)
     joined-long
     short-output
-    (λ c κs. search needs)
-    (λ c κs. search needs)
-    (λ c. search needs)
+    (λ c κs. search needs) (λ c κs. search needs) (λ c. search needs)
     written)

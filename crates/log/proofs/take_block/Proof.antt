@@ -72,8 +72,7 @@ take-block-spec =
     returns-4
     (λ c κs. search needs)
     keep-requires
-    (λ c κs. search needs)
-    (λ c. search needs)
+    (λ c κs. search needs) (λ c. search needs)
     returns-5
     (λ c. search needs)
     returns-6)

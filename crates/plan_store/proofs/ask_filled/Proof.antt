@@ -31,9 +31,7 @@ pub ask-filled-spec : {M : Type 1} → statement M
 ask-filled-spec =
     tie.close
     (tie.spec
-    (λ c κs. search needs)
-    (λ c. search needs)
-    (λ c. search needs)
+    (λ c κs. search needs) (λ c. search needs) (λ c. search needs)
     returns
     slice-read
     (λ c κs. search needs)

@@ -39,8 +39,7 @@ blank-store-spec =
     returns
     (λ c κs. search needs)
     slice-write-store
-    (λ c. search needs)
-    (λ c. search needs)
+    (λ c. search needs) (λ c. search needs)
     part-seal-end
     (λ c κs. search needs)
     same-length

@@ -83,8 +83,7 @@ totals-to-spec =
     loop-holds
     (λ c. search needs)
     sub-t
-    (λ c. search needs)
-    (λ c κs. search needs)
+    (λ c. search needs) (λ c κs. search needs)
     sub-s
     (λ c. search needs)
     loop-again

@@ -29,8 +29,7 @@ judge-each-spec =
     (tie.spec
     Inv-loop
     μ-loop
-    (λ c κs. search needs)
-    (λ c κs. search needs)
+    (λ c κs. search needs) (λ c κs. search needs)
     (λ c κs. let p = c .before .before .before .before .before .before .before .before .pre in (record { what = p .1 .each .what; stands = p .1 .each .what-at }, p .2))
     (λ c. (search needs, refl, refl, c .before .before .start .ensures, λ rules Z f. reached-start _ _ _ _ _ _ _ rules Z (c .before .before .before .before .before .node-count .ensures .0) f))
     (λ c κs. let p = c .before .before .before .before .before .before .before .before .before .before .before .before .before .before .before .pre in let i = c .before .before .before .loop .inv in let q = next-rule _ _ _ _ _ _ (i .4 (p .1 .rules) (p .1 .Z) (p .1 .each)) (c .before .before .loop-test .taken) in (record { from = c .before .before .before .before .before .before .before .before .before .before .before .before .before .before .before .args .from; started = i .3; fits = rule-fits _ _ _ _ _ _ q }, record { short = p .2 .short; long = i .1 ∙ c .before .before .before .before .before .before .start .kept .1 .1 .0 ∙ p .2 .long }))

@@ -14,8 +14,7 @@ product r n a b = mul-le-mul a (let e : 4 + 2 * n ≤ 8196 = omega arith in e)
 
 pub join-ways-spec : {M : Type 1} → statement M
 join-ways-spec = tie.close (tie.spec
-    (λ c κs. search needs)
-    (λ c. search needs)
+    (λ c κs. search needs) (λ c. search needs)
     (λ c κs. let s = c .before .before .before .before .before .before .before .before in (s .pre .0, omega arith, c .before .before .before .merge .kept .1 .0 ∙ s .pre .4))
     (λ c. let s = c .before .before .before .before .before .before .before .before .before .before .before .before in omega (arith, c .before .before .before .before .before .before .before .merge .kept .1 .0, s .pre .4, c .before .before .before .scan .kept .1 .1 .1 .1 .0))
     (λ c. let s = c .before .before .before .before .before .before .before .before .before .before .before .before in omega (arith, c .before .before .before .scan .ensures (s .pre .0 .what) (s .pre .0 .stands) .ends))

@@ -16,17 +16,11 @@ abbrev μ-loop : tie.MeasureT-loop
 
 pub merge-spec : {M : Type 1} → statement M
 merge-spec = tie.close (tie.spec Inv-loop μ-loop
-    (λ c. search needs)
-    (λ c. search needs)
-    (λ c κs. search needs)
-    (λ c. search needs)
-    (λ c. search needs)
-    (λ c κs. search needs)
+    (λ c. search needs) (λ c. search needs) (λ c κs. search needs) (λ c. search needs) (λ c. search needs) (λ c κs. search needs)
     (λ c κs. search needs)
     (λ c. (search needs, search needs, merging-none _ _))
     (λ c κs. (c .before .before .before .before .before .before .before .before .before .before .before .before .pre .0, c .before .before .loop .inv .1, c .before .loop-test .taken))
-    (λ c. search needs)
-    (λ c. search needs)
+    (λ c. search needs) (λ c. search needs)
     (λ c. let l = c .before .before .before .before .before .loop in (omega (arith, c .before .before .before .before .loop-test .taken), c .before .before .merge-one .kept .1 .0 ∙ l .inv .1, merging-more _ _ _ _ _ (l .inv .1) (c .before .before .before .before .loop-test .taken) (l .inv .2) (c .before .before .merge-one .ensures)))
     (λ c. omega (arith, c .before .loop .inv .1))
     (λ c. let l = c .before .loop in omega (arith, l .inv .1, length-set (l .state) 128 (c .before .before .before .before .before .before .sum .result)))

@@ -45,16 +45,11 @@ put-head-spec =
     (tie.spec
     Inv-loop
     μ-loop
-    (λ c. search needs)
-    (λ c. search needs)
-    (λ c. search needs)
+    (λ c. search needs) (λ c. search needs) (λ c. search needs)
     (λ c. let s = c .before in omega (arith, s .pre, length-set (s .args .line .now) 0 (s .args .letter)))
     (λ c κs. search needs)
     loop-holds
-    (λ c. search needs)
-    (λ c. search needs)
-    (λ c. search needs)
-    (λ c. search needs)
+    (λ c. search needs) (λ c. search needs) (λ c. search needs) (λ c. search needs)
     loop-again
     (λ c. search needs)
     (λ c. let l = c .before .loop in length-set (l .line) 63 10 ∙ l .inv .1 .0 ∙ sym (c .before .before .before .before .before .before .before .pre))

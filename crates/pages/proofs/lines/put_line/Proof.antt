@@ -40,17 +40,10 @@ put-line-spec =
     (tie.spec
     Inv-loop
     μ-loop
-    (λ c. search needs)
-    (λ c. search needs)
-    (λ c. search needs)
-    (λ c κs. search needs)
+    (λ c. search needs) (λ c. search needs) (λ c. search needs) (λ c κs. search needs)
     (λ c. let s = c .before .before .before .before .before in omega (arith, s .pre, length-append (c .before .before .write-digits .last .0) (drop 2 (s .args .line .now)), length-drop 2 (s .args .line .now), ap length (c .before .before .write-digits .ensures), digits-length (length (take 2 (s .args .line .now))) (s .args .x), length-take-le 2 (s .args .line .now) (omega (arith, s .pre))))
     loop-holds
-    (λ c κs. search needs)
-    (λ c. search needs)
-    (λ c. search needs)
-    (λ c. search needs)
-    (λ c. search needs)
+    (λ c κs. search needs) (λ c. search needs) (λ c. search needs) (λ c. search needs) (λ c. search needs)
     loop-again
     (λ c. search needs)
     (λ c. let l = c .before .loop in length-set (l .line) 63 10 ∙ l .inv .1 .0 ∙ sym (c .before .before .before .before .before .before .before .pre))

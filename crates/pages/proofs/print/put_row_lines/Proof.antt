@@ -41,16 +41,12 @@ put-row-lines-spec =
     Inv-loop
     μ-loop
     (λ c. (search needs, grown-first _ _ _))
-    (λ c. search needs)
-    (λ c. search needs)
-    (λ c. search needs)
-    (λ c. search needs)
+    (λ c. search needs) (λ c. search needs) (λ c. search needs) (λ c. search needs)
     (λ c. let s = c .before .before .before .before in let l = c .before .loop in omega (arith, s .pre, c .loop-test .taken, grown-length (s .args .out .now) (s .args .n) (graphOf (now (s .args .sheet)) .joined (s .args .a .0)) (l .i) (l .out) (l .inv .1) (omega arith)))
     (λ c. search needs)
     (λ c κs. let s = c .before .before .before .before .before in let l = c .before .before .loop in (s .pre .0, s .pre .3, omega (arith, s .pre .1, c .before .loop-test .taken)))
     (λ c κs. let s = c .before .before .before .before .before .before in let l = c .before .before .before .loop in grown-part (s .args .out .now) (s .args .n) (graphOf (now (s .args .sheet)) .joined (s .args .a .0)) (l .i) (l .out) (l .inv .1) (omega arith))
-    (λ c. search needs)
-    (λ c. search needs)
+    (λ c. search needs) (λ c. search needs)
     loop-again
     (λ c. let s = c .before .before .before .before in let l = c .before .loop in grown-length (s .args .out .now) (s .args .n) (graphOf (now (s .args .sheet)) .joined (s .args .a .0)) (l .i) (l .out) (l .inv .1) (omega arith))
     returns)

@@ -26,14 +26,10 @@ pub check-aims-spec : {M : Type 1} → statement M
 check-aims-spec =
     tie.close
     (tie.spec
-    (λ c κs. search needs)
-    (λ c. search needs)
-    (λ c. search needs)
+    (λ c κs. search needs) (λ c. search needs) (λ c. search needs)
     (λ c. sheet-stops _ _ _ _ _ (c .before .before .check .ensures) (c .enum-told2 .given .1))
     (λ c κs. sym (c .before .before .check .ensures) ∙ ap asked (c .enum-told .given .1))
-    (λ c κs. search needs)
-    (λ c. search needs)
-    (λ c. search needs)
+    (λ c κs. search needs) (λ c. search needs) (λ c. search needs)
     returns-2
     (λ c κs. search needs)
     returns-3)

@@ -21,17 +21,14 @@ check-edits-spec =
     -- loop-holds
     (λ c. (omega arith, texts-first _ _ _ (c .before .before .pre)))
     -- mul-end, shared-slice-read-end
-    (λ c. search needs)
-    (λ c. search needs)
+    (λ c. search needs) (λ c. search needs)
     -- add-end
     (λ c. omega (arith, end-inside _ _ _ _ _ (c .before .before .loop .inv .1) (c .before .loop-test .taken)))
     -- sub-check-edit; part start, end
     (λ c. omega arith)
     (λ c. omega arith)
     (λ c. omega (arith, end-inside _ _ _ _ _ (c .before .before .loop .inv .1) (c .before .loop-test .taken)))
-    (λ c κs. search needs)
-    (λ c. search needs)
-    (λ c. search needs)
+    (λ c κs. search needs) (λ c. search needs) (λ c. search needs)
     -- returns
     (λ c. text-stops _ _ _ _ _ (c .before .before .before .before .before .before .loop .inv .1) (c .before .before .before .before .before .loop-test .taken) _ (c .before .before .check-edit .ensures) _ (c .enum-told2 .given .1))
     -- add-i

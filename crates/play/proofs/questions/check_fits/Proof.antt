@@ -41,8 +41,7 @@ check-fits-spec =
     (λ c κs. let q = c .before .before .before .before .before .before .pre .1 in let s = c .before .before .before .loop .inv .1 (q .what) (q .are) in let l = c .before .before .loop-test .taken in
     let e = c .before .end-of .ensures _ (next-at _ _ _ _ _ s (omega (arith, l, q .are .enough))) in
     (c .before .before .before .before .before .before .pre .0, record { what = _; stands = part-at _ _ _ _ _ s (omega (arith, l, q .are .enough)) _ e }, part-short _ _ _ _ _ s (omega (arith, l, q .are .enough)) _ e))
-    (λ c. search needs)
-    (λ c. search needs)
+    (λ c. search needs) (λ c. search needs)
     -- returns
     (λ c. (
       (λ rules Zs h e. let s = c .before .before .before .before .before .before .loop .inv .1 Zs e in let l = c .before .before .before .before .before .loop-test .taken in

@@ -22,12 +22,10 @@ fill-spec =
     μ-loop
     -- loop-holds
     (λ c. (omega arith, omega arith))
-    (λ c. search needs)
-    (λ c. search needs)
+    (λ c. search needs) (λ c. search needs)
     -- returns
     (λ c. let loop = c .before .before .before in too-long (loop .before .args .lengths .now) (loop .before .args .size) (loop .loop .left) (loop .loop .i) (loop .loop .inv .1) (c .before .before .loop-test .taken) (c .if1 .taken))
-    (λ c. search needs)
-    (λ c. search needs)
+    (λ c. search needs) (λ c. search needs)
     -- sub-left
     (λ c. omega (arith, c .before .if1 .left))
     -- add-i

@@ -65,9 +65,7 @@ pub +goes-well+search-spec : {M : Type 1} → statement M
     (λ c G st. over-theirs G _ _ _ (c .before .before .if1 .taken) (c .before .holds .ensures (G .goal ∷ []) (st .aim)) (c .if2 .left))
     -- search-requires
     (λ c κs. let s = c .before .before .before .before .before in (omega (arith, s .pre .0), (s .pre .1 .0, s .pre .1 .1, omega (arith, c .if1 .left))))
-    (λ c. search needs)
-    (λ c. search needs)
-    (λ c. search needs)
+    (λ c. search needs) (λ c. search needs) (λ c. search needs)
     -- returns-3 to 5
     (λ c G st. goes-by G _ _ _ (c .before .before .before .if1 .left) _ (c .before .before .search .ensures G st) _ (c .enum-told .given .1))
     (λ c G st. goes-by G _ _ _ (c .before .before .before .if1 .left) _ (c .before .before .search .ensures G st) _ (c .enum-told2 .given .1))
@@ -85,8 +83,7 @@ pub +goes-well+search-spec : {M : Type 1} → statement M
       goes-well-below t,
       goes-well.Post,
     ) (search-at t) search′.Post search-Inv-loop search-μ-loop
-    (λ c κs. search needs)
-    (λ c κs. search needs)
+    (λ c κs. search needs) (λ c κs. search needs)
     -- loop-holds
     (λ c. (omega arith, search needs, λ G st. none-tried _ _ _ _ _ _ _ G st _ (c .start-of .ensures)))
     -- slice-aggregate-make

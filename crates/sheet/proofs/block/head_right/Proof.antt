@@ -57,6 +57,5 @@ head-right-spec =
     returns-2
     returns-3
     returns-4
-    (λ c. search needs)
-    (λ c. search needs)
+    (λ c. search needs) (λ c. search needs)
     returns-5)

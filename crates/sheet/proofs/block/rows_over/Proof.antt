@@ -22,9 +22,7 @@ pub rows-over-spec : {M : Type 1} → statement M
 rows-over-spec =
     tie.close
     (tie.spec
-    (λ c κs. search needs)
-    (λ c κs. search needs)
-    (λ c κs. search needs)
+    (λ c κs. search needs) (λ c κs. search needs) (λ c κs. search needs)
     bare-requires
     (λ c κs. search needs)
     returns)

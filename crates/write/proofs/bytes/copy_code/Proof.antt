@@ -24,15 +24,9 @@ three c = let s = c .before .before .before in ⊎-elim (λ w. subst (Done s 3) 
 
 pub copy-code-spec : {M : Type 1} → statement M
 copy-code-spec = tie.close (tie.spec
-    (λ c. search needs)
-    (λ c. search needs)
-    (λ c. search needs)
-    (λ c. search needs)
-    (λ c. search needs)
+    (λ c. search needs) (λ c. search needs) (λ c. search needs) (λ c. search needs) (λ c. search needs)
     (λ c. omega (arith, c .before .before .before .pre .3, c .before .if1 .taken, coded-long (one (c .before .before .before))))
-    (λ c. search needs)
-    (λ c. search needs)
-    (λ c. search needs)
+    (λ c. search needs) (λ c. search needs) (λ c. search needs)
     (λ c. omega (arith, c .before .before .before .before .pre .3, c .before .if2 .taken, coded-long (two (c .before .before))))
     (λ c. search needs)
     (λ c. coded-long (three c))

@@ -12,18 +12,10 @@ use Rattle.write.proofs.names.link.Tie as tie
 
 pub link-spec : {M : Type 1} → statement M
 link-spec = tie.close (tie.spec
-    (λ c. search needs)
-    (λ c κs. search needs)
-    (λ c. search needs)
-    (λ c. search needs)
-    (λ c κs. search needs)
+    (λ c. search needs) (λ c κs. search needs) (λ c. search needs) (λ c. search needs) (λ c κs. search needs)
     (λ c. omega (arith, c .cell-of .ensures ∙ ap (λ (x : ℕ). cell x (numberAt (now (c .before .before .before .before .before .before .args .edit)) (c .before .before .before .before .before .before .args .at))) (c .before .before .name-code .ensures), named-lt _ _ (c .before .before .before .before .before .before .pre .3)))
     (λ c. omega (arith, c .before .cell-of .ensures ∙ ap (λ (x : ℕ). cell x (numberAt (now (c .before .before .before .before .before .before .before .args .edit)) (c .before .before .before .before .before .before .before .args .at))) (c .before .before .before .name-code .ensures), named-lt _ _ (c .before .before .before .before .before .before .before .pre .3), c .before .before .before .before .before .before .before .pre .2))
-    (λ c. search needs)
-    (λ c. search needs)
-    (λ c. search needs)
-    (λ c. search needs)
-    (λ c. search needs)
+    (λ c. search needs) (λ c. search needs) (λ c. search needs) (λ c. search needs) (λ c. search needs)
     (λ c. omega (arith, c .before .cell-of .ensures ∙ ap (λ (x : ℕ). cell x (numberAt (now (c .before .before .before .before .before .before .before .args .edit)) (c .before .before .before .before .before .before .before .args .at))) (c .before .before .before .name-code .ensures), named-lt _ _ (c .before .before .before .before .before .before .before .pre .3)))
     (λ c. let s = c .before .before .before .before .before .before .before in omega (arith, c .before .cell-of .ensures ∙ ap (λ (x : ℕ). cell x (numberAt (now (s .args .edit)) (s .args .at))) (c .before .before .before .name-code .ensures), named-lt _ _ (s .pre .3), s .pre .2, length-set (now (s .args .work)) (1430 + s .args .h) (getD (now (s .args .work)) (c .before .cell-of .result) 0)))
     (λ c. search needs)
