@@ -1,3 +1,4 @@
+pub mod AskedLaws
 pub mod AnswerLaws
 pub mod OutputLaws
 pub mod Refusals

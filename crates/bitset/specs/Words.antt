@@ -1,9 +1,9 @@
 -- Sets of nodes as words of 64 bits: bit i of the word is node i. And a word in bytes, the lowest first.
 use mathlib.Core.Bool.{Bool, true, false}
 use mathlib.Core.List.{List, [], _∷_, _++_}
-use Prim.Native.Nat.{ℕ, zero, suc, _+_, _*_, _/_, _%_, _^_}
+use Prim.Native.Nat.{ℕ, zero, suc, _+_, _*_, _/_, _%_, _^_, _<_}
 use lib.Dec.{eqb}
-use lib.ListN.{take, drop}
+use lib.ListN.{take, drop, getD}
 use Rattle.logic.specs.Graph.{Nodes}
 
 -- a truth value as a binary digit
@@ -23,6 +23,10 @@ member x i = eqb (x / 2 ^ i % 2) 1
 -- The word whose bit i is f of the bits i of x and y.
 abbrev pub combined : (Bool → Bool → Bool) → ℕ → ℕ → ℕ
 combined f x y = setOf 64 (λ i. f (member x i) (member y i))
+
+-- The contents of a buffer of bytes: each element is below 256.
+abbrev pub Bytes : List ℕ → Type 0
+Bytes t = (p : ℕ) → getD t p 0 < 256
 
 -- The k low bytes of x, the lowest first; and the number that bytes say.
 unfoldable pub bytes : ℕ → ℕ → List ℕ

@@ -27,7 +27,7 @@ use Rattle.measure.proofs.Rules.{no-book}
 use Rattle.write.specs.Laid.{Wrote}
 use Rattle.write.specs.Rules.{SomeBookFits}
 use Rattle.write.proofs.Laying.{laid-fits}
-use Rattle.carry.specs.Carrying.{askSize}
+use Rattle.carry.specs.Carrying.{askCarried, askSize}
 use Rattle.carry.specs.Into.{Into}
 
 module _ (carried : List (Expr rule)) (out : List ℕ) where
@@ -47,7 +47,7 @@ module _ (carried : List (Expr rule)) (out : List ℕ) where
 
 -- the questions of a length, a number of levels, the length needed and a room
 unfoldable pub sized : (len levels needed room : ℕ) → Asked (Unit {0})
-sized len levels needed room = is (leb len longestCarried) 31 0 >> (is (leb levels deepestCarried) 32 0 >> is (leb needed room) 33 needed)
+sized len levels needed room = (is (leb len longestCarried) 31 0 >> is (leb levels deepestCarried) 32 0) >> is (leb needed room) 33 needed
 
 module _ (len levels needed room : ℕ) where
   pub no-31 : longestCarried < len → sized len levels needed room ≡ refused 31 0
@@ -76,7 +76,7 @@ module _ {Z : Edit} {rules : List (Expr rule)} {len tall : ℕ} (s : BookSized Z
   levels-of = bookLevels (carriedBook Z rules)
 
   asks : askSize (carriedBook Z rules) (length out) ≡ sized len-of levels-of len-of (length out)
-  unfolding askSize sized _>>_
+  unfolding askCarried askSize sized _>>_
   asks = refl
 
   -- 31

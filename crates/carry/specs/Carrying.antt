@@ -13,12 +13,17 @@ unfoldable pub use Rattle.text.specs.Code.{bookLevels}
 use Rattle.text.specs.Reading.{longestCarried, deepestCarried, textLimits}
 use Rattle.text.specs.Questions.{askBook, askEdit}
 
--- 31, 32, 33 of a carried book and the room that there is for it.
+-- 31 and 32 of a carried book.
+unfoldable pub askCarried : List (Expr rule) → Asked (Unit {0})
+askCarried carried = do
+  is (leb (length (bookCode carried)) longestCarried) 31 0
+  is (leb (bookLevels carried) deepestCarried) 32 0
+
+-- And 33: the room that there is for all of it.
 unfoldable pub askSize : List (Expr rule) → ℕ → Asked (Unit {0})
-askSize book room = do
-  is (leb (length (bookCode book)) longestCarried) 31 0
-  is (leb (bookLevels book) deepestCarried) 32 0
-  is (leb (length (bookCode book)) room) 33 (length (bookCode book))
+askSize carried room = do
+  askCarried carried
+  is (leb (length (bookCode carried)) room) 33 (length (bookCode carried))
 
 -- Carry back: book, then edit, with n as 60, then the size. What is learned are the bytes to write.
 unfoldable pub askCarry : List ℕ → List ℕ → ℕ → Asked (List ℕ)

@@ -11,21 +11,15 @@ use lib.Dec.{ltb}
 use lib.ListN.{length, getD, set}
 use lib.Seq.{getD-set-same, getD-set-other}
 use borrow.Author.Tests.{lt-ltb}
-use Rattle.answer.specs.Asked.{Asked, passed, refused}
-use Rattle.answer.specs.Answers.{asked, refusalNumber, refusalPlace}
-use Rattle.answer.specs.declared.Refusal.{Refusal}
-use Rattle.answer.specs.declared.Answer.{Answer}
-use Rattle.answer.specs.declared.Answer.the-variants.{Done, Refused}
 use Rattle.logic.specs.Syntax.{Expr, rule, Edit}
 use Rattle.logic.specs.Graph.{Graph, Nodes, countBelow}
-use Rattle.logic.specs.Meaning.{value}
+use Rattle.logic.specs.Meaning.{value, holdAll}
 use Rattle.logic.specs.Steps.{run}
 use Rattle.bitset.specs.Words.{setOf, member, combined}
 use Rattle.bitset.proofs.SetLaws.{setOf-cong, setOf-wide, member-setOf, count-le}
 use Rattle.bitset.proofs.BitLaws.{member-shr}
-use Rattle.judge.specs.Questions.{askRules}
 use Rattle.count_small.specs.declared.Four.{Four}
-use Rattle.count_small.specs.Small.{bits, smallSheet, holdAll, fourOf, fourCounts}
+use Rattle.count_small.specs.Small.{bits, smallSheet, fourOf, fourCounts}
 use Rattle.count_small.specs.Questions.{mostSmall, noCounts}
 use Rattle.count_small.specs.Counting.{tallied, Room, Turned}
 
@@ -50,31 +44,6 @@ powers-few (suc zero) l = omega arith
 powers-few (suc (suc zero)) l = omega arith
 powers-few (suc (suc (suc zero))) l = omega arith
 powers-few (suc (suc (suc (suc n)))) l = absurd (omega arith)
-
--- Whether all rules hold, from the answer to 41.
-all-held : (g : Graph) (rules : List (Expr rule)) (i : ℕ) → askRules g rules i ≡ passed tt → holdAll g rules ≡ true
-unfolding askRules holdAll
-all-held g [] i e = refl
-all-held g (K ∷ rules) i e = go (all-held g rules (suc i)) (value g K) e
-  where
-    go : (askRules g rules (suc i) ≡ passed tt → holdAll g rules ≡ true) → (b : Bool) → elim b as (λ c. Asked (Unit {0})) [ true ↦ askRules g rules (suc i) | false ↦ refused 41 i ] ≡ passed tt → (b && holdAll g rules) ≡ true
-    go rest true e = rest e
-    go rest false e = let z : _≡_ {A = ℕ} 0 1 = cc in absurd (omega arith)
-
-one-broken : (g : Graph) (rules : List (Expr rule)) (i q p : ℕ) → askRules g rules i ≡ refused q p → holdAll g rules ≡ false
-unfolding askRules holdAll
-one-broken g [] i q p e = let z : _≡_ {A = ℕ} 0 1 = cc in absurd (omega arith)
-one-broken g (K ∷ rules) i q p e = go (one-broken g rules (suc i) q p) (value g K) e
-  where
-    go : (_≡_ {A = Asked (Unit {0})} (askRules g rules (suc i)) (refused q p) → holdAll g rules ≡ false) → (b : Bool) → _≡_ {A = Asked (Unit {0})} (elim b as (λ c. Asked (Unit {0})) [ true ↦ askRules g rules (suc i) | false ↦ refused 41 i ]) (refused q p) → (b && holdAll g rules) ≡ false
-    go rest true e = rest e
-    go rest false e = refl
-
-pub judged-kept : (g : Graph) (rules : List (Expr rule)) (a : Answer) → asked a ≡ askRules g rules 0 → a ≡ Done → true ≡ holdAll g rules
-judged-kept g rules a e d = sym (all-held g rules 0 (sym e ∙ ap asked d))
-
-pub judged-broken : (g : Graph) (rules : List (Expr rule)) (a : Answer) (r : Refusal) → asked a ≡ askRules g rules 0 → a ≡ Refused r → false ≡ holdAll g rules
-judged-broken g rules a r e d = sym (one-broken g rules 0 (refusalNumber r) (refusalPlace r) (sym e ∙ ap asked d))
 
 -- n bits of x, from one on
 pub part-is : (x from n low : ℕ) → n < 64 → low ≡ setOf 64 (λ j. ltb j n) → combined _&&_ (x / 2 ^ from) low ≡ setOf n (λ j. member x (from + j))

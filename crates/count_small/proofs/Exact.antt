@@ -11,7 +11,8 @@ use Rattle.logic.specs.Syntax.{Expr, rule, Edit}
 use Rattle.logic.specs.Graph.{Graph, countBelow}
 use Rattle.logic.specs.Steps.{run}
 use Rattle.logic.specs.Limits.{maxNodes}
-use Rattle.count_small.specs.Small.{Small, bits, smallSheet, holdAll, fourOf, fourCounts}
+use Rattle.logic.specs.Meaning.{holdAll}
+use Rattle.count_small.specs.Small.{Small, bits, smallSheet, fourOf, fourCounts}
 use Rattle.count_small.specs.Exactly.{In, Once, Exactly}
 use Rattle.count_small.specs.declared.Four.{Four}
 use Rattle.count_small.proofs.Numbering.{true-false, numbered-once, each-numbered, number-small}

@@ -2,14 +2,14 @@
 use mathlib.Core.Path.{_≡_, refl}
 use Rattle.answer.specs.Asked.{_>>=_, _>>_, is, after, outcome}
 use Rattle.logic.specs.Graph.{isNode, anyBelow, allBelow, countBelow}
-use Rattle.logic.specs.Meaning.{value}
+use Rattle.logic.specs.Meaning.{value, holdAll}
 use Rattle.logic.specs.Steps.{update, run}
 use Rattle.bitset.specs.Words.{member}
 use Rattle.text.specs.Reading.{codes, choice, follow}
 use Rattle.text.specs.Reading as reading
 use Rattle.text.specs.Questions.{whole, readRules, askBook, askEdit}
 use Rattle.tree.specs.Tree.{tree}
-use Rattle.count_small.specs.Small.{smallSheet, holdAll, fourOf, fourCounts}
+use Rattle.count_small.specs.Small.{smallSheet, fourOf, fourCounts}
 use Rattle.count_small.specs.Names.{onlyFirst, rulesOnlyFirst, editOnlyFirst}
 use Rattle.count_small.specs.Questions.{askCount, countsOf}
 use Rattle.count_small.specs.Examples.{cases, casesAre, caseOf2, caseOf2Is, answers, answersAre}

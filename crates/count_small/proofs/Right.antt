@@ -10,21 +10,16 @@ use Rattle.logic.specs.Graph.{Graph, Nodes, countBelow}
 use Rattle.logic.specs.Steps.{run}
 use Rattle.logic.specs.Limits.{maxNodes}
 use Rattle.logic.specs.Carry.{carriedBook}
-use Rattle.logic.proofs.Theorem.{carried}
+use Rattle.logic.proofs.Theorem.{hold-carried}
 use Rattle.logic.proofs.Below.{count-cong}
 use Rattle.count_small.specs.declared.Four.{Four}
-use Rattle.count_small.specs.Small.{bits, smallSheet, holdAll, fourOf, fourCounts, total}
+use Rattle.logic.specs.Meaning.{holdAll}
+use Rattle.count_small.specs.Small.{bits, smallSheet, fourOf, fourCounts, total}
 use Rattle.count_small.specs.Exactly.{Exactly}
 use Rattle.count_small.specs.Questions.{Texts, askCount, noCounts, countsOf}
 use Rattle.count_small.proofs.Totals.{totals}
 use Rattle.count_small.proofs.Exact.{SmallAnd, CountedGraphs, exactly, counted}
 use Rattle.count_small.proofs.Asking.{found}
-
--- The carried book holds before exactly when the book holds after.
-hold-carried : (Z : Edit) (rules : List (Expr rule)) (g : Graph) → holdAll g (carriedBook Z rules) ≡ holdAll (run Z g) rules
-unfolding holdAll
-hold-carried Z [] g = refl
-hold-carried Z (K ∷ rules) g = ap₂ _&&_ (carried Z K g) (hold-carried Z rules g)
 
 -- before or not, those with `next` are counted
 next-counted : (m : ℕ) (before next : Nodes) → countBelow m (λ x. before x && next x) + countBelow m (λ x. not (before x) && next x) ≡ countBelow m next

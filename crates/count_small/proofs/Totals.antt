@@ -7,7 +7,8 @@ use native.Mathlib.Omega.{arith}
 use Rattle.logic.specs.Syntax.{Expr, rule, Edit}
 use Rattle.logic.specs.Graph.{countBelow}
 use Rattle.logic.specs.Steps.{run}
-use Rattle.count_small.specs.Small.{bits, smallSheet, holdAll, fourOf, fourCounts, total}
+use Rattle.logic.specs.Meaning.{holdAll}
+use Rattle.count_small.specs.Small.{bits, smallSheet, fourOf, fourCounts, total}
 
 four-total : (most : ℕ) (before next : ℕ → Bool) → total (fourOf most before next) ≡ most
 unfolding fourOf countBelow

@@ -12,7 +12,8 @@ use Rattle.sheet.specs.Sheet.{store}
 use Rattle.text.specs.Stands.{EditStands}
 use Rattle.judge.specs.Judging.{RulesStand}
 use Rattle.count_small.specs.declared.Four.{Four}
-use Rattle.count_small.specs.Small.{Small, smallSheet, holdAll}
+use Rattle.logic.specs.Meaning.{holdAll}
+use Rattle.count_small.specs.Small.{Small, smallSheet}
 use Rattle.count_small.specs.Names.{editOnlyFirst}
 
 -- The sheet stores some small graph.

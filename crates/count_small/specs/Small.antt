@@ -8,7 +8,7 @@ use lib.Dec.{eqb, ltb}
 use Rattle.bitset.specs.Words.{member}
 use Rattle.logic.specs.Syntax.{Expr, rule, Edit}
 use Rattle.logic.specs.Graph.{Graph, countBelow}
-use Rattle.logic.specs.Meaning.{value}
+use Rattle.logic.specs.Meaning.{value, holdAll}
 use Rattle.logic.specs.Steps.{run}
 use Rattle.logic.specs.Limits.{Within}
 use Rattle.count_small.specs.declared.Four.{Four}
@@ -34,11 +34,6 @@ smallSheet n x =
       labelled = λ k i. eqb k 0 && (ltb i n && member x i);
       joined = λ a i j. eqb a 0 && ((ltb i n && ltb j n) && member x (n + (n * i + j)));
     }
-
--- Each rule of a book holds.
-unfoldable pub holdAll : Graph → List (Expr rule) → Bool
-holdAll g [] = true
-holdAll g (K ∷ book) = value g K && holdAll g book
 
 -- "book kept before and after, kept then broken, broken then kept, broken twice": of the sheets with numbers below `most`, by what is so of them
 -- before and after.

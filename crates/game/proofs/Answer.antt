@@ -11,7 +11,7 @@ use Rattle.logic.proofs.Below.{any-not}
 use Rattle.logic.specs.Graph.{Graph}
 use Rattle.game.specs.Game.{dispatcher, disruption, Game, Move, pass, edit, leaves, canMake, allowed, forced, Lowest, nothing, at, lowestBelow, lowestMove, Outcome, cannot, first, forcesBy, answer}
 use Rattle.game.specs.Play.{Plan, since, course, Won, CanFollow, SomeBreaks, Begins, Right}
-use Rattle.game.proofs.Bools.{true-false, and-left, and-right, so, so-not, is-true, is-false}
+use Rattle.logic.proofs.Bools.{true-false, and-left, and-right, so, so-not, is-true, is-false}
 use Rattle.game.proofs.Search.{IsLowest, lowest-right, edit-below, some-found}
 use Rattle.game.proofs.Plans.{plan-moves, first-fair, begin, begin-wins, breaks, wins, won-fair, won-unbroken, forced-by, some-plan, some-play}
 

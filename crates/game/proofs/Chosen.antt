@@ -9,7 +9,7 @@ use Rattle.logic.specs.Graph.{Graph, Nodes, anyBelow}
 use Rattle.logic.specs.Meaning.{value}
 use Rattle.game.specs.Game.{Side, dispatcher, disruption, Game, Move, pass, edit, editsOf, leaves, canMake, allowed, someMove, forced, Lowest, nothing, at, lowestBelow, Outcome, cannot, first, lowestMove, forcesBy, answer}
 use Rattle.game.specs.Search.{sideOf, goesWell, serves, chosen}
-use Rattle.game.proofs.Bools.{true-false}
+use Rattle.logic.proofs.Bools.{true-false}
 use Rattle.game.proofs.Search.{IsLowest, lowest-right, every-is}
 
 -- The dispatcher's move is the answer.

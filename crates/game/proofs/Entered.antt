@@ -1,24 +1,14 @@
--- What the game says of one move is what enter says: the carried rules, asked of the sheet as it is.
-use mathlib.Core.Path.{_≡_, refl, sym, _∙_, ap, ap₂}
+-- When the disruption passes.
+use mathlib.Core.Path.{_≡_, refl, sym, _∙_, ap}
 use mathlib.Core.Bool.{true, not, _&&_}
-use mathlib.Core.List.{List, [], _∷_}
 use Prim.Native.Nat.{ℕ, zero, suc}
 use native.Mathlib.Omega.{arith}
 use lib.Dec.{eqb}
 use lib.ListN.{length}
 use borrow.Author.Tests.{lt-ltb, eq-eqb, ne-eqb}
-use Rattle.logic.specs.Syntax.{Expr, rule, Edit}
 use Rattle.logic.specs.Graph.{Graph, anyBelow}
-use Rattle.logic.specs.Steps.{run}
-use Rattle.logic.specs.Carry.{carriedBook}
-use Rattle.logic.proofs.Theorem.{carried}
 use Rattle.logic.proofs.Below.{any-one}
-use Rattle.game.specs.Game.{disruption, Game, pass, mayLeave, canMake, allowed, holdAll}
-
-pub hold-carried : (g : Graph) (Z : Edit) (book : List (Expr rule)) → holdAll g (carriedBook Z book) ≡ holdAll (run Z g) book
-unfolding holdAll
-hold-carried g Z [] = refl
-hold-carried g Z (K ∷ book) = ap₂ _&&_ (carried Z K g) (hold-carried g Z book)
+use Rattle.game.specs.Game.{disruption, Game, pass, mayLeave, canMake, allowed}
 
 -- The disruption's edits can always be made: it passes only where it has none ("0 to 4 disruption edits").
 pub disruption-passes : (G : Game) (g : Graph) → allowed G disruption g pass ≡ eqb (length (G .disruptions)) 0

@@ -1,4 +1,3 @@
-pub mod Bools
 pub mod Search
 pub mod Plans
 pub mod Answer

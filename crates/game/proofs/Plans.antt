@@ -9,7 +9,7 @@ use Rattle.logic.specs.Graph.{Graph}
 use Rattle.logic.specs.Meaning.{value}
 use Rattle.game.specs.Game.{Side, dispatcher, disruption, Game, Move, pass, leaves, allowed, forced}
 use Rattle.game.specs.Play.{Plan, since, Play, Course, ended, wrong, course, Fair, Won, Broken, Wins, CanFollow, SomeBreaks}
-use Rattle.game.proofs.Bools.{true-false, so, so-not}
+use Rattle.logic.proofs.Bools.{true-false, so, so-not}
 use Rattle.game.proofs.Search.{some-found, some-not, every-is, some-move}
 
 module _ (G : Game) where

@@ -9,7 +9,7 @@ use lib.ListN.{length}
 use borrow.Author.Tests.{ltb-true}
 use Rattle.logic.specs.Graph.{Graph, Nodes, anyBelow, implies}
 use Rattle.logic.proofs.Below.{any-found, any-not, all-not-any}
-use Rattle.game.proofs.Bools.{and-left, and-right, or-left-false, or-right-false, and-true-false}
+use Rattle.logic.proofs.Bools.{and-left, and-right, or-left-false, or-right-false, and-true-false}
 use Rattle.game.specs.Game.{Side, Game, Move, pass, edit, editsOf, mayLeave, leaves, canMake, allowed, someMove, everyMove, Lowest, nothing, at, lowestBelow}
 
 -- What the lowest number is.

@@ -6,7 +6,7 @@ use lib.Dec.{ltb}
 use lib.ListN.{length, getD}
 use Rattle.logic.specs.Syntax.{Expr, rule, Edit, finish}
 use Rattle.logic.specs.Graph.{Graph, Nodes, anyBelow, allBelow, implies}
-use Rattle.logic.specs.Meaning.{value}
+use Rattle.logic.specs.Meaning.{value, holdAll}
 use Rattle.logic.specs.Steps.{run}
 
 -- "dispatcher first and then by turns"
@@ -24,11 +24,6 @@ pub record Game : Type 0 where
 pub data Move : Type 0 where
   pass : Move
   edit : (i : ℕ) → Move
-
--- Each rule of a book holds on the graph.
-unfoldable pub holdAll : Graph → List (Expr rule) → Bool
-holdAll g [] = true
-holdAll g (K ∷ book) = value g K && holdAll g book
 
 abbrev pub editsOf : Game → Side → List Edit
 editsOf G dispatcher = G .dispatchers

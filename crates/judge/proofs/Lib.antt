@@ -1,3 +1,4 @@
+pub mod QuestionLaws
 mod Parts
 pub mod Rules
 mod Deciding

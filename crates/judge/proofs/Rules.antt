@@ -26,6 +26,7 @@ use Rattle.eval.proofs.Places.{filled}
 use Rattle.text.proofs.Standing.{behind, within}
 use Rattle.judge.specs.Questions.{askRules}
 use Rattle.judge.specs.Judging.{RulesStand, brokenPart}
+use Rattle.judge.proofs.QuestionLaws.{rule-holds, rule-broken}
 
 -- What the evaluators ask of the sheet.
 pub opened : (sheet : List ℕ) (n all : ℕ) → ((p : ℕ) → getD sheet p 0 < 256) → Sound sheet → n ≡ graphOf sheet .n → n ≤ maxNodes → all ≡ setOf (graphOf sheet .n) (isNode (graphOf sheet)) → Opened sheet n all
@@ -100,23 +101,22 @@ module _ (sheet : List ℕ) (n : ℕ) (text : List ℕ) (end : ℕ) where
       judged = said (first h .K) (first h .stands)
 
       pub reached-next : b ≡ true → Reached next (i + 1) rules
-      unfolding askRules brokenPart
+      unfolding brokenPart
       reached-next t =
           let f = first h in
           let v : value (graphOf sheet) (f .K) ≡ true = sym (judged .truth) ∙ t in
           record {
             left = f .others;
             stand = f .stand next (judged .ends);
-            answer-same = d .answer-same ∙ ap (λ (l : List (Expr rule)). askRules (graphOf sheet) l i) (f .are) ∙ rw (v, askRules) (ap (askRules (graphOf sheet) (f .others)) (sym (add-one i)));
+            answer-same = d .answer-same ∙ ap (λ (l : List (Expr rule)). askRules (graphOf sheet) l i) (f .are) ∙ rule-holds (graphOf sheet) _ (f .others) i v ∙ ap (askRules (graphOf sheet) (f .others)) (sym (add-one i));
             part-same = d .part-same ∙ ap (λ (l : List (Expr rule)). brokenPart (graphOf sheet) l at) (f .are) ∙ rw (v, brokenPart) (ap (brokenPart (graphOf sheet) (f .others)) (sym (judged .ends)));
           }
 
       pub broken-answer : b ≡ false → askRules (graphOf sheet) rules 0 ≡ refused 41 i
-      unfolding askRules
       broken-answer t =
           let f = first h in
           let v : value (graphOf sheet) (f .K) ≡ false = sym (judged .truth) ∙ t in
-          d .answer-same ∙ ap (λ (l : List (Expr rule)). askRules (graphOf sheet) l i) (f .are) ∙ rw (v, askRules)
+          d .answer-same ∙ ap (λ (l : List (Expr rule)). askRules (graphOf sheet) l i) (f .are) ∙ rule-broken (graphOf sheet) _ (f .others) i v
 
       pub broken-part : b ≡ false → brokenPart (graphOf sheet) rules 0 ≡ record { start = at; size = next - at }
       unfolding brokenPart

@@ -1,8 +1,7 @@
 -- The questions of judging a book on a sheet ("The questions, in order" of document 01); all but the last serve enter too.
-use mathlib.Core.Bool.{true, false}
 use mathlib.Core.List.{List, [], _∷_}
 use Prim.Native.Nat.{ℕ, suc}
-use Rattle.answer.specs.Asked.{Asked, passed, refused, _>>=_, _>>_}
+use Rattle.answer.specs.Asked.{Asked, passed, _>>=_, _>>_, is}
 use Rattle.logic.specs.Syntax.{Expr, rule}
 use Rattle.logic.specs.Graph.{Graph}
 use Rattle.logic.specs.Meaning.{value}
@@ -14,7 +13,9 @@ use Rattle.text.specs.Questions.{askBook}
 -- 41: the first rule that does not hold, counted from i.
 unfoldable pub askRules : Graph → List (Expr rule) → ℕ → Asked (Unit {0})
 askRules g [] i = passed tt
-askRules g (K ∷ book) i = elim (value g K) [ true ↦ askRules g book (suc i) | false ↦ refused 41 i ]
+askRules g (K ∷ book) i = do
+  is (value g K) 41 i
+  askRules g book (suc i)
 
 -- Sheet, then book: what is learned are the rules.
 unfoldable pub askSheetAndBook : List ℕ → List ℕ → Asked (List (Expr rule))

@@ -1,13 +1,14 @@
 -- Theorem 4.2 of document 004, that the carried rule is the weakest condition, and the laws of joined edits.
 use mathlib.Core.Path.{_≡_, refl, sym, _∙_, ap, ap₂, fun-ext, subst}
 use mathlib.Core.Bool.{Bool, true, false, not, _&&_, _||_, cond}
+use mathlib.Core.List.{List, [], _∷_}
 use Prim.Native.Nat.{ℕ}
 use lib.Dec.{T, leb, eqb}
 use Rattle.logic.specs.Syntax.{Sort, node, arrow, rule, Expr, all, none, label, nominal, complement, and, or, some, every, atLeast, atMost, arrowKind, reversed, union, common, minus, endingIn, pair, subNodes, subArrows, nodeIn, pairIn, both, either, notRule, Edit, finish, addLabel, takeLabel, addArrow, takeArrow, choose}
 use Rattle.logic.specs.Graph.{Graph, isNode, allBelow, anyBelow, countBelow, implies}
-use Rattle.logic.specs.Meaning.{value}
+use Rattle.logic.specs.Meaning.{value, holdAll}
 use Rattle.logic.specs.Steps.{update, relabel, rejoin, run}
-use Rattle.logic.specs.Carry.{replace, putLabel, putArrow, carry, followedBy}
+use Rattle.logic.specs.Carry.{replace, putLabel, putArrow, carry, carriedBook, followedBy}
 
 -- the graph on which label k is f k and arrow a is h a, as g has them
 abbrev through : Graph → (ℕ → Expr node) → (ℕ → Expr arrow) → Graph
@@ -84,6 +85,12 @@ carried (choose K₁ P Q Z) K g =
     ∙ ap₂ (cond (value g K₁)) (carried P (carry Z K) g) (carried Q (carry Z K) g)
     ∙ cond-run (value g K₁) (run P g) (run Q g) (carry Z K)
     ∙ carried Z K (cond (value g K₁) (run P g) (run Q g))
+
+-- So does the carried book.
+pub hold-carried : (Z : Edit) (book : List (Expr rule)) (g : Graph) → holdAll g (carriedBook Z book) ≡ holdAll (run Z g) book
+unfolding holdAll
+hold-carried Z [] g = refl
+hold-carried Z (K ∷ book) g = ap₂ _&&_ (carried Z K g) (hold-carried Z book g)
 
 -- Doc 01's wording: through P with its end replaced by Z.
 pub carry-followedBy : (P Z : Edit) (K : Expr rule) → carry (followedBy P Z) K ≡ carry P (carry Z K)

@@ -1,6 +1,7 @@
 -- What an expression means on a graph (document 004, Table II): a set of nodes, a set of pairs, or whether a rule holds.
 -- A number that is no node of the graph is in no value.
-use mathlib.Core.Bool.{Bool, false, not, _&&_, _||_}
+use mathlib.Core.Bool.{Bool, true, false, not, _&&_, _||_}
+use mathlib.Core.List.{List, [], _∷_}
 use lib.Dec.{leb, eqb}
 use Rattle.logic.specs.Syntax.{Sort, node, arrow, rule, Expr, all, none, label, nominal, complement, and, or, some, every, atLeast, atMost, arrowKind, reversed, union, common, minus, endingIn, pair, subNodes, subArrows, nodeIn, pairIn, both, either, notRule}
 use Rattle.logic.specs.Graph.{Graph, Nodes, Pairs, isNode, anyBelow, allBelow, countBelow, implies}
@@ -36,3 +37,8 @@ value g (pairIn i j R) = value g R i j
 value g (both K L) = value g K && value g L
 value g (either K L) = value g K || value g L
 value g (notRule K) = not (value g K)
+
+-- Whether each rule of a book holds.
+unfoldable pub holdAll : Graph → List (Expr rule) → Bool
+holdAll g [] = true
+holdAll g (K ∷ book) = value g K && holdAll g book

@@ -19,13 +19,14 @@ use Rattle.logic.specs.Limits.{ranges}
 use Rattle.sheet.specs.Sheet.{graphOf}
 use Rattle.sheet.specs.Questions.{askSheet, Sound}
 use Rattle.text.specs.Reading.{Limits, textLimits}
-use Rattle.text.specs.Questions.{askBook, askEdit}
+use Rattle.text.specs.Questions.{askBook, askEdit, askRule}
 use Rattle.judge.specs.Questions.{askSheetAndBook}
 use Rattle.ends.specs.Books.{SomeBook}
 use Rattle.ends.proofs.Rules.{book-passed}
 use Rattle.game.specs.Game.{Game}
-use Rattle.game.proofs.Bools.{and-left, and-right}
-use Rattle.play.specs.Questions.{mostEdits, mostMoves, inRange, total, listsRight, askGoal, askAims, cut, askEdits, askCarried, askFits, askGame, firstRefused, faultyEdit}
+use Rattle.logic.proofs.Bools.{and-left, and-right}
+use Rattle.carry.specs.Carrying.{askCarried}
+use Rattle.play.specs.Questions.{mostEdits, mostMoves, inRange, total, listsRight, askAims, cut, askEdits, askFits, askGame, firstRefused, faultyEdit}
 use Rattle.play.specs.Standing.{EditsAt, SomeEdits}
 use Rattle.play.proofs.Edits.{edits-stand}
 
@@ -85,7 +86,7 @@ module _ (sheet book goal : List ℕ) where
   both rules aim = (rules, aim)
 
   abbrev withGoal : List (Expr rule) → Asked (List (Expr rule) × Expr rule)
-  withGoal rules = askGoal limits goal >>= (λ aim. passed (both rules aim))
+  withGoal rules = askRule limits goal >>= (λ aim. passed (both rules aim))
 
   pub sheet-stops : (a : Answer) (r : Refusal) → asked a ≡ askSheet sheet → a ≡ Refused r → asked a ≡ outcome (askAims sheet book goal)
   unfolding askAims askSheetAndBook outcome _>>=_ _>>_
@@ -99,9 +100,9 @@ module _ (sheet book goal : List ℕ) where
     pub book-stops : (a : Answer) → asked a ≡ outcome (askBook limits book) → (r : Refusal) → a ≡ Refused r → asked a ≡ outcome (askAims sheet book goal)
     book-stops a s r e = stops (askBook limits book) (λ rules. withGoal rules) a s r e ∙ sym (ap outcome from-sheet)
 
-    pub goal-last : Learned (askBook limits book) → (a : Answer) → asked a ≡ outcome (askGoal limits goal) → asked a ≡ outcome (askAims sheet book goal)
+    pub goal-last : Learned (askBook limits book) → (a : Answer) → asked a ≡ outcome (askRule limits goal) → asked a ≡ outcome (askAims sheet book goal)
     unfolding outcome _>>=_
-    goal-last B a s = s ∙ last (askGoal limits goal) ∙ sym (ap outcome (from-sheet ∙ passes (askBook limits book) (λ rules. withGoal rules) B))
+    goal-last B a s = s ∙ last (askRule limits goal) ∙ sym (ap outcome (from-sheet ∙ passes (askBook limits book) (λ rules. withGoal rules) B))
       where
         last : (y : Asked (Expr rule)) → outcome y ≡ outcome (y >>= (λ aim. passed (both (B .what) aim)))
         last (passed K) = refl
@@ -111,13 +112,13 @@ module _ (sheet book goal : List ℕ) where
   pub record AimsRead (aims : List (Expr rule) × Expr rule) : Type 0 where
     pub sound : Sound sheet
     pub book-is : askBook limits book ≡ passed (aims .0)
-    pub goal-is : askGoal limits goal ≡ passed (aims .1)
+    pub goal-is : askRule limits goal ≡ passed (aims .1)
 
   pub aims-read : (aims : List (Expr rule) × Expr rule) → askAims sheet book goal ≡ passed aims → AimsRead aims
   unfolding askAims askSheetAndBook _>>=_ _>>_
-  aims-read aims e = go (askSheet sheet) refl (askBook limits book) refl (askGoal limits goal) refl e
+  aims-read aims e = go (askSheet sheet) refl (askBook limits book) refl (askRule limits goal) refl e
     where
-      go : (x : Asked (Unit {0})) → askSheet sheet ≡ x → (y : Asked (List (Expr rule))) → askBook limits book ≡ y → (z : Asked (Expr rule)) → askGoal limits goal ≡ z
+      go : (x : Asked (Unit {0})) → askSheet sheet ≡ x → (y : Asked (List (Expr rule))) → askBook limits book ≡ y → (z : Asked (Expr rule)) → askRule limits goal ≡ z
           → ((x >> y) >>= (λ rules. z >>= (λ aim. passed (both rules aim)))) ≡ passed aims → AimsRead aims
       go (passed u) ex (passed rules) ey (passed aim) ez h = let same : both rules aim ≡ aims = cc in record { sound = ex; book-is = ey ∙ ap (λ x. passed (x .0)) same; goal-is = ez ∙ ap (λ x. passed (x .1)) same }
       go (passed u) ex (passed rules) ey (refused q p) ez h = let z : _≡_ {A = ℕ} 0 1 = cc in absurd (omega arith)
@@ -221,7 +222,7 @@ module _ (sheet book goal edits lengths : List ℕ) (d moves : ℕ) where
     pub ok : listsRight edits lengths d moves ≡ true
     pub sound : Sound sheet
     pub book-read : Learned (askBook reads book)
-    pub goal-read : Learned (askGoal reads goal)
+    pub goal-read : Learned (askRule reads goal)
     pub edits-read : Learned (askEdits reads (cut edits lengths))
     pub is : gameOf (book-read .what) (goal-read .what) (edits-read .what) ≡ G
     pub fit : askFits (book-read .what) (take d (edits-read .what)) ≡ passed tt

@@ -26,7 +26,8 @@ use Rattle.text.proofs.Books.{edit-is-spelled}
 use Rattle.text.proofs.Standing.{behind, within}
 use Rattle.ends.specs.Edits.{EditAt}
 use Rattle.ends.proofs.Steps.{edit-inside}
-use Rattle.play.specs.Questions.{total, cut, askEdits, askCarried, askFits, firstRefused}
+use Rattle.carry.specs.Carrying.{askCarried}
+use Rattle.play.specs.Questions.{total, cut, askEdits, askFits, firstRefused}
 use Rattle.play.specs.Standing.{EditsStand}
 
 -- The first that is refused, by what the first of the list is asked.

@@ -15,16 +15,15 @@ use Rattle.answer.specs.declared.Written.the-variants.{Length, Refused}
 use Rattle.logic.specs.Syntax.{Expr, rule}
 use Rattle.text.specs.Code.{bookCode, bookLevels}
 use Rattle.text.specs.Reading.{longestCarried, deepestCarried}
-use Rattle.carry.specs.Carrying.{askSize}
+use Rattle.carry.specs.Carrying.{askSize, askCarried}
 use Rattle.carry.specs.Into.{Into}
-use Rattle.play.specs.Questions.{askCarried}
 
 -- what an answer to 31, 32 and 33 says of the first two
 abbrev Tells : Asked ℕ → Asked (Unit {0}) → Type 0
 Tells (passed k) y = passed tt ≡ y
 Tells (refused q p) y = (q ≡ 33 → passed tt ≡ y) × ((q ≡ 33 → ⊥) → refused q p ≡ y)
 
-tells : (a b c : Bool) (len : ℕ) → Tells ((is a 31 0 >> (is b 32 0 >> is c 33 len)) >> passed len) (is a 31 0 >> is b 32 0)
+tells : (a b c : Bool) (len : ℕ) → Tells (((is a 31 0 >> is b 32 0) >> is c 33 len) >> passed len) (is a 31 0 >> is b 32 0)
 unfolding is _>>_
 tells false b c len = ((λ e. absurd (omega arith)), λ n. refl)
 tells true false c len = ((λ e. absurd (omega arith)), λ n. refl)

@@ -12,32 +12,31 @@ use Rattle.logic.specs.Syntax.{Expr, rule}
 use Rattle.text.specs.Code.{code, bookCode}
 use Rattle.text.specs.Reading.{mostRules, Limits, expr, Read, got, fault, follow, readAs}
 use Rattle.text.specs.Stands.{RulesInRange}
-use Rattle.text.specs.Questions.{readRules, rulesEnd, ruleStart, askBook}
+use Rattle.text.specs.Questions.{readRules, rulesEnd, ruleStart, askBook, alone, askRule}
 use Rattle.text.proofs.Converse.{Wrote, wrote}
 use Rattle.text.proofs.Books.{rules-step, rules-fault}
 use Rattle.text.proofs.RuleStart.{end-step, end-fault}
 use Rattle.judge.specs.Judging.{RulesStand}
-use Rattle.play.specs.Questions.{alone, askGoal}
 
 empty : (t : List ℕ) → length t ≡ 0 → t ≡ []
 empty [] e = refl
 empty (x ∷ t) e = absurd (omega (arith, e))
 
 module _ (l : Limits) (t : List ℕ) where
-  pub goal-long : l .longest < length t → refused 11 0 ≡ outcome (askGoal l t)
-  unfolding askGoal is _>>_ outcome
+  pub goal-long : l .longest < length t → refused 11 0 ≡ outcome (askRule l t)
+  unfolding askRule is _>>_ outcome
   goal-long h = rw (lt-leb (length t) (l .longest) h)
 
   module _ (short : length t ≤ l .longest) where
-    goal-asks : askGoal l t ≡ alone (readAs l (expr rule) t 0)
-    unfolding askGoal is _>>_
+    goal-asks : askRule l t ≡ alone (readAs l (expr rule) t 0)
+    unfolding askRule is _>>_
     goal-asks = rw (le-leb (length t) (l .longest) short)
 
     book-asks : askBook l t ≡ readRules l mostRules t 0
     unfolding askBook is _>>_
     book-asks = rw (le-leb (length t) (l .longest) short)
 
-    pub goal-empty : length t ≡ 0 → refused 12 0 ≡ outcome (askGoal l t)
+    pub goal-empty : length t ≡ 0 → refused 12 0 ≡ outcome (askRule l t)
     unfolding alone follow outcome
     goal-empty e = sym (ap outcome (goal-asks ∙ ap (λ (x : List ℕ). alone (readAs l (expr rule) x 0)) (empty t e)))
 
@@ -50,27 +49,27 @@ module _ (l : Limits) (t : List ℕ) where
       got-length : (K : Expr rule) (r : List ℕ) (p : ℕ) → Wrote l (expr rule) 1 t 0 (got K r p) → length t ≡ p + length r
       got-length K r p w = omega (arith, ap length (w .text-is), length-append (code K) r, w .place-is)
 
-      pub goal-more : end < length t → refused 16 end ≡ outcome (askGoal l t)
+      pub goal-more : end < length t → refused 16 end ≡ outcome (askRule l t)
       unfolding ruleStart alone outcome
       goal-more h = go (readAs l (expr rule) t 0) refl (wrote l (expr rule) 1 t 0)
         where
-          go : (x : Read (Expr rule)) → readAs l (expr rule) t 0 ≡ x → Wrote l (expr rule) 1 t 0 x → refused 16 end ≡ outcome (askGoal l t)
+          go : (x : Read (Expr rule)) → readAs l (expr rule) t 0 ≡ x → Wrote l (expr rule) 1 t 0 x → refused 16 end ≡ outcome (askRule l t)
           go (fault why p) q w = absurd (omega (arith, e ∙ end-fault l 0 t 0 q))
           go (got K [] p) q w = absurd (omega (arith, got-end q, got-length K [] p w))
           go (got K (x ∷ r) p) q w = ap (refused 16) (got-end q) ∙ sym (ap outcome (goal-asks ∙ ap alone q))
 
-      pub goal-book : length t ≤ end → (length t ≡ 0 → ⊥) → outcome (askBook l t) ≡ outcome (askGoal l t)
+      pub goal-book : length t ≤ end → (length t ≡ 0 → ⊥) → outcome (askBook l t) ≡ outcome (askRule l t)
       unfolding readRules alone outcome _>>=_
       goal-book h some = go (readAs l (expr rule) t 0) refl (wrote l (expr rule) 1 t 0)
         where
-          go : (x : Read (Expr rule)) → readAs l (expr rule) t 0 ≡ x → Wrote l (expr rule) 1 t 0 x → outcome (askBook l t) ≡ outcome (askGoal l t)
+          go : (x : Read (Expr rule)) → readAs l (expr rule) t 0 ≡ x → Wrote l (expr rule) 1 t 0 x → outcome (askBook l t) ≡ outcome (askRule l t)
           go (fault why p) q w = ap outcome (book-asks ∙ rules-fault l 31 t 0 why p (λ z. some (ap length z)) q) ∙ sym (ap outcome (goal-asks ∙ ap alone q))
           go (got K [] p) q w = ap outcome (book-asks ∙ rules-step l 31 t 0 K [] p q) ∙ sym (ap outcome (goal-asks ∙ ap alone q))
           go (got K (x ∷ r) p) q w = absurd (omega (arith, got-end q, got-length K (x ∷ r) p w))
 
   -- A goal that has passed is read as a book of one rule,
-  pub goal-read : (K : Expr rule) → askGoal l t ≡ passed K → askBook l t ≡ passed (K ∷ [])
-  unfolding askGoal askBook readRules is alone _>>_ _>>=_
+  pub goal-read : (K : Expr rule) → askRule l t ≡ passed K → askBook l t ≡ passed (K ∷ [])
+  unfolding askRule askBook readRules is alone _>>_ _>>=_
   goal-read K e = go (leb (length t) (l .longest)) (readAs l (expr rule) t 0) refl e
     where
       go : (b : Bool) (x : Read (Expr rule)) → readAs l (expr rule) t 0 ≡ x → (is b 11 0 >> alone x) ≡ passed K → (is b 11 0 >> readRules l mostRules t 0) ≡ passed (K ∷ [])
@@ -84,8 +83,8 @@ module _ (l : Limits) (t : List ℕ) where
   Goal (passed K) = RulesStand (l .numbers) t 0 (length t) (K ∷ [])
   Goal (refused q p) = Unit {0}
 
-  goal-of : Goal (askGoal l t)
-  unfolding askGoal is _>>_ alone bookCode RulesInRange
+  goal-of : Goal (askRule l t)
+  unfolding askRule is _>>_ alone bookCode RulesInRange
   goal-of = go (leb (length t) (l .longest)) (readAs l (expr rule) t 0) (wrote l (expr rule) 1 t 0)
     where
       go : (b : Bool) (x : Read (Expr rule)) → Wrote l (expr rule) 1 t 0 x → Goal (is b 11 0 >> alone x)
@@ -100,5 +99,5 @@ module _ (l : Limits) (t : List ℕ) where
             range = (w .within .numbers-fit, tt);
           }
 
-  pub goal-stands : (K : Expr rule) → askGoal l t ≡ passed K → RulesStand (l .numbers) t 0 (length t) (K ∷ [])
+  pub goal-stands : (K : Expr rule) → askRule l t ≡ passed K → RulesStand (l .numbers) t 0 (length t) (K ∷ [])
   goal-stands K e = subst Goal e goal-of

@@ -6,14 +6,9 @@ use Prim.Native.Nat.{ℕ, suc, _+_, _-_, _<_}
 use native.Mathlib.Omega.{arith}
 use lib.ListN.{length, take, drop, getD, drop-of-length-le}
 use lib.Seq.{take-length}
-use Rattle.answer.specs.Asked.{Asked, passed, refused}
-use Rattle.answer.specs.Answers.{asked}
-use Rattle.answer.specs.declared.Refusal.{Refusal}
-use Rattle.answer.specs.declared.Answer.{Answer}
-use Rattle.answer.specs.declared.Answer.the-variants.{Done, Refused}
 use Rattle.logic.specs.Syntax.{Expr, rule, Edit}
 use Rattle.logic.specs.Graph.{Graph}
-use Rattle.logic.specs.Meaning.{value}
+use Rattle.logic.specs.Meaning.{value, holdAll}
 use Rattle.logic.specs.Steps.{run}
 use Rattle.logic.specs.Limits.{ranges}
 use Rattle.logic.proofs.Inside.{run-within}
@@ -23,38 +18,14 @@ use Rattle.sheet.proofs.Blocks.{length-store}
 use Rattle.sheet.proofs.ReadBack.{read-back}
 use Rattle.sheet.proofs.Opening.{opening}
 use Rattle.text.specs.Stands.{EditStands}
-use Rattle.judge.specs.Questions.{askRules}
 use Rattle.write.specs.Laid.{laid}
 use Rattle.write.proofs.Laying.{laid-fits}
 use Rattle.apply.specs.Made.{Made}
-use Rattle.game.specs.Game.{Game, holdAll, mayLeave}
+use Rattle.game.specs.Game.{Game, mayLeave}
 use Rattle.game.specs.Search.{sideOf, goesWell, chosen}
 use Rattle.game.proofs.Chosen.{isCannot, well-over, well-more}
 use Rattle.play.specs.declared.search.Found.{Found}
 use Rattle.play.specs.Standing.{OnCopy, outcomeOf}
-
--- 41 is not answered exactly when each rule holds.
-unfoldable pub isPassed : Asked (Unit {0}) → Bool
-isPassed (passed u) = true
-isPassed (refused q p) = false
-
-pub passed-holds : (g : Graph) (rules : List (Expr rule)) (i : ℕ) → isPassed (askRules g rules i) ≡ holdAll g rules
-unfolding isPassed askRules holdAll
-passed-holds g [] i = refl
-passed-holds g (K ∷ rules) i = go (value g K) (passed-holds g rules (suc i))
-  where
-    go : (b : Bool) → isPassed (askRules g rules (suc i)) ≡ holdAll g rules → isPassed (elim b [ true ↦ askRules g rules (suc i) | false ↦ refused 41 i ]) ≡ (b && holdAll g rules)
-    go true h = h
-    go false h = refl
-
-module _ (g : Graph) (rules : List (Expr rule)) (a : Answer) (judged : asked a ≡ askRules g rules 0) where
-  pub all-hold : a ≡ Done → true ≡ holdAll g rules
-  unfolding isPassed
-  all-hold e = ap isPassed (sym (ap asked e) ∙ judged) ∙ passed-holds g rules 0
-
-  pub one-broken : (r : Refusal) → a ≡ Refused r → false ≡ holdAll g rules
-  unfolding isPassed
-  one-broken r e = ap isPassed (sym (ap asked e) ∙ judged) ∙ passed-holds g rules 0
 
 -- The goal is a book of one rule.
 pub one-holds : (g : Graph) (K : Expr rule) → holdAll g (K ∷ []) ≡ value g K

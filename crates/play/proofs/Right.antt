@@ -14,23 +14,17 @@ use Rattle.logic.specs.Graph.{Graph}
 use Rattle.logic.specs.Carry.{carriedBook}
 use Rattle.sheet.specs.Sheet.{graphOf}
 use Rattle.judge.specs.Questions.{askRules}
-use Rattle.game.specs.Game.{Game, dispatcher, edit, leaves, mayLeave, canMake, holdAll, Outcome, answer}
-use Rattle.game.proofs.Bools.{so}
-use Rattle.game.proofs.Entered.{hold-carried}
+use Rattle.logic.specs.Meaning.{holdAll}
+use Rattle.game.specs.Game.{Game, dispatcher, edit, leaves, mayLeave, canMake, Outcome, answer}
+use Rattle.logic.proofs.Bools.{so}
+use Rattle.logic.proofs.Theorem.{hold-carried}
+use Rattle.judge.proofs.QuestionLaws.{hold-asked, asked-hold}
+use Rattle.answer.proofs.AskedLaws.{refused-not-passed}
 use Rattle.game.proofs.Answer.{right}
-use Rattle.play.specs.Questions.{askCarried, askFits, askGame, askPlay}
+use Rattle.carry.specs.Carrying.{askCarried}
+use Rattle.play.specs.Questions.{askFits, askGame, askPlay}
 use Rattle.play.specs.Right.{Answered, PlayRight}
-use Rattle.play.proofs.Moves.{isPassed, passed-holds}
 use Rattle.play.proofs.Asking.{some-moves, all-passed, all-fit}
-
-passed-true : (q : Asked (Unit {0})) → q ≡ passed tt → isPassed q ≡ true
-unfolding isPassed
-passed-true q e = ap isPassed e
-
-true-passed : (q : Asked (Unit {0})) → T (isPassed q) → q ≡ passed tt
-unfolding isPassed
-true-passed (passed u) t = refl
-true-passed (refused q p) t = absurd t
 
 -- What passes of all edits passes of each.
 pub each-fits : (rules : List (Expr rule)) (Zs : List Edit) → askFits rules Zs ≡ passed tt → (i : ℕ) → i < length Zs → askCarried (carriedBook (getD Zs i finish) rules) ≡ passed tt
@@ -40,7 +34,7 @@ each-fits rules (Z ∷ Zs) e i l = go (askCarried (carriedBook Z rules)) refl e 
   where
     go : (q : Asked (Unit {0})) → askCarried (carriedBook Z rules) ≡ q → (q >> askFits rules Zs) ≡ passed tt → (i : ℕ) → i < suc (length Zs) → (askFits rules Zs ≡ passed tt → (j : ℕ) → j < length Zs → askCarried (carriedBook (getD Zs j finish) rules) ≡ passed tt)
         → askCarried (carriedBook (getD (Z ∷ Zs) i finish) rules) ≡ passed tt
-    go (refused q p) c h i l rest = let z : _≡_ {A = ℕ} 0 1 = cc in absurd (omega arith)
+    go (refused q p) c h i l rest = refused-not-passed h
     go (passed u) c h zero l rest = c
     go (passed u) c h (suc i) l rest = rest h i (omega arith)
 
@@ -48,15 +42,14 @@ module _ (G : Game) (g : Graph) (i : ℕ) (l : i < length (G .dispatchers)) wher
   abbrev carried : List (Expr rule)
   carried = carriedBook (getD (G .dispatchers) i finish) (G .book)
 
-  made-when : canMake G dispatcher g i ≡ isPassed (askRules g carried 0)
+  made-when : canMake G dispatcher g i ≡ holdAll g carried
   unfolding canMake mayLeave leaves
   made-when =
       ap (_&& holdAll (leaves G dispatcher g (edit i)) (G .book)) (lt-ltb i (length (G .dispatchers)) l)
-      ∙ sym (hold-carried g (getD (G .dispatchers) i finish) (G .book))
-      ∙ sym (passed-holds g carried 0)
+      ∙ sym (hold-carried (getD (G .dispatchers) i finish) (G .book) g)
 
   pub made-entered : T (canMake G dispatcher g i) ↔ (askRules g carried 0 ≡ passed tt)
-  made-entered = ((λ t. true-passed (askRules g carried 0) (subst T made-when t)), (λ e. so (made-when ∙ passed-true (askRules g carried 0) e)))
+  made-entered = ((λ t. hold-asked g carried 0 (subst T made-when t)), (λ e. subst T (sym made-when) (asked-hold g carried 0 e)))
 
 module _ (sheet book goal edits lengths : List ℕ) (d moves : ℕ) where
   -- The questions passed, and the last of them for each of the dispatcher's edits.
@@ -68,7 +61,7 @@ module _ (sheet book goal edits lengths : List ℕ) (d moves : ℕ) where
   answered x e = go (askGame sheet book goal edits lengths d moves) refl e
     where
       go : (q : Asked Game) → askGame sheet book goal edits lengths d moves ≡ q → (q >>= (λ G. passed (answer G (moves - 1) (graphOf sheet)))) ≡ passed x → Answered sheet book goal edits lengths d moves x
-      go (refused q p) r h = let z : _≡_ {A = ℕ} 0 1 = cc in absurd (omega arith)
+      go (refused q p) r h = refused-not-passed h
       go (passed G) r h =
           let m = some-moves edits lengths d moves (all-passed sheet book goal edits lengths d moves G r .ok) in
           record {

@@ -8,9 +8,9 @@ use Rattle.answer.specs.Asked.{Asked, passed, refused, _>>=_, _>>_, is, after}
 use Rattle.logic.specs.Syntax.{Expr, rule, Edit}
 use Rattle.logic.specs.Carry.{carriedBook}
 use Rattle.sheet.specs.Sheet.{graphOf}
-use Rattle.text.specs.Code.{bookCode, bookLevels}
-use Rattle.text.specs.Reading.{Limits, textLimits, longestCarried, deepestCarried, expr, Read, got, fault, readAs}
-use Rattle.text.specs.Questions.{faultNumber, askEdit}
+use Rattle.text.specs.Reading.{Limits, textLimits}
+use Rattle.text.specs.Questions.{askRule, askEdit}
+use Rattle.carry.specs.Carrying.{askCarried}
 use Rattle.judge.specs.Questions.{askSheetAndBook}
 use Rattle.game.specs.Game.{Game, Outcome, cannot, first, pass, edit, answer}
 
@@ -34,22 +34,11 @@ total (l ∷ ls) = l + total ls
 unfoldable pub listsRight : (edits lengths : List ℕ) (dispatchers moves : ℕ) → Bool
 listsRight edits lengths dispatchers moves = inRange (length lengths) dispatchers moves && eqb (total lengths) (length edits)
 
--- "The goal is read after the book: empty it is 12, and bytes after its one rule are 16."
-unfoldable pub alone : Read (Expr rule) → Asked (Expr rule)
-alone (got K [] p) = passed K
-alone (got K (x ∷ t) p) = refused 16 p
-alone (fault why p) = refused (faultNumber 10 why) p
-
-unfoldable pub askGoal : Limits → List ℕ → Asked (Expr rule)
-askGoal l t = do
-  is (leb (length t) (l .longest)) 11 0
-  alone (readAs l (expr rule) t 0)
-
--- Sheet and book, then the goal. What is learned is the rules of the book, and the goal.
+-- Sheet and book, then the goal: "empty it is 12, and bytes after its one rule are 16". What is learned is the rules of the book, and the goal.
 unfoldable pub askAims : (sheet book goal : List ℕ) → Asked (List (Expr rule) × Expr rule)
 askAims sheet book goal = do
   rules ← askSheetAndBook sheet book
-  aim ← askGoal (textLimits (graphOf sheet .n)) goal
+  aim ← askRule (textLimits (graphOf sheet .n)) goal
   passed (rules, aim)
 
 -- The edits, each a text of its own: they stand one behind the other, and fill what is lent once 62 has passed.
@@ -66,11 +55,6 @@ askEdits l (t ∷ ts) = do
   passed (Z ∷ Zs)
 
 -- "then 31 or 32, place 0, for the first dispatcher edit through which the carried book doesn't fit"
-unfoldable pub askCarried : List (Expr rule) → Asked (Unit {0})
-askCarried carried = do
-  is (leb (length (bookCode carried)) longestCarried) 31 0
-  is (leb (bookLevels carried) deepestCarried) 32 0
-
 unfoldable pub askFits : List (Expr rule) → List Edit → Asked (Unit {0})
 askFits rules [] = passed tt
 askFits rules (Z ∷ Zs) = do

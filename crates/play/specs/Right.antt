@@ -13,7 +13,8 @@ use Rattle.sheet.specs.Sheet.{graphOf}
 use Rattle.judge.specs.Questions.{askRules}
 use Rattle.game.specs.Game.{Game, dispatcher, canMake, Outcome, answer}
 use Rattle.game.specs.Play.{Right}
-use Rattle.play.specs.Questions.{askCarried, askGame, askPlay}
+use Rattle.carry.specs.Carrying.{askCarried}
+use Rattle.play.specs.Questions.{askGame, askPlay}
 
 -- An outcome x of these inputs.
 pub record Answered (sheet book goal edits lengths : List ℕ) (dispatchers moves : ℕ) (x : Outcome) : Type 0 where

@@ -9,10 +9,11 @@ ghost use Rattle.answer.specs.Asked.{outcome};
 ghost use Rattle.logic.specs.Syntax.{Expr, rule, Edit};
 ghost use Rattle.logic.specs.Carry.{carriedBook};
 ghost use Rattle.text.specs.Reading.{longestText, textLimits};
-ghost use Rattle.text.specs.Questions.{askEdit};
+ghost use Rattle.text.specs.Questions.{askEdit, askRule};
 ghost use Rattle.ends.specs.Edits.{EditAt, SomeEdit};
 ghost use Rattle.ends.specs.Books.{BookIs, SomeBook};
-ghost use Rattle.play.specs.Questions.{inRange, total, listsRight, askGoal, askAims, cut, askEdits, askCarried, askFits, askGame, firstRefused, faultyEdit};
+ghost use Rattle.carry.specs.Carrying.{askCarried};
+ghost use Rattle.play.specs.Questions.{inRange, total, listsRight, askAims, cut, askEdits, askFits, askGame, firstRefused, faultyEdit};
 ghost use Rattle.play.specs.Standing.{EditsStand, EditsAt, SomeEdits};
 use answer::Answer;
 use answer::Refusal;
@@ -81,7 +82,7 @@ fn lists_right(edits: &[u8], lengths: &[usize], dispatchers: usize, moves: usize
 
 // Is the goal one rule? 11 to 16. Where rule 1 would start is behind rule 0, or the goal's end where that cannot be read.
 fn check_goal(goal: &[u8], n: usize) -> Answer
-    ensures { λ r. ⌜ asked r ≡ outcome (askGoal (textLimits n) (now (goal .entry))) ⌝ }
+    ensures { λ r. ⌜ asked r ≡ outcome (askRule (textLimits n) (now (goal .entry))) ⌝ }
 {
     if goal.len() > Text::LONGEST {
         return Answer::Refused(Refusal::BookLength { place: 0 });

@@ -17,7 +17,7 @@ use Rattle.text.specs.Reading.{Limits, textLimits}
 use Rattle.text.specs.Questions.{askBook, askEdit}
 use Rattle.text.proofs.Books.{EachAllowed, SpellsBook, book-is-spelled, spelled-book-passes, edit-is-spelled}
 use Rattle.text.proofs.Carried.{carry-in}
-use Rattle.carry.specs.Carrying.{askSize, askCarry, carryAnswer, carryOutput}
+use Rattle.carry.specs.Carrying.{askCarried, askSize, askCarry, carryAnswer, carryOutput}
 use Rattle.join_edits.proofs.Passes.{Joins}
 use Rattle.promises.specs.Chained.{CarriedThrough, IsCarried}
 use Rattle.promises.proofs.Reading.{read-for-60}
@@ -60,7 +60,7 @@ module _ {book q text : List ℕ} (c : CarriedThrough book q text) where
       })
 
   asks : (room : ℕ) → length text ≤ room → askCarry book q room ≡ passed text
-  unfolding askCarry askSize _>>=_ _>>_ is
+  unfolding askCarry askCarried askSize _>>=_ _>>_ is
   asks room h =
       let l : length (bookCode carriedRules) ≡ length text = sym (ap length (c .is)) in
       rw (c .book-read, c .q-read, le-leb (length (bookCode carriedRules)) 16384 (omega (arith, l, c .short)), le-leb (bookLevels carriedRules) 255 (omega (arith, c .shallow)), le-leb (length (bookCode carriedRules)) room (omega (arith, l, h)))

@@ -8,10 +8,11 @@ use native.Mathlib.Omega.{arith}
 use borrow.Author.Tests.{lt-ltb}
 use lib.Dec.{T}
 use lib.ListN.{length, getD}
-use Rattle.answer.specs.Asked.{Asked, passed, refused, _>>=_, _>>_}
+use Rattle.answer.specs.Asked.{Asked, passed, refused, _>>=_, _>>_, is}
+use Rattle.answer.proofs.AskedLaws.{refused-not-passed}
 use Rattle.logic.specs.Syntax.{finish}
 use Rattle.logic.specs.Graph.{Graph}
-use Rattle.logic.specs.Meaning.{value}
+use Rattle.logic.specs.Meaning.{value, holdAll}
 use Rattle.logic.specs.Carry.{carriedBook}
 use Rattle.logic.proofs.Below.{any-none, any-one}
 use Rattle.sheet.specs.Sheet.{graphOf}
@@ -21,11 +22,11 @@ use Rattle.judge.specs.Questions.{askRules, askSheetAndBook, askJudge}
 use Rattle.single.specs.Scratch.{longestRule}
 use Rattle.apply.specs.Apply.{appliedSheet}
 use Rattle.runs.specs.Enter.{enterSheet}
-use Rattle.runs.specs.Run.{Hold, Bytes}
-use Rattle.runs.proofs.Passing.{hold-asked, asked-hold}
+use Rattle.runs.specs.Run.{Bytes}
+use Rattle.judge.proofs.QuestionLaws.{hold-asked, asked-hold}
 use Rattle.game.specs.Game.{Side, dispatcher, disruption, Game, Move, pass, edit, editsOf, leaves, mayLeave, canMake, allowed, Outcome, answer}
 use Rattle.game.specs.Play.{Plan, since, Play, Course, ended, wrong, course, Fair, Won, Broken, Wins, CanFollow, SomeBreaks, Begins, Right}
-use Rattle.game.proofs.Bools.{true-false, so, is-true, is-false}
+use Rattle.logic.proofs.Bools.{both-so, so-both, true-false, so, is-true, is-false}
 use Rattle.game.proofs.Search.{edit-below}
 use Rattle.game.proofs.Plans.{plan-moves, play-moves, first-fair, won-fair}
 use Rattle.play.specs.Questions.{cut, askGame, askPlay}
@@ -181,18 +182,18 @@ module _ (nodes : ℕ) (book : List ℕ) (texts : List (List ℕ)) (G : Game) (s
         rw (k .sound, there)
 
     judged : (sheet : List ℕ) → Held nodes sheet → T (value (graphOf sheet) (G .goal)) ↔ (askJudge sheet goal ≡ passed tt)
-    unfolding Hold
+    unfolding holdAll
     judged sheet k = (
-      (λ t. judge-asks sheet k ∙ hold-asked (graphOf sheet) (G .goal ∷ []) 0 (t, tt)),
-      (λ e. asked-hold (graphOf sheet) (G .goal ∷ []) 0 (sym (judge-asks sheet k) ∙ e) .0),
+      (λ t. judge-asks sheet k ∙ hold-asked (graphOf sheet) (G .goal ∷ []) 0 (so-both (value (graphOf sheet) (G .goal)) true t tt)),
+      (λ e. both-so (value (graphOf sheet) (G .goal)) true (asked-hold (graphOf sheet) (G .goal ∷ []) 0 (sym (judge-asks sheet k) ∙ e)) .0),
     )
 
     judged-broken : (sheet : List ℕ) → Held nodes sheet → T (not (value (graphOf sheet) (G .goal))) ↔ (askJudge sheet goal ≡ refused 41 0)
-    unfolding askRules
+    unfolding askRules is _>>_
     judged-broken sheet k = subst (λ (a : Asked (Unit {0})). T (not (value (graphOf sheet) (G .goal))) ↔ (a ≡ refused 41 0)) (sym (judge-asks sheet k)) (go (value (graphOf sheet) (G .goal)))
       where
-        go : (b : Bool) → T (not b) ↔ (_≡_ {A = Asked (Unit {0})} (elim b [ true ↦ askRules (graphOf sheet) [] 1 | false ↦ refused 41 0 ]) (refused 41 0))
-        go true = ((λ t. absurd t), (λ e. let z : _≡_ {A = ℕ} 0 1 = cc in absurd (omega arith)))
+        go : (b : Bool) → T (not b) ↔ (_≡_ {A = Asked (Unit {0})} (is b 41 0 >> passed tt) (refused 41 0))
+        go true = ((λ t. absurd t), (λ e. refused-not-passed (sym e)))
         go false = ((λ t. refl), (λ e. tt))
 
     module _ (sheet : List ℕ) (k : Held nodes sheet) (m : ℕ) (p : Plan) where

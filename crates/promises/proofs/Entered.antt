@@ -3,11 +3,12 @@ use mathlib.Core.Path.{_≡_, refl, sym, _∙_, ap, ap₂, subst}
 use mathlib.Core.Logic.{_↔_}
 use mathlib.Core.List.{List}
 use Prim.Native.Nat.{ℕ}
+use lib.Dec.{T}
 use Rattle.answer.specs.Asked.{passed, _>>=_, _>>_, after, outcome}
 use Rattle.logic.specs.Syntax.{Expr, rule, Edit}
 use Rattle.logic.specs.Steps.{run}
 use Rattle.logic.specs.Carry.{carriedBook, followedBy}
-use Rattle.logic.proofs.Theorem.{run-followedBy}
+use Rattle.logic.proofs.Theorem.{run-followedBy, hold-carried}
 use Rattle.logic.proofs.Inside.{run-n}
 use Rattle.sheet.specs.Sheet.{graphOf}
 use Rattle.sheet.specs.Questions.{askSheet, Sound}
@@ -16,8 +17,10 @@ use Rattle.text.specs.Questions.{askBook, askEdit}
 use Rattle.judge.specs.Questions.{askSheetAndBook, askRules}
 use Rattle.apply.specs.Apply.{afterSteps, appliedSheet}
 use Rattle.runs.specs.Enter.{StepsAndCarried, askBefore41, askEnter, enterAnswer, enterSheet}
-use Rattle.runs.specs.Run.{Hold, Keeps, Bytes}
-use Rattle.runs.proofs.Passing.{passed-same, bind-passed, then-passed, outcome-passed, hold-asked, asked-hold, hold-carried, carried-hold}
+use Rattle.logic.specs.Meaning.{holdAll}
+use Rattle.runs.specs.Run.{Keeps, Bytes}
+use Rattle.answer.proofs.AskedLaws.{passed-same, bind-passed, then-passed, outcome-passed}
+use Rattle.judge.proofs.QuestionLaws.{hold-asked, asked-hold}
 use Rattle.runs.proofs.Runs.{keeps}
 use Rattle.runs.proofs.After.{after-within, after-n, after-graph}
 use Rattle.join_edits.proofs.Passes.{Joins}
@@ -44,10 +47,10 @@ module _ (sheet book edit : List ℕ) where
       subst Before (sym same) (record { sound = sound; rules = rules; book-read = book-read; edit-read = edit-read; carried-are = refl })
 
   -- The edit is entered where each rule holds after its steps,
-  pub enters : (room : ℕ) (c : StepsAndCarried) → askBefore41 sheet book edit room ≡ passed c → (b : Before c) → Hold (run (c .steps) (graphOf sheet)) (b .rules)
+  pub enters : (room : ℕ) (c : StepsAndCarried) → askBefore41 sheet book edit room ≡ passed c → (b : Before c) → T (holdAll (run (c .steps) (graphOf sheet)) (b .rules))
       → askEnter sheet book edit room ≡ passed (c .steps)
   unfolding askEnter _>>=_ _>>_
-  enters room c e b h = rw (e, b .carried-are, hold-asked (graphOf sheet) (carriedBook (c .steps) (b .rules)) 0 (hold-carried (c .steps) (b .rules) (graphOf sheet) h))
+  enters room c e b h = rw (e, b .carried-are, hold-asked (graphOf sheet) (carriedBook (c .steps) (b .rules)) 0 (subst T (sym (hold-carried (c .steps) (b .rules) (graphOf sheet))) h))
 
   -- and only there.
   pub record EnteredSteps (Z : Edit) : Type 0 where
@@ -55,7 +58,7 @@ module _ (sheet book edit : List ℕ) where
     pub rules : List (Expr rule)
     pub book-read : askBook (textLimits (graphOf sheet .n)) book ≡ passed rules
     pub edit-read : askEdit (textLimits (graphOf sheet .n)) edit ≡ passed Z
-    pub hold : Hold (run Z (graphOf sheet)) rules
+    pub hold : T (holdAll (run Z (graphOf sheet)) rules)
 
   pub entered : (room : ℕ) (Z : Edit) → askEnter sheet book edit room ≡ passed Z → EnteredSteps Z
   unfolding askEnter
@@ -64,8 +67,8 @@ module _ (sheet book edit : List ℕ) where
       let (u, hold, e₃) = then-passed (askRules (graphOf sheet) (c .carried) 0) (passed (c .steps)) Z e₂ in
       let b = before room c e₁ in
       let same : c .steps ≡ Z = cc in
-      let h : Hold (graphOf sheet) (carriedBook (c .steps) (b .rules)) = subst (Hold (graphOf sheet)) (b .carried-are) (asked-hold (graphOf sheet) (c .carried) 0 hold) in
-      subst EnteredSteps same (record { sound = b .sound; rules = b .rules; book-read = b .book-read; edit-read = b .edit-read; hold = carried-hold (c .steps) (b .rules) (graphOf sheet) h })
+      let h : T (holdAll (graphOf sheet) (carriedBook (c .steps) (b .rules))) = subst (λ rs. T (holdAll (graphOf sheet) rs)) (b .carried-are) (asked-hold (graphOf sheet) (c .carried) 0 hold) in
+      subst EnteredSteps same (record { sound = b .sound; rules = b .rules; book-read = b .book-read; edit-read = b .edit-read; hold = subst T (hold-carried (c .steps) (b .rules) (graphOf sheet)) h })
 
   pub enter-leaves : (room : ℕ) (Z : Edit) → askEnter sheet book edit room ≡ passed Z → enterSheet sheet book edit room ≡ afterSteps Z sheet
   unfolding enterSheet after
@@ -87,28 +90,28 @@ module _ {p q joined : List ℕ} (j : Joins p q joined) (sheet book : List ℕ) 
 
   -- The sheet that the two leave keeps the book exactly when each rule holds after the joined steps.
   module _ (s : Sound sheet) (r : ReadFor j (graphOf sheet .n)) (rules : List (Expr rule)) (book-read : askBook (textLimits (graphOf sheet .n)) book ≡ passed rules) where
-    to-keeps : Hold (run both (graphOf sheet)) rules → Keeps book (appliedSheet (appliedSheet sheet p) q)
+    to-keeps : T (holdAll (run both (graphOf sheet)) rules) → Keeps book (appliedSheet (appliedSheet sheet p) q)
     to-keeps h =
         subst (Keeps book) (sym (two-leave j sheet bytes s r))
         (keeps book rules (run both (graphOf sheet)) (record { within = after-within sheet bytes s joined both (r .joined-read); book-read = rw (run-n both (graphOf sheet)) book-read; hold = h }))
 
-    from-keeps : Keeps book (appliedSheet (appliedSheet sheet p) q) → Hold (run both (graphOf sheet)) rules
+    from-keeps : Keeps book (appliedSheet (appliedSheet sheet p) q) → T (holdAll (run both (graphOf sheet)) rules)
     from-keeps k =
         let k′ : Keeps book (afterSteps both sheet) = subst (Keeps book) (two-leave j sheet bytes s r) k in
         let read : askBook (textLimits (graphOf sheet .n)) book ≡ passed (k′ .rules) = subst (λ n. askBook (textLimits n) book ≡ passed (k′ .rules)) (after-n sheet bytes s joined both (r .joined-read)) (k′ .book-read) in
         let same : k′ .rules ≡ rules = cc in
-        subst (Hold (run both (graphOf sheet))) same (subst (λ g. Hold g (k′ .rules)) (after-graph sheet bytes s joined both (r .joined-read)) (k′ .hold))
+        subst (λ rs. T (holdAll (run both (graphOf sheet)) rs)) same (subst (λ g. T (holdAll g (k′ .rules))) (after-graph sheet bytes s joined both (r .joined-read)) (k′ .hold))
 
   module _ (asked : outcome (askBefore41 sheet book joined room) ≡ passed tt) where
     -- entered where each rule holds after the joined steps
-    so-entered : ((s : Sound sheet) (r : ReadFor j (graphOf sheet .n)) (rules : List (Expr rule)) → askBook (textLimits (graphOf sheet .n)) book ≡ passed rules → Hold (run both (graphOf sheet)) rules)
+    so-entered : ((s : Sound sheet) (r : ReadFor j (graphOf sheet .n)) (rules : List (Expr rule)) → askBook (textLimits (graphOf sheet .n)) book ≡ passed rules → T (holdAll (run both (graphOf sheet)) rules))
         → enterAnswer sheet book joined room ≡ passed tt
     unfolding outcome
     so-entered f =
         let (c, e) = outcome-passed (askBefore41 sheet book joined room) asked in
         let b = before sheet book joined room c e in
         let (r, same) = read-so (c .steps) (b .sound) (b .edit-read) in
-        ap outcome (enters sheet book joined room c e b (subst (λ Z. Hold (run Z (graphOf sheet)) (b .rules)) (sym same) (f (b .sound) r (b .rules) (b .book-read))))
+        ap outcome (enters sheet book joined room c e b (subst (λ Z. T (holdAll (run Z (graphOf sheet)) (b .rules))) (sym same) (f (b .sound) r (b .rules) (b .book-read))))
 
     pub joined-when : (enterAnswer sheet book joined room ≡ passed tt) ↔ Keeps book (appliedSheet (appliedSheet sheet p) q)
     joined-when = (kept, λ k. so-entered (λ s r rules e. from-keeps s r rules e k))
@@ -118,7 +121,7 @@ module _ {p q joined : List ℕ} (j : Joins p q joined) (sheet book : List ℕ) 
             let (Z, e) = outcome-passed (askEnter sheet book joined room) h in
             let i = entered sheet book joined room Z e in
             let (r, same) = read-so Z (i .sound) (i .edit-read) in
-            to-keeps (i .sound) r (i .rules) (i .book-read) (subst (λ Y. Hold (run Y (graphOf sheet)) (i .rules)) same (i .hold))
+            to-keeps (i .sound) r (i .rules) (i .book-read) (subst (λ Y. T (holdAll (run Y (graphOf sheet)) (i .rules))) same (i .hold))
 
     -- P and Q entered one after the other
     module _ (room₁ room₂ : ℕ) (p-entered : enterAnswer sheet book p room₁ ≡ passed tt) (q-entered : enterAnswer (enterSheet sheet book p room₁) book q room₂ ≡ passed tt) where
@@ -137,8 +140,8 @@ module _ {p q joined : List ℕ} (j : Joins p q joined) (sheet book : List ℕ) 
           let Q-same : Q ≡ j .Q = passed-same (sym q-read ∙ r .q-read) in
           let same : followedBy P Q ≡ both = ap₂ followedBy P-same Q-same in
           let graph-same : run Q (graphOf (afterSteps P sheet)) ≡ run both (graphOf sheet) = ap (run Q) (after-graph sheet bytes (i .sound) p P (i .edit-read)) ∙ sym (run-followedBy P Q (graphOf sheet)) ∙ ap (λ Z. run Z (graphOf sheet)) same in
-          let hold : Hold (run both (graphOf sheet)) (k .rules) = subst (λ g. Hold g (k .rules)) graph-same (k .hold) in
-          let done : enterAnswer sheet book joined room ≡ passed tt = so-entered (λ s t rules b. subst (Hold (run both (graphOf sheet))) (passed-same (sym book-read ∙ b)) hold) in (
+          let hold : T (holdAll (run both (graphOf sheet)) (k .rules)) = subst (λ g. T (holdAll g (k .rules))) graph-same (k .hold) in
+          let done : enterAnswer sheet book joined room ≡ passed tt = so-entered (λ s t rules b. subst (λ rs. T (holdAll (run both (graphOf sheet)) rs)) (passed-same (sym book-read ∙ b)) hold) in (
             done,
             joined-leaves done ∙ two-leave j sheet bytes (i .sound) r ∙ ap (λ Z. afterSteps Z sheet) (sym same) ∙ sym (after-both sheet bytes (i .sound) p P (i .edit-read) Q)
                 ∙ sym (enter-leaves (afterSteps P sheet) book q room₂ Q f) ∙ sym (ap (λ t. enterSheet t book q room₂) left),

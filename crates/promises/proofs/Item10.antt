@@ -21,7 +21,7 @@ use Rattle.single.proofs.Writings.{length-stays, rest-stays, last-at-start, lon
 use Rattle.apply.specs.Apply.{afterSteps}
 use Rattle.runs.specs.Enter.{StepsAndCarried, askBefore41, askEnter, enterAnswer, enterSheet, enterScratch}
 use Rattle.runs.specs.Leaves.{ScratchWritten}
-use Rattle.runs.proofs.Passing.{then-passed}
+use Rattle.answer.proofs.AskedLaws.{then-passed}
 use Rattle.runs.proofs.Leaves.{Passed33, passed-33, leaves}
 use Rattle.runs.proofs.Unmoved.{any-room-asks, unmoved}
 use Rattle.promises.specs.Item10.{Written, Item10}

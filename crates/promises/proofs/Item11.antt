@@ -3,7 +3,7 @@ use mathlib.Core.Path.{_≡_, refl, sym, _∙_, ap}
 use mathlib.Core.Bool.{true, false}
 use mathlib.Core.List.{List, [], _∷_}
 use Prim.Native.Nat.{ℕ}
-use Rattle.answer.specs.Asked.{Asked, passed, refused, _>>=_, _>>_}
+use Rattle.answer.specs.Asked.{Asked, passed, refused, _>>=_, _>>_, is}
 use Rattle.logic.specs.Syntax.{Expr, rule}
 use Rattle.logic.specs.Meaning.{value}
 use Rattle.logic.specs.Limits.{maxNodes}
@@ -30,7 +30,7 @@ module _ (carried steps sent : List ℕ) (accepts : Accepts carried steps sent) 
   judged rules rules′ h h′ = go (askSheet sheet) refl
     where
       asked : (text : List ℕ) (rules : List (Expr rule)) (K : Expr rule) → BookAs (graphOf sheet .n) text rules → rules ≡ K ∷ []
-          → askBook (textLimits (graphOf sheet .n)) text >>= (λ rs. askRules (graphOf sheet) rs 0) ≡ elim (value (graphOf sheet) K) as (λ x. Asked (Unit {0})) [ true ↦ passed tt | false ↦ refused 41 0 ]
+          → askBook (textLimits (graphOf sheet .n)) text >>= (λ rs. askRules (graphOf sheet) rs 0) ≡ (is (value (graphOf sheet) K) 41 0 >> passed tt)
       asked text rules K b one = ap (_>>= (λ rs. askRules (graphOf sheet) rs 0)) b ∙ ap (λ rs. askRules (graphOf sheet) rs 0) one
 
       go : (q : Asked (Unit {0})) → askSheet sheet ≡ q → (q >> askBook (textLimits (graphOf sheet .n)) carried) >>= (λ rs. askRules (graphOf sheet) rs 0) ≡ (q >> askBook (textLimits (graphOf sheet .n)) sent) >>= (λ rs. askRules (graphOf sheet) rs 0)
@@ -41,7 +41,7 @@ module _ (carried steps sent : List ℕ) (accepts : Accepts carried steps sent) 
           let one : rules ≡ c .first ∷ [] = one-rule-book (carriedLimits maxNodes) (textLimits (graphOf sheet .n)) carried (c .first) rules (c .read) h in
           let other : rules′ ≡ L ∷ [] = one-rule-book (carriedLimits maxNodes) (textLimits (graphOf sheet .n)) sent L rules′ read h′ in
           let same : value (graphOf sheet) (c .first) ≡ value (graphOf sheet) L = truth .same-truth (carriedLimits maxNodes) (c .first) L (c .read) read (graphOf sheet) (opening present sheet bytes e .within) in
-          asked carried rules (c .first) h one ∙ ap (λ b. elim b as (λ x. Asked (Unit {0})) [ true ↦ passed tt | false ↦ refused 41 0 ]) same ∙ sym (asked sent rules′ L h′ other)
+          asked carried rules (c .first) h one ∙ ap (λ b. is b 41 0 >> passed tt) same ∙ sym (asked sent rules′ L h′ other)
 
 pub item-11 : Item11
 item-11 =

@@ -9,9 +9,10 @@ use lib.Dec.{T, leb}
 use Rattle.answer.specs.Asked.{passed, is}
 use Rattle.logic.specs.Syntax.{Expr, rule, Edit}
 use Rattle.logic.specs.Graph.{Graph}
-use Rattle.logic.specs.Meaning.{value}
+use Rattle.logic.specs.Meaning.{value, holdAll}
 use Rattle.logic.specs.Steps.{run}
 use Rattle.logic.specs.Limits.{Within}
+use Rattle.logic.proofs.Bools.{true-false, so, is-true}
 use Rattle.logic.proofs.Inside.{run-n}
 use Rattle.sheet.specs.Sheet.{present, store, graphOf}
 use Rattle.sheet.proofs.ReadBack.{read-back}
@@ -21,15 +22,15 @@ use Rattle.sheet.proofs.Small.{store-small}
 use Rattle.text.specs.Reading.{textLimits}
 use Rattle.text.specs.Questions.{askBook, askEdit}
 use Rattle.apply.specs.Apply.{afterSteps}
-use Rattle.runs.specs.Run.{Hold, Keeps}
-use Rattle.runs.proofs.Passing.{passed-same, bind-passed, then-passed}
+use Rattle.runs.specs.Run.{Keeps}
+use Rattle.answer.proofs.AskedLaws.{passed-same, bind-passed, then-passed}
 use Rattle.runs.proofs.Runs.{steps-within, keeps}
-use Rattle.count_small.specs.Small.{Small, holdAll}
+use Rattle.count_small.specs.Small.{Small}
 use Rattle.count_small.specs.Names.{rulesOnlyFirst, editOnlyFirst}
 use Rattle.count_small.specs.Exactly.{Exactly}
 use Rattle.count_small.specs.Questions.{mostSmall, Texts, askCount, countsOf}
 use Rattle.count_small.specs.Examples.{cases}
-use Rattle.count_small.proofs.Numbering.{true-false, and-both}
+use Rattle.count_small.proofs.Numbering.{and-both}
 use Rattle.count_small.proofs.Matched.{matched}
 use Rattle.count_small.proofs.Exact.{SmallAnd}
 use Rattle.count_small.proofs.Right.{counted-graphs, total-is}
@@ -50,29 +51,20 @@ said true x e = e
 said false true e = (λ p. true-false p refl, λ not-a. absurd (not-a (e .0 refl)))
 said false false e = (λ p a. true-false (e .1 a) refl, λ not-a. refl)
 
-hold-all : (g : Graph) (rules : List (Expr rule)) → (holdAll g rules ≡ true) ↔ Hold g rules
-unfolding holdAll Hold
-hold-all g [] = (λ e. tt, λ h. refl)
-hold-all g (K ∷ rules) = go (value g K) (hold-all g rules)
-  where
-    go : (b : Bool) → (holdAll g rules ≡ true) ↔ Hold g rules → ((b && holdAll g rules) ≡ true) ↔ (T b × Hold g rules)
-    go true e = (λ p. (tt, e .0 p), λ h. e .1 (h .1))
-    go false e = (λ p. true-false p refl, λ h. absurd (h .0))
-
 module _ (n : ℕ) (book : List ℕ) (rules : List (Expr rule)) (book-read : askBook (textLimits n) book ≡ passed rules) where
   -- The sheet that stores a graph keeps the book exactly when the rules hold on the graph.
   kept : (g : Graph) → Within g → g .n ≡ n → (holdAll g rules ≡ true) ↔ Keeps book (store g)
   kept g w e = (there, back)
     where
       there : holdAll g rules ≡ true → Keeps book (store g)
-      there h = keeps book rules g (record { within = w; book-read = subst (λ m. askBook (textLimits m) book ≡ passed rules) (sym e) book-read; hold = hold-all g rules .0 h })
+      there h = keeps book rules g (record { within = w; book-read = subst (λ m. askBook (textLimits m) book ≡ passed rules) (sym e) book-read; hold = so h })
 
       back : Keeps book (store g) → holdAll g rules ≡ true
       back k =
           let same : graphOf (store g) ≡ g = read-back g w in
           let read : askBook (textLimits n) book ≡ passed (k .rules) = subst (λ m. askBook (textLimits m) book ≡ passed (k .rules)) (ap (λ h. h .n) same ∙ e) (k .book-read) in
           let one : k .rules ≡ rules = passed-same (sym read ∙ book-read) in
-          hold-all g rules .1 (subst (λ h. Hold h rules) same (subst (Hold (graphOf (store g))) one (k .hold)))
+          is-true _ (subst (λ h. T (holdAll h rules)) same (subst (λ rs. T (holdAll (graphOf (store g)) rs)) one (k .hold)))
 
   module _ (edit : List ℕ) (Z : Edit) (edit-read : askEdit (textLimits n) edit ≡ passed Z) (b c : Bool) where
     -- small graphs and small sheets, by whether the book is kept before and after

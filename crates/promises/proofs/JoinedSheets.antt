@@ -5,11 +5,13 @@ use mathlib.Core.List.{List, [], _∷_}
 use Prim.Native.Nat.{ℕ, _+_, _≤_}
 use native.Mathlib.Omega.{arith}
 use lib.Dec.{T}
-use Rattle.answer.specs.Asked.{Asked, passed, refused}
+use Rattle.answer.specs.Asked.{passed}
+use Rattle.answer.proofs.AskedLaws.{passed-same}
 use Rattle.logic.specs.Syntax.{Expr, rule}
 use Rattle.logic.specs.Graph.{Graph}
-use Rattle.logic.specs.Meaning.{value}
+use Rattle.logic.specs.Meaning.{value, holdAll}
 use Rattle.logic.specs.Limits.{Within, maxNodes}
+use Rattle.logic.proofs.Bools.{both-so, so-both}
 use Rattle.sheet.specs.Sheet.{present, store, graphOf}
 use Rattle.sheet.specs.Questions.{askSheet, Sound}
 use Rattle.sheet.proofs.Opening.{opening}
@@ -17,7 +19,7 @@ use Rattle.sheet.proofs.Passes.{stored-passes}
 use Rattle.sheet.proofs.ReadBack.{read-back}
 use Rattle.text.specs.Reading.{textLimits}
 use Rattle.text.specs.Questions.{askBook}
-use Rattle.runs.specs.Run.{Hold, Keeps}
+use Rattle.runs.specs.Run.{Keeps}
 use Rattle.join_sheets.specs.Joined.{joinedGraph, nodesTotal, askJoin, joinedSheet}
 use Rattle.join_sheets.specs.Joinable.{JoinableBook}
 use Rattle.join_sheets.proofs.Joined.{nodes-joined, pairs-joined, rule-joined}
@@ -27,24 +29,18 @@ use Rattle.promises.specs.JoinedSheets.{TwoJoined, ThreeJoined, JoinedRi
 use Rattle.promises.proofs.Ranges.{read-alike}
 
 -- Each rule of a book of such rules.
-book-joined : (g h : Graph) (book : List (Expr rule)) → JoinableBook book → Hold (joinedGraph g h) book ↔ (Hold g book × Hold h book)
-unfolding JoinableBook Hold
+book-joined : (g h : Graph) (book : List (Expr rule)) → JoinableBook book → T (holdAll (joinedGraph g h) book) ↔ (T (holdAll g book) × T (holdAll h book))
+unfolding JoinableBook holdAll
 book-joined g h [] q = ((λ t. (tt, tt)), (λ t. tt))
 book-joined g h (K ∷ book) q =
     let k : T (value (joinedGraph g h) K) ↔ (T (value g K) × T (value h K)) = rule-joined g h K (q .0) in
-    let b : Hold (joinedGraph g h) book ↔ (Hold g book × Hold h book) = book-joined g h book (q .1) in
-    ((λ t. ((k .0 (t .0) .0, b .0 (t .1) .0), (k .0 (t .0) .1, b .0 (t .1) .1))), (λ t. (k .1 (t .0 .0, t .1 .0), b .1 (t .0 .1, t .1 .1))))
+    let b : T (holdAll (joinedGraph g h) book) ↔ (T (holdAll g book) × T (holdAll h book)) = book-joined g h book (q .1) in (
+      λ t. let (x, y) = both-so (value (joinedGraph g h) K) _ t in (so-both (value g K) _ (k .0 x .0) (b .0 y .0), so-both (value h K) _ (k .0 x .1) (b .0 y .1)),
+      λ t. let (x, y) = both-so (value g K) _ (t .0) in let (z, w) = both-so (value h K) _ (t .1) in so-both (value (joinedGraph g h) K) _ (k .1 (x, z)) (b .1 (y, w)),
+    )
 
--- what is read is one book
-read-once : {A : Type 0} (a b : A) → _≡_ {A = Asked A} (passed a) (passed b) → a ≡ b
-read-once {A} a b e = ap what e
-  where
-    what : Asked A → A
-    what (passed x) = x
-    what (refused q p) = a
-
-keeps-these : (book sheet : List ℕ) (rules : List (Expr rule)) → askBook (textLimits (graphOf sheet .n)) book ≡ passed rules → (k : Keeps book sheet) → Hold (graphOf sheet) rules
-keeps-these book sheet rules e k = subst (Hold (graphOf sheet)) (read-once (k .rules) rules (sym (k .book-read) ∙ e)) (k .hold)
+keeps-these : (book sheet : List ℕ) (rules : List (Expr rule)) → askBook (textLimits (graphOf sheet .n)) book ≡ passed rules → (k : Keeps book sheet) → T (holdAll (graphOf sheet) rules)
+keeps-these book sheet rules e k = subst (λ rs. T (holdAll (graphOf sheet) rs)) (passed-same (sym (k .book-read) ∙ e)) (k .hold)
 
 -- Two sheets whose graphs are within the limits.
 module _ (first second : List ℕ) (v : Within (graphOf first)) (w : Within (graphOf second)) (e : askJoin first second ≡ passed tt) where
@@ -68,7 +64,7 @@ module _ (first second : List ℕ) (v : Within (graphOf first)) (w : Within (gra
 
   kept : (book : List ℕ) (n : ℕ) (rules : List (Expr rule)) → askBook (textLimits n) book ≡ passed rules → JoinableBook rules → Keeps book (joinedSheet first second) ↔ (Keeps book first × Keeps book second)
   kept book n rules r q = (
-    (λ k. let t = book-joined g h rules q .0 (subst (λ x. Hold x rules) reads (keeps-these book (joinedSheet first second) rules (alike (joinedSheet first second)) k)) in (
+    (λ k. let t = book-joined g h rules q .0 (subst (λ x. T (holdAll x rules)) reads (keeps-these book (joinedSheet first second) rules (alike (joinedSheet first second)) k)) in (
       record { sound = joins first second e .first-sound; rules = rules; book-read = alike first; hold = t .0 },
       record { sound = joins first second e .second-sound; rules = rules; book-read = alike second; hold = t .1 },
     )),
@@ -76,7 +72,7 @@ module _ (first second : List ℕ) (v : Within (graphOf first)) (w : Within (gra
       sound = is-sound;
       rules = rules;
       book-read = alike (joinedSheet first second);
-      hold = subst (λ x. Hold x rules) (sym reads) (book-joined g h rules q .1 (keeps-these book first rules (alike first) (k .0), keeps-these book second rules (alike second) (k .1)));
+      hold = subst (λ x. T (holdAll x rules)) (sym reads) (book-joined g h rules q .1 (keeps-these book first rules (alike first) (k .0), keeps-these book second rules (alike second) (k .1)));
     }),
   )
     where

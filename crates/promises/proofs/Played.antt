@@ -24,12 +24,14 @@ use Rattle.apply.specs.Apply.{afterSteps, askApply}
 use Rattle.runs.specs.Clerk.{Fed}
 use Rattle.runs.specs.Enter.{askEnter, enterAnswer}
 use Rattle.runs.specs.Run.{Given}
-use Rattle.runs.proofs.Passing.{passed-same, bind-passed, then-passed, outcome-passed, hold-asked, asked-hold}
+use Rattle.answer.proofs.AskedLaws.{passed-same, bind-passed, then-passed, outcome-passed, then-on, is-so}
+use Rattle.judge.proofs.QuestionLaws.{hold-asked, asked-hold}
 use Rattle.runs.proofs.OneCall.{enter-asks, when-passed}
 use Rattle.runs.proofs.After.{applied-is, applies, after-sound, after-graph, after-n}
 use Rattle.runs.proofs.Demand3.{demand-3}
 use Rattle.game.specs.Game.{Side, dispatcher, disruption, Game, editsOf, leaves, canMake}
-use Rattle.play.specs.Questions.{cut, askEdits, askCarried}
+use Rattle.carry.specs.Carrying.{askCarried}
+use Rattle.play.specs.Questions.{cut, askEdits}
 use Rattle.play.proofs.Edits.{edits-stand}
 use Rattle.play.proofs.Asking.{Passed, all-passed, enough, gameOf}
 use Rattle.play.proofs.Right.{each-fits, made-entered}
@@ -52,10 +54,8 @@ each-read l (t ∷ ts) Zs e i h =
 
 -- A carried book that fits, and a scratch that is long enough.
 long-enough : (carried : List (Expr rule)) (room : ℕ) → askCarried carried ≡ passed tt → longestRule carried ≤ room → askScratch carried room ≡ passed tt
-unfolding askCarried askScratch is _>>_
-long-enough carried room e h =
-    let (u, short, shallow) = then-passed (is (leb (length (bookCode carried)) longestCarried) 31 0) (is (leb (bookLevels carried) deepestCarried) 32 0) tt e in
-    rw (short, shallow, le-leb (longestRule carried) room h)
+unfolding askScratch
+long-enough carried room e h = then-on e _ ∙ is-so _ _ (le-leb (longestRule carried) room h)
 
 -- The sheet that the steps of an edit leave is one that the game may come to.
 module _ (nodes : ℕ) (sheet : List ℕ) (k : Held nodes sheet) (text : List ℕ) (Z : Edit) (read : askEdit (textLimits nodes) text ≡ passed Z) where

@@ -13,7 +13,7 @@ use Rattle.text.specs.Reading.{textLimits}
 use Rattle.text.specs.Questions.{askEdit}
 use Rattle.text.proofs.Books.{edit-is-spelled}
 use Rattle.rewrite_counts.proofs.Wider.{edit-wider, now-below}
-use Rattle.runs.proofs.Passing.{outcome-passed}
+use Rattle.answer.proofs.AskedLaws.{outcome-passed}
 use Rattle.join_edits.proofs.Passes.{Joins, joined-passes, both-pass}
 use Rattle.promises.specs.Chained.{Passes}
 

@@ -17,7 +17,7 @@ use Rattle.plan_store.specs.Calls.{returnedSheet}
 use Rattle.plan_store.proofs.Laws.{place-small, place-sound}
 use Rattle.runs.specs.Run.{Keeps, Call, Bytes}
 use Rattle.runs.specs.Demand3.{RunRight}
-use Rattle.runs.proofs.Passing.{asked-hold}
+use Rattle.judge.proofs.QuestionLaws.{asked-hold}
 use Rattle.promises.proofs.Steps.{Stores}
 use Rattle.promises.proofs.History.{keeps-stored, right-stored}
 use Rattle.promises.proofs.Back.{return-told, is-returned}

@@ -16,7 +16,7 @@ use Rattle.text.specs.Reading.{textLimits}
 use Rattle.text.specs.Questions.{askEdit}
 use Rattle.apply.specs.Apply.{afterSteps, askApply, appliedSheet}
 use Rattle.runs.specs.Run.{Bytes}
-use Rattle.runs.proofs.Passing.{outcome-passed}
+use Rattle.answer.proofs.AskedLaws.{outcome-passed}
 use Rattle.runs.proofs.After.{applied-is, applies, applied-read, after-sound, after-graph, after-n}
 use Rattle.join_edits.proofs.Passes.{Joins}
 use Rattle.promises.specs.Chained.{Applies}

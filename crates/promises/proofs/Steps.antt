@@ -19,7 +19,7 @@ use Rattle.close_node.specs.Questions.{askNode, askClose, askOpen, closedSheet,
 use Rattle.close_node.proofs.Uses.{use-same}
 use Rattle.runs.specs.Run.{fed}
 use Rattle.runs.specs.Clerk.{Line, clerkGraph}
-use Rattle.runs.proofs.Passing.{asked-hold}
+use Rattle.judge.proofs.QuestionLaws.{asked-hold}
 use Rattle.runs.proofs.OneCall.{asked-of-stored, enter-line}
 use Rattle.runs.proofs.Runs.{Kept, still-kept}
 use Rattle.promises.specs.History.{Event, entering, closing, opening, leaves}

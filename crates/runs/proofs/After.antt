@@ -17,7 +17,7 @@ use Rattle.text.specs.Reading.{textLimits}
 use Rattle.text.specs.Questions.{askEdit}
 use Rattle.apply.specs.Apply.{afterSteps, askApply, appliedSheet}
 use Rattle.runs.specs.Run.{Bytes}
-use Rattle.runs.proofs.Passing.{then-passed}
+use Rattle.answer.proofs.AskedLaws.{then-passed}
 use Rattle.runs.proofs.Runs.{steps-within}
 
 -- An edit that is carried out: its questions, and what it leaves.

@@ -7,11 +7,11 @@ use lib.Dec.{T}
 use Rattle.answer.specs.Asked.{Asked, passed, refused, _>>=_, _>>_, after, outcome}
 use Rattle.logic.specs.Syntax.{Expr, rule, Edit}
 use Rattle.logic.specs.Graph.{Graph}
-use Rattle.logic.specs.Meaning.{value}
+use Rattle.logic.specs.Meaning.{value, holdAll}
 use Rattle.logic.specs.Steps.{run}
 use Rattle.logic.specs.Carry.{carry, carriedBook}
 use Rattle.logic.specs.Limits.{Within}
-use Rattle.logic.proofs.Theorem.{carried}
+use Rattle.logic.proofs.Theorem.{carried, hold-carried}
 use Rattle.logic.proofs.Inside.{run-n}
 use Rattle.sheet.specs.Sheet.{present, store, graphOf}
 use Rattle.sheet.proofs.ReadBack.{read-back}
@@ -23,9 +23,9 @@ use Rattle.single.specs.Scratch.{askScratch}
 use Rattle.apply.specs.Apply.{afterSteps}
 use Rattle.runs.specs.Enter.{askEnter, enterAnswer, enterSheet}
 use Rattle.runs.specs.Clerk.{Fed, rulesOf, clerkLog, clerk}
-use Rattle.runs.specs.Run.{Hold, Keeps, Call, fed, log, enteredAfterEach, madeInOrder, Bytes, Given}
+use Rattle.runs.specs.Run.{Keeps, Call, fed, log, enteredAfterEach, madeInOrder, Bytes, Given}
 use Rattle.runs.specs.Demand3.{Each, RunRight, Demand3}
-use Rattle.runs.proofs.Passing.{outcome-passed, hold-carried, carried-hold}
+use Rattle.answer.proofs.AskedLaws.{outcome-passed}
 use Rattle.runs.proofs.OneCall.{askSteps, enter-asks, Entered, when-passed, so-passed}
 use Rattle.runs.proofs.Runs.{steps-within, Kept, keeps, kept-each, log-clerk, alone-each}
 
@@ -41,17 +41,17 @@ module _ {book edit sheet : List ℕ} (i : Given book edit sheet) where
   carried-before-after K = carried (i .steps) K (graphOf sheet) ∙ ap (λ g. value g K) (sym left)
 
   -- what keeps the book after the steps has all carried rules before
-  kept-after : Keeps book (afterSteps (i .steps) sheet) → Hold (graphOf sheet) (carriedBook (i .steps) (i .rules))
+  kept-after : Keeps book (afterSteps (i .steps) sheet) → T (holdAll (graphOf sheet) (carriedBook (i .steps) (i .rules)))
   kept-after k =
       let n-same : graphOf (afterSteps (i .steps) sheet) .n ≡ graphOf sheet .n = ap (λ g. g .n) left ∙ run-n (i .steps) (graphOf sheet) in
       let read : askBook (textLimits (graphOf sheet .n)) book ≡ passed (k .rules) = subst (λ n. askBook (textLimits n) book ≡ passed (k .rules)) n-same (k .book-read) in
       let same : k .rules ≡ i .rules = cc in
-      hold-carried (i .steps) (i .rules) (graphOf sheet) (subst (λ g. Hold g (i .rules)) left (subst (Hold (graphOf (afterSteps (i .steps) sheet))) same (k .hold)))
+      subst T (sym (hold-carried (i .steps) (i .rules) (graphOf sheet))) (subst (λ g. T (holdAll g (i .rules))) left (subst (λ rs. T (holdAll (graphOf (afterSteps (i .steps) sheet)) rs)) same (k .hold)))
 
-  carried-keeps : Hold (graphOf sheet) (carriedBook (i .steps) (i .rules)) → Keeps book (afterSteps (i .steps) sheet)
+  carried-keeps : T (holdAll (graphOf sheet) (carriedBook (i .steps) (i .rules))) → Keeps book (afterSteps (i .steps) sheet)
   carried-keeps h =
       keeps book (i .rules) (run (i .steps) (graphOf sheet))
-      (record { within = within; book-read = rw (run-n (i .steps) (graphOf sheet)) (i .book-read); hold = carried-hold (i .steps) (i .rules) (graphOf sheet) h })
+      (record { within = within; book-read = rw (run-n (i .steps) (graphOf sheet)) (i .book-read); hold = subst T (hold-carried (i .steps) (i .rules) (graphOf sheet)) h })
 
   sheet-and-book : askSheetAndBook sheet book ≡ passed (i .rules)
   unfolding askSheetAndBook _>>_
@@ -85,11 +85,11 @@ module _ {book edit sheet : List ℕ} (i : Given book edit sheet) where
       let same : Z ≡ i .steps = cc in
       subst (Entered (i .rules) (graphOf sheet) (call room)) same w
 
-  entered-iff : (room : ℕ) → askScratch (carriedBook (i .steps) (i .rules)) room ≡ passed tt → (enterAnswer sheet book edit room ≡ passed tt) ↔ Hold (graphOf sheet) (carriedBook (i .steps) (i .rules))
+  entered-iff : (room : ℕ) → askScratch (carriedBook (i .steps) (i .rules)) room ≡ passed tt → (enterAnswer sheet book edit room ≡ passed tt) ↔ T (holdAll (graphOf sheet) (carriedBook (i .steps) (i .rules)))
   unfolding outcome
   entered-iff room fits = (
-    λ e. hold-carried (i .steps) (i .rules) (graphOf sheet) (done-with room e .hold),
-    λ h. ap outcome (asks room ∙ so-passed (i .rules) (graphOf sheet) (call room) (i .steps) (record { edit-read = i .edit-read; fits = fits; hold = carried-hold (i .steps) (i .rules) (graphOf sheet) h })),
+    λ e. subst T (sym (hold-carried (i .steps) (i .rules) (graphOf sheet))) (done-with room e .hold),
+    λ h. ap outcome (asks room ∙ so-passed (i .rules) (graphOf sheet) (call room) (i .steps) (record { edit-read = i .edit-read; fits = fits; hold = subst T (hold-carried (i .steps) (i .rules) (graphOf sheet)) h })),
   )
 
   leaves : (room : ℕ) → enterAnswer sheet book edit room ≡ passed tt → enterSheet sheet book edit room ≡ afterSteps (i .steps) sheet

@@ -10,7 +10,8 @@ use Rattle.text.specs.Reading.{textLimits}
 use Rattle.text.specs.Questions.{askBook}
 use Rattle.judge.specs.Questions.{askSheetAndBook, askRules, askJudge}
 use Rattle.runs.specs.Run.{Keeps}
-use Rattle.runs.proofs.Passing.{bind-passed, then-passed, hold-asked, asked-hold}
+use Rattle.answer.proofs.AskedLaws.{bind-passed, then-passed}
+use Rattle.judge.proofs.QuestionLaws.{hold-asked, asked-hold}
 
 pub judge-says-kept : (sheet book : List ℕ) → (askJudge sheet book ≡ passed tt) ↔ Keeps book sheet
 unfolding askJudge askSheetAndBook _>>=_ _>>_

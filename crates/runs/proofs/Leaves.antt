@@ -20,7 +20,7 @@ use Rattle.runs.specs.Enter.{StepsAndCarried, askBefore41, askEnter, ent
 use Rattle.runs.specs.Run.{Call, log}
 use Rattle.runs.specs.Demand3.{Each}
 use Rattle.runs.specs.Leaves.{ScratchWritten, Leaves}
-use Rattle.runs.proofs.Passing.{passed-same, bind-passed, then-passed}
+use Rattle.answer.proofs.AskedLaws.{passed-same, bind-passed, then-passed}
 use Rattle.runs.proofs.Numbers.{before-41-refuses}
 
 stays : (sheet book edit : List ℕ) (room q p : ℕ) → enterAnswer sheet book edit room ≡ refused q p → enterSheet sheet book edit room ≡ sheet

@@ -1,4 +1,3 @@
-pub mod Passing
 pub mod OneCall
 pub mod Runs
 pub mod After

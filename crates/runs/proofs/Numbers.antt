@@ -19,7 +19,7 @@ use Rattle.judge.proofs.Refusals.{rules-refuse}
 use Rattle.single.specs.Scratch.{askScratch}
 use Rattle.single.proofs.Refusals.{scratch-refuses}
 use Rattle.runs.specs.Enter.{StepsAndCarried, askBefore41, askEnter}
-use Rattle.runs.proofs.Passing.{passed-same, bind-passed, then-passed}
+use Rattle.answer.proofs.AskedLaws.{passed-same, bind-passed, then-passed}
 
 pub sheet-and-book-refuse : (sheet book : List ℕ) → Refuses 1 16 longestText (askSheetAndBook sheet book)
 unfolding askSheetAndBook

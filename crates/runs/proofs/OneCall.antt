@@ -2,6 +2,7 @@
 use mathlib.Core.Path.{_≡_, refl, sym, _∙_, ap, subst}
 use mathlib.Core.List.{List}
 use Prim.Native.Nat.{ℕ}
+use lib.Dec.{T}
 use Rattle.answer.specs.Asked.{Asked, passed, refused, _>>=_, _>>_, after, outcome}
 use Rattle.logic.specs.Syntax.{Expr, rule, Edit}
 use Rattle.logic.specs.Graph.{Graph}
@@ -17,8 +18,10 @@ use Rattle.judge.specs.Questions.{askSheetAndBook, askRules}
 use Rattle.single.specs.Scratch.{askScratch}
 use Rattle.runs.specs.Enter.{StepsAndCarried, askBefore41, askEnter, enterSheet}
 use Rattle.runs.specs.Clerk.{Fed, Line, clerkCopy, clerkAsks, clerkGraph, clerkLine}
-use Rattle.runs.specs.Run.{Hold, Call, fed, enterLine}
-use Rattle.runs.proofs.Passing.{bind-passed, then-passed, hold-asked, asked-hold, ask-carried}
+use Rattle.logic.specs.Meaning.{holdAll}
+use Rattle.runs.specs.Run.{Call, fed, enterLine}
+use Rattle.answer.proofs.AskedLaws.{bind-passed, then-passed}
+use Rattle.judge.proofs.QuestionLaws.{hold-asked, asked-hold, ask-carried}
 
 -- When sheet and book have passed, enter asks on the sheet's graph what the clerk asks.
 unfoldable pub askSteps : List (Expr rule) → Graph → Fed → Asked Edit
@@ -66,7 +69,7 @@ clerk-asks rules g c = go (askEdit (textLimits (g .n)) (c .edit))
 pub record Entered (rules : List (Expr rule)) (g : Graph) (c : Fed) (Z : Edit) : Type 0 where
   pub edit-read : askEdit (textLimits (g .n)) (c .edit) ≡ passed Z
   pub fits : askScratch (carriedBook Z rules) (c .room) ≡ passed tt
-  pub hold : Hold (run Z g) rules
+  pub hold : T (holdAll (run Z g) rules)
 
 pub when-passed : (rules : List (Expr rule)) (g : Graph) (c : Fed) (Z : Edit) → askSteps rules g c ≡ passed Z → Entered rules g c Z
 unfolding askSteps

@@ -2,6 +2,7 @@
 use mathlib.Core.Path.{_≡_, refl, sym, _∙_, ap, ap₂, subst}
 use mathlib.Core.List.{List, [], _∷_, _++_, map}
 use Prim.Native.Nat.{ℕ}
+use lib.Dec.{T}
 use Rattle.answer.specs.Asked.{Asked, passed, refused, _>>=_, _>>_, after, outcome}
 use Rattle.logic.specs.Syntax.{Expr, rule, Edit}
 use Rattle.logic.specs.Graph.{Graph}
@@ -16,7 +17,8 @@ use Rattle.text.specs.Questions.{askBook, askEdit}
 use Rattle.text.proofs.Books.{edit-is-spelled}
 use Rattle.apply.specs.Apply.{afterSteps, askApply, appliedSheet}
 use Rattle.runs.specs.Clerk.{Fed, clerkGraph, clerkLine, clerkLog}
-use Rattle.runs.specs.Run.{Hold, Keeps, Call, fed, log, entered, enteredAfterEach, madeInOrder}
+use Rattle.logic.specs.Meaning.{holdAll}
+use Rattle.runs.specs.Run.{Keeps, Call, fed, log, entered, enteredAfterEach, madeInOrder}
 use Rattle.runs.specs.Demand3.{Each}
 use Rattle.runs.proofs.OneCall.{askSteps, Entered, when-passed, clerk-asks, clerk-line, enter-line}
 
@@ -42,7 +44,7 @@ module _ (book : List ℕ) (rules : List (Expr rule)) where
   pub record Kept (g : Graph) : Type 0 where
     pub within : Within g
     pub book-read : askBook (textLimits (g .n)) book ≡ passed rules
-    pub hold : Hold g rules
+    pub hold : T (holdAll g rules)
 
   pub keeps : (g : Graph) → Kept g → Keeps book (store g)
   keeps g k =
@@ -50,7 +52,7 @@ module _ (book : List ℕ) (rules : List (Expr rule)) where
         sound = stored-passes g (k .within);
         rules = rules;
         book-read = subst (λ h. askBook (textLimits (h .n)) book ≡ passed rules) (sym (read-back g (k .within))) (k .book-read);
-        hold = subst (λ h. Hold h rules) (sym (read-back g (k .within))) (k .hold);
+        hold = subst (λ h. T (holdAll h rules)) (sym (read-back g (k .within))) (k .hold);
       }
 
   -- The clerk's graph after a call.

@@ -17,7 +17,7 @@ use Rattle.text.specs.Questions.{askEdit}
 use Rattle.text.proofs.Refusals.{edit-refuses}
 use Rattle.judge.specs.Questions.{askSheetAndBook, askRules}
 use Rattle.judge.proofs.Refusals.{rules-refuse}
-use Rattle.carry.specs.Carrying.{askSize}
+use Rattle.carry.specs.Carrying.{askCarried, askSize}
 use Rattle.carry.proofs.Asking.{sized, no-31, no-32, no-33, all-so}
 use Rattle.single.specs.Scratch.{longestRule, askScratch}
 use Rattle.single.proofs.Longest.{longest-short}
@@ -34,7 +34,7 @@ module _ (carried : List (Expr rule)) (room : ℕ) where
   whole = length (bookCode carried)
 
   size-is : (r : ℕ) → askSize carried r ≡ sized whole (bookLevels carried) whole r
-  unfolding askSize sized _>>_
+  unfolding askCarried askSize sized _>>_
   size-is r = refl
 
   -- both refuse with a number that is not 33, both pass, or the whole alone is too long

@@ -6,7 +6,7 @@ use Prim.Native.Nat.{ℕ}
 use lib.Dec.{T}
 use Rattle.answer.specs.Asked.{passed, _>>_}
 use Rattle.logic.specs.Syntax.{Expr, rule}
-use Rattle.logic.specs.Meaning.{value}
+use Rattle.logic.specs.Meaning.{value, holdAll}
 use Rattle.logic.specs.Carry.{carry, carriedBook}
 use Rattle.sheet.specs.Sheet.{graphOf}
 use Rattle.judge.specs.Questions.{askRules}
@@ -14,7 +14,7 @@ use Rattle.single.specs.Scratch.{askScratch}
 use Rattle.apply.specs.Apply.{afterSteps}
 use Rattle.runs.specs.Enter.{enterAnswer, enterSheet}
 use Rattle.runs.specs.Clerk.{Line, clerk}
-use Rattle.runs.specs.Run.{Hold, Keeps, Call, fed, log, enteredAfterEach, madeInOrder, Bytes, Given, Condition, Ensures}
+use Rattle.runs.specs.Run.{Keeps, Call, fed, log, enteredAfterEach, madeInOrder, Bytes, Given, Condition, Ensures}
 
 -- Each line of a log.
 unfoldable pub Each : (Line → Type 0) → List Line → Type 0
@@ -37,15 +37,15 @@ pub record Demand3 : Type 1 where
       → T (value (graphOf sheet) (carry (i .steps) K)) ↔ T (value (graphOf (afterSteps (i .steps) sheet)) K)
   -- Whatever condition on the sheet before ensures the rules after, it holds only where all carried rules do.
   pub weakest : {book edit : List ℕ} (C : Condition book edit) → Ensures C → (sheet : List ℕ) (c : C .has sheet)
-      → Hold (graphOf sheet) (carriedBook (C .given sheet c .steps) (C .given sheet c .rules))
+      → T (holdAll (graphOf sheet) (carriedBook (C .given sheet c .steps) (C .given sheet c .rules)))
   -- They are such a condition themselves: where they all hold, the steps leave a sheet that keeps the book.
   pub carried-ensure : {book edit sheet : List ℕ} (i : Given book edit sheet)
-      → Hold (graphOf sheet) (carriedBook (i .steps) (i .rules)) → Keeps book (afterSteps (i .steps) sheet)
+      → T (holdAll (graphOf sheet) (carriedBook (i .steps) (i .rules))) → Keeps book (afterSteps (i .steps) sheet)
   -- Where the carried book is within its limits and the scratch is long enough, the edit is entered exactly when all of them hold; the sheet is then
   -- the one that its steps leave. Long enough is: not shorter than the longest single carried rule (item 10 of document 02).
   pub entered-when : {book edit sheet : List ℕ} (i : Given book edit sheet) (room : ℕ)
       → askScratch (carriedBook (i .steps) (i .rules)) room ≡ passed tt
-      → (enterAnswer sheet book edit room ≡ passed tt) ↔ Hold (graphOf sheet) (carriedBook (i .steps) (i .rules))
+      → (enterAnswer sheet book edit room ≡ passed tt) ↔ T (holdAll (graphOf sheet) (carriedBook (i .steps) (i .rules)))
   pub entered-leaves : {book edit sheet : List ℕ} (i : Given book edit sheet) (room : ℕ)
       → enterAnswer sheet book edit room ≡ passed tt → enterSheet sheet book edit room ≡ afterSteps (i .steps) sheet
   -- Outside of runs too, on every sound sheet, also one that breaks the book: the answer is the first no of 31 to 33 of the carried book, else 41 with

@@ -7,7 +7,7 @@ use lib.ListN.{length, getD}
 use Rattle.answer.specs.Asked.{passed, after}
 use Rattle.logic.specs.Syntax.{Expr, rule, Edit}
 use Rattle.logic.specs.Graph.{Graph}
-use Rattle.logic.specs.Meaning.{value}
+use Rattle.logic.specs.Meaning.{value, holdAll}
 use Rattle.sheet.specs.Sheet.{graphOf}
 use Rattle.sheet.specs.Questions.{Sound}
 use Rattle.text.specs.Reading.{textLimits}
@@ -16,17 +16,12 @@ use Rattle.apply.specs.Apply.{afterSteps, appliedSheet}
 use Rattle.runs.specs.Enter.{enterAnswer, enterSheet}
 use Rattle.runs.specs.Clerk.{Fed, Line}
 
--- Each rule holds on the graph.
-unfoldable pub Hold : Graph → List (Expr rule) → Type 0
-Hold g [] = Unit {0}
-Hold g (K ∷ rules) = T (value g K) × Hold g rules
-
 -- A sheet keeps a book when it is sound, the book is within the limits for the sheet's n, and each rule holds on the sheet.
 pub record Keeps (book sheet : List ℕ) : Type 0 where
   pub sound : Sound sheet
   pub rules : List (Expr rule)
   pub book-read : askBook (textLimits (graphOf sheet .n)) book ≡ passed rules
-  pub hold : Hold (graphOf sheet) rules
+  pub hold : T (holdAll (graphOf sheet) rules)
 
 -- A call of a run: an edit and a scratch, each of any bytes and length.
 pub record Call : Type 0 where

@@ -22,6 +22,7 @@ use Rattle.write.specs.Rules.{SomeRuleFits, RuleWritten}
 use Rattle.write.proofs.Rules.{at-start}
 use Rattle.judge.specs.Questions.{askRules}
 use Rattle.judge.specs.Judging.{RulesStand}
+use Rattle.judge.proofs.QuestionLaws.{rule-holds, rule-broken}
 use Rattle.judge.proofs.Rules.{First, first-of, none-left}
 use Rattle.single.specs.Scratch.{longest, longestRule, upToBroken, overwritten, writings}
 use Rattle.single.specs.Singly.{EachFits}
@@ -76,7 +77,7 @@ module _ (g : Graph) (n : ℕ) (book edit : List ℕ) (from : ℕ) (scratch₀ :
 
   module _ {at i : ℕ} {scratch : List ℕ} {rules : List (Expr rule)} {Z : Edit} (d : Reached at i scratch rules Z) where
     pub next-rule : at < length book → Next at i scratch rules Z
-    unfolding askRules longest upToBroken overwritten
+    unfolding longest upToBroken overwritten
     next-rule h =
         let f : First n book at (length book) (d .left) = first-of n book at (length book) (d .left) (d .stand) h in
         let same : map code (carriedBook (d .what) (f .K ∷ f .others)) ≡ map code (carriedBook Z (f .K ∷ f .others)) = subst (λ (l : List (Expr rule)). map code (carriedBook (d .what) l) ≡ map code (carriedBook Z l)) (f .are) (d .same) in
@@ -101,10 +102,10 @@ module _ (g : Graph) (n : ℕ) (book edit : List ℕ) (from : ℕ) (scratch₀ :
             same = tails same;
             range = d .range;
             fits = omega (arith, fits, ap length u, length-written (code (carry Z (f .K))) scratch (omega (arith, fits)));
-            answer-same = answer ∙ rw (v, askRules) (ap (askRules g (carriedBook Z (f .others))) (sym (add-one i)));
+            answer-same = answer ∙ rule-holds g _ (carriedBook Z (f .others)) i v ∙ ap (askRules g (carriedBook Z (f .others))) (sym (add-one i));
             scratch-same = written ∙ rw (v, upToBroken, overwritten) (ap (overwritten (map code (upToBroken g (carriedBook Z (f .others))))) (sym u));
           };
-          broken-answer = λ v. answer ∙ rw (v, askRules);
+          broken-answer = λ v. answer ∙ rule-broken g _ (carriedBook Z (f .others)) i v;
           broken-scratch = λ v. written ∙ rw (v, upToBroken, overwritten);
         }
 

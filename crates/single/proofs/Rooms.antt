@@ -12,6 +12,7 @@ use Rattle.answer.specs.Asked.{Asked, passed, refused, _>>_, is}
 use Rattle.logic.specs.Syntax.{rule, Expr}
 use Rattle.text.specs.Code.{bookCode, bookLevels}
 use Rattle.text.specs.Reading.{longestCarried, deepestCarried}
+use Rattle.carry.specs.Carrying.{askCarried}
 use Rattle.carry.proofs.Asking.{sized, no-31, no-32, no-33, all-so}
 use Rattle.single.specs.Scratch.{longestRule, askScratch}
 use Rattle.single.proofs.Longest.{longest-short}
@@ -25,14 +26,14 @@ split m n {P} f g = go (leb m n) (leb-true m n) (leb-false m n)
 
 module _ (carried : List (Expr rule)) (room : ℕ) where
   pub scratch-is : askScratch carried room ≡ sized (length (bookCode carried)) (bookLevels carried) (longestRule carried) room
-  unfolding askScratch sized _>>_
+  unfolding askCarried askScratch sized _>>_
   scratch-is = refl
 
   pub passed-fits : askScratch carried room ≡ passed tt → longestRule carried ≤ room
-  unfolding askScratch is _>>_
+  unfolding askCarried askScratch is _>>_
   passed-fits = go (leb (length (bookCode carried)) longestCarried) (leb (bookLevels carried) deepestCarried) (leb (longestRule carried) room) (leb-true (longestRule carried) room)
     where
-      go : (a b c : Bool) → (c ≡ true → longestRule carried ≤ room) → (is a 31 0 >> (is b 32 0 >> is c 33 (longestRule carried))) ≡ passed tt → longestRule carried ≤ room
+      go : (a b c : Bool) → (c ≡ true → longestRule carried ≤ room) → ((is a 31 0 >> is b 32 0) >> is c 33 (longestRule carried)) ≡ passed tt → longestRule carried ≤ room
       go true true true t e = t refl
       go true true false t e = let z : _≡_ {A = ℕ} 0 1 = cc in absurd (omega arith)
       go true false c t e = let z : _≡_ {A = ℕ} 0 1 = cc in absurd (omega arith)

@@ -8,10 +8,12 @@ use lib.ListN.{length, take, drop, length-append, length-drop}
 use lib.Seq.{take-append-seam, drop-append-add, drop-drop}
 use Rattle.answer.specs.Asked.{passed, refused}
 use Rattle.answer.specs.Outputs.{writtenAtStart}
+use Rattle.answer.proofs.AskedLaws.{refused-not-passed}
 use Rattle.logic.specs.Syntax.{rule, Expr}
 use Rattle.logic.specs.Graph.{Graph}
 use Rattle.logic.specs.Meaning.{value}
 use Rattle.judge.specs.Questions.{askRules}
+use Rattle.judge.proofs.QuestionLaws.{rule-holds, rule-broken}
 use Rattle.single.specs.Scratch.{longest, longestRule, upToBroken, overwritten}
 
 -- One text.
@@ -59,10 +61,6 @@ module _ (g : Graph) where
       go false h = omega arith
 
   module _ (K : Expr rule) (rules : List (Expr rule)) (i : ℕ) (holds : value g K ≡ true) where
-    asked-on : askRules g (K ∷ rules) i ≡ askRules g rules (suc i)
-    unfolding askRules
-    asked-on = rw (holds, askRules)
-
     written-on : upToBroken g (K ∷ rules) ≡ K ∷ upToBroken g rules
     unfolding upToBroken
     written-on = rw (holds, upToBroken)
@@ -78,12 +76,12 @@ module _ (g : Graph) where
 
   pub broken-at : (rules : List (Expr rule)) (i q p : ℕ) → askRules g rules i ≡ refused q p → Broken rules i p
   unfolding askRules upToBroken
-  broken-at [] i q p e = let z : _≡_ {A = ℕ} 0 1 = cc in absurd (omega arith)
+  broken-at [] i q p e = refused-not-passed (sym e)
   broken-at (K ∷ rules) i q p e = go (value g K) refl (λ h. broken-at rules (suc i) q p h)
     where
       go : (b : Bool) → value g K ≡ b → (askRules g rules (suc i) ≡ refused q p → Broken rules (suc i) p) → Broken (K ∷ rules) i p
       go true v more =
-          let b : Broken rules (suc i) p = more (sym (asked-on K rules i v) ∙ e) in
+          let b : Broken rules (suc i) p = more (sym (rule-holds g K rules i v) ∙ e) in
           record {
             before = K ∷ b .before;
             last = b .last;
@@ -93,8 +91,7 @@ module _ (g : Graph) where
             written = written-on K rules i v ∙ ap (K ∷_) (b .written);
           }
       go false v more =
-          let f : askRules g (K ∷ rules) i ≡ refused 41 i = rw (v, askRules) in
-          let here : i ≡ p = cc in
+          let here : i ≡ p = cc (rule-broken g K rules i v) in
           record { before = []; last = K; others = rules; rules-are = refl; place-is = omega (arith, here); written = rw (v, upToBroken) }
 
   pub all-written : (rules : List (Expr rule)) (i : ℕ) → askRules g rules i ≡ passed tt → upToBroken g rules ≡ rules
@@ -103,8 +100,5 @@ module _ (g : Graph) where
   all-written (K ∷ rules) i e = go (value g K) refl (λ h. all-written rules (suc i) h)
     where
       go : (b : Bool) → value g K ≡ b → (askRules g rules (suc i) ≡ passed tt → upToBroken g rules ≡ rules) → upToBroken g (K ∷ rules) ≡ K ∷ rules
-      go true v more = written-on K rules i v ∙ ap (K ∷_) (more (sym (asked-on K rules i v) ∙ e))
-      go false v more =
-          let f : askRules g (K ∷ rules) i ≡ refused 41 i = rw (v, askRules) in
-          let z : _≡_ {A = ℕ} 0 1 = cc in
-          absurd (omega arith)
+      go true v more = written-on K rules i v ∙ ap (K ∷_) (more (sym (rule-holds g K rules i v) ∙ e))
+      go false v more = refused-not-passed (sym (rule-broken g K rules i v) ∙ e)

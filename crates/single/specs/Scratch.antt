@@ -9,8 +9,8 @@ use Rattle.answer.specs.Outputs.{writtenAtStart}
 use Rattle.logic.specs.Syntax.{Expr, rule}
 use Rattle.logic.specs.Graph.{Graph}
 use Rattle.logic.specs.Meaning.{value}
-use Rattle.text.specs.Code.{code, bookCode, bookLevels}
-use Rattle.text.specs.Reading.{longestCarried, deepestCarried}
+use Rattle.text.specs.Code.{code}
+use Rattle.carry.specs.Carrying.{askCarried}
 
 -- The length of the longest of some texts; 0 where there are none.
 unfoldable pub longest : List (List ℕ) → ℕ
@@ -24,8 +24,7 @@ longestRule book = longest (map code book)
 -- 31, 32 of the whole carried book; then 33, of the scratch and the longest single carried rule.
 unfoldable pub askScratch : List (Expr rule) → ℕ → Asked (Unit {0})
 askScratch carried room = do
-  is (leb (length (bookCode carried)) longestCarried) 31 0
-  is (leb (bookLevels carried) deepestCarried) 32 0
+  askCarried carried
   is (leb (longestRule carried) room) 33 (longestRule carried)
 
 -- The rules up to the first that is broken on the graph, that one included; all of them where none is.

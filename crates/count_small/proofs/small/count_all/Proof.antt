@@ -5,7 +5,8 @@ use native.Mathlib.Omega.{arith}
 use borrow.Author.Needs.{needs}
 use Rattle.logic.specs.Syntax.{Edit, Expr, rule}
 use Rattle.logic.specs.Steps.{run}
-use Rattle.count_small.specs.Small.{smallSheet, holdAll, fourOf}
+use Rattle.logic.specs.Meaning.{holdAll}
+use Rattle.count_small.specs.Small.{smallSheet, fourOf}
 use Rattle.count_small.specs.Counting.{Loaded, TextsStand}
 use Rattle.count_small.proofs.Sheets.{loaded-length}
 use Rattle.count_small.proofs.Counting.{room, none-counted, counted-more, counted-all}

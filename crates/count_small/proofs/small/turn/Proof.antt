@@ -1,7 +1,7 @@
 use mathlib.Core.Path.{ap, _∙_}
 use borrow.Author.Needs.{needs}
 use Rattle.logic.specs.Graph.{Graph}
-use Rattle.count_small.specs.Small.{holdAll}
+use Rattle.logic.specs.Meaning.{holdAll}
 use Rattle.count_small.proofs.Sheets.{loaded-sound, rules-on, edit-on, small-loaded, small-graph, left-loaded, left-graph}
 use Rattle.count_small.proofs.small.turn.Statement.{statement}
 use Rattle.count_small.proofs.small.turn.Tie as tie

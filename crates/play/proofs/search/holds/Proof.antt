@@ -1,13 +1,13 @@
 use borrow.Author.Needs.{needs}
-use Rattle.play.proofs.Moves.{all-hold, one-broken}
+use Rattle.judge.proofs.QuestionLaws.{judged-kept, judged-broken}
 use Rattle.play.proofs.search.holds.Statement.{statement}
 use Rattle.play.proofs.search.holds.Tie as tie
 
 returns : tie.Need-returns
-returns c rules stand = one-broken _ rules _ (c .before .before .judge-rules .ensures rules stand .0) _ (c .enum-told2 .given .1)
+returns c rules stand = judged-broken _ rules _ (c .before .before .judge-rules .ensures rules stand .0) _ (c .enum-told2 .given .1)
 
 returns-2 : tie.Need-returns-2
-returns-2 c rules stand = all-hold _ rules _ (c .before .before .judge-rules .ensures rules stand .0) (c .enum-told .given .1)
+returns-2 c rules stand = judged-kept _ rules _ (c .before .before .judge-rules .ensures rules stand .0) (c .enum-told .given .1)
 
 pub holds-spec : {M : Type 1} → statement M
 holds-spec = tie.close (tie.spec (λ c κs. search needs) (λ c. search needs) (λ c. search needs) returns returns-2)

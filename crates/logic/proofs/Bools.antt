@@ -39,3 +39,9 @@ is-true false t = absurd t
 pub is-false : (b : Bool) → (b ≡ true → ⊥) → b ≡ false
 is-false true h = absurd (h refl)
 is-false false h = refl
+
+pub both-so : (a b : Bool) → T (a && b) → T a × T b
+both-so true true h = (tt, tt)
+
+pub so-both : (a b : Bool) → T a → T b → T (a && b)
+so-both true true h k = tt
