@@ -1,5 +1,5 @@
 -- Laws of a list of questions: what passed passes on, a refusal ends the list, and where all have passed, each has.
-use mathlib.Core.Path.{_≡_, refl, sym, ap, _∙_}
+use mathlib.Core.Path.{_≡_, refl}
 use mathlib.Core.Bool.{Bool, true, false}
 use mathlib.Core.Logic.{_⊎_, inl, inr}
 use Prim.Native.Nat.{ℕ}
@@ -16,20 +16,16 @@ refused-not-passed e = let z : _≡_ {A = ℕ} 0 1 = cc in absurd (omega arith)
 -- One question.
 module _ {b : Bool} (q p : ℕ) where
   pub is-so : b ≡ true → is b q p ≡ passed tt
-  unfolding is
-  is-so e = rw e
+  is-so e = unfold is in rw e
 
   pub is-not : b ≡ false → is b q p ≡ refused q p
-  unfolding is
-  is-not e = rw e
+  is-not e = unfold is in rw e
 
   pub so-then : {A : Type 0} (y : Asked A) → b ≡ true → (is b q p >> y) ≡ y
-  unfolding is _>>_
-  so-then y e = rw e
+  so-then y e = unfold is _>>_ in rw e
 
   pub not-then : {A : Type 0} (y : Asked A) → b ≡ false → (is b q p >> y) ≡ refused q p
-  unfolding is _>>_
-  not-then y e = rw e
+  not-then y e = unfold is _>>_ in rw e
 
 pub is-yes : (b : Bool) (q p : ℕ) → is b q p ≡ passed tt → b ≡ true
 unfolding is
@@ -44,38 +40,27 @@ is-then false q p y e = refused-not-passed e
 -- What passed passes on.
 module _ {A B : Type 0} {x : Asked A} {a : A} (e : x ≡ passed a) where
   pub bind-on : (f : A → Asked B) → (x >>= f) ≡ f a
-  unfolding _>>=_
-  bind-on f = rw e
+  bind-on f = unfold _>>=_ in rw e
 
   pub then-on : (y : Asked B) → (x >> y) ≡ y
-  unfolding _>>_
-  then-on y = rw e
+  then-on y = unfold _>>_ in rw e
 
   pub after-on : (made : A → B) (before : B) → after x made before ≡ made a
-  unfolding after
-  after-on made before = rw e
-
-pub outcome-on : {A : Type 0} {x : Asked A} {a : A} → x ≡ passed a → outcome x ≡ passed tt
-unfolding outcome
-outcome-on e = rw e
+  after-on made before = unfold after in rw e
 
 -- A refusal ends the list.
 module _ {A B : Type 0} {x : Asked A} {q p : ℕ} (e : x ≡ refused q p) where
   pub bind-ends : (f : A → Asked B) → (x >>= f) ≡ refused q p
-  unfolding _>>=_
-  bind-ends f = rw e
+  bind-ends f = unfold _>>=_ in rw e
 
   pub then-ends : (y : Asked B) → (x >> y) ≡ refused q p
-  unfolding _>>_
-  then-ends y = rw e
+  then-ends y = unfold _>>_ in rw e
 
   pub after-ends : (made : A → B) (before : B) → after x made before ≡ before
-  unfolding after
-  after-ends made before = rw e
+  after-ends made before = unfold after in rw e
 
 pub outcome-ends : {A : Type 0} {x : Asked A} {q p : ℕ} → x ≡ refused q p → outcome x ≡ refused q p
-unfolding outcome
-outcome-ends e = rw e
+outcome-ends e = unfold outcome in rw e
 
 -- Where all have passed, each has; where one has not, it is the first or one of the others.
 module _ {A B : Type 0} where
@@ -99,13 +84,8 @@ unfolding outcome
 outcome-passed (passed a) e = (a, refl)
 outcome-passed (refused n p) e = refused-not-passed e
 
--- The outcome does not tell what was learned, nor what was made of it.
+-- The outcome does not tell what was learned.
 pub outcome-bind : {A B : Type 0} (x : Asked A) (f : A → B) → outcome (x >>= (λ a. passed (f a))) ≡ outcome x
 unfolding outcome _>>=_
 outcome-bind (passed a) f = refl
 outcome-bind (refused q p) f = refl
-
-pub after-outcome : {A B : Type 0} (x : Asked A) (made before : B) → after (outcome x) (λ u. made) before ≡ after x (λ a. made) before
-unfolding outcome after
-after-outcome (passed a) made before = refl
-after-outcome (refused q p) made before = refl

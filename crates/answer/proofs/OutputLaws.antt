@@ -10,12 +10,10 @@ use Rattle.answer.specs.Outputs.{askRoom, writtenLength, writtenAtStart,
 
 -- 33
 pub room-short : (bytes : List ℕ) (room size : ℕ) → size ≡ length bytes → room < size → askRoom bytes room ≡ refused 33 size
-unfolding askRoom is _>>_
-room-short bytes room size e l = rw (lt-leb (length bytes) room (omega arith)) (ap (refused 33) (sym e))
+room-short bytes room size e l = unfold askRoom is _>>_ in rw (lt-leb (length bytes) room (omega arith)) (ap (refused 33) (sym e))
 
 pub room-enough : (bytes : List ℕ) (room size : ℕ) → size ≡ length bytes → size ≤ room → askRoom bytes room ≡ passed bytes
-unfolding askRoom is _>>_
-room-enough bytes room size e l = rw (le-leb (length bytes) room (omega arith))
+room-enough bytes room size e l = unfold askRoom is _>>_ in rw (le-leb (length bytes) room (omega arith))
 
 module _ (q : Asked (List ℕ)) (output : List ℕ) where
   -- a refusal writes nothing

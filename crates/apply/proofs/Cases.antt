@@ -16,8 +16,8 @@ use Rattle.rows.specs.Operations.{arrowOperation}
 use Rattle.text.specs.Code.{code, editCode}
 use Rattle.text.specs.Stands.{Stands, EditStands}
 use Rattle.ends.specs.Edits.{behindStep}
-use Rattle.text.proofs.Standing.{byte-at, behind}
-use Rattle.ends.proofs.Steps.{editTag, tag-edit, edit-inside, from, as-finish}
+use Rattle.text.proofs.StandingLaws.{byte-at, behind}
+use Rattle.ends.proofs.FirstSteps.{editTag, tag-edit, edit-inside, from, as-finish}
 use Rattle.apply.specs.Made.{labelOperation, arrowCode}
 
 -- What a step with the code c does to a label, and to an arrow.
@@ -63,15 +63,14 @@ module _ (r : Ranges) (text : List ℕ) (at : ℕ) where
   starts-inside Z h = edit-inside text at Z (record { limits = r; place = h })
 
   pub is-finish : (Z : Edit) → Here Z → getD text at 0 ≤ 0x30 → Z ≡ finish
-  is-finish Z h m = as-finish text at Z (record { limits = r; place = h }) (go Z (edit-byte Z h))
-    where
-      go : (Y : Edit) → getD text at 0 ≡ editTag Y → getD text at 0 ≡ 0x30
-      go finish e = e
-      go (addLabel k E Y) e = absurd (omega arith)
-      go (takeLabel k E Y) e = absurd (omega arith)
-      go (addArrow a R Y) e = absurd (omega arith)
-      go (takeArrow a R Y) e = absurd (omega arith)
-      go (choose K P Q Y) e = absurd (omega arith)
+  is-finish Z h m = as-finish text at Z (record { limits = r; place = h }) (go Z (edit-byte Z h)) where
+    go : (Y : Edit) → getD text at 0 ≡ editTag Y → getD text at 0 ≡ 0x30
+    go finish e = e
+    go (addLabel k E Y) e = absurd (omega arith)
+    go (takeLabel k E Y) e = absurd (omega arith)
+    go (addArrow a R Y) e = absurd (omega arith)
+    go (takeArrow a R Y) e = absurd (omega arith)
+    go (choose K P Q Y) e = absurd (omega arith)
 
   module _ {s : Sort} (limit : ℕ) (made : ℕ → Graph → ℕ → Value s → Graph) (Z : Edit) (h : Here Z) where
     is-step : (c k : ℕ) (E : Expr s) → editCode Z ≡ c ∷ k ∷ code E ++ editCode (behindStep Z) → editTag Z ≡ c → k < limit → InRange r E → EditInRange r (behindStep Z)

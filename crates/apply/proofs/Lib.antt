@@ -1,3 +1,3 @@
 pub mod Cases
-pub mod Making
-pub mod Asking
+pub mod StepsMade
+pub mod ApplyStages

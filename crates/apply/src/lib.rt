@@ -17,6 +17,7 @@ use answer::Answer;
 use logic::Arrow;
 use logic::Label;
 use sheet::Sheet;
+use store::Store;
 use text::Text;
 
 // 31 and 32: the word of a label from the word x that it had and the word e of the expression.
@@ -47,7 +48,7 @@ fn label_step(sheet: &mut [u8], n: usize, all: u64, edit: &[u8], at: usize) -> u
     let k = Label(edit[at + 1]);
     let e = eval::eval_node(sheet, n, all, edit, at + 2);
     let x = Sheet::label_word(sheet, k);
-    Sheet::put_label(sheet, k, changed_label(c, x, e.set));
+    Store::put_label(sheet, k, changed_label(c, x, e.set));
     e.next
 }
 
@@ -63,7 +64,7 @@ fn arrow_step(sheet: &mut [u8], n: usize, all: u64, edit: &[u8], at: usize) -> u
     let mut rows = [0u64; 64];
     rows::relations::arrow_rows(sheet, n, a, &mut rows);
     rows::relations::combine_rows(arrow_code(c), n, &mut rows, &new);
-    Sheet::put_rows(sheet, a, rows);
+    Store::put_rows(sheet, a, rows);
     next
 }
 

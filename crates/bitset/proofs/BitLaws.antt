@@ -1,61 +1,87 @@
 -- Bit j of what the machine's operations give.
-use mathlib.Core.Path.{_≡_, refl, sym, ap, _∙_}
-use mathlib.Core.Bool.{Bool, true, false, _&&_, _||_}
+use mathlib.Core.Path.{_≡_, refl, sym, ap, ap₂, _∙_}
+use mathlib.Core.Bool.{Bool, true, false, not, _&&_, _||_}
 use mathlib.Core.Logic.{_⊎_, inl, inr}
 use Prim.Native.Nat.{ℕ, zero, suc, _+_, _-_, _*_, _/_, _%_, _^_, _≤_, _<_}
 use native.Mathlib.Nat.{mod-lt, mul-assoc, add-comm}
 use native.Mathlib.Omega.{arith}
 use lib.Dec.{eqb, leb, ltb, lit<}
 use lib.Pow.{pow-add, shr-shr, shl-shr}
-use lib.Bits.{bitAnd, bitOr, and-shr, or-shr, and-mod, or-mod, shifted-even}
+use lib.Bits.{bitAnd, bitOr, bitXor, and-shr, or-shr, xor-shr, and-mod, or-mod, xor-mod, and-lt, or-lt, xor-lt, shifted-even}
 use borrow.Author.Tests.{leb-true, leb-false, ltb-true, ltb-false}
-use Rattle.bitset.specs.Words.{member}
-use Rattle.bitset.proofs.SetLaws.{member-low}
+use Rattle.bitset.specs.Words.{digit, setOf, member, combined}
+use Rattle.bitset.proofs.SetLaws.{digit-bit, is-setOf, member-low, member-setOf}
 
 pub below-or-not : (i n : ℕ) → (i < n) ⊎ (n ≤ i)
-below-or-not i n = go (ltb i n) refl
-  where
-    go : (b : Bool) → ltb i n ≡ b → (i < n) ⊎ (n ≤ i)
-    go true e = inl (ltb-true i n e)
-    go false e = inr (ltb-false i n e)
+below-or-not i n = go (ltb i n) refl where
+  go : (b : Bool) → ltb i n ≡ b → (i < n) ⊎ (n ≤ i)
+  go true e = inl (ltb-true i n e)
+  go false e = inr (ltb-false i n e)
 
--- an operation that commutes with a shift and with the lowest digit works on each bit
+bit-digit : (b : Bool) → eqb (digit b) 1 ≡ b
+bit-digit true = refl
+bit-digit false = refl
+
+-- an operation that commutes with a shift and with the lowest digit works on each bit, and so on words of 64
 module _ (op : ℕ → ℕ → ℕ) (f : Bool → Bool → Bool)
     (shifted : (a b k : ℕ) → op a b / 2 ^ k ≡ op (a / 2 ^ k) (b / 2 ^ k)) (lowest : (a b k : ℕ) → op a b % 2 ^ k ≡ op (a % 2 ^ k) (b % 2 ^ k))
-    (one : (d e : ℕ) → d < 2 → e < 2 → eqb (op d e) 1 ≡ f (eqb d 1) (eqb e 1)) where
+    (small : (k a b : ℕ) → a < 2 ^ k → b < 2 ^ k → op a b < 2 ^ k) (one : (a b : Bool) → op (digit a) (digit b) ≡ digit (f a b)) where
   member-op : (x y j : ℕ) → member (op x y) j ≡ f (member x j) (member y j)
   unfolding member
   member-op x y j =
-      ap (λ (z : ℕ). eqb (z % 2) 1) (shifted x y j) ∙ ap (λ (z : ℕ). eqb z 1) (lowest (x / 2 ^ j) (y / 2 ^ j) 1)
-      ∙ one (x / 2 ^ j % 2) (y / 2 ^ j % 2) (mod-lt (x / 2 ^ j) (lit< tt)) (mod-lt (y / 2 ^ j) (lit< tt))
+      let bit : (z : ℕ) → z / 2 ^ j % 2 ≡ digit (member z j) = λ z. sym (digit-bit (z / 2 ^ j % 2) (mod-lt (z / 2 ^ j) (lit< tt))) in
+      ap (λ (z : ℕ). eqb z 1) (ap (_% 2) (shifted x y j) ∙ lowest (x / 2 ^ j) (y / 2 ^ j) 1 ∙ ap₂ op (bit x) (bit y) ∙ one (member x j) (member y j)) ∙ bit-digit _
+
+  words-op : (x y : ℕ) → x < 2 ^ 64 → y < 2 ^ 64 → op x y ≡ combined f x y
+  words-op x y h l = is-setOf 64 (op x y) _ (small 64 x y h l) (λ i k. member-op x y i)
+
+and-digit : (a b : Bool) → bitAnd (digit a) (digit b) ≡ digit (a && b)
+and-digit false b = refl
+and-digit true false = refl
+and-digit true true = refl
+
+or-digit : (a b : Bool) → bitOr (digit a) (digit b) ≡ digit (a || b)
+or-digit false b = refl
+or-digit true false = refl
+or-digit true true = refl
+
+-- one and not the other
+abbrev differ : Bool → Bool → Bool
+differ false b = b
+differ true b = not b
+
+xor-digit : (a b : Bool) → bitXor (digit a) (digit b) ≡ digit (differ a b)
+xor-digit false b = refl
+xor-digit true false = refl
+xor-digit true true = refl
 
 pub member-and : (x y j : ℕ) → member (bitAnd x y) j ≡ (member x j && member y j)
-member-and = member-op bitAnd _&&_ and-shr and-mod one
-  where
-    one : (d e : ℕ) → d < 2 → e < 2 → eqb (bitAnd d e) 1 ≡ (eqb d 1 && eqb e 1)
-    one zero e h l = refl
-    one (suc zero) zero h l = refl
-    one (suc zero) (suc zero) h l = refl
-    one (suc zero) (suc (suc e)) h l = absurd (omega arith)
-    one (suc (suc d)) e h l = absurd (omega arith)
+member-and = member-op bitAnd _&&_ and-shr and-mod and-lt and-digit
 
 pub member-or : (x y j : ℕ) → member (bitOr x y) j ≡ (member x j || member y j)
-member-or = member-op bitOr _||_ or-shr or-mod one
-  where
-    one : (d e : ℕ) → d < 2 → e < 2 → eqb (bitOr d e) 1 ≡ (eqb d 1 || eqb e 1)
-    one zero e h l = refl
-    one (suc zero) zero h l = refl
-    one (suc zero) (suc zero) h l = refl
-    one (suc zero) (suc (suc e)) h l = absurd (omega arith)
-    one (suc (suc d)) e h l = absurd (omega arith)
+member-or = member-op bitOr _||_ or-shr or-mod or-lt or-digit
+
+member-xor : (x y j : ℕ) → member (bitXor x y) j ≡ differ (member x j) (member y j)
+member-xor = member-op bitXor differ xor-shr xor-mod xor-lt xor-digit
+
+pub words-and : (x y : ℕ) → x < 2 ^ 64 → y < 2 ^ 64 → bitAnd x y ≡ combined _&&_ x y
+words-and = words-op bitAnd _&&_ and-shr and-mod and-lt and-digit
+
+pub words-or : (x y : ℕ) → x < 2 ^ 64 → y < 2 ^ 64 → bitOr x y ≡ combined _||_ x y
+words-or = words-op bitOr _||_ or-shr or-mod or-lt or-digit
+
+pub words-minus : (x y : ℕ) → x < 2 ^ 64 → y < 2 ^ 64 → bitAnd x (bitXor x y) ≡ combined (λ a b. a && not b) x y
+words-minus x y h l =
+    is-setOf 64 _ _ (and-lt 64 x _ h (xor-lt 64 x y h l)) (λ i k. member-and x (bitXor x y) i ∙ ap (member x i &&_) (member-xor x y i) ∙ and-differ (member x i) (member y i)) where
+      and-differ : (a b : Bool) → (a && differ a b) ≡ (a && not b)
+      and-differ false b = refl
+      and-differ true b = refl
 
 pub member-shr : (x s j : ℕ) → member (x / 2 ^ s) j ≡ member x (j + s)
-unfolding member
-member-shr x s j = ap (λ (z : ℕ). eqb (z % 2) 1) (shr-shr x s j) ∙ ap (λ (k : ℕ). eqb (x / 2 ^ k % 2) 1) (add-comm s j)
+member-shr x s j = unfold member in ap (λ (z : ℕ). eqb (z % 2) 1) (shr-shr x s j) ∙ ap (λ (k : ℕ). eqb (x / 2 ^ k % 2) 1) (add-comm s j)
 
 moved-up : (x s k : ℕ) → member (x * 2 ^ s) (s + k) ≡ member x k
-unfolding member
-moved-up x s k = ap (λ (z : ℕ). eqb (z % 2) 1) (sym (shr-shr (x * 2 ^ s) s k)) ∙ ap (λ (z : ℕ). eqb (z / 2 ^ k % 2) 1) (shl-shr x s)
+moved-up x s k = unfold member in ap (λ (z : ℕ). eqb (z % 2) 1) (sym (shr-shr (x * 2 ^ s) s k)) ∙ ap (λ (z : ℕ). eqb (z / 2 ^ k % 2) 1) (shl-shr x s)
 
 none-below : (x k j : ℕ) → member (x * 2 ^ (suc k + j)) j ≡ false
 unfolding member
@@ -66,8 +92,7 @@ none-below x k j =
     ∙ ap (λ (z : ℕ). eqb z 1) (shifted-even x k)
 
 pub member-shl : (x s j : ℕ) → j < 64 → member (x * 2 ^ s % 2 ^ 64) j ≡ (leb s j && member x (j - s))
-member-shl x s j h = member-low 64 j (x * 2 ^ s) h ∙ go (leb s j) refl
-  where
-    go : (b : Bool) → leb s j ≡ b → member (x * 2 ^ s) j ≡ (b && member x (j - s))
-    go true e = let l : s ≤ j = leb-true s j e in let f : j ≡ s + (j - s) = omega arith in ap (member (x * 2 ^ s)) f ∙ moved-up x s (j - s)
-    go false e = let l : j < s = leb-false s j e in let f : s ≡ suc (s - suc j) + j = omega arith in ap (λ (k : ℕ). member (x * 2 ^ k) j) f ∙ none-below x (s - suc j) j
+member-shl x s j h = member-low 64 j (x * 2 ^ s) h ∙ go (leb s j) refl where
+  go : (b : Bool) → leb s j ≡ b → member (x * 2 ^ s) j ≡ (b && member x (j - s))
+  go true e = let l : s ≤ j = leb-true s j e in let f : j ≡ s + (j - s) = omega arith in ap (member (x * 2 ^ s)) f ∙ moved-up x s (j - s)
+  go false e = let l : j < s = leb-false s j e in let f : s ≡ suc (s - suc j) + j = omega arith in ap (λ (k : ℕ). member (x * 2 ^ k) j) f ∙ none-below x (s - suc j) j

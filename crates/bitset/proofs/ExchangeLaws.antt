@@ -56,50 +56,45 @@ blocks s m h l t u e = record {
   mask = e;
 }
 
-pub blocks32 : Blocks 32 0xffffffff
-unfolding allBelow halved roomy same lowHalf setOf
-blocks32 = blocks _ _ (lit< tt) (lit< tt) tt tt refl
+-- the six that halve 64
+pub record Six : Type 0 where
+  pub of-32 : Blocks 32 0xffffffff
+  pub of-16 : Blocks 16 0x0000ffff0000ffff
+  pub of-8 : Blocks 8 0x00ff00ff00ff00ff
+  pub of-4 : Blocks 4 0x0f0f0f0f0f0f0f0f
+  pub of-2 : Blocks 2 0x3333333333333333
+  pub of-1 : Blocks 1 0x5555555555555555
 
-pub blocks16 : Blocks 16 0x0000ffff0000ffff
+pub six : Six
 unfolding allBelow halved roomy same lowHalf setOf
-blocks16 = blocks _ _ (lit< tt) (lit< tt) tt tt refl
-
-pub blocks8 : Blocks 8 0x00ff00ff00ff00ff
-unfolding allBelow halved roomy same lowHalf setOf
-blocks8 = blocks _ _ (lit< tt) (lit< tt) tt tt refl
-
-pub blocks4 : Blocks 4 0x0f0f0f0f0f0f0f0f
-unfolding allBelow halved roomy same lowHalf setOf
-blocks4 = blocks _ _ (lit< tt) (lit< tt) tt tt refl
-
-pub blocks2 : Blocks 2 0x3333333333333333
-unfolding allBelow halved roomy same lowHalf setOf
-blocks2 = blocks _ _ (lit< tt) (lit< tt) tt tt refl
-
-pub blocks1 : Blocks 1 0x5555555555555555
-unfolding allBelow halved roomy same lowHalf setOf
-blocks1 = blocks _ _ (lit< tt) (lit< tt) tt tt refl
+six =
+    record {
+      of-32 = blocks _ _ (lit< tt) (lit< tt) tt tt refl;
+      of-16 = blocks _ _ (lit< tt) (lit< tt) tt tt refl;
+      of-8 = blocks _ _ (lit< tt) (lit< tt) tt tt refl;
+      of-4 = blocks _ _ (lit< tt) (lit< tt) tt tt refl;
+      of-2 = blocks _ _ (lit< tt) (lit< tt) tt tt refl;
+      of-1 = blocks _ _ (lit< tt) (lit< tt) tt tt refl;
+    }
 
 module _ {s m : ℕ} (B : Blocks s m) (i j : ℕ) (h : i < 64) (l : j < 64) where
   row-lt : fromRow s i j < 64
   unfolding fromRow
-  row-lt = go (lowHalf s i) (lowHalf s j) (B .room i h)
-    where
-      go : (a b : Bool) → (a ≡ true → i + s < 64) → cond a (cond b i (i + s)) (cond b (i - s) i) < 64
-      go true true f = h
-      go true false f = f refl
-      go false true f = omega arith
-      go false false f = h
+  row-lt = go (lowHalf s i) (lowHalf s j) (B .room i h) where
+    go : (a b : Bool) → (a ≡ true → i + s < 64) → cond a (cond b i (i + s)) (cond b (i - s) i) < 64
+    go true true f = h
+    go true false f = f refl
+    go false true f = omega arith
+    go false false f = h
 
   column-lt : fromColumn s i j < 64
   unfolding fromColumn
-  column-lt = go (lowHalf s i) (lowHalf s j) (B .room j l)
-    where
-      go : (a b : Bool) → (b ≡ true → j + s < 64) → cond a (cond b j (j - s)) (cond b (j + s) j) < 64
-      go true true f = l
-      go true false f = omega arith
-      go false true f = f refl
-      go false false f = l
+  column-lt = go (lowHalf s i) (lowHalf s j) (B .room j l) where
+    go : (a b : Bool) → (b ≡ true → j + s < 64) → cond a (cond b j (j - s)) (cond b (j + s) j) < 64
+    go true true f = l
+    go true false f = omega arith
+    go false true f = f refl
+    go false false f = l
 
 -- one more exchange
 after : {s m : ℕ} {a b r : List ℕ} {f g : ℕ → ℕ → ℕ} → Blocks s m → Moved b r (fromRow s) (fromColumn s) → Moved a b f g → Moved a r (λ i j. f (fromRow s i j) (fromColumn s i j)) (λ i j. g (fromRow s i j) (fromColumn s i j))
@@ -130,13 +125,13 @@ exchanged : ℕ → Nodes
 exchanged i j = eqb (rowOf i j) j && eqb (columnOf i j) i
 
 all-exchanged : T (allBelow 64 (λ i. allBelow 64 (exchanged i)))
-unfolding allBelow exchanged rowOf columnOf fromRow fromColumn lowHalf
-all-exchanged = tt
+all-exchanged = unfold allBelow exchanged rowOf columnOf fromRow fromColumn lowHalf in tt
 
-pub transposes : {a b c d e f r : List ℕ} → Moved a b (fromRow 32) (fromColumn 32) → Moved b c (fromRow 16) (fromColumn 16) → Moved c d (fromRow 8) (fromColumn 8) → Moved d e (fromRow 4) (fromColumn 4) → Moved e f (fromRow 2) (fromColumn 2) → Moved f r (fromRow 1) (fromColumn 1) → Transposed a r
+pub transposes : {a b c d e f r : List ℕ} → Moved a b (fromRow 32) (fromColumn 32) → Moved b c (fromRow 16) (fromColumn 16)
+    → Moved c d (fromRow 8) (fromColumn 8) → Moved d e (fromRow 4) (fromColumn 4) → Moved e f (fromRow 2) (fromColumn 2) → Moved f r (fromRow 1) (fromColumn 1) → Transposed a r
 unfolding exchanged rowOf columnOf
 transposes {a} p1 p2 p3 p4 p5 p6 =
-    let q = after blocks1 p6 (after blocks2 p5 (after blocks4 p4 (after blocks8 p3 (after blocks16 p2 p1)))) in
+    let q = after (six .of-1) p6 (after (six .of-2) p5 (after (six .of-4) p4 (after (six .of-8) p3 (after (six .of-16) p2 p1)))) in
     record {
       rows = λ i h. q .rows i h ∙ setOf-cong 64 _ _ (λ j l.
           let t = all-at 64 (exchanged i) (all-at 64 (λ k. allBelow 64 (exchanged k)) all-exchanged i h) j l in

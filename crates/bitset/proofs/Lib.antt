@@ -2,7 +2,7 @@ pub mod SetLaws
 pub mod BitLaws
 pub mod MemberLaws
 pub mod WordLaws
-pub mod ZeroLaws
+pub mod ZeroBytes
 mod WipeLaws
-mod BlockLaws
+mod ExchangedBlocks
 mod ExchangeLaws

@@ -1,6 +1,6 @@
 -- A set member by member: the lowest of them, and what is left without one.
 use mathlib.Core.Path.{_≡_, refl, sym, ap, ap₂, _∙_, subst}
-use mathlib.Core.Bool.{true, false, cond, and-true}
+use mathlib.Core.Bool.{true, true≢false, and-true}
 use mathlib.Core.Logic.{⊎-elim}
 use Prim.Native.Nat.{ℕ, zero, suc, _+_, _-_, _*_, _/_, _%_, _^_, _≤_, _<_, min}
 use native.Mathlib.Nat.{pow-suc, pow-succ', zero-lt-suc, div-one, div-div-eq-div-mul, div-lt-iff-lt-mul, eq-or-lt-of-le, le-of-suc-le-suc}
@@ -19,27 +19,22 @@ use Rattle.bitset.proofs.BitLaws.{below-or-not}
 first-digit : (d q : ℕ) → 0 < q → q < 2 ^ d → q / 2 ^ trailingZeros d q % 2 ≡ 1
 unfolding trailingZeros
 first-digit zero q h k = absurd (omega arith)
-first-digit (suc d) q h k = go (q % 2) refl (λ (e : q % 2 ≡ 0). first-digit d (q / 2) (omega arith) (div-lt-iff-lt-mul (zero-lt-suc 1) .1 (subst (λ (x : ℕ). q < x) (pow-suc 2 d) k)))
-  where
-    go : (r : ℕ) → q % 2 ≡ r → (q % 2 ≡ 0 → q / 2 / 2 ^ trailingZeros d (q / 2) % 2 ≡ 1) → q / 2 ^ under r (trailingZeros d (q / 2)) % 2 ≡ 1
-    go zero e ih =
-        let t = trailingZeros d (q / 2) in
-        ap (λ (x : ℕ). x % 2) (ap (λ (x : ℕ). q / x) (pow-succ' 2 t) ∙ sym (div-div-eq-div-mul q 2 (2 ^ t))) ∙ ih e
-    go (suc r) e ih = ap (λ (x : ℕ). x % 2) (div-one q) ∙ omega arith
+first-digit (suc d) q h k = go (q % 2) refl (λ (e : q % 2 ≡ 0). first-digit d (q / 2) (omega arith) (div-lt-iff-lt-mul (zero-lt-suc 1) .1 (subst (λ (x : ℕ). q < x) (pow-suc 2 d) k))) where
+  go : (r : ℕ) → q % 2 ≡ r → (q % 2 ≡ 0 → q / 2 / 2 ^ trailingZeros d (q / 2) % 2 ≡ 1) → q / 2 ^ under r (trailingZeros d (q / 2)) % 2 ≡ 1
+  go zero e ih =
+      let t = trailingZeros d (q / 2) in
+      ap (λ (x : ℕ). x % 2) (ap (λ (x : ℕ). q / x) (pow-succ' 2 t) ∙ sym (div-div-eq-div-mul q 2 (2 ^ t))) ∙ ih e
+  go (suc r) e ih = ap (λ (x : ℕ). x % 2) (div-one q) ∙ omega arith
 
 pub first-member : (x : ℕ) → 0 < x → x < 2 ^ 64 → member x (trailingZeros 64 x) ≡ true
-unfolding member
-first-member x h k = eq-eqb _ 1 (first-digit 64 x h k)
+first-member x h k = unfold member in eq-eqb _ 1 (first-digit 64 x h k)
 
 -- a member of a set of the nodes below n is below n
 pub member-small : (n x i : ℕ) → x < 2 ^ n → member x i ≡ true → i < n
 member-small n x i h e = ⊎-elim
     (λ (l : i < n). l)
-    (λ (l : n ≤ i). absurd (no (sym e ∙ ap (λ (y : ℕ). member y i) (sym (setOf-member-lt n x h)) ∙ member-beyond n (member x) i l)))
+    (λ (l : n ≤ i). absurd (true≢false (sym e ∙ ap (λ (y : ℕ). member y i) (sym (setOf-member-lt n x h)) ∙ member-beyond n (member x) i l)))
     (below-or-not i n)
-  where
-    no : true ≡ false → ⊥
-    no e = subst (λ b. cond b (Unit {0}) ⊥) e tt
 
 -- a set without one of its members
 pub setOf-leave : (n i : ℕ) (p : Nodes) → i < n → p i ≡ true → setOf n p ≡ setOf n (leave p i) + 2 ^ i
@@ -56,14 +51,13 @@ setOf-leave (suc n) i p h e = ⊎-elim
 lowest-gone : (d x : ℕ) → 0 < x → x < 2 ^ d → bitAnd x (x - 1) + 2 ^ trailingZeros d x ≡ x
 unfolding trailingZeros
 lowest-gone zero x h k = absurd (omega arith)
-lowest-gone (suc d) x h k = go (x % 2) refl (λ (e : x % 2 ≡ 0). lowest-gone d (x / 2) (omega arith) (div-lt-iff-lt-mul (zero-lt-suc 1) .1 (subst (λ (y : ℕ). x < y) (pow-suc 2 d) k)))
-  where
-    digits : (a b c : ℕ) → (x - 1) / 2 ≡ a → x % 2 ≡ b → (x - 1) % 2 ≡ c → bitAnd x (x - 1) ≡ bitAnd (x / 2) a * 2 + min b c
-    digits a b c p q r = and-step x (x - 1) ∙ ap₂ (λ (y z : ℕ). bitAnd (x / 2) y * 2 + z) p (ap₂ min q r)
+lowest-gone (suc d) x h k = go (x % 2) refl (λ (e : x % 2 ≡ 0). lowest-gone d (x / 2) (omega arith) (div-lt-iff-lt-mul (zero-lt-suc 1) .1 (subst (λ (y : ℕ). x < y) (pow-suc 2 d) k))) where
+  digits : (a b c : ℕ) → (x - 1) / 2 ≡ a → x % 2 ≡ b → (x - 1) % 2 ≡ c → bitAnd x (x - 1) ≡ bitAnd (x / 2) a * 2 + min b c
+  digits a b c p q r = and-step x (x - 1) ∙ ap₂ (λ (y z : ℕ). bitAnd (x / 2) y * 2 + z) p (ap₂ min q r)
 
-    go : (r : ℕ) → x % 2 ≡ r → (x % 2 ≡ 0 → bitAnd (x / 2) (x / 2 - 1) + 2 ^ trailingZeros d (x / 2) ≡ x / 2) → bitAnd x (x - 1) + 2 ^ under r (trailingZeros d (x / 2)) ≡ x
-    go zero e ih = omega (arith, ih e, pow-suc 2 (trailingZeros d (x / 2)), digits (x / 2 - 1) 0 1 (omega arith) e (omega arith))
-    go (suc r) e ih = omega (arith, and-self (x / 2), digits (x / 2) 1 0 (omega arith) (omega arith) (omega arith))
+  go : (r : ℕ) → x % 2 ≡ r → (x % 2 ≡ 0 → bitAnd (x / 2) (x / 2 - 1) + 2 ^ trailingZeros d (x / 2) ≡ x / 2) → bitAnd x (x - 1) + 2 ^ under r (trailingZeros d (x / 2)) ≡ x
+  go zero e ih = omega (arith, ih e, pow-suc 2 (trailingZeros d (x / 2)), digits (x / 2 - 1) 0 1 (omega arith) e (omega arith))
+  go (suc r) e ih = omega (arith, and-self (x / 2), digits (x / 2) 1 0 (omega arith) (omega arith) (omega arith))
 
 module _ (x : ℕ) (h : 0 < x) (k : x < 2 ^ 64) where
   pub but-first-is : (i : ℕ) → i ≡ trailingZeros 64 x → bitAnd x (x - 1) ≡ setOf 64 (leave (member x) i)

@@ -8,7 +8,7 @@ use native.Mathlib.Numerals.{add-one, one-add}
 use mathlib.Core.Logic.{⊎-elim}
 use borrow.Author.Tests.{ne-eqb, eq-eqb, lt-ltb, le-ltb, ltb-true, ltb-false}
 use lib.Dec.{eqb, ltb, lit<, lit≤}
-use lib.Bits.{bitAnd, bitOr, bitXor, or-shifted-r, and-block, or-block, xor-block, and-mask}
+use lib.Bits.{bitAnd, bitOr, or-shifted-r, and-mask}
 use lib.Count.{ones, ones-cat}
 use lib.Pow.{pow-pos, pow-mono, shl-exact, high, low, mod-pow-add, field, mod-mod-pow}
 use Rattle.logic.specs.Graph.{Nodes, anyBelow, countBelow}
@@ -17,75 +17,20 @@ use Rattle.bitset.specs.Words.{digit, setOf, member, combined}
 pub setOf-lt : (n : ℕ) (p : Nodes) → setOf n p < 2 ^ n
 unfolding setOf
 setOf-lt zero p = lit< tt
-setOf-lt (suc n) p = rw (pow-suc 2 n) (go (p n) (setOf-lt n p))
-  where
-    go : (b : Bool) → setOf n p < 2 ^ n → digit b * 2 ^ n + setOf n p < 2 ^ n * 2
-    go false h = omega arith
-    go true h = omega arith
+setOf-lt (suc n) p = rw (pow-suc 2 n) (go (p n) (setOf-lt n p)) where
+  go : (b : Bool) → setOf n p < 2 ^ n → digit b * 2 ^ n + setOf n p < 2 ^ n * 2
+  go false h = omega arith
+  go true h = omega arith
 
 pub setOf-cong : (n : ℕ) (p q : Nodes) → ((i : ℕ) → i < n → p i ≡ q i) → setOf n p ≡ setOf n q
 unfolding setOf
 setOf-cong zero p q h = refl
 setOf-cong (suc n) p q h = ap₂ (λ (b : Bool) (x : ℕ). digit b * 2 ^ n + x) (h n (lt-suc-self n)) (setOf-cong n p q (λ i l. h i (omega arith)))
 
--- an operation that works on blocks of digits works on the members
-module _ (op : ℕ → ℕ → ℕ) (f : Bool → Bool → Bool)
-    (block : (k a b r s : ℕ) → r < 2 ^ k → s < 2 ^ k → op (a * 2 ^ k + r) (b * 2 ^ k + s) ≡ op a b * 2 ^ k + op r s)
-    (none : op 0 0 ≡ 0) (one : (a b : Bool) → op (digit a) (digit b) ≡ digit (f a b)) where
-  setOf-op : (n : ℕ) (p q : Nodes) → op (setOf n p) (setOf n q) ≡ setOf n (λ i. f (p i) (q i))
-  unfolding setOf
-  setOf-op zero p q = none
-  setOf-op (suc n) p q =
-      block n (digit (p n)) (digit (q n)) (setOf n p) (setOf n q) (setOf-lt n p) (setOf-lt n q)
-      ∙ ap₂ (λ (d x : ℕ). d * 2 ^ n + x) (one (p n) (q n)) (setOf-op n p q)
-
-and-digit : (a b : Bool) → bitAnd (digit a) (digit b) ≡ digit (a && b)
-and-digit false b = refl
-and-digit true false = refl
-and-digit true true = refl
-
-or-digit : (a b : Bool) → bitOr (digit a) (digit b) ≡ digit (a || b)
-or-digit false b = refl
-or-digit true false = refl
-or-digit true true = refl
-
--- one and not the other
-abbrev pub differ : Bool → Bool → Bool
-differ false b = b
-differ true b = not b
-
-xor-digit : (a b : Bool) → bitXor (digit a) (digit b) ≡ digit (differ a b)
-xor-digit false b = refl
-xor-digit true false = refl
-xor-digit true true = refl
-
-pub setOf-and : (n : ℕ) (p q : Nodes) → bitAnd (setOf n p) (setOf n q) ≡ setOf n (λ i. p i && q i)
-setOf-and = setOf-op bitAnd _&&_ and-block refl and-digit
-
-pub setOf-or : (n : ℕ) (p q : Nodes) → bitOr (setOf n p) (setOf n q) ≡ setOf n (λ i. p i || q i)
-setOf-or = setOf-op bitOr _||_ or-block refl or-digit
-
-pub setOf-xor : (n : ℕ) (p q : Nodes) → bitXor (setOf n p) (setOf n q) ≡ setOf n (λ i. differ (p i) (q i))
-setOf-xor = setOf-op bitXor differ xor-block refl xor-digit
-
-and-differ : (a b : Bool) → (a && differ a b) ≡ (a && not b)
-and-differ false b = refl
-and-differ true b = refl
-
--- x & (x ^ y)
-pub setOf-minus : (n : ℕ) (p q : Nodes) → bitAnd (setOf n p) (bitXor (setOf n p) (setOf n q)) ≡ setOf n (λ i. p i && not (q i))
-setOf-minus n p q =
-    ap (bitAnd (setOf n p)) (setOf-xor n p q) ∙ setOf-and n p (λ i. differ (p i) (q i))
-    ∙ setOf-cong n _ _ (λ i l. and-differ (p i) (q i))
-
 pub setOf-all : (n : ℕ) → setOf n (λ i. true) ≡ 2 ^ n - 1
 unfolding setOf
 setOf-all zero = refl
 setOf-all (suc n) = rw (setOf-all n, pow-suc 2 n) (omega (arith, pow-pos n))
-
--- full ^ x
-pub setOf-not : (n : ℕ) (p : Nodes) → bitXor (2 ^ n - 1) (setOf n p) ≡ setOf n (λ i. not (p i))
-setOf-not n p = ap (λ (x : ℕ). bitXor x (setOf n p)) (sym (setOf-all n)) ∙ setOf-xor n (λ i. true) p
 
 pub setOf-none : (n : ℕ) → setOf n (λ i. false) ≡ 0
 unfolding setOf
@@ -93,39 +38,35 @@ setOf-none zero = refl
 setOf-none (suc n) = rw (setOf-none n) (omega arith)
 
 pub member-zero : (i : ℕ) → member 0 i ≡ false
-unfolding member
-member-zero i = ap (λ (x : ℕ). eqb (x % 2) 1) (zero-div (2 ^ i))
+member-zero i = unfold member in ap (λ (x : ℕ). eqb (x % 2) 1) (zero-div (2 ^ i))
 
 -- count_ones counts the members
 pub ones-setOf : (n : ℕ) (p : Nodes) → ones (setOf n p) ≡ countBelow n p
 unfolding setOf countBelow ones
 ones-setOf zero p = refl
-ones-setOf (suc n) p = ones-cat n (digit (p n)) (setOf n p) (setOf-lt n p) ∙ go (p n) (ones-setOf n p)
-  where
-    go : (b : Bool) {x c : ℕ} → x ≡ c → ones (digit b) + x ≡ cond b (suc c) c
-    go false e = omega arith
-    go true e = omega arith
+ones-setOf (suc n) p = ones-cat n (digit (p n)) (setOf n p) (setOf-lt n p) ∙ go (p n) (ones-setOf n p) where
+  go : (b : Bool) {x c : ℕ} → x ≡ c → ones (digit b) + x ≡ cond b (suc c) c
+  go false e = omega arith
+  go true e = omega arith
 
 pub count-le : (n : ℕ) (p : Nodes) → countBelow n p ≤ n
 unfolding countBelow
 count-le zero p = lit≤ tt
-count-le (suc n) p = go (p n) (count-le n p)
-  where
-    go : (b : Bool) → countBelow n p ≤ n → cond b (suc (countBelow n p)) (countBelow n p) ≤ suc n
-    go false h = omega arith
-    go true h = omega arith
+count-le (suc n) p = go (p n) (count-le n p) where
+  go : (b : Bool) → countBelow n p ≤ n → cond b (suc (countBelow n p)) (countBelow n p) ≤ suc n
+  go false h = omega arith
+  go true h = omega arith
 
 -- a set is empty when nothing is in it
 pub setOf-empty : (n : ℕ) (p : Nodes) → eqb (setOf n p) 0 ≡ not (anyBelow n p)
 unfolding setOf anyBelow
 setOf-empty zero p = refl
-setOf-empty (suc n) p = go (p n) (setOf-empty n p)
-  where
-    go : (b : Bool) → eqb (setOf n p) 0 ≡ not (anyBelow n p) → eqb (digit b * 2 ^ n + setOf n p) 0 ≡ not (anyBelow n p || b)
-    go false h = let e : 0 * 2 ^ n + setOf n p ≡ setOf n p = omega arith in ap (λ (x : ℕ). eqb x 0) e ∙ h ∙ ap not (sym (or-false (anyBelow n p)))
-    go true h = ne-eqb (1 * 2 ^ n + setOf n p) 0 (λ e. omega (arith, pow-pos n)) ∙ ap not (sym (or-true (anyBelow n p)))
+setOf-empty (suc n) p = go (p n) (setOf-empty n p) where
+  go : (b : Bool) → eqb (setOf n p) 0 ≡ not (anyBelow n p) → eqb (digit b * 2 ^ n + setOf n p) 0 ≡ not (anyBelow n p || b)
+  go false h = let e : 0 * 2 ^ n + setOf n p ≡ setOf n p = omega arith in ap (λ (x : ℕ). eqb x 0) e ∙ h ∙ ap not (sym (or-false (anyBelow n p)))
+  go true h = ne-eqb (1 * 2 ^ n + setOf n p) 0 (λ e. omega (arith, pow-pos n)) ∙ ap not (sym (or-true (anyBelow n p)))
 
-digit-bit : (x : ℕ) → x < 2 → digit (eqb x 1) ≡ x
+pub digit-bit : (x : ℕ) → x < 2 → digit (eqb x 1) ≡ x
 digit-bit zero h = refl
 digit-bit (suc zero) h = refl
 digit-bit (suc (suc x)) h = absurd (omega arith)
@@ -140,24 +81,6 @@ setOf-member (suc n) x =
 
 pub setOf-member-lt : (n x : ℕ) → x < 2 ^ n → setOf n (member x) ≡ x
 setOf-member-lt n x h = setOf-member n x ∙ mod-eq-of-lt h
-
--- an operation on sets of the nodes below n, on any words below 2 ^ n
-module _ (op : ℕ → ℕ → ℕ) (f : Bool → Bool → Bool) (n : ℕ)
-    (of-sets : (p q : Nodes) → op (setOf n p) (setOf n q) ≡ setOf n (λ i. f (p i) (q i))) where
-  words-op : (x y : ℕ) → x < 2 ^ n → y < 2 ^ n → op x y ≡ setOf n (λ i. f (member x i) (member y i))
-  words-op x y h l = sym (ap₂ op (setOf-member-lt n x h) (setOf-member-lt n y l)) ∙ of-sets (member x) (member y)
-
-pub words-and : (x y : ℕ) → x < 2 ^ 64 → y < 2 ^ 64 → bitAnd x y ≡ combined _&&_ x y
-words-and = words-op bitAnd _&&_ 64 (setOf-and 64)
-
-pub words-or : (x y : ℕ) → x < 2 ^ 64 → y < 2 ^ 64 → bitOr x y ≡ combined _||_ x y
-words-or = words-op bitOr _||_ 64 (setOf-or 64)
-
-pub words-minus : (x y : ℕ) → x < 2 ^ 64 → y < 2 ^ 64 → bitAnd x (bitXor x y) ≡ combined (λ a b. a && not b) x y
-words-minus = words-op (λ x y. bitAnd x (bitXor x y)) (λ a b. a && not b) 64 (setOf-minus 64)
-
-pub words-not : (x : ℕ) → x < 2 ^ 64 → bitXor (2 ^ 64 - 1) x ≡ setOf 64 (λ i. not (member x i))
-words-not x h = sym (ap (bitXor (2 ^ 64 - 1)) (setOf-member-lt 64 x h)) ∙ setOf-not 64 (member x)
 
 -- a word is the set of its members
 pub is-setOf : (n x : ℕ) (p : Nodes) → x < 2 ^ n → ((i : ℕ) → i < n → member x i ≡ p i) → x ≡ setOf n p
@@ -193,8 +116,7 @@ pub shl-one : (i : ℕ) → i < 64 → 1 * 2 ^ i % 2 ^ 64 ≡ 2 ^ i
 shl-one i h = shl-exact {a = 1} 1 i 64 (lit< tt) (omega arith) ∙ one-mul (2 ^ i)
 
 pub test-member : (x i : ℕ) → eqb (bitAnd (x / 2 ^ i) 1) 1 ≡ member x i
-unfolding member
-test-member x i = ap (λ (y : ℕ). eqb y 1) (and-mask (x / 2 ^ i) 1)
+test-member x i = unfold member in ap (λ (y : ℕ). eqb y 1) (and-mask (x / 2 ^ i) 1)
 
 -- a set grows by one digit: r |= d << n
 pub setOf-more : (n : ℕ) (p : Nodes) (r d : ℕ) → n < 64 → r ≡ setOf n p → d ≡ digit (p n) → bitOr r (d * 2 ^ n % 2 ^ 64) ≡ setOf (n + 1) p
@@ -203,24 +125,21 @@ setOf-more n p r d h q e =
     ap₂ (λ (y x : ℕ). bitOr y (x * 2 ^ n % 2 ^ 64)) q e
     ∙ ap (bitOr (setOf n p)) (shl-exact {a = digit (p n)} 1 n 64 (small (p n)) (omega arith))
     ∙ or-shifted-r (digit (p n)) n (setOf n p) (setOf-lt n p)
-    ∙ ap (λ (k : ℕ). setOf k p) (sym (add-one n))
-  where
-    small : (b : Bool) → digit b < 2 ^ 1
-    small false = lit< tt
-    small true = lit< tt
+    ∙ ap (λ (k : ℕ). setOf k p) (sym (add-one n)) where
+      small : (b : Bool) → digit b < 2 ^ 1
+      small false = lit< tt
+      small true = lit< tt
 
 -- or stays, where the next digit is 0
 pub setOf-same : (n : ℕ) (p : Nodes) (r : ℕ) → r ≡ setOf n p → p n ≡ false → r ≡ setOf (n + 1) p
-unfolding setOf
-setOf-same n p r q e = rw (add-one, e) (omega arith)
+setOf-same n p r q e = unfold setOf in rw (add-one, e) (omega arith)
 
 -- at a loop's end i is n
 pub setOf-end : (n i : ℕ) (p : Nodes) (r : ℕ) → i ≤ n → n ≤ i → r ≡ setOf i p → r ≡ setOf n p
 setOf-end n i p r h l e = let q : i ≡ n = omega arith in e ∙ ap (λ (k : ℕ). setOf k p) q
 
 pub setOf-zero : (p : Nodes) → 0 ≡ setOf 0 p
-unfolding setOf
-setOf-zero p = refl
+setOf-zero p = unfold setOf in refl
 
 setOf-past : (n i : ℕ) → n ≤ i → setOf n (λ k. eqb k i) ≡ 0
 unfolding setOf
@@ -250,26 +169,23 @@ pub setOf-lowest : (n m : ℕ) → n ≤ m → setOf m (λ i. ltb i n) ≡ setOf
 setOf-lowest n m h = setOf-cong m _ _ (λ i l. sym (and-true (ltb i n))) ∙ setOf-wide n m (λ i. true) h
 
 pub member-beyond : (n : ℕ) (p : Nodes) (i : ℕ) → n ≤ i → member (setOf n p) i ≡ false
-unfolding member
-member-beyond n p i h = ap (λ (x : ℕ). eqb (x % 2) 1) (div-eq-of-lt (lt-of-lt-of-le (setOf-lt n p) (pow-mono h)))
+member-beyond n p i h = unfold member in ap (λ (x : ℕ). eqb (x % 2) 1) (div-eq-of-lt (lt-of-lt-of-le (setOf-lt n p) (pow-mono h)))
 
 -- The members of a word made of a set are the set's, below n.
 pub member-of : (n : ℕ) (p : Nodes) (i : ℕ) → member (setOf n p) i ≡ (ltb i n && p i)
-member-of n p i = go (ltb i n) refl
-  where
-    go : (b : Bool) → ltb i n ≡ b → member (setOf n p) i ≡ (b && p i)
-    go true e = member-setOf n p i (ltb-true i n e)
-    go false e = member-beyond n p i (ltb-false i n e)
+member-of n p i = go (ltb i n) refl where
+  go : (b : Bool) → ltb i n ≡ b → member (setOf n p) i ≡ (b && p i)
+  go true e = member-setOf n p i (ltb-true i n e)
+  go false e = member-beyond n p i (ltb-false i n e)
 
 -- ONE law for every operation and width: what is combined of two words is combined of the sets.
 pub combined-sets : (f : Bool → Bool → Bool) → f false false ≡ false → (n : ℕ) (p q : Nodes) → n ≤ 64 → combined f (setOf n p) (setOf n q) ≡ setOf n (λ i. f (p i) (q i))
 combined-sets f z n p q h =
     setOf-cong 64 _ (λ i. ltb i n && f (p i) (q i)) (λ i l. ap₂ f (member-of n p i) (member-of n q i) ∙ go (ltb i n) (p i) (q i))
-    ∙ setOf-wide n 64 (λ i. f (p i) (q i)) h
-  where
-    go : (b x y : Bool) → f (b && x) (b && y) ≡ (b && f x y)
-    go true x y = refl
-    go false x y = z
+    ∙ setOf-wide n 64 (λ i. f (p i) (q i)) h where
+      go : (b x y : Bool) → f (b && x) (b && y) ≡ (b && f x y)
+      go true x y = refl
+      go false x y = z
 
 -- so what two words have in common is counted in the sets
 pub common-sets : (n : ℕ) (p q : Nodes) → n ≤ 64 → countBelow 64 (λ i. member (setOf n p) i && member (setOf n q) i) ≡ countBelow n (λ i. p i && q i)

@@ -54,13 +54,6 @@ pub fn minus(x: u64, y: u64) -> u64
     x & (x ^ y)
 }
 
-// What is not in x.
-pub fn complement(x: u64) -> u64
-    ensures { λ r. ⌜ r ≡ setOf 64 (λ i. not (member x i)) ⌝ }
-{
-    0xFFFF_FFFF_FFFF_FFFF ^ x
-}
-
 // How many nodes are in x and in y.
 pub fn count_common(x: u64, y: u64) -> u32
     ensures { λ r. ⌜ r ≡ countBelow 64 (λ i. member x i && member y i) ⌝ }

@@ -17,10 +17,10 @@ use Rattle.logic.specs.Limits.{maxNodes}
 use Rattle.text.specs.Code.{bookCode}
 use Rattle.text.specs.Reading.{longestText, textLimits}
 use Rattle.text.specs.Questions.{askBook, askEdit}
-use Rattle.text.proofs.Books.{edit-is-spelled, read-edit-stands}
+use Rattle.text.proofs.TextSpelling.{edit-is-spelled, read-edit-stands}
 use Rattle.ends.specs.Edits.{EditAt, SomeEdit}
 use Rattle.ends.specs.Books.{BookIs, SomeBook}
-use Rattle.ends.proofs.Rules.{book-passed}
+use Rattle.ends.proofs.RulePlaces.{book-passed}
 use Rattle.carry.specs.Carrying.{askSize, askCarry, carryAnswer, carryOutput}
 use Rattle.carry.specs.Into.{Into}
 
@@ -46,20 +46,17 @@ module _ (book edit out : List ℕ) where
   Back r out′ = (writtenAsked r ≡ carryAnswer book edit (length out)) × (out′ ≡ carryOutput book edit out)
 
   refused-back : (r : Refusal) → askCarry book edit (length out) ≡ refused (refusalNumber r) (refusalPlace r) → Back (Refused r) out
-  unfolding carryAnswer carryOutput
-  refused-back r e = not-written (askCarry book edit (length out)) out (refusalNumber r) (refusalPlace r) e
+  refused-back r e = unfold carryAnswer carryOutput in not-written (askCarry book edit (length out)) out (refusalNumber r) (refusalPlace r) e
 
   pub book-refused : (r : Refusal) → refused (refusalNumber r) (refusalPlace r) ≡ outcome (askBook (textLimits maxNodes) book) → Back (Refused r) out
-  unfolding askCarry _>>=_
-  book-refused r e = refused-back r (rw (not-learned _ _ _ e))
+  book-refused r e = unfold askCarry _>>=_ in refused-back r (rw (not-learned _ _ _ e))
 
   module _ (b : passed tt ≡ outcome (askBook (textLimits maxNodes) book)) where
     rules : Learned (askBook (textLimits maxNodes) book)
     rules = learned (askBook (textLimits maxNodes) book) b
 
     pub edit-refused : (r : Refusal) → refused (refusalNumber r) (refusalPlace r) ≡ outcome (askEdit (textLimits maxNodes) edit) → Back (Refused r) out
-    unfolding askCarry _>>=_
-    edit-refused r e = refused-back r (rw (rules .is, not-learned _ _ _ e))
+    edit-refused r e = unfold askCarry _>>=_ in refused-back r (rw (rules .is, not-learned _ _ _ e))
 
     module _ (e : passed tt ≡ outcome (askEdit (textLimits maxNodes) edit)) where
       Z : Learned (askEdit (textLimits maxNodes) edit)
@@ -69,8 +66,7 @@ module _ (book edit out : List ℕ) where
       both-read = let s = edit-passed maxNodes (Z .is) in (record { what = rules .what; is = book-passed (textLimits maxNodes) (rules .is) }, record { what = Z .what; stands = s .0 }, s .1)
 
       asks : askCarry book edit (length out) ≡ (askSize (carriedBook (Z .what) (rules .what)) (length out) >> passed (bookCode (carriedBook (Z .what) (rules .what))))
-      unfolding askCarry _>>=_
-      asks = rw (rules .is, Z .is)
+      asks = unfold askCarry _>>=_ in rw (rules .is, Z .is)
 
       pub into-back : {r : Written} {out′ : List ℕ} → ((rules : List (Expr rule)) (Z : Edit) → BookIs book rules → EditAt edit 0 Z → Into (carriedBook Z rules) r out out′) → Back r out′
       unfolding carryAnswer carryOutput writtenLength writtenOutput

@@ -1,16 +1,14 @@
 -- The text compared with the one sent, byte by byte.
-use mathlib.Core.Path.{_≡_, refl, sym, ap, ap₂, _∙_}
-use mathlib.Core.Bool.{Bool, true, false}
+use mathlib.Core.Path.{_≡_, refl, ap, _∙_}
 use mathlib.Core.List.{List, [], _∷_}
 use Prim.Native.Nat.{ℕ, suc, _+_, _%_, _≤_, _<_}
 use native.Mathlib.Numerals.{add-one}
 use native.Mathlib.Omega.{arith}
-use lib.Dec.{eqb}
 use lib.ListN.{length, getD, drop, length-map, drop-of-length-le, List·getD-map}
 use lib.Seq.{drop-cons}
 use borrow.Author.Tests.{eq-eqb, ne-eqb}
-use Rattle.answer.specs.Asked.{Asked, passed, refused}
-use Rattle.shortening.specs.Asking.{askSame}
+use Rattle.answer.specs.Asked.{passed, refused}
+use Rattle.shortening.specs.Questions.{askSame}
 use Rattle.check_steps.specs.Raised.{lowered}
 
 -- The bytes before a place are the same.
@@ -36,31 +34,22 @@ module _ {t sent : List ℕ} {i : ℕ} (c : Comparing t sent i) where
   closed h = let e : length (lowered t) ≤ i = omega (arith, long) in drop-of-length-le (lowered t) e
 
   pub comparing-short : i < length t → length sent ≤ i → refused 60 i ≡ askSame (lowered t) sent 0
-  unfolding askSame
-  comparing-short h k = sym (ap₂ (λ a b. askSame a b i) (opened h) (drop-of-length-le sent k)) ∙ c .rest
+  comparing-short h k = unfold askSame in cc (opened h, drop-of-length-le sent k, c .rest)
 
   pub comparing-long : length t ≤ i → i < length sent → refused 60 i ≡ askSame (lowered t) sent 0
-  unfolding askSame
-  comparing-long h k = sym (ap₂ (λ a b. askSame a b i) (closed h) (drop-cons sent i 0 k)) ∙ c .rest
+  comparing-long h k = unfold askSame in cc (closed h, drop-cons sent i 0 k, c .rest)
 
   pub comparing-end : length t ≤ i → length sent ≤ i → passed tt ≡ askSame (lowered t) sent 0
-  unfolding askSame
-  comparing-end h k = sym (ap₂ (λ a b. askSame a b i) (closed h) (drop-of-length-le sent k)) ∙ c .rest
+  comparing-end h k = unfold askSame in cc (closed h, drop-of-length-le sent k, c .rest)
 
   module _ (h : i < length t) (k : i < length sent) where
-    turn : (b : Bool) → eqb (getD t i 0 % 128) (getD sent i 0) ≡ b → askSame (lowered t) sent 0 ≡ elim b as (λ c. Asked (Unit {0})) [ true ↦ askSame (drop (suc i) (lowered t)) (drop (suc i) sent) (suc i) | false ↦ refused 60 i ]
-    unfolding askSame
-    turn b e =
-        sym (c .rest)
-        ∙ ap₂ (λ a b. askSame a b i) (opened h) (drop-cons sent i 0 k)
-        ∙ ap (λ c. elim c as (λ c. Asked (Unit {0})) [ true ↦ askSame (drop (suc i) (lowered t)) (drop (suc i) sent) (suc i) | false ↦ refused 60 i ]) e
-
     pub comparing-differs : (getD t i 0 % 128 ≡ getD sent i 0 → ⊥) → refused 60 i ≡ askSame (lowered t) sent 0
-    comparing-differs n = sym (turn false (ne-eqb (getD t i 0 % 128) (getD sent i 0) n))
+    comparing-differs n = unfold askSame in cc (c .rest, opened h, drop-cons sent i 0 k, ne-eqb (getD t i 0 % 128) (getD sent i 0) n)
 
     pub comparing-next : getD t i 0 % 128 ≡ getD sent i 0 → Comparing t sent (i + 1)
+    unfolding askSame
     comparing-next e = record {
       on = omega arith;
       on-sent = omega arith;
-      rest = ap (λ j. askSame (drop j (lowered t)) (drop j sent) j) (add-one i) ∙ sym (turn true (eq-eqb (getD t i 0 % 128) (getD sent i 0) e));
+      rest = cc (c .rest, opened h, drop-cons sent i 0 k, eq-eqb (getD t i 0 % 128) (getD sent i 0) e, add-one i);
     }

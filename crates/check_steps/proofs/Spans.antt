@@ -1,7 +1,7 @@
 -- What the loops over a raised text keep.
 use mathlib.Core.Path.{_≡_, refl, sym, ap, ap₂, _∙_}
 use mathlib.Core.Bool.{Bool, true, false, _&&_, cond}
-use mathlib.Core.List.{List, [], _∷_, _++_}
+use mathlib.Core.List.{List, [], _∷_}
 use Prim.Native.Nat.{ℕ, zero, suc, _+_, _-_, _*_, _%_, _≤_, _<_}
 use native.Mathlib.Nat.{zero-add}
 use native.Mathlib.Numerals.{add-one}
@@ -16,46 +16,32 @@ use Rattle.logic.proofs.Below.{all-stop, all-end}
 use Rattle.check_steps.specs.Raised.{numbersOf, operandsOf, nextNumbers, raisedByte, raised, nextWanted, width, behindAt, alike, againAt}
 
 pub shape-none : (c : ℕ) → 40 ≤ c → 0 ≡ shapeOf c
-unfolding shapes
-shape-none c h = sym (List·getD-eq-default shapes 0 h)
+shape-none c h = unfold shapes in sym (List·getD-eq-default shapes 0 h)
 
 -- One byte more.
-module _ (n x : ℕ) where
-  pub numbers-less : 0 < n → n - 1 ≡ nextNumbers n x
-  unfolding nextNumbers
-  numbers-less h = go n h
-    where
-      go : (n : ℕ) → 0 < n → n - 1 ≡ nextNumbers n x
-      go zero h = absurd (omega arith)
-      go (suc n) h = omega arith
+pub numbers-less : (n x : ℕ) → 0 < n → n - 1 ≡ nextNumbers n x
+unfolding nextNumbers
+numbers-less zero x h = absurd (omega arith)
+numbers-less (suc n) x h = omega arith
 
-  pub numbers-new : n ≤ 0 → numbersOf x ≡ nextNumbers n x
-  unfolding nextNumbers
-  numbers-new h = let e : n ≡ 0 = omega arith in sym (ap (λ k. nextNumbers k x) e)
+pub numbers-new : (n x : ℕ) → n ≤ 0 → numbersOf x ≡ nextNumbers n x
+numbers-new n x h = unfold nextNumbers in let e : n ≡ 0 = omega arith in cc
 
-  pub byte-raised : 0 < n → x % 128 + 128 ≡ raisedByte n x
-  unfolding raisedByte
-  byte-raised h = go n h
-    where
-      go : (n : ℕ) → 0 < n → x % 128 + 128 ≡ raisedByte n x
-      go zero h = absurd (omega arith)
-      go (suc n) h = refl
+pub byte-raised : (n x : ℕ) → 0 < n → x % 128 + 128 ≡ raisedByte n x
+unfolding raisedByte
+byte-raised zero x h = absurd (omega arith)
+byte-raised (suc n) x h = refl
 
-  pub byte-left : n ≤ 0 → x ≡ raisedByte n x
-  unfolding raisedByte
-  byte-left h = let e : n ≡ 0 = omega arith in sym (ap (λ k. raisedByte k x) e)
+pub byte-left : (n x : ℕ) → n ≤ 0 → x ≡ raisedByte n x
+byte-left n x h = unfold raisedByte in let e : n ≡ 0 = omega arith in cc
 
-  pub wanted-same : (w : ℕ) → 0 < n → w ≡ nextWanted n w x
-  unfolding nextWanted
-  wanted-same w h = go n h
-    where
-      go : (n : ℕ) → 0 < n → w ≡ nextWanted n w x
-      go zero h = absurd (omega arith)
-      go (suc n) h = refl
+pub wanted-same : (n w x : ℕ) → 0 < n → w ≡ nextWanted n w x
+unfolding nextWanted
+wanted-same zero w x h = absurd (omega arith)
+wanted-same (suc n) w x h = refl
 
-  pub wanted-new : (w : ℕ) → n ≤ 0 → w - 1 + operandsOf x ≡ nextWanted n w x
-  unfolding nextWanted
-  wanted-new w h = let e : n ≡ 0 = omega arith in sym (ap (λ k. nextWanted k w x) e)
+pub wanted-new : (n w x : ℕ) → n ≤ 0 → w - 1 + operandsOf x ≡ nextWanted n w x
+wanted-new n w x h = unfold nextWanted in let e : n ≡ 0 = omega arith in cc
 
 pub raised-length : (n : ℕ) (t : List ℕ) → length (raised n t) ≡ length t
 unfolding raised
@@ -76,28 +62,20 @@ module _ {text work₀ work : List ℕ} {p n : ℕ} (r : Raising text work₀ p 
   raising-length h = ap length (r .written) ∙ length-paste work₀ 0 (raised 0 text) p (omega (arith, r .on)) (omega (arith, r .on, raised-length 0 text))
 
   module _ (l : p < length text) (room : length text ≤ length work₀) where
-    cons-is : {x y : ℕ} {s t : List ℕ} → _≡_ {A = List ℕ} (x ∷ s) (y ∷ t) → (x ≡ y) × (s ≡ t)
-    cons-is e = (ap (λ z. getD z 0 0) e, ap (drop 1) e)
-
-    next : (getD (raised 0 text) p 0 ≡ raisedByte n (getD text p 0)) × (drop (suc p) (raised 0 text) ≡ raised (nextNumbers n (getD text p 0)) (drop (suc p) text))
-    unfolding raised
-    next = cons-is (sym (drop-cons (raised 0 text) p 0 (omega (arith, l, raised-length 0 text))) ∙ r .to-come ∙ ap (raised n) (drop-cons text p 0 l))
+    opened : _≡_ {A = List ℕ} (getD (raised 0 text) p 0 ∷ drop (suc p) (raised 0 text)) (raisedByte n (getD text p 0) ∷ raised (nextNumbers n (getD text p 0)) (drop (suc p) text))
+    opened = unfold raised in sym (drop-cons (raised 0 text) p 0 (omega (arith, l, raised-length 0 text))) ∙ r .to-come ∙ ap (raised n) (drop-cons text p 0 l)
 
     pub raising-next : (b m : ℕ) → b ≡ raisedByte n (getD text p 0) → m ≡ nextNumbers n (getD text p 0) → Raising text work₀ (p + 1) m (set work p b)
     raising-next b m e f = record {
       on = omega arith;
-      written =
-          ap₂ (λ w x. set w p x) (r .written) (e ∙ sym (next .0))
-          ∙ ap (λ z. set (paste work₀ 0 (raised 0 text) p) z (getD (raised 0 text) p 0)) (sym (zero-add p))
-          ∙ paste-suc work₀ 0 (raised 0 text) p 0 (omega arith) (omega (arith, raised-length 0 text))
-          ∙ ap (paste work₀ 0 (raised 0 text)) (sym (add-one p));
-      to-come = ap (λ k. drop k (raised 0 text)) (add-one p) ∙ next .1 ∙ ap₂ (λ k z. raised k (drop z text)) (sym f) (sym (add-one p));
+      written = cc (r .written, opened, zero-add p, paste-suc work₀ 0 (raised 0 text) p 0 (omega arith) (omega (arith, raised-length 0 text)), add-one p);
+      to-come = cc (opened, add-one p);
     }
 
   pub raising-end : length text ≤ p → work ≡ writtenAtStart (raised 0 text) work₀
   raising-end h =
       let e : p ≡ length (raised 0 text) = omega (arith, r .on, raised-length 0 text) in
-      r .written ∙ ap (paste work₀ 0 (raised 0 text)) e ∙ ap₂ (λ z k. z ++ drop k work₀) (take-length (raised 0 text)) (zero-add (length (raised 0 text)))
+      cc (r .written, take-length (raised 0 text), zero-add (length (raised 0 text)))
 
 -- The expression at a place ends where what is still to come of it ends.
 pub record Passing (text : List ℕ) (at p n w : ℕ) : Type 0 where
@@ -114,47 +92,40 @@ module _ (text : List ℕ) (at : ℕ) where
   module _ {p n w : ℕ} (r : Passing text at p n w) where
     pub passing-none : n + w ≡ 0 → p ≡ behindAt text at
     unfolding width
-    passing-none e = omega (arith, stop (drop p text), r .ends)
-      where
-        stop : (t : List ℕ) → width n w t ≡ 0
-        stop [] = refl
-        stop (x ∷ t) = ap (λ b. cond b 0 (suc (width (nextNumbers n x) (nextWanted n w x) t))) (eq-eqb (n + w) 0 e)
+    passing-none e = omega (arith, stop (drop p text), r .ends) where
+      stop : (t : List ℕ) → width n w t ≡ 0
+      stop [] = refl
+      stop (x ∷ t) = cc (eq-eqb (n + w) 0 e)
 
     pub passing-over : length text ≤ p → p ≡ behindAt text at
+    passing-over h = unfold width in omega (arith, ap (width n w) (drop-of-length-le text h), r .ends)
+
+    low-next : (n x : ℕ) → n ≤ 3 → nextNumbers n x ≤ 3
+    unfolding nextNumbers
+    low-next zero x h = omega arith
+    low-next (suc n) x h = omega arith
+
+    few-next : (n w x : ℕ) → nextWanted n w x ≤ w + 3
+    unfolding nextWanted
+    few-next zero w x = omega arith
+    few-next (suc n) w x = omega arith
+
+    pub passing-next : p < length text → (n + w ≡ 0 → ⊥) → (m v : ℕ) → m ≡ nextNumbers n (getD text p 0) → v ≡ nextWanted n w (getD text p 0) → Passing text at (p + 1) m v
     unfolding width
-    passing-over h = omega (arith, ap (width n w) (drop-of-length-le text h), r .ends)
-
-    module _ (l : p < length text) (some : n + w ≡ 0 → ⊥) where
-      low-next : (n x : ℕ) → n ≤ 3 → nextNumbers n x ≤ 3
-      unfolding nextNumbers
-      low-next zero x h = omega arith
-      low-next (suc n) x h = omega arith
-
-      few-next : (n w x : ℕ) → nextWanted n w x ≤ w + 3
-      unfolding nextWanted
-      few-next zero w x = omega arith
-      few-next (suc n) w x = omega arith
-
-      pub passing-next : (m v : ℕ) → m ≡ nextNumbers n (getD text p 0) → v ≡ nextWanted n w (getD text p 0) → Passing text at (p + 1) m v
-      unfolding width
-      passing-next m v e f = record {
-        on = omega arith;
-        from = omega (arith, r .from);
-        few = omega (arith, r .few, f, few-next n w (getD text p 0));
-        low = omega (arith, e, low-next n (getD text p 0) (r .low));
-        ends =
-            let turned : width n w (drop p text) ≡ suc (width m v (drop (p + 1) text)) =
-            ap (width n w) (drop-cons text p 0 l)
-            ∙ ap (λ b. cond b 0 (suc (width (nextNumbers n (getD text p 0)) (nextWanted n w (getD text p 0)) (drop (suc p) text)))) (ne-eqb (n + w) 0 some)
-            ∙ ap suc (ap₂ (λ k z. width k z (drop (suc p) text)) (sym e) (sym f) ∙ ap (λ z. width m v (drop z text)) (sym (add-one p))) in
-            omega (arith, turned, r .ends);
-      }
+    passing-next l some m v e f =
+        let turned : width n w (drop p text) ≡ suc (width m v (drop (p + 1) text)) = cc (drop-cons text p 0 l, ne-eqb (n + w) 0 some, add-one p) in
+        record {
+          on = omega arith;
+          from = omega (arith, r .from);
+          few = omega (arith, r .few, few-next n w (getD text p 0));
+          low = omega (arith, low-next n (getD text p 0) (r .low));
+          ends = omega (arith, r .ends);
+        }
 
 -- An expression that stands once more.
 module _ (text : List ℕ) (at gap end : ℕ) (is : end ≡ behindAt text at) where
   again-is : againAt text at gap ≡ cond (leb (end + gap + (end - at)) (length text) && alike text at (end + gap) (end - at)) (end + gap) 0
-  unfolding againAt
-  again-is = ap (λ z. cond (leb (z + gap + (z - at)) (length text) && alike text at (z + gap) (z - at)) (z + gap) 0) (sym is)
+  again-is = unfold againAt in ap (λ z. cond (leb (z + gap + (z - at)) (length text) && alike text at (z + gap) (z - at)) (z + gap) 0) (sym is)
 
   pub again-short : length text < end + gap + (end - at) → 0 ≡ againAt text at gap
   again-short h = sym (again-is ∙ ap (λ b. cond (b && alike text at (end + gap) (end - at)) (end + gap) 0) (lt-leb (end + gap + (end - at)) (length text) h))
@@ -173,11 +144,10 @@ module _ (text : List ℕ) (at gap end : ℕ) (is : end ≡ behindAt text at) wh
 width-in : (n w : ℕ) (t : List ℕ) → width n w t ≤ length t
 unfolding width
 width-in n w [] = omega arith
-width-in n w (x ∷ t) = go (eqb (n + w) 0) (width-in (nextNumbers n x) (nextWanted n w x) t)
-  where
-    go : (b : Bool) → width (nextNumbers n x) (nextWanted n w x) t ≤ length t → cond b 0 (suc (width (nextNumbers n x) (nextWanted n w x) t)) ≤ suc (length t)
-    go true h = omega arith
-    go false h = omega arith
+width-in n w (x ∷ t) = go (eqb (n + w) 0) (width-in (nextNumbers n x) (nextWanted n w x) t) where
+  go : (b : Bool) → width (nextNumbers n x) (nextWanted n w x) t ≤ length t → cond b 0 (suc (width (nextNumbers n x) (nextWanted n w x) t)) ≤ suc (length t)
+  go true h = omega arith
+  go false h = omega arith
 
 pub behind-in : (text : List ℕ) (at : ℕ) → at ≤ length text → behindAt text at ≤ length text
 behind-in text at h = omega (arith, width-in 0 1 (drop at text), length-drop at text)
@@ -191,14 +161,13 @@ pub record AgainIn (text : List ℕ) (at gap place : ℕ) : Type 0 where
 
 pub again-in : (text : List ℕ) (at gap place : ℕ) → place ≡ againAt text at gap → (place ≡ 0 → ⊥) → AgainIn text at gap place
 unfolding againAt
-again-in text at gap place e some = go (leb (end + gap + (end - at)) (length text)) refl (alike text at (end + gap) (end - at)) refl e
-  where
-    end : ℕ
-    end = behindAt text at
+again-in text at gap place e some = go (leb (end + gap + (end - at)) (length text)) refl (alike text at (end + gap) (end - at)) refl e where
+  end : ℕ
+  end = behindAt text at
 
-    go : (a : Bool) → leb (end + gap + (end - at)) (length text) ≡ a → (b : Bool) → alike text at (end + gap) (end - at) ≡ b → place ≡ cond (a && b) (end + gap) 0 → AgainIn text at gap place
-    go true h true k q =
-        let n : end - at ≡ place - gap - at = omega arith in
-        record { low = omega arith; room = omega (arith, leb-true (end + gap + (end - at)) (length text) h); same = ap₂ (alike text at) q (sym n) ∙ k; is = q }
-    go true h false k q = absurd (some q)
-    go false h b k q = absurd (some q)
+  go : (a : Bool) → leb (end + gap + (end - at)) (length text) ≡ a → (b : Bool) → alike text at (end + gap) (end - at) ≡ b → place ≡ cond (a && b) (end + gap) 0 → AgainIn text at gap place
+  go true h true k q =
+      let n : end - at ≡ place - gap - at = omega arith in
+      record { low = omega arith; room = omega (arith, leb-true (end + gap + (end - at)) (length text) h); same = ap₂ (alike text at) q (sym n) ∙ k; is = q }
+  go true h false k q = absurd (some q)
+  go false h b k q = absurd (some q)

@@ -7,7 +7,7 @@ use lib.Dec.{eqb}
 use lib.ListN.{length, getD}
 use Rattle.logic.specs.Syntax.{Sort, node, arrow, rule, Expr, all, none, label, nominal, complement, and, or, some, every, atLeast, atMost, arrowKind, reversed, union, common, minus, endingIn, pair, subNodes, subArrows, nodeIn, pairIn, both, either, notRule}
 use Rattle.text.specs.Code.{code}
-use Rattle.shortening.proofs.Codes.{code-some}
+use Rattle.text.proofs.HeadLaws.{code-some}
 use Rattle.check_steps.specs.Raised.{raisedByte, raised}
 use Rattle.check_steps.proofs.Spans.{raised-length}
 use Rattle.check_steps.proofs.Texts.{textOf}

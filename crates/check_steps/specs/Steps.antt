@@ -8,7 +8,7 @@ use Rattle.logic.specs.Syntax.{Expr, rule}
 use Rattle.logic.specs.Limits.{maxNodes, ranges, InRange}
 use Rattle.text.specs.Code.{code}
 use Rattle.text.specs.Reading.{longestCarried}
-use Rattle.shortening.specs.Asking.{askSteps}
+use Rattle.shortening.specs.Questions.{askSteps}
 use Rattle.check_steps.specs.declared.Outcome.{Outcome}
 use Rattle.check_steps.specs.declared.Outcome.the-variants.{Length, Unfit}
 use Rattle.check_steps.specs.Raised.{raised}

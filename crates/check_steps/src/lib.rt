@@ -9,7 +9,7 @@ ghost use Rattle.answer.specs.Answers.{asked};
 ghost use Rattle.answer.specs.Outputs.{writtenAtStart};
 ghost use Rattle.text.specs.Reading.{longestCarried};
 ghost use Rattle.ends.specs.Shapes.{shapeOf};
-ghost use Rattle.shortening.specs.Asking.{askSame, askCheck};
+ghost use Rattle.shortening.specs.Questions.{askSame, askCheck};
 ghost use Rattle.check_steps.specs.Raised.{nextNumbers, raisedByte, raised, lowered, nextWanted, behindAt, againAt, contraryAt, rightOf, rightAt, withByte, movedDown, stepLength, stepLeaves};
 ghost use Rattle.check_steps.specs.Steps.{RuleIs, SomeRuleIs, Stepped};
 ghost use Rattle.logic.specs.Syntax.{Expr, rule};

@@ -1,4 +1,4 @@
 pub mod Uses
-pub mod Taken
-pub mod Answers
+pub mod NodeTaken
+pub mod CloseStages
 pub mod Back

@@ -21,9 +21,9 @@ use Rattle.bitset.specs.Words.{setOf, member, combined}
 use Rattle.bitset.proofs.SetLaws.{setOf-cong, setOf-wide, member-of, member-setOf}
 use Rattle.sheet.specs.Sheet.{present, store, graphOf}
 use Rattle.sheet.specs.Questions.{Sound}
-use Rattle.sheet.proofs.ReadBack.{read-back}
-use Rattle.sheet.proofs.Passes.{stored-passes}
-use Rattle.sheet.proofs.Opening.{opening}
+use Rattle.store.proofs.StoredReads.{read-back}
+use Rattle.store.proofs.StoredPasses.{stored-passes}
+use Rattle.sheet.proofs.SoundSheets.{sound-is-stored}
 use Rattle.judge.specs.Questions.{askRules}
 use Rattle.judge.specs.Judging.{RulesStand}
 use Rattle.close_node.specs.Changing.{setUse, Judged}
@@ -36,24 +36,22 @@ module _ (g : Graph) (i : ℕ) (used : Bool) (f : Bool → Bool → Bool) (there
       e
       ∙ setOf-cong 64 _ (λ k. ltb k (g .n) && update (g .inUse) i used k)
       (λ k m. ap₂ f (ap (λ (y : ℕ). member y k) a ∙ member-of (g .n) (isNode g) k) (ap (λ (y : ℕ). member y k) o ∙ member-setOf 64 (λ j. eqb j i) k m) ∙ go k (eqb k i) refl)
-      ∙ setOf-wide (g .n) 64 (update (g .inUse) i used) h
-    where
-      twice : (a b : Bool) → (a && (a && b)) ≡ (a && b)
-      twice true b = refl
-      twice false b = refl
+      ∙ setOf-wide (g .n) 64 (update (g .inUse) i used) h where
+        twice : (a b : Bool) → (a && (a && b)) ≡ (a && b)
+        twice true b = refl
+        twice false b = refl
 
-      go : (k : ℕ) (b : Bool) → eqb k i ≡ b → f (ltb k (g .n) && (ltb k (g .n) && g .inUse k)) b ≡ (ltb k (g .n) && cond b used (g .inUse k))
-      go k true e = there _ ∙ sym (ap (_&& used) (ap (λ (j : ℕ). ltb j (g .n)) (eqb-true k i e) ∙ lt-ltb i (g .n) l))
-      go k false e = elsewhere _ ∙ twice (ltb k (g .n)) (g .inUse k)
+        go : (k : ℕ) (b : Bool) → eqb k i ≡ b → f (ltb k (g .n) && (ltb k (g .n) && g .inUse k)) b ≡ (ltb k (g .n) && cond b used (g .inUse k))
+        go k true e = there _ ∙ sym (ap (_&& used) (ap (λ (j : ℕ). ltb j (g .n)) (eqb-true k i e) ∙ lt-ltb i (g .n) l))
+        go k false e = elsewhere _ ∙ twice (ltb k (g .n)) (g .inUse k)
 
 -- A node that is so already; one put back.
 pub use-same : (g : Graph) (i : ℕ) (used : Bool) → g .inUse i ≡ used → setUse g i used ≡ g
 unfolding update
-use-same g i used h = ap (withUse g) (fun-ext (λ x. go x (eqb x i) refl))
-  where
-    go : (x : ℕ) (b : Bool) → eqb x i ≡ b → cond b used (g .inUse x) ≡ g .inUse x
-    go x true e = sym h ∙ ap (g .inUse) (sym (eqb-true x i e))
-    go x false e = refl
+use-same g i used h = ap (withUse g) (fun-ext (λ x. go x (eqb x i) refl)) where
+  go : (x : ℕ) (b : Bool) → eqb x i ≡ b → cond b used (g .inUse x) ≡ g .inUse x
+  go x true e = sym h ∙ ap (g .inUse) (sym (eqb-true x i e))
+  go x false e = refl
 
 use-back : (g : Graph) (i : ℕ) (used : Bool) → g .inUse i ≡ not used → setUse (setUse g i used) i (not used) ≡ g
 unfolding closeNode openNode
@@ -62,12 +60,10 @@ use-back g i false h = close-open g i h
 
 -- The changed graph is within the limits.
 pub within-closed : (g : Graph) (i : ℕ) → Within g → canClose g i ≡ true → Within (setUse g i false)
-unfolding closeNode
-within-closed g i w c = close-within g w i c
+within-closed g i w c = unfold closeNode in close-within g w i c
 
 pub within-opened : (g : Graph) (i : ℕ) → Within g → i < g .n → Within (setUse g i true)
-unfolding openNode
-within-opened g i w l = open-within g w i l
+within-opened g i w l = unfold openNode in open-within g w i l
 
 -- The sheet t that stores the changed graph, judged in its place.
 module _ (sheet book : List ℕ) (i : ℕ) (used : Bool) (within : Within (setUse (graphOf sheet) i used)) (t : List ℕ) (stores : t ≡ store (setUse (graphOf sheet) i used)) where
@@ -100,6 +96,6 @@ module _ (sheet book : List ℕ) (i : ℕ) (used : Bool) (within : Within (setUs
         record {
           answer-is = sym asked-of;
           sheet-is =
-              back ∙ ap (λ (g : Graph). store (setUse g i (not used))) changed-graph ∙ ap store (use-back (graphOf sheet) i used was) ∙ sym (opening present sheet small sound .stored)
+              back ∙ ap (λ (g : Graph). store (setUse g i (not used))) changed-graph ∙ ap store (use-back (graphOf sheet) i used was) ∙ sym (sound-is-stored present sheet small sound .stored)
               ∙ sym (ap (λ (x : Asked (Unit {0})). after x (λ u. store h) sheet) (asked-of ∙ ap asked d));
         }

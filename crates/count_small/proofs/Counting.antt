@@ -1,7 +1,7 @@
 -- One sheet after another: judged, made the next, counted.
 use mathlib.Core.Path.{_≡_, refl, sym, ap, ap₂, _∙_, subst}
-use mathlib.Core.Bool.{Bool, true, false, not, _&&_, cond, and-comm}
-use mathlib.Core.List.{List, [], _∷_}
+use mathlib.Core.Bool.{Bool, not, _&&_, cond, and-comm}
+use mathlib.Core.List.{List}
 use Prim.Native.Nat.{ℕ, zero, suc, _+_, _*_, _/_, _^_, _≤_, _<_}
 use native.Mathlib.Nat.{add-comm, add-assoc}
 use native.Mathlib.Numerals.{add-one}
@@ -12,8 +12,8 @@ use lib.ListN.{length, getD, set}
 use lib.Seq.{getD-set-same, getD-set-other}
 use borrow.Author.Tests.{lt-ltb}
 use Rattle.logic.specs.Syntax.{Expr, rule, Edit}
-use Rattle.logic.specs.Graph.{Graph, Nodes, countBelow}
-use Rattle.logic.specs.Meaning.{value, holdAll}
+use Rattle.logic.specs.Graph.{Nodes, countBelow}
+use Rattle.logic.specs.Meaning.{holdAll}
 use Rattle.logic.specs.Steps.{run}
 use Rattle.bitset.specs.Words.{setOf, member, combined}
 use Rattle.bitset.proofs.SetLaws.{setOf-cong, setOf-wide, member-setOf, count-le}
@@ -54,20 +54,17 @@ part-is x from n low l e =
 
 -- the words of a small sheet
 pub label-is : (n x w : ℕ) → w ≡ setOf n (λ j. member x (0 + j)) → w ≡ setOf n (smallSheet n x .labelled 0)
-unfolding smallSheet
-label-is n x w e = e ∙ setOf-cong n _ _ (λ j l. let z : 0 + j ≡ j = omega arith in ap (member x) z ∙ ap (_&& member x j) (sym (lt-ltb j n l)))
+label-is n x w e = unfold smallSheet in e ∙ setOf-cong n _ _ (λ j l. let z : 0 + j ≡ j = omega arith in ap (member x) z ∙ ap (_&& member x j) (sym (lt-ltb j n l)))
 
 pub row-is : (n x i w : ℕ) → i < n → w ≡ setOf n (λ j. member x (n + n * i + j)) → w ≡ setOf n (smallSheet n x .joined 0 i)
-unfolding smallSheet
-row-is n x i w k e = e ∙ setOf-cong n _ _ (λ j l. ap (member x) (add-assoc n (n * i) j) ∙ sym (rw (lt-ltb i n k, lt-ltb j n l)))
+row-is n x i w k e = unfold smallSheet in e ∙ setOf-cong n _ _ (λ j l. ap (member x) (add-assoc n (n * i) j) ∙ sym (rw (lt-ltb i n k, lt-ltb j n l)))
 
 -- one row more
 pub rows-more : (rows : List ℕ) (i w : ℕ) (f : ℕ → ℕ) → i < length rows → ((k : ℕ) → k < i → getD rows k 0 ≡ f k) → w ≡ f i → (k : ℕ) → k < i + 1 → getD (set rows i w) k 0 ≡ f k
-rows-more rows i w f room before here k l = go (decLt k i)
-  where
-    go : Dec (k < i) → getD (set rows i w) k 0 ≡ f k
-    go (yes h) = getD-set-other rows i k w 0 (λ (e : k ≡ i). absurd (omega arith)) ∙ before k h
-    go (no h) = let e : k ≡ i = omega arith in ap (λ (j : ℕ). getD (set rows i w) j 0) e ∙ getD-set-same rows i w 0 room ∙ here ∙ ap f (sym e)
+rows-more rows i w f room before here k l = go (decLt k i) where
+  go : Dec (k < i) → getD (set rows i w) k 0 ≡ f k
+  go (yes h) = getD-set-other rows i k w 0 (λ (e : k ≡ i). absurd (omega arith)) ∙ before k h
+  go (no h) = let e : k ≡ i = omega arith in ap (λ (j : ℕ). getD (set rows i w) j 0) e ∙ getD-set-same rows i w 0 room ∙ here ∙ ap f (sym e)
 
 -- One sheet more is counted.
 pub tally-more : (x : ℕ) (before next : Nodes) → tallied (fourOf x before next) (before x) (next x) ≡ fourOf (x + 1) before next
@@ -78,10 +75,9 @@ tally-more x before next =
       lost = more (λ y. before y && not (next y)) t;
       repaired = more (λ y. not (before y) && next y) t;
       broken = more (λ y. not (before y) && not (next y)) t;
-    }
-  where
-    more : (v : Nodes) → cond (v x) (countBelow x v + 1) (countBelow x v) ≡ countBelow (x + 1) v
-    more v = ap (λ (m : ℕ). cond (v x) m (countBelow x v)) (add-one (countBelow x v)) ∙ sym (ap (λ (m : ℕ). countBelow m v) (add-one x))
+    } where
+      more : (v : Nodes) → cond (v x) (countBelow x v + 1) (countBelow x v) ≡ countBelow (x + 1) v
+      more v = ap (λ (m : ℕ). cond (v x) m (countBelow x v)) (add-one (countBelow x v)) ∙ sym (ap (λ (m : ℕ). countBelow m v) (add-one x))
 
 -- There is room for one more.
 pub room : (x : ℕ) (before next : Nodes) (f : Four) → x < 4096 → f ≡ fourOf x before next → Room f
@@ -95,8 +91,7 @@ room x before next f l e =
     })
 
 pub none-counted : (before next : Nodes) → noCounts ≡ fourOf 0 before next
-unfolding fourOf countBelow
-none-counted before next = refl
+none-counted before next = unfold fourOf countBelow in refl
 
 -- The counts so far, with sheet x; and all of them.
 pub counted-more : (n x : ℕ) (rules : List (Expr rule)) (Z : Edit) (four four′ : Four) (b a : Bool) → four ≡ fourOf x (λ y. holdAll (smallSheet n y) rules) (λ y. holdAll (run Z (smallSheet n y)) rules) → Turned n x rules Z b a
@@ -107,5 +102,4 @@ counted-more n x rules Z four four′ b a e t m =
     m ∙ ap (λ (f : Four). tallied f b a) e ∙ ap₂ (tallied (fourOf x before next)) (t .before-is) (t .next-is) ∙ tally-more x before next
 
 pub counted-all : (n x : ℕ) (rules : List (Expr rule)) (Z : Edit) (four : Four) → x ≡ 2 ^ bits n → four ≡ fourOf x (λ y. holdAll (smallSheet n y) rules) (λ y. holdAll (run Z (smallSheet n y)) rules) → four ≡ fourCounts n rules Z
-unfolding fourCounts
-counted-all n x rules Z four e h = h ∙ ap (λ (m : ℕ). fourOf m (λ y. holdAll (smallSheet n y) rules) (λ y. holdAll (run Z (smallSheet n y)) rules)) e
+counted-all n x rules Z four e h = unfold fourCounts in h ∙ ap (λ (m : ℕ). fourOf m (λ y. holdAll (smallSheet n y) rules) (λ y. holdAll (run Z (smallSheet n y)) rules)) e

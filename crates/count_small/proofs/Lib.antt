@@ -1,11 +1,11 @@
 pub mod Numbering
 pub mod Totals
-pub mod Exact
+pub mod ExactCounts
 pub mod Matched
-pub mod Walks
+pub mod NameWalks
 pub mod Others
 pub mod Counting
-pub mod Sheets
-pub mod Asking
-pub mod Right
+pub mod SmallBuffer
+pub mod CountStages
+pub mod CountsRight
 pub mod Examples

@@ -44,20 +44,18 @@ bit-pair n p some l u =
 -- Different numbers, different sheets.
 pub numbered-once : (n x y : ℕ) → 0 < n → x < 2 ^ bits n → y < 2 ^ bits n → smallSheet n x ≡ smallSheet n y → x ≡ y
 unfolding smallSheet
-numbered-once n x y some l k e = sym (setOf-member-lt (bits n) x l) ∙ setOf-cong (bits n) (member x) (member y) same ∙ setOf-member-lt (bits n) y k
-  where
-    same : (p : ℕ) → p < bits n → member x p ≡ member y p
-    same p u = go (decLt p n)
-      where
-        node : p < n → member x p ≡ member y p
-        node m = let q : (ltb p n && member x p) ≡ (ltb p n && member y p) = ap (λ g. g .labelled 0 p) e in rw (lt-ltb p n m) at q
+numbered-once n x y some l k e = sym (setOf-member-lt (bits n) x l) ∙ setOf-cong (bits n) (member x) (member y) same ∙ setOf-member-lt (bits n) y k where
+  same : (p : ℕ) → p < bits n → member x p ≡ member y p
+  same p u = go (decLt p n) where
+    node : p < n → member x p ≡ member y p
+    node m = let q : (ltb p n && member x p) ≡ (ltb p n && member y p) = ap (λ g. g .labelled 0 p) e in rw (lt-ltb p n m) at q
 
-        pair : (i j : ℕ) → i < n → j < n → member x (n + (n * i + j)) ≡ member y (n + (n * i + j))
-        pair i j a b = let q : ((ltb i n && ltb j n) && member x (n + (n * i + j))) ≡ ((ltb i n && ltb j n) && member y (n + (n * i + j))) = ap (λ g. g .joined 0 i j) e in rw (lt-ltb i n a, lt-ltb j n b) at q
+    pair : (i j : ℕ) → i < n → j < n → member x (n + (n * i + j)) ≡ member y (n + (n * i + j))
+    pair i j a b = let q : ((ltb i n && ltb j n) && member x (n + (n * i + j))) ≡ ((ltb i n && ltb j n) && member y (n + (n * i + j))) = ap (λ g. g .joined 0 i j) e in rw (lt-ltb i n a, lt-ltb j n b) at q
 
-        go : Dec (p < n) → member x p ≡ member y p
-        go (yes m) = node m
-        go (no m) = let (i, j, a, b, f) = bit-pair n p some (omega arith) u in ap (member x) f ∙ pair i j a b ∙ ap (member y) (sym f)
+    go : Dec (p < n) → member x p ≡ member y p
+    go (yes m) = node m
+    go (no m) = let (i, j, a, b, f) = bit-pair n p some (omega arith) u in ap (member x) f ∙ pair i j a b ∙ ap (member y) (sym f)
 
 -- The number of a small sheet.
 sheetBits : ℕ → Graph → Nodes
@@ -92,23 +90,21 @@ module _ (n : ℕ) (g : Graph) (s : Small n g) where
         inUse = λ i. sym (s .all-in-use i) t;
         labelled = λ k i. labels k i (eqb k 0) refl (ltb i n) refl t;
         joined = λ a i j. arrows a i j (eqb a 0) refl (ltb i n) refl (ltb j n) refl t;
-      }
-    where
-      labels : (k i : ℕ) (b : Bool) → eqb k 0 ≡ b → (c : Bool) → ltb i n ≡ c → (b && (c && member x i)) ≡ g .labelled k i
-      labels k i false e c d = sym (s .one-label k i (eqb-false k 0 e))
-      labels k i true e true d = node-bit i (ltb-true i n d) ∙ ap (λ k. g .labelled k i) (sym (eqb-true k 0 e))
-      labels k i true e false d = sym (s .within .labels-in k i (beyond i d))
+      } where
+        labels : (k i : ℕ) (b : Bool) → eqb k 0 ≡ b → (c : Bool) → ltb i n ≡ c → (b && (c && member x i)) ≡ g .labelled k i
+        labels k i false e c d = sym (s .one-label k i (eqb-false k 0 e))
+        labels k i true e true d = node-bit i (ltb-true i n d) ∙ ap (λ k. g .labelled k i) (sym (eqb-true k 0 e))
+        labels k i true e false d = sym (s .within .labels-in k i (beyond i d))
 
-      arrows : (a i j : ℕ) (b : Bool) → eqb a 0 ≡ b → (c : Bool) → ltb i n ≡ c → (d : Bool) → ltb j n ≡ d → (b && ((c && d) && member x (n + (n * i + j)))) ≡ g .joined a i j
-      arrows a i j false e c l d k = sym (s .one-arrow a i j (eqb-false a 0 e))
-      arrows a i j true e true l true k = pair-at i j (ltb-true i n l) (ltb-true j n k) ∙ ap (λ a. g .joined a i j) (sym (eqb-true a 0 e))
-      arrows a i j true e true l false k = sym (s .within .arrows-in a .ends i j (beyond j k))
-      arrows a i j true e false l d k = sym (s .within .arrows-in a .starts i j (beyond i l))
+        arrows : (a i j : ℕ) (b : Bool) → eqb a 0 ≡ b → (c : Bool) → ltb i n ≡ c → (d : Bool) → ltb j n ≡ d → (b && ((c && d) && member x (n + (n * i + j)))) ≡ g .joined a i j
+        arrows a i j false e c l d k = sym (s .one-arrow a i j (eqb-false a 0 e))
+        arrows a i j true e true l true k = pair-at i j (ltb-true i n l) (ltb-true j n k) ∙ ap (λ a. g .joined a i j) (sym (eqb-true a 0 e))
+        arrows a i j true e true l false k = sym (s .within .arrows-in a .ends i j (beyond j k))
+        arrows a i j true e false l d k = sym (s .within .arrows-in a .starts i j (beyond i l))
 
 -- Every small sheet is numbered,
 pub each-numbered : (n : ℕ) (g : Graph) → Small n g → (x : ℕ) × (x < 2 ^ bits n) × (smallSheet n x ≡ g)
-unfolding x
-each-numbered n g s = (x n g s, setOf-lt (bits n) (sheetBits n g), numbered n g s)
+each-numbered n g s = unfold x in (x n g s, setOf-lt (bits n) (sheetBits n g), numbered n g s)
 
 -- and every number gives a small sheet.
 pub number-small : (n x : ℕ) → 1 ≤ n → n ≤ maxNodes → Small n (smallSheet n x)
@@ -128,16 +124,15 @@ number-small n x some few =
       all-in-use = λ i. refl;
       one-label = λ k i h. ap (_&& (ltb i n && member x i)) (ne-eqb k 0 h);
       one-arrow = λ a i j h. ap (_&& ((ltb i n && ltb j n) && member x (n + (n * i + j)))) (ne-eqb a 0 h);
-    }
-  where
-    label : (a b m : Bool) → (b && b) ≡ false → (a && (b && m)) ≡ false
-    label a true m h = true-false refl h
-    label a false m h = and-false a
+    } where
+      label : (a b m : Bool) → (b && b) ≡ false → (a && (b && m)) ≡ false
+      label a true m h = true-false refl h
+      label a false m h = and-false a
 
-    from : (a b c m : Bool) → (b && b) ≡ false → (a && ((b && c) && m)) ≡ false
-    from a true c m h = true-false refl h
-    from a false c m h = and-false a
+      from : (a b c m : Bool) → (b && b) ≡ false → (a && ((b && c) && m)) ≡ false
+      from a true c m h = true-false refl h
+      from a false c m h = and-false a
 
-    to : (a b c m : Bool) → (c && c) ≡ false → (a && ((b && c) && m)) ≡ false
-    to a b true m h = true-false refl h
-    to a b false m h = rw (and-false b, and-false a)
+      to : (a b c m : Bool) → (c && c) ≡ false → (a && ((b && c) && m)) ≡ false
+      to a b true m h = true-false refl h
+      to a b false m h = rw (and-false b, and-false a)

@@ -28,8 +28,7 @@ same-then f g h p q = record { labels = λ k i e. q .labels k i e ∙ p .labels 
 
 -- elsewhere a table is as it was
 elsewhere : {A : Type 0} (f : ℕ → A) (k : ℕ) (v : A) (x : ℕ) → eqb k 0 ≡ true → x ≢ 0 → update f k v x ≡ f x
-unfolding update
-elsewhere f k v x e n = ap (λ (b : Bool). cond b v (f x)) (ne-eqb x k (λ (p : x ≡ k). n (p ∙ eqb-true k 0 e)))
+elsewhere f k v x e n = unfold update in ap (λ (b : Bool). cond b v (f x)) (ne-eqb x k (λ (p : x ≡ k). n (p ∙ eqb-true k 0 e)))
 
 relabelled : (g : Graph) (k : ℕ) (v : Nodes) → eqb k 0 ≡ true → SameOthers g (relabel g k v)
 relabelled g k v e = record { labels = λ x i n. ap (λ (u : Nodes). u i) (elsewhere (g .labelled) k v x e n); arrows = λ a i j n. refl }
@@ -79,12 +78,11 @@ put-small n x g s =
       inUse = λ i. s .all-in-use i t;
       labelled = λ k i. labels k i (eqb k 0) refl t;
       joined = λ a i j. arrows a i j (eqb a 0) refl t;
-    }
-  where
-    labels : (k i : ℕ) (b : Bool) → eqb k 0 ≡ b → cond b (smallSheet n x .labelled 0) (g .labelled k) i ≡ (b && smallSheet n x .labelled 0 i)
-    labels k i true e = refl
-    labels k i false e = s .one-label k i (eqb-false k 0 e)
+    } where
+      labels : (k i : ℕ) (b : Bool) → eqb k 0 ≡ b → cond b (smallSheet n x .labelled 0) (g .labelled k) i ≡ (b && smallSheet n x .labelled 0 i)
+      labels k i true e = refl
+      labels k i false e = s .one-label k i (eqb-false k 0 e)
 
-    arrows : (a i j : ℕ) (b : Bool) → eqb a 0 ≡ b → cond b (smallSheet n x .joined 0) (g .joined a) i j ≡ (b && smallSheet n x .joined 0 i j)
-    arrows a i j true e = refl
-    arrows a i j false e = s .one-arrow a i j (eqb-false a 0 e)
+      arrows : (a i j : ℕ) (b : Bool) → eqb a 0 ≡ b → cond b (smallSheet n x .joined 0) (g .joined a) i j ≡ (b && smallSheet n x .joined 0 i j)
+      arrows a i j true e = refl
+      arrows a i j false e = s .one-arrow a i j (eqb-false a 0 e)

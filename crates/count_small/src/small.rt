@@ -18,7 +18,7 @@ use crate::Four;
 use answer::Answer;
 use logic::Arrow;
 use logic::Label;
-use sheet::Sheet;
+use store::Store;
 
 // Whether the book was kept before the edit, and after it.
 struct Judged {
@@ -64,8 +64,8 @@ fn put_small(sheet: &mut [u8], n: usize, x: u64)
     requires { ⌜ Loaded n (now sheet) × (n ≤ mostSmall) ⌝ }
     ensures { λ _. ⌜ now (sheet .exit) ≡ store (smallSheet n x) ⌝ }
 {
-    Sheet::put_label(sheet, Label(0), part(x, 0, n));
-    Sheet::put_rows(sheet, Arrow(0), rows_of(x, n));
+    Store::put_label(sheet, Label(0), part(x, 0, n));
+    Store::put_rows(sheet, Arrow(0), rows_of(x, n));
 }
 
 // Whether each rule of the book holds on the sheet.

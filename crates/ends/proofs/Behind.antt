@@ -8,7 +8,7 @@ use Rattle.logic.specs.Limits.{Ranges}
 use Rattle.text.specs.Code.{code}
 use Rattle.text.specs.Stands.{Stands, SomeStands}
 use Rattle.tree.specs.Tree.{Tree, tree, size}
-use Rattle.tree.proofs.Trees.{code-tree, size-is}
+use Rattle.tree.proofs.TreeLaws.{code-tree, size-is}
 use Rattle.ends.specs.Shapes.{At, Some}
 use Rattle.ends.proofs.Formed.{formed-tree}
 

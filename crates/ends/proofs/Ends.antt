@@ -9,7 +9,7 @@ use Rattle.text.specs.Code.{editCode}
 use Rattle.tree.specs.Tree.{Tree, tree, size}
 use Rattle.ends.specs.Shapes.{At}
 use Rattle.ends.specs.Edits.{EditAt, SomeEdit, behindStep, NextAt}
-use Rattle.ends.proofs.Steps.{editTree, as-step, as-choose, as-finish, finish-long}
+use Rattle.ends.proofs.FirstSteps.{editTree, as-step, as-choose, as-finish, finish-long}
 
 pub record Tail (text : List ℕ) (p end : ℕ) : Type 0 where
   pub tail : Edit

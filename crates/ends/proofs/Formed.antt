@@ -1,37 +1,54 @@
--- An expression in range is a formed tree.
+-- The head of each code is as the table of shapes says, so that an expression in range is a formed tree.
 use mathlib.Core.Path.{refl}
 use mathlib.Core.Logic.{inl, inr}
 use native.Mathlib.Omega.{arith}
 use lib.Dec.{ltb→lt}
-use Rattle.logic.specs.Syntax.{Sort, Expr, all, none, label, nominal, complement, and, or, some, every, atLeast, atMost, arrowKind, reversed, union, common, minus, endingIn, pair, subNodes, subArrows, nodeIn, pairIn, both, either, notRule}
+use Rattle.logic.specs.Syntax.{Sort, Expr}
 use Rattle.logic.specs.Limits.{Ranges, InRange}
-use Rattle.tree.specs.Tree.{tree}
-use Rattle.ends.specs.Shapes.{shapes, Formed}
+use Rattle.logic.specs.Arity.{Nullary, all·, none·, label·, nominal·, arrowKind·, pair·, Unary, complement·, reversed·, nodeIn·, pairIn·, notRule·, Binary, and·, or·, some·, every·, atLeast·, atMost·, union·, common·, minus·, endingIn·, subNodes·, subArrows·, both·, either·, build0, byArity}
+use Rattle.logic.proofs.ArityLaws.{range-1, range-2}
+use Rattle.text.specs.Heads.{head1, head2}
+use Rattle.tree.specs.Tree.{bare, tree}
+use Rattle.tree.proofs.TreeLaws.{tree-0, tree-1, tree-2}
+use Rattle.ends.specs.Shapes.{shapes, Head, Formed}
 
-pub formed-tree : (lim : Ranges) {s : Sort} (e : Expr s) → InRange lim e → Formed (tree e)
-unfolding Formed tree InRange shapes
-formed-tree lim (label k) r = inl (refl, ltb→lt k 48 r)
-formed-tree lim (arrowKind a) r = inr (refl, ltb→lt a 16 r)
-formed-tree lim all r = record { pos = omega arith; short = omega arith; is = refl }
-formed-tree lim none r = record { pos = omega arith; short = omega arith; is = refl }
-formed-tree lim (nominal i) r = record { pos = omega arith; short = omega arith; is = refl }
-formed-tree lim (complement E) r = (record { pos = omega arith; short = omega arith; is = refl }, formed-tree lim E r)
-formed-tree lim (and E F) r = (record { pos = omega arith; short = omega arith; is = refl }, formed-tree lim E (r .0), formed-tree lim F (r .1))
-formed-tree lim (or E F) r = (record { pos = omega arith; short = omega arith; is = refl }, formed-tree lim E (r .0), formed-tree lim F (r .1))
-formed-tree lim (some R E) r = (record { pos = omega arith; short = omega arith; is = refl }, formed-tree lim R (r .0), formed-tree lim E (r .1))
-formed-tree lim (every R E) r = (record { pos = omega arith; short = omega arith; is = refl }, formed-tree lim R (r .0), formed-tree lim E (r .1))
-formed-tree lim (atLeast m R E) r = (record { pos = omega arith; short = omega arith; is = refl }, formed-tree lim R (r .1), formed-tree lim E (r .2))
-formed-tree lim (atMost m R E) r = (record { pos = omega arith; short = omega arith; is = refl }, formed-tree lim R (r .1), formed-tree lim E (r .2))
-formed-tree lim (reversed R) r = (record { pos = omega arith; short = omega arith; is = refl }, formed-tree lim R r)
-formed-tree lim (union R S) r = (record { pos = omega arith; short = omega arith; is = refl }, formed-tree lim R (r .0), formed-tree lim S (r .1))
-formed-tree lim (common R S) r = (record { pos = omega arith; short = omega arith; is = refl }, formed-tree lim R (r .0), formed-tree lim S (r .1))
-formed-tree lim (minus R S) r = (record { pos = omega arith; short = omega arith; is = refl }, formed-tree lim R (r .0), formed-tree lim S (r .1))
-formed-tree lim (endingIn R E) r = (record { pos = omega arith; short = omega arith; is = refl }, formed-tree lim R (r .0), formed-tree lim E (r .1))
-formed-tree lim (pair i j) r = record { pos = omega arith; short = omega arith; is = refl }
-formed-tree lim (subNodes E F) r = (record { pos = omega arith; short = omega arith; is = refl }, formed-tree lim E (r .0), formed-tree lim F (r .1))
-formed-tree lim (subArrows R S) r = (record { pos = omega arith; short = omega arith; is = refl }, formed-tree lim R (r .0), formed-tree lim S (r .1))
-formed-tree lim (nodeIn i E) r = (record { pos = omega arith; short = omega arith; is = refl }, formed-tree lim E (r .1))
-formed-tree lim (pairIn i j R) r = (record { pos = omega arith; short = omega arith; is = refl }, formed-tree lim R (r .2))
-formed-tree lim (both K L) r = (record { pos = omega arith; short = omega arith; is = refl }, formed-tree lim K (r .0), formed-tree lim L (r .1))
-formed-tree lim (either K L) r = (record { pos = omega arith; short = omega arith; is = refl }, formed-tree lim K (r .0), formed-tree lim L (r .1))
-formed-tree lim (notRule K) r = (record { pos = omega arith; short = omega arith; is = refl }, formed-tree lim K r)
+pub shape-1 : {u t : Sort} (b : Unary u t) → Head (head1 b) 1
+unfolding head1 shapes
+shape-1 complement· = record { pos = omega arith; short = omega arith; is = refl }
+shape-1 reversed· = record { pos = omega arith; short = omega arith; is = refl }
+shape-1 (nodeIn· i) = record { pos = omega arith; short = omega arith; is = refl }
+shape-1 (pairIn· i j) = record { pos = omega arith; short = omega arith; is = refl }
+shape-1 notRule· = record { pos = omega arith; short = omega arith; is = refl }
+
+pub shape-2 : {u v t : Sort} (b : Binary u v t) → Head (head2 b) 2
+unfolding head2 shapes
+shape-2 and· = record { pos = omega arith; short = omega arith; is = refl }
+shape-2 or· = record { pos = omega arith; short = omega arith; is = refl }
+shape-2 some· = record { pos = omega arith; short = omega arith; is = refl }
+shape-2 every· = record { pos = omega arith; short = omega arith; is = refl }
+shape-2 (atLeast· m) = record { pos = omega arith; short = omega arith; is = refl }
+shape-2 (atMost· m) = record { pos = omega arith; short = omega arith; is = refl }
+shape-2 union· = record { pos = omega arith; short = omega arith; is = refl }
+shape-2 common· = record { pos = omega arith; short = omega arith; is = refl }
+shape-2 minus· = record { pos = omega arith; short = omega arith; is = refl }
+shape-2 endingIn· = record { pos = omega arith; short = omega arith; is = refl }
+shape-2 subNodes· = record { pos = omega arith; short = omega arith; is = refl }
+shape-2 subArrows· = record { pos = omega arith; short = omega arith; is = refl }
+shape-2 both· = record { pos = omega arith; short = omega arith; is = refl }
+shape-2 either· = record { pos = omega arith; short = omega arith; is = refl }
+
+formed-bare : (r : Ranges) {s : Sort} (b : Nullary s) → InRange r (build0 b) → Formed (bare b)
+unfolding Formed bare InRange build0 shapes
+formed-bare r all· q = record { pos = omega arith; short = omega arith; is = refl }
+formed-bare r none· q = record { pos = omega arith; short = omega arith; is = refl }
+formed-bare r (label· k) q = inl (refl, ltb→lt k 48 q)
+formed-bare r (nominal· i) q = record { pos = omega arith; short = omega arith; is = refl }
+formed-bare r (arrowKind· a) q = inr (refl, ltb→lt a 16 q)
+formed-bare r (pair· i j) q = record { pos = omega arith; short = omega arith; is = refl }
+
+pub formed-tree : (r : Ranges) {s : Sort} (e : Expr s) → InRange r e → Formed (tree e)
+unfolding Formed
+formed-tree r e = byArity (λ s e. InRange r e → Formed (tree e)) (λ s b q. rw tree-0 (formed-bare r b q))
+    (λ u t b x f q. rw tree-1 (shape-1 b, f (range-1 r b x .0 q .1)))
+    (λ u v t b x y f g q. let p = range-2 r b x y .0 q .1 in rw tree-2 (shape-2 b, f (p .0), g (p .1)))
+    e

@@ -21,8 +21,7 @@ pub copy-none : (src out : List ℕ) → Kept 0 src out
 copy-none src out = record { same = λ j m. absurd (omega arith) }
 
 pub copy-more : (src out : List ℕ) (i : ℕ) → i < length out → Kept i src out → Kept (i + 1) src (set out i (getD src i 0))
-copy-more src out i l h = record { same = λ j m. go j (decLt j i) m }
-  where
-    go : (j : ℕ) → Dec (j < i) → j < i + 1 → getD (set out i (getD src i 0)) j 0 ≡ getD src j 0
-    go j (yes p) m = elsewhere out i j _ (λ e. omega (arith, p)) ∙ h .same j p
-    go j (no p) m = let e : j ≡ i = omega arith in ap (λ (k : ℕ). getD (set out i (getD src i 0)) k 0) e ∙ getD-set-same out i _ 0 l ∙ ap (λ (k : ℕ). getD src k 0) (sym e)
+copy-more src out i l h = record { same = λ j m. go j (decLt j i) m } where
+  go : (j : ℕ) → Dec (j < i) → j < i + 1 → getD (set out i (getD src i 0)) j 0 ≡ getD src j 0
+  go j (yes p) m = elsewhere out i j _ (λ e. omega (arith, p)) ∙ h .same j p
+  go j (no p) m = let e : j ≡ i = omega arith in ap (λ (k : ℕ). getD (set out i (getD src i 0)) k 0) e ∙ getD-set-same out i _ 0 l ∙ ap (λ (k : ℕ). getD src k 0) (sym e)

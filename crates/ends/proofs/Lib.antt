@@ -1,9 +1,9 @@
-pub mod Places
+pub mod TreePlaces
 pub mod Pending
 pub mod Formed
 pub mod Behind
-pub mod Names
-pub mod Steps
+pub mod NameCells
+pub mod FirstSteps
 pub mod Ends
-pub mod Rules
+pub mod RulePlaces
 pub mod Kept

@@ -7,10 +7,10 @@ use native.Mathlib.Decide.{decLt}
 use native.Mathlib.Omega.{arith}
 use lib.ListN.{length, getD, drop, length-append, List·getD-eq-default}
 use Rattle.tree.specs.Tree.{Tree, name, leaf, one, two, treeCode, size}
-use Rattle.tree.proofs.Trees.{size-is}
+use Rattle.tree.proofs.TreeLaws.{size-is}
 use Rattle.ends.specs.Shapes.{shapes, shapeOf, Formed, At, Some}
-use Rattle.ends.proofs.Places.{tag, tag-at, inside, size-pos}
-use Rattle.text.proofs.Standing.{within, behind}
+use Rattle.ends.proofs.TreePlaces.{tag, tag-at, inside, size-pos}
+use Rattle.text.proofs.StandingLaws.{within, behind}
 
 -- a tree's code byte with its numbers, and its operands
 abbrev pub headOf : Tree → List ℕ
@@ -74,11 +74,10 @@ shaped (two h x y) f s e = record { head = omega (arith, e, f .0 .short); on = o
 
 pub code-low : (c : ℕ) → 0 < shapeOf c → c < 40
 unfolding shapes
-code-low c l = go (decLt c 40)
-  where
-    go : Dec (c < 40) → c < 40
-    go (yes h) = h
-    go (no h) = let g : 40 ≤ c = omega arith in absurd (omega (arith, l, List·getD-eq-default shapes 0 g))
+code-low c l = go (decLt c 40) where
+  go : Dec (c < 40) → c < 40
+  go (yes h) = h
+  go (no h) = let g : 40 ≤ c = omega arith in absurd (omega (arith, l, List·getD-eq-default shapes 0 g))
 
 pub code-at : (text : List ℕ) (at : ℕ) (t : Tree) → At text at t → getD text at 0 < 40
 code-at text at t h = code-low (getD text at 0) (omega (arith, shaped t (h .formed) (shapeOf (getD text at 0)) (tag-at text at t h) .on))
@@ -105,13 +104,12 @@ pub record First (text : List ℕ) (p : ℕ) (parts : List Tree) : Type 0 where
 
 pub first : {text : List ℕ} {p wanted : ℕ} {parts : List Tree} → Pending text p wanted parts → 0 < wanted → First text p parts
 unfolding texts AllFormed
-first {text} {p} {wanted} {parts} w l = go parts (w .count) (w .here) (w .formed)
-  where
-    go : (parts : List Tree) → length parts ≡ wanted → drop p text ≡ texts treeCode parts ++ w .rest → AllFormed parts → First text p parts
-    go [] n e f = absurd (omega (arith, n))
-    go (t ∷ more) n e f =
-        let h : At text p t = record { rest = texts treeCode more ++ w .rest; here = e ∙ append-assoc (treeCode t) (texts treeCode more) (w .rest); formed = f .0 } in
-        record { t = t; more = more; is = refl; at = h; inside-text = inside text p t h; low = code-at text p t h }
+first {text} {p} {wanted} {parts} w l = go parts (w .count) (w .here) (w .formed) where
+  go : (parts : List Tree) → length parts ≡ wanted → drop p text ≡ texts treeCode parts ++ w .rest → AllFormed parts → First text p parts
+  go [] n e f = absurd (omega (arith, n))
+  go (t ∷ more) n e f =
+      let h : At text p t = record { rest = texts treeCode more ++ w .rest; here = e ∙ append-assoc (treeCode t) (texts treeCode more) (w .rest); formed = f .0 } in
+      record { t = t; more = more; is = refl; at = h; inside-text = inside text p t h; low = code-at text p t h }
 
 pub record Turn (text : List ℕ) (p wanted : ℕ) (t : Tree) (more : List Tree) (s : ℕ) : Type 0 where
   pub head : length (headOf t) ≡ s % 4
@@ -164,11 +162,10 @@ passing-first text at t h = record { parts = t ∷ []; pending = pending-one tex
 
 pub passing-end : {text : List ℕ} {at p wanted : ℕ} → Passing text at p wanted → wanted ≤ 0 → (t : Tree) → At text at t → p ≡ at + size t
 unfolding texts
-passing-end {text} {at} {p} {wanted} w l t h = let q = w t h in go (q .parts) (q .pending .count) (q .ends)
-  where
-    go : (parts : List Tree) → length parts ≡ wanted → p + length (texts treeCode parts) ≡ at + size t → p ≡ at + size t
-    go [] n e = omega (arith, e)
-    go (x ∷ more) n e = absurd (omega (arith, n, l))
+passing-end {text} {at} {p} {wanted} w l t h = let q = w t h in go (q .parts) (q .pending .count) (q .ends) where
+  go : (parts : List Tree) → length parts ≡ wanted → p + length (texts treeCode parts) ≡ at + size t → p ≡ at + size t
+  go [] n e = omega (arith, e)
+  go (x ∷ more) n e = absurd (omega (arith, n, l))
 
 module _ {text : List ℕ} {at p wanted : ℕ} (w : Passing text at p wanted) (l : 0 < wanted) where
   pub passing-at : (o : Some text at) → First text p (w (o .what) (o .stands) .parts)

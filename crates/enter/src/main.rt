@@ -5,7 +5,7 @@ use sheet::Sheet;
 
 // The whole output when the input ends early.
 fn write_early() {
-    let early = line::early();
+    let early = printed::line::early();
     io::write_all(STDOUT_FILENO, &early);
 }
 

@@ -1,1 +1,4 @@
-pub mod Stages
+mod Longest
+mod EachCarried
+mod CarriedStages
+pub mod EnterStages

@@ -16,7 +16,7 @@ use Rattle.text.specs.Code.{code}
 use Rattle.text.specs.Stands.{Stands}
 use Rattle.rows.specs.Operations.{arrowOperation}
 use Rattle.eval.specs.Evaluated.{IsSet, IsRelation, IsJoined}
-use Rattle.eval.proofs.Places.{first-number, second-number, codeByte, by-byte, below, above, Leaf, One, Two, leaf-at, one-at, two-at}
+use Rattle.eval.proofs.CodePlaces.{first-number, second-number, codeByte, by-byte, below, above, Leaf, One, Two, leaf-at, one-at, two-at}
 
 module _ (n : ℕ) (text : List ℕ) (at : ℕ) where
   -- 11
@@ -55,8 +55,7 @@ module _ (n : ℕ) (text : List ℕ) (at : ℕ) where
   cases (minus R S) h = two-at h 0x15 [] R S (λ g. refl) refl (h .range .0) (h .range .1)
   cases (endingIn R E) h = two-at h 0x16 [] R E (λ g. refl) refl (h .range .0) (h .range .1)
   cases (pair i j) h =
-      let p = first-number text at 0x17 i _ (h .here) in
-      let q = second-number text at 0x17 i j _ (h .here) in
+      let p = first-number text at 0x17 i _ (h .here) in let q = second-number text at 0x17 i j _ (h .here) in
       leaf-at h (omega (arith, p, ltb→lt i n (h .range .0)), omega (arith, q, ltb→lt j n (h .range .1))) (λ g. ap₂ {C = Pairs} (λ i j k l. (isNode g k && eqb k i) && (isNode g l && eqb l j)) (sym p) (sym q))
 
   -- With a numeral for c, Shown c is one case; else the bounds on c choose it (below, above).
@@ -81,7 +80,7 @@ module _ (n : ℕ) (text : List ℕ) (at : ℕ) where
 
   module _ (sheet : List ℕ) (e : Expr arrow) (out : List ℕ) where
     pub leaf-relation : {k : ℕ} {P : Type 0} {v : Graph → Pairs} → Leaf text at k P v e → Rows n (v (graphOf sheet)) out → IsRelation sheet n at e out (at + k)
-    leaf-relation h r = record { rows-are = subst (λ (v : Pairs). Rows n v out) (sym (h .means (graphOf sheet))) r; ends = omega (arith, h .size) }
+    leaf-relation h r = record { rows-are = rw (h .means (graphOf sheet)) r; ends = omega (arith, h .size) }
 
     pub reversed-relation : IsReversed e → (rows : List ℕ) (nx : ℕ)
         → ((f : Expr arrow) → Stands (ranges n) text (at + 1) f → IsRelation sheet n (at + 1) f rows nx)
@@ -89,22 +88,15 @@ module _ (n : ℕ) (text : List ℕ) (at : ℕ) where
         → IsRelation sheet n at e out nx
     reversed-relation h rows nx p r =
         let a = p (h .A) (h .first) in
-        record {
-          rows-are = subst (λ (v : Pairs). Rows n v out) (sym (h .means (graphOf sheet))) (r (value (graphOf sheet) (h .A)) (a .rows-are));
-          ends = omega (arith, a .ends, h .size);
-        }
+        record { rows-are = rw (h .means (graphOf sheet)) (r (value (graphOf sheet) (h .A)) (a .rows-are)); ends = omega (arith, a .ends, h .size) }
 
     pub two-relation : IsTwo (getD text at 0) e → (first : List ℕ) (nx ny : ℕ)
         → ((f : Expr arrow) → Stands (ranges n) text (at + 1) f → IsRelation sheet n (at + 1) f first nx)
         → ((f : Expr arrow) → Stands (ranges n) text nx f → IsJoined sheet n nx (getD text at 0) f first out ny)
         → IsRelation sheet n at e out ny
     two-relation h first nx ny p q =
-        let a = p (h .A) (h .first) in
-        let b = q (h .B) (h .second nx (a .ends)) in
-        record {
-          rows-are = subst (λ (v : Pairs). Rows n v out) (sym (h .means (graphOf sheet))) (b .rows-are (value (graphOf sheet) (h .A)) (a .rows-are));
-          ends = omega (arith, a .ends, b .ends, h .size);
-        }
+        let a = p (h .A) (h .first) in let b = q (h .B) (h .second nx (a .ends)) in
+        record { rows-are = rw (h .means (graphOf sheet)) (b .rows-are (value (graphOf sheet) (h .A)) (a .rows-are)); ends = omega (arith, a .ends, b .ends, h .size) }
 
     pub ending-relation : IsEnding e → (rows : List ℕ) (x nx ny : ℕ)
         → ((f : Expr arrow) → Stands (ranges n) text (at + 1) f → IsRelation sheet n (at + 1) f rows nx)
@@ -112,16 +104,12 @@ module _ (n : ℕ) (text : List ℕ) (at : ℕ) where
         → ((v : Pairs) (w : Nodes) → Rows n v rows → x ≡ setOf n w → Rows n (λ i j. v i j && w j) out)
         → IsRelation sheet n at e out ny
     ending-relation h rows x nx ny p q r =
-        let a = p (h .A) (h .first) in
-        let b = q (h .B) (h .second nx (a .ends)) in
-        record {
-          rows-are = subst (λ (v : Pairs). Rows n v out) (sym (h .means (graphOf sheet))) (r (value (graphOf sheet) (h .A)) (value (graphOf sheet) (h .B)) (a .rows-are) (b .set));
-          ends = omega (arith, a .ends, b .ends, h .size);
-        }
+        let a = p (h .A) (h .first) in let b = q (h .B) (h .second nx (a .ends)) in
+        record { rows-are = rw (h .means (graphOf sheet)) (r _ _ (a .rows-are) (b .set)); ends = omega (arith, a .ends, b .ends, h .size) }
 
   module _ (sheet : List ℕ) (c : ℕ) (e : Expr arrow) (old out : List ℕ) where
     pub leaf-joined : {k : ℕ} {P : Type 0} {w : Graph → Pairs} → Leaf text at k P w e → ((v : Pairs) → Rows n v old → Rows n (λ i j. arrowOperation c (v i j) (w (graphOf sheet) i j)) out) → IsJoined sheet n at c e old out (at + k)
-    leaf-joined h r = record { rows-are = λ v p. subst (λ (w : Pairs). Rows n (λ i j. arrowOperation c (v i j) (w i j)) out) (sym (h .means (graphOf sheet))) (r v p); ends = omega (arith, h .size) }
+    leaf-joined h r = record { rows-are = λ v p. rw (h .means (graphOf sheet)) (r v p); ends = omega (arith, h .size) }
 
     pub apart-joined : (other : List ℕ) (nx : ℕ) → IsRelation sheet n at e other nx
         → ((v w : Pairs) → Rows n v old → Rows n w other → Rows n (λ i j. arrowOperation c (v i j) (w i j)) out)

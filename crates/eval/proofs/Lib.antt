@@ -1,7 +1,7 @@
-pub mod Places
+pub mod CodePlaces
 pub mod InUse
 pub mod ArrowCases
 pub mod NodeCases
 pub mod QuantifierSets
 pub mod RuleCases
-pub mod Turns
+pub mod ReversedTurns

@@ -18,7 +18,7 @@ use Rattle.text.specs.Code.{code}
 use Rattle.text.specs.Stands.{Stands}
 use Rattle.rows.specs.Operations.{quantified, quantifiedNodes}
 use Rattle.eval.specs.Evaluated.{Opened, Used, IsSetWithin}
-use Rattle.eval.proofs.Places.{first-number, codeByte, by-byte, below, above, Leaf, One, Two, leaf-at, one-at, two-at}
+use Rattle.eval.proofs.CodePlaces.{first-number, codeByte, by-byte, below, above, Leaf, One, Two, leaf-at, one-at, two-at}
 use Rattle.eval.proofs.InUse.{in-use, combined-used}
 
 module _ (n : ℕ) (text : List ℕ) (at : ℕ) where
@@ -111,11 +111,10 @@ module _ (n : ℕ) (text : List ℕ) (at : ℕ) where
     as-or l u = shown e h 0x07 (omega arith)
 
     pub as-quantifier : 0x07 < getD text at 0 → (k : ℕ) → (getD text at 0 ≤ 0x09 → k ≡ 1) → (0x09 < getD text at 0 → k ≡ 2) → IsQuantifier (getD text at 0) k e
-    as-quantifier l k f g = subst (λ (j : ℕ). IsQuantifier (getD text at 0) j e) (go (leb (getD text at 0) 0x09) refl) (above 0x07 _ _ (shown e h _ refl) l)
-      where
-        go : (b : Bool) → leb (getD text at 0) 0x09 ≡ b → cond b 1 2 ≡ k
-        go true q = sym (f (leb-true _ _ q))
-        go false q = sym (g (leb-false _ _ q))
+    as-quantifier l k f g = subst (λ (j : ℕ). IsQuantifier (getD text at 0) j e) (go (leb (getD text at 0) 0x09) refl) (above 0x07 _ _ (shown e h _ refl) l) where
+      go : (b : Bool) → leb (getD text at 0) 0x09 ≡ b → cond b 1 2 ≡ k
+      go true q = sym (f (leb-true _ _ q))
+      go false q = sym (g (leb-false _ _ q))
 
   module _ (sheet : List ℕ) (within z : ℕ) (u : Used sheet n within) {e : Expr node} where
     leaf-set : {k : ℕ} {P : Type 0} {v : Graph → Nodes} → Leaf text at k P v e → z ≡ setOf n (λ i. member within i && v (graphOf sheet) i) → IsSetWithin sheet n at e within z (at + k)
@@ -141,39 +140,34 @@ module _ (n : ℕ) (text : List ℕ) (at : ℕ) where
         → z ≡ combined (λ a b. a && not b) within x
         → IsSetWithin sheet n at e within z nx
     complement-set h x nx z p r =
-        let g = graphOf sheet in
-        let a = p (h .A) (h .first) in
+        let g = graphOf sheet in let a = p (h .A) (h .first) in
         record {
           set =
               combined-used (λ a b. a && not b) refl (λ i. member within i && value g (h .A) i) (omega (arith, o .few)) u (a .set) r
               ∙ setOf-cong n _ (λ i. member within i && (isNode g i && not (value g (h .A) i))) (λ i l. go (member within i) (value g (h .A) i) ∙ sym (in-use (member within i) (isNode g i) (λ b. b && not (value g (h .A) i)) (u .nodes i)))
               ∙ ap (λ (v : Nodes). setOf n (λ i. member within i && v i)) (sym (h .means g));
           ends = omega (arith, a .ends, h .size);
-        }
-      where
-        go : (a b : Bool) → (a && not (a && b)) ≡ (a && (true && not b))
-        go true b = refl
-        go false b = refl
+        } where
+          go : (a b : Bool) → (a && not (a && b)) ≡ (a && (true && not b))
+          go true b = refl
+          go false b = refl
 
     pub and-set : IsAnd e → (x nx y ny : ℕ)
         → ((f : Expr node) → Stands (ranges n) text (at + 1) f → IsSetWithin sheet n (at + 1) f within x nx)
         → ((f : Expr node) → Stands (ranges n) text nx f → IsSetWithin sheet n nx f x y ny)
         → IsSetWithin sheet n at e within y ny
     and-set h x nx y ny p q =
-        let g = graphOf sheet in
-        let a = p (h .A) (h .first) in
-        let b = q (h .B) (h .second nx (a .ends)) in
+        let g = graphOf sheet in let a = p (h .A) (h .first) in let b = q (h .B) (h .second nx (a .ends)) in
         record {
           set =
               b .set
               ∙ setOf-cong n _ (λ i. member within i && (value g (h .A) i && value g (h .B) i)) (λ i l. ap (_&& value g (h .B) i) (ap (λ (z : ℕ). member z i) (a .set) ∙ member-setOf n (λ i. member within i && value g (h .A) i) i l) ∙ go (member within i) (value g (h .A) i) (value g (h .B) i))
               ∙ ap (λ (v : Nodes). setOf n (λ i. member within i && v i)) (sym (h .means g));
           ends = omega (arith, a .ends, b .ends, h .size);
-        }
-      where
-        go : (a b c : Bool) → ((a && b) && c) ≡ (a && (b && c))
-        go true b c = refl
-        go false b c = refl
+        } where
+          go : (a b c : Bool) → ((a && b) && c) ≡ (a && (b && c))
+          go true b c = refl
+          go false b c = refl
 
     pub or-set : IsOr e → (x nx w y ny z : ℕ)
         → ((f : Expr node) → Stands (ranges n) text (at + 1) f → IsSetWithin sheet n (at + 1) f within x nx)
@@ -182,21 +176,19 @@ module _ (n : ℕ) (text : List ℕ) (at : ℕ) where
         → z ≡ combined _||_ x y
         → IsSetWithin sheet n at e within z ny
     or-set h x nx w y ny z p s q r =
-        let g = graphOf sheet in
-        let a = p (h .A) (h .first) in
-        let b = q (h .B) (h .second nx (a .ends)) in
+        let g = graphOf sheet in let a = p (h .A) (h .first) in let b = q (h .B) (h .second nx (a .ends)) in
         let rest : w ≡ setOf n (λ i. member within i && not (member within i && value g (h .A) i)) =
         combined-used (λ a b. a && not b) refl (λ i. member within i && value g (h .A) i) (omega (arith, o .few)) u (a .set) s in
         record {
           set =
               r ∙ ap₂ (combined _||_) (a .set) (b .set)
               ∙ combined-sets _||_ refl n (λ i. member within i && value g (h .A) i) (λ i. member w i && value g (h .B) i) (omega (arith, o .few))
-              ∙ setOf-cong n _ (λ i. member within i && (value g (h .A) i || value g (h .B) i)) (λ i l. ap (λ (c : Bool). (member within i && value g (h .A) i) || (c && value g (h .B) i)) (ap (λ (z : ℕ). member z i) rest ∙ member-setOf n _ i l) ∙ go (member within i) (value g (h .A) i) (value g (h .B) i))
+              ∙ setOf-cong n _ (λ i. member within i && (value g (h .A) i || value g (h .B) i))
+              (λ i l. ap (λ (c : Bool). (member within i && value g (h .A) i) || (c && value g (h .B) i)) (ap (λ (z : ℕ). member z i) rest ∙ member-setOf n _ i l) ∙ go (member within i) (value g (h .A) i) (value g (h .B) i))
               ∙ ap (λ (v : Nodes). setOf n (λ i. member within i && v i)) (sym (h .means g));
           ends = omega (arith, a .ends, b .ends, h .size);
-        }
-      where
-        go : (a b c : Bool) → ((a && b) || ((a && not (a && b)) && c)) ≡ (a && (b || c))
-        go true true c = refl
-        go true false c = refl
-        go false b c = refl
+        } where
+          go : (a b c : Bool) → ((a && b) || ((a && not (a && b)) && c)) ≡ (a && (b || c))
+          go true true c = refl
+          go true false c = refl
+          go false b c = refl

@@ -26,12 +26,9 @@ use Rattle.eval.proofs.NodeCases.{IsQuantifier}
 
 quantified-cong : (c m n : ℕ) (v w u : Nodes) → ((j : ℕ) → j < n → w j ≡ u j) → quantified c m n v w ≡ quantified c m n v u
 quantified-cong c m n v w u h =
-    quantified-is c m n (λ j. true) v w (λ j z. absurd (no z))
+    quantified-is c m n (λ j. true) v w (λ j z. cc)
     ∙ ap (answered c) (ap (leb (least c m)) (count-cong n _ _ (λ j l. ap (λ (b : Bool). v j && looked c true b) (h j l))))
-    ∙ sym (quantified-is c m n (λ j. true) v u (λ j z. absurd (no z)))
-  where
-    no : true ≡ false → ⊥
-    no z = omega (arith, ap {B = ℕ} (λ (b : Bool). cond b 1 0) z)
+    ∙ sym (quantified-is c m n (λ j. true) v u (λ j z. cc))
 
 nodes-there : (c m n : ℕ) (nodes : Nodes) (v : Pairs) (w : Nodes) (i : ℕ) (u : Bool) → (nodes i ≡ false → u ≡ false) → (u && quantified c m n (v i) w) ≡ (u && quantifiedNodes c m n nodes v w i)
 unfolding quantifiedNodes
@@ -48,10 +45,8 @@ module _ (n : ℕ) (text : List ℕ) (at : ℕ) (sheet : List ℕ) (all : ℕ) (
       → z ≡ setOf n (λ i. member within i && quantified (getD text at 0) (getD text (at + k - 1) 0) n (turn turned (value (graphOf sheet) (d .R)) i) (member x))
       → IsSetWithin sheet n at e within z ny
   quantifier-part k h turned next x nx ny z d s q r =
-      let g = graphOf sheet in
-      let c = getD text at 0 in
-      let m = getD text (at + k - 1) 0 in
-      let b = q (h .B) (h .second nx (omega (arith, d .ends, s))) in
+      let g = graphOf sheet in let c = getD text at 0 in
+      let m = getD text (at + k - 1) 0 in let b = q (h .B) (h .second nx (omega (arith, d .ends, s))) in
       let ends : (i : ℕ) → quantified c m n (value g (h .A) i) (member x) ≡ quantified c m n (value g (h .A) i) (value g (h .B)) =
       λ i. quantified-cong c m n (value g (h .A) i) _ _ (λ j l. ap (λ (y : ℕ). member y j) (part-whole sheet n all o (h .B) x (b .set)) ∙ member-setOf n (value g (h .B)) j l) in
       record {
@@ -73,8 +68,7 @@ module _ (n : ℕ) (text : List ℕ) (at : ℕ) (sheet : List ℕ) (all : ℕ) (
       → ((v : Pairs) → Among all v → Rows n v rows → z ≡ setOf n (λ i. member within i && quantified (getD text at 0) (getD text (at + k - 1) 0) n (turn turned v i) (member x)))
       → IsSetWithin sheet n at e within z ny
   quantifier-set k h turned next rows x nx ny z t p q r =
-      let d = t (h .A) (h .first) in
-      let a = p (d .R) (d .stands) in
+      let d = t (h .A) (h .first) in let a = p (d .R) (d .stands) in
       quantifier-part k h turned next x nx ny z d (a .ends) q (r (value (graphOf sheet) (d .R)) (among-all o (value-in (graphOf sheet) (o .within) (d .R))) (a .rows-are))
 
   -- over 11, or 12 11
@@ -85,8 +79,6 @@ module _ (n : ℕ) (text : List ℕ) (at : ℕ) (sheet : List ℕ) (all : ℕ) (
       → z ≡ setOf n (λ i. member within i && quantified (getD text at 0) (getD text (at + k - 1) 0) n (turn turned (graphOf sheet .joined (getD text (next + 1) 0)) i) (member x))
       → IsSetWithin sheet n at e within z ny
   quantifier-kind k h turned next x ny z t l q r =
-      let g = graphOf sheet in
-      let d = t (h .A) (h .first) in
-      let w = as-kind n text next (d .R) (d .stands) l in
+      let g = graphOf sheet in let d = t (h .A) (h .first) in let w = as-kind n text next (d .R) (d .stands) l in
       quantifier-part k h turned next x (next + 2) ny z d (omega (arith, w .size)) q
       (r ∙ ap (λ (v : Pairs). setOf n (λ i. member within i && quantified (getD text at 0) (getD text (at + k - 1) 0) n (turn turned v i) (member x))) (sym (w .means g)))

@@ -20,7 +20,7 @@ use Rattle.text.specs.Code.{code}
 use Rattle.text.specs.Stands.{Stands}
 use Rattle.eval.specs.Evaluated.{Opened, IsSetWithin, IsRelation, IsTruth, ruleOperation, decided}
 use Rattle.eval.proofs.InUse.{only-nodes, part-whole}
-use Rattle.eval.proofs.Places.{first-number, second-number, codeByte, by-byte, below, above, One, Two, one-at, two-at}
+use Rattle.eval.proofs.CodePlaces.{first-number, second-number, codeByte, by-byte, below, above, One, Two, one-at, two-at}
 
 module _ (n : ℕ) (text : List ℕ) (at : ℕ) where
   -- 21
@@ -62,8 +62,7 @@ module _ (n : ℕ) (text : List ℕ) (at : ℕ) where
   cases (subArrows R S) h = two-at h 0x22 [] R S (λ g. refl) refl (h .range .0) (h .range .1)
   cases (nodeIn i E) h = let q = first-number text at 0x23 i _ (h .here) in one-at h 0x23 (i ∷ []) E (omega (arith, q, ltb→lt i n (h .range .0))) (λ g. ap (value g E) (sym q)) refl (h .range .1)
   cases (pairIn i j R) h =
-      let p = first-number text at 0x24 i _ (h .here) in
-      let q = second-number text at 0x24 i j _ (h .here) in
+      let p = first-number text at 0x24 i _ (h .here) in let q = second-number text at 0x24 i j _ (h .here) in
       one-at h 0x24 (i ∷ j ∷ []) R (omega (arith, p, ltb→lt i n (h .range .0)), omega (arith, q, ltb→lt j n (h .range .1))) (λ g. ap₂ (value g R) (sym p) (sym q)) refl (h .range .2)
   cases (both K L) h = two-at h 0x25 [] K L (λ g. refl) refl (h .range .0) (h .range .1)
   cases (either K L) h = two-at h 0x26 [] K L (λ g. refl) refl (h .range .0) (h .range .1)
@@ -99,10 +98,8 @@ module _ (n : ℕ) (text : List ℕ) (at : ℕ) where
         → ((m : ℕ) (v w : Nodes) → m ≤ 64 → x ≡ setOf m v → y ≡ setOf m w → b ≡ allBelow m (λ i. implies (v i) (w i)))
         → IsTruth sheet at e b ny
     sub-nodes-truth h x nx y ny p q r =
-        let g = graphOf sheet in
-        let s = p (h .A) (h .first) in
-        let t = q (h .B) (h .second nx (s .ends)) in
-        let whole = part-whole sheet n all o (h .A) x (s .set) in
+        let g = graphOf sheet in let s = p (h .A) (h .first) in
+        let t = q (h .B) (h .second nx (s .ends)) in let whole = part-whole sheet n all o (h .A) x (s .set) in
         record {
           truth =
               r n (value g (h .A)) (λ i. member x i && value g (h .B) i) (omega (arith, o .few)) whole (t .set)
@@ -110,11 +107,10 @@ module _ (n : ℕ) (text : List ℕ) (at : ℕ) where
               ∙ ap (λ (m : ℕ). allBelow m (λ i. implies (value g (h .A) i) (value g (h .B) i))) (o .count)
               ∙ sym (h .means g);
           ends = omega (arith, s .ends, t .ends, h .size);
-        }
-      where
-        go : (c d : Bool) → implies c (c && d) ≡ implies c d
-        go true d = refl
-        go false d = refl
+        } where
+          go : (c d : Bool) → implies c (c && d) ≡ implies c d
+          go true d = refl
+          go false d = refl
 
     pub sub-arrows-truth : IsSubArrows e → (first second : List ℕ) (nx ny : ℕ)
         → ((f : Expr arrow) → Stands (ranges n) text (at + 1) f → IsRelation sheet n (at + 1) f first nx)
@@ -122,16 +118,8 @@ module _ (n : ℕ) (text : List ℕ) (at : ℕ) where
         → ((v w : Pairs) → Rows n v first → Rows n w second → b ≡ allBelow n (λ i. allBelow n (λ j. implies (v i j) (w i j))))
         → IsTruth sheet at e b ny
     sub-arrows-truth h first second nx ny p q r =
-        let g = graphOf sheet in
-        let s = p (h .A) (h .first) in
-        let t = q (h .B) (h .second nx (s .ends)) in
-        record {
-          truth =
-              r (value g (h .A)) (value g (h .B)) (s .rows-are) (t .rows-are)
-              ∙ ap (λ (m : ℕ). allBelow m (λ i. allBelow m (λ j. implies (value g (h .A) i j) (value g (h .B) i j)))) (o .count)
-              ∙ sym (h .means g);
-          ends = omega (arith, s .ends, t .ends, h .size);
-        }
+        let s = p (h .A) (h .first) in let t = q (h .B) (h .second nx (s .ends)) in
+        record { truth = (rw (o .count) at (r _ _ (s .rows-are) (t .rows-are))) ∙ sym (h .means (graphOf sheet)); ends = omega (arith, s .ends, t .ends, h .size) }
 
     pub node-in-truth : IsNodeIn e → (w x nx : ℕ)
         → w ≡ setOf n (λ k. isNode (graphOf sheet) k && eqb k (getD text (at + 1) 0))
@@ -139,9 +127,7 @@ module _ (n : ℕ) (text : List ℕ) (at : ℕ) where
         → ((m : ℕ) (v : Nodes) → getD text (at + 1) 0 < m → x ≡ setOf m v → b ≡ v (getD text (at + 1) 0))
         → IsTruth sheet at e b nx
     node-in-truth h w x nx d p r =
-        let g = graphOf sheet in
-        let s = p (h .A) (h .first) in
-        let i = getD text (at + 1) 0 in
+        let g = graphOf sheet in let s = p (h .A) (h .first) in let i = getD text (at + 1) 0 in
         record {
           truth =
               r n (λ k. member w k && value g (h .A) k) (h .range) (s .set)
@@ -156,12 +142,8 @@ module _ (n : ℕ) (text : List ℕ) (at : ℕ) where
         → ((m : ℕ) (v : Pairs) → getD text (at + 1) 0 < m → getD text (at + 2) 0 < m → Rows m v rows → b ≡ v (getD text (at + 1) 0) (getD text (at + 2) 0))
         → IsTruth sheet at e b nx
     pair-in-truth h rows nx p r =
-        let g = graphOf sheet in
         let s = p (h .A) (h .first) in
-        record {
-          truth = r n (value g (h .A)) (h .range .0) (h .range .1) (s .rows-are) ∙ sym (h .means g);
-          ends = omega (arith, s .ends, h .size);
-        }
+        record { truth = r n _ (h .range .0) (h .range .1) (s .rows-are) ∙ sym (h .means (graphOf sheet)); ends = omega (arith, s .ends, h .size) }
 
   module _ (sheet : List ℕ) (e : Expr rule) where
     pub first-truth : IsTwo (getD text at 0) e → (x b : Bool) (nx ny : ℕ)
@@ -172,18 +154,14 @@ module _ (n : ℕ) (text : List ℕ) (at : ℕ) where
     first-truth h x b nx ny p q r d =
         let s = p (h .A) (h .first) in
         record {
-          truth = go (eqb (getD text at 0) 0x25) x (value (graphOf sheet) (h .B)) (sym r ∙ d) ∙ ap (λ (c : Bool). ruleOperation (getD text at 0) c (value (graphOf sheet) (h .B))) (s .truth) ∙ sym (h .means (graphOf sheet));
+          truth = rw (h .means (graphOf sheet), ← s .truth) (go (eqb (getD text at 0) 0x25) x (value (graphOf sheet) (h .B)) (sym r ∙ d));
           ends = omega (arith, s .ends, q (h .B) (h .second nx (s .ends)), h .size);
-        }
-      where
-        no : false ≡ true → ⊥
-        no e = omega (arith, ap {B = ℕ} (λ (z : Bool). cond z 1 0) e)
-
-        go : (c k l : Bool) → cond c (not k) k ≡ true → k ≡ cond c (k && l) (k || l)
-        go true true l e = absurd (no e)
-        go true false l e = refl
-        go false true l e = refl
-        go false false l e = absurd (no e)
+        } where
+          go : (c k l : Bool) → cond c (not k) k ≡ true → k ≡ cond c (k && l) (k || l)
+          go true true l e = cc
+          go true false l e = refl
+          go false true l e = refl
+          go false false l e = cc
 
     pub second-truth : IsTwo (getD text at 0) e → (x y b : Bool) (nx ny : ℕ)
         → ((f : Expr rule) → Stands (ranges n) text (at + 1) f → IsTruth sheet (at + 1) f x nx)
@@ -191,28 +169,16 @@ module _ (n : ℕ) (text : List ℕ) (at : ℕ) where
         → b ≡ decided (getD text at 0) x → b ≡ false
         → IsTruth sheet at e y ny
     second-truth h x y b nx ny p q r d =
-        let s = p (h .A) (h .first) in
-        let t = q (h .B) (h .second nx (s .ends)) in
-        record {
-          truth = go (eqb (getD text at 0) 0x25) x y (sym r ∙ d) ∙ ap₂ (ruleOperation (getD text at 0)) (s .truth) (t .truth) ∙ sym (h .means (graphOf sheet));
-          ends = omega (arith, s .ends, t .ends, h .size);
-        }
-      where
-        no : true ≡ false → ⊥
-        no e = omega (arith, ap {B = ℕ} (λ (z : Bool). cond z 1 0) e)
-
-        go : (c k l : Bool) → cond c (not k) k ≡ false → l ≡ cond c (k && l) (k || l)
-        go true true l e = refl
-        go true false l e = absurd (no e)
-        go false true l e = absurd (no e)
-        go false false l e = refl
+        let s = p (h .A) (h .first) in let t = q (h .B) (h .second nx (s .ends)) in
+        record { truth = rw (h .means (graphOf sheet), ← s .truth, ← t .truth) (go (eqb (getD text at 0) 0x25) x y (sym r ∙ d)); ends = omega (arith, s .ends, t .ends, h .size) } where
+          go : (c k l : Bool) → cond c (not k) k ≡ false → l ≡ cond c (k && l) (k || l)
+          go true true l e = refl
+          go true false l e = cc
+          go false true l e = cc
+          go false false l e = refl
 
     pub not-truth : IsNot e → (x : Bool) (nx : ℕ)
         → ((f : Expr rule) → Stands (ranges n) text (at + 1) f → IsTruth sheet (at + 1) f x nx)
         → IsTruth sheet at e (not x) nx
     not-truth h x nx p =
-        let s = p (h .A) (h .first) in
-        record {
-          truth = ap not (s .truth) ∙ sym (h .means (graphOf sheet));
-          ends = omega (arith, s .ends, h .size);
-        }
+        let s = p (h .A) (h .first) in record { truth = ap not (s .truth) ∙ sym (h .means (graphOf sheet)); ends = omega (arith, s .ends, h .size) }

@@ -20,8 +20,7 @@ both e f = rw (e, f)
 
 module _ (G : Game) (m : ℕ) (g : Graph) where
   allowed-first : (x : Move) → forcesBy G m g x ≡ true → allowed G dispatcher g x ≡ true
-  unfolding forcesBy
-  allowed-first x h = and-left (allowed G dispatcher g x) (forced G m disruption (leaves G dispatcher g x)) h
+  allowed-first x h = unfold forcesBy in and-left (allowed G dispatcher g x) (forced G m disruption (leaves G dispatcher g x)) h
 
   -- A move forces a win exactly when some plan that begins with it wins.
   forces-begins : (x : Move) → forcesBy G m g x ≡ true → Begins G m g x
@@ -46,23 +45,21 @@ module _ (G : Game) (m : ℕ) (g : Graph) where
 
   says : Says (answer G m g)
   unfolding answer lowestMove
-  says = go (lowestBelow (length (G .dispatchers)) (λ i. forcesBy G m g (edit i))) (lowest-right (length (G .dispatchers)) (λ i. forcesBy G m g (edit i)))
-    where
-      none : (b : Bool) → forcesBy G m g pass ≡ b → ((j : ℕ) → j < length (G .dispatchers) → forcesBy G m g (edit j) ≡ false) → Says (cond b (first pass) cannot)
-      none true e h = e
-      none false e h = no-move
-        where
-          beyond : (j : ℕ) (b : Bool) → forcesBy G m g (edit j) ≡ b → forcesBy G m g (edit j) ≡ false
-          beyond j true f = h j (edit-below G dispatcher g j (allowed-first (edit j) f))
-          beyond j false f = f
+  says = go (lowestBelow (length (G .dispatchers)) (λ i. forcesBy G m g (edit i))) (lowest-right (length (G .dispatchers)) (λ i. forcesBy G m g (edit i))) where
+    none : (b : Bool) → forcesBy G m g pass ≡ b → ((j : ℕ) → j < length (G .dispatchers) → forcesBy G m g (edit j) ≡ false) → Says (cond b (first pass) cannot)
+    none true e h = e
+    none false e h = no-move where
+      beyond : (j : ℕ) (b : Bool) → forcesBy G m g (edit j) ≡ b → forcesBy G m g (edit j) ≡ false
+      beyond j true f = h j (edit-below G dispatcher g j (allowed-first (edit j) f))
+      beyond j false f = f
 
-          no-move : (x : Move) → forcesBy G m g x ≡ false
-          no-move pass = e
-          no-move (edit j) = beyond j (forcesBy G m g (edit j)) refl
+      no-move : (x : Move) → forcesBy G m g x ≡ false
+      no-move pass = e
+      no-move (edit j) = beyond j (forcesBy G m g (edit j)) refl
 
-      go : (l : Lowest) → IsLowest (length (G .dispatchers)) (λ i. forcesBy G m g (edit i)) l → Says (elim l [ at i ↦ first (edit i) | nothing ↦ cond (forcesBy G m g pass) (first pass) cannot ])
-      go (at i) h = (h .1, h .2)
-      go nothing h = none (forcesBy G m g pass) refl h
+    go : (l : Lowest) → IsLowest (length (G .dispatchers)) (λ i. forcesBy G m g (edit i)) l → Says (elim l [ at i ↦ first (edit i) | nothing ↦ cond (forcesBy G m g pass) (first pass) cannot ])
+    go (at i) h = (h .1, h .2)
+    go nothing h = none (forcesBy G m g pass) refl h
 
   -- Where a pass can be made no edit can.
   pass-alone : (i : ℕ) {A : Type 0} → forcesBy G m g pass ≡ true → forcesBy G m g (edit i) ≡ true → A
@@ -73,12 +70,11 @@ module _ (G : Game) (m : ℕ) (g : Graph) where
   is-edit : (i : ℕ) → forcesBy G m g (edit i) ≡ true → ((j : ℕ) → j < i → forcesBy G m g (edit j) ≡ true → ⊥) → (a : Outcome) → Says a → a ≡ first (edit i)
   is-edit i t h cannot s = true-false t (s (edit i))
   is-edit i t h (first pass) s = pass-alone i s t
-  is-edit i t h (first (edit k)) s = go (decLt k i) (decLt i k)
-    where
-      go : Dec (k < i) → Dec (i < k) → _≡_ {A = Outcome} (first (edit k)) (first (edit i))
-      go (yes l) d = absurd (h k l (s .0))
-      go (no l) (yes u) = true-false t (s .1 i u)
-      go (no l) (no u) = let e : k ≡ i = omega arith in ap (λ x. first (edit x)) e
+  is-edit i t h (first (edit k)) s = go (decLt k i) (decLt i k) where
+    go : Dec (k < i) → Dec (i < k) → _≡_ {A = Outcome} (first (edit k)) (first (edit i))
+    go (yes l) d = absurd (h k l (s .0))
+    go (no l) (yes u) = true-false t (s .1 i u)
+    go (no l) (no u) = let e : k ≡ i = omega arith in ap (λ x. first (edit x)) e
 
   is-pass : forcesBy G m g pass ≡ true → (a : Outcome) → Says a → a ≡ first pass
   is-pass t cannot s = true-false t (s pass)
@@ -93,11 +89,10 @@ module _ (G : Game) (m : ℕ) (g : Graph) where
   -- No win can be forced exactly when no move forces one.
   not-forced : ((x : Move) → forcesBy G m g x ≡ false) → forced G (suc m) dispatcher g ≡ false
   unfolding forced forcesBy
-  not-forced h = go (forced G (suc m) dispatcher g) refl
-    where
-      go : (b : Bool) → forced G (suc m) dispatcher g ≡ b → forced G (suc m) dispatcher g ≡ false
-      go true e = let (x, a, t) = some-found G dispatcher g (λ x. forced G m disruption (leaves G dispatcher g x)) e in true-false (both a t) (h x)
-      go false e = e
+  not-forced h = go (forced G (suc m) dispatcher g) refl where
+    go : (b : Bool) → forced G (suc m) dispatcher g ≡ b → forced G (suc m) dispatcher g ≡ false
+    go true e = let (x, a, t) = some-found G dispatcher g (λ x. forced G m disruption (leaves G dispatcher g x)) e in true-false (both a t) (h x)
+    go false e = e
 
   no-plan : forced G (suc m) dispatcher g ≡ false → (x : Move) → forcesBy G m g x ≡ true → ⊥
   no-plan e x h = let (p, q, w) = forces-begins x h in true-false (forced-by G (suc m) dispatcher g p w) e
@@ -107,19 +102,17 @@ module _ (G : Game) (m : ℕ) (g : Graph) where
 
   -- Item 13.
   pub right : Right G m g
-  right =
-      record {
-        can = ((λ t. wins G (suc m) dispatcher g (is-true _ t)), (λ (p, w). so (forced-by G (suc m) dispatcher g p w)));
-        cannot-when = ((λ e p f. breaks G (suc m) dispatcher g p (unforced e) f), (λ h. is-cannot (no-plan (is-false _ (broken h))) (answer G m g) says));
-        cannot-forced = ((λ e. so-not (unforced e)), (λ t. is-cannot (no-plan (not-true _ (is-true _ t))) (answer G m g) says));
-        first-edit = λ i. ((λ e. let (t, l) = subst Says e says in (forces-begins (edit i) t, λ j b k. true-false (begins-forces (edit j) k) (l j b))), (λ (b, l). is-edit i (begins-forces (edit i) b) (λ j k t. l j k (forces-begins (edit j) t)) (answer G m g) says));
-        first-pass = ((λ e. forces-begins pass (subst Says e says)), (λ b. is-pass (begins-forces pass b) (answer G m g) says));
-        some-plan = some-plan G (suc m) dispatcher g;
-        some-play = some-play G (suc m) dispatcher g;
-      }
-    where
-      broken : ((p : Plan) → CanFollow G (suc m) dispatcher g p → SomeBreaks G (suc m) dispatcher g p) → forced G (suc m) dispatcher g ≡ true → ⊥
-      broken h t =
-          let (p, w) = wins G (suc m) dispatcher g t in
-          let (q, b) = h p (λ q. won-fair G (course G (suc m) dispatcher g p q) (w q)) in
-          won-unbroken G (course G (suc m) dispatcher g p q) (w q) b
+  right = record {
+    can = ((λ t. wins G (suc m) dispatcher g (is-true _ t)), (λ (p, w). so (forced-by G (suc m) dispatcher g p w)));
+    cannot-when = ((λ e p f. breaks G (suc m) dispatcher g p (unforced e) f), (λ h. is-cannot (no-plan (is-false _ (broken h))) (answer G m g) says));
+    cannot-forced = ((λ e. so-not (unforced e)), (λ t. is-cannot (no-plan (not-true _ (is-true _ t))) (answer G m g) says));
+    first-edit = λ i. ((λ e. let (t, l) = subst Says e says in (forces-begins (edit i) t, λ j b k. true-false (begins-forces (edit j) k) (l j b))), (λ (b, l). is-edit i (begins-forces (edit i) b) (λ j k t. l j k (forces-begins (edit j) t)) (answer G m g) says));
+    first-pass = ((λ e. forces-begins pass (subst Says e says)), (λ b. is-pass (begins-forces pass b) (answer G m g) says));
+    some-plan = some-plan G (suc m) dispatcher g;
+    some-play = some-play G (suc m) dispatcher g;
+  } where
+    broken : ((p : Plan) → CanFollow G (suc m) dispatcher g p → SomeBreaks G (suc m) dispatcher g p) → forced G (suc m) dispatcher g ≡ true → ⊥
+    broken h t =
+        let (p, w) = wins G (suc m) dispatcher g t in
+        let (q, b) = h p (λ q. won-fair G (course G (suc m) dispatcher g p q) (w q)) in
+        won-unbroken G (course G (suc m) dispatcher g p q) (w q) b

@@ -14,8 +14,7 @@ use Rattle.game.proofs.Search.{IsLowest, lowest-right, every-is}
 
 -- The dispatcher's move is the answer.
 pub chosen-answer : (G : Game) (m : ℕ) (g : Graph) → chosen G m true g ≡ answer G m g
-unfolding chosen answer serves goesWell forcesBy
-chosen-answer G m g = refl
+chosen-answer G m g = unfold chosen answer serves goesWell forcesBy in refl
 
 abbrev pub isCannot : Outcome → Bool
 isCannot cannot = true
@@ -30,23 +29,21 @@ lowest-none : (n : ℕ) (v : Nodes) (b : Bool) → isCannot (orPass (lowestBelow
 unfolding lowestBelow anyBelow
 lowest-none zero v true = refl
 lowest-none zero v false = refl
-lowest-none (suc n) v b = go (lowestBelow n v) (v n) (anyBelow n v) (lowest-none n v false)
-  where
-    last : (c b : Bool) → isCannot (orPass (cond c (at n) nothing) b) ≡ not (c || b)
-    last true b = refl
-    last false true = refl
-    last false false = refl
+lowest-none (suc n) v b = go (lowestBelow n v) (v n) (anyBelow n v) (lowest-none n v false) where
+  last : (c b : Bool) → isCannot (orPass (cond c (at n) nothing) b) ≡ not (c || b)
+  last true b = refl
+  last false true = refl
+  last false false = refl
 
-    go : (l : Lowest) (c a : Bool) → isCannot (orPass l false) ≡ not (a || false) → isCannot (orPass (elim l [ at i ↦ at i | nothing ↦ cond c (at n) nothing ]) b) ≡ not ((a || c) || b)
-    go (at i) c true h = refl
-    go (at i) c false h = true-false h refl
-    go nothing c true h = true-false refl h
-    go nothing c false h = last c b
+  go : (l : Lowest) (c a : Bool) → isCannot (orPass l false) ≡ not (a || false) → isCannot (orPass (elim l [ at i ↦ at i | nothing ↦ cond c (at n) nothing ]) b) ≡ not ((a || c) || b)
+  go (at i) c true h = refl
+  go (at i) c false h = true-false h refl
+  go nothing c true h = true-false refl h
+  go nothing c false h = last c b
 
 -- and no move of a side exactly when no move that it can make serves.
 none-serves : (G : Game) (s : Side) (g : Graph) (f : Move → Bool) → isCannot (lowestMove (length (editsOf G s)) (λ x. allowed G s g x && f x)) ≡ not (someMove G s g f)
-unfolding lowestMove someMove
-none-serves G s g f = lowest-none (length (editsOf G s)) (λ i. allowed G s g (edit i) && f (edit i)) (allowed G s g pass && f pass)
+none-serves G s g f = unfold lowestMove someMove in lowest-none (length (editsOf G s)) (λ i. allowed G s g (edit i) && f (edit i)) (allowed G s g pass && f pass)
 
 module _ (G : Game) (g : Graph) where
   pub well-over : (ours : Bool) → goesWell G zero ours g ≡ cond ours (value g (G .goal)) (not (value g (G .goal)))
@@ -61,18 +58,16 @@ module _ (G : Game) (g : Graph) where
 
 -- What the lowest number is, it alone is.
 lowest-is : (n : ℕ) (v : Nodes) (l : Lowest) → IsLowest n v l → lowestBelow n v ≡ l
-lowest-is n v l h = go (lowestBelow n v) l (lowest-right n v) h
-  where
-    go : (k l : Lowest) → IsLowest n v k → IsLowest n v l → k ≡ l
-    go nothing nothing a b = refl
-    go nothing (at i) a b = true-false (b .1) (a i (b .0))
-    go (at i) nothing a b = true-false (a .1) (b i (a .0))
-    go (at i) (at j) a b = order (decLt i j) (decLt j i)
-      where
-        order : Dec (i < j) → Dec (j < i) → _≡_ {A = Lowest} (at i) (at j)
-        order (yes l) d = true-false (a .1) (b .2 i l)
-        order (no l) (yes d) = true-false (b .1) (a .2 j d)
-        order (no l) (no d) = let e : i ≡ j = omega arith in ap at e
+lowest-is n v l h = go (lowestBelow n v) l (lowest-right n v) h where
+  go : (k l : Lowest) → IsLowest n v k → IsLowest n v l → k ≡ l
+  go nothing nothing a b = refl
+  go nothing (at i) a b = true-false (b .1) (a i (b .0))
+  go (at i) nothing a b = true-false (a .1) (b i (a .0))
+  go (at i) (at j) a b = order (decLt i j) (decLt j i) where
+    order : Dec (i < j) → Dec (j < i) → _≡_ {A = Lowest} (at i) (at j)
+    order (yes l) d = true-false (a .1) (b .2 i l)
+    order (no l) (yes d) = true-false (b .1) (a .2 j d)
+    order (no l) (no d) = let e : i ≡ j = omega arith in ap at e
 
 module _ (G : Game) (m : ℕ) (ours : Bool) (g : Graph) where
   abbrev edits : ℕ
@@ -90,9 +85,7 @@ module _ (G : Game) (m : ℕ) (ours : Bool) (g : Graph) where
 
   -- A pass cannot be made where an edit can; where none can, it serves when it goes well.
   pub no-pass : anyBelow edits (canMake G (sideOf ours) g) ≡ true → serves G m ours g pass ≡ false
-  unfolding serves allowed
-  no-pass e = ap (λ (b : Bool). not b && goesWell G m ours (leaves G (sideOf ours) g pass)) e
+  no-pass e = unfold serves allowed in ap (λ (b : Bool). not b && goesWell G m ours (leaves G (sideOf ours) g pass)) e
 
   pub pass-serves : anyBelow edits (canMake G (sideOf ours) g) ≡ false → serves G m ours g pass ≡ goesWell G m ours g
-  unfolding serves allowed leaves
-  pass-serves e = ap (λ (b : Bool). not b && goesWell G m ours g) e
+  pass-serves e = unfold serves allowed leaves in ap (λ (b : Bool). not b && goesWell G m ours g) e

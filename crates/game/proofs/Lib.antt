@@ -2,6 +2,6 @@ pub mod Search
 pub mod Plans
 pub mod Answer
 pub mod Examples
-pub mod Entered
+pub mod DisruptionPasses
 pub mod Pasts
 pub mod Chosen

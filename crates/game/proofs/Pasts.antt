@@ -20,10 +20,12 @@ joined past p x = fun-ext (λ later. ap p (append-assoc past (x ∷ []) later))
 onwards : (G : Game) (m : ℕ) (s : Side) (g : Graph) (past : Past) (p : Plan) (q : Play) → told G m s g past p q ≡ course G m s g (λ later. p (past ++ later)) q
 unfolding told course
 onwards G zero s g past p q = refl
-onwards G (suc m) dispatcher g past p q = ap (step (p past)) (onwards G m disruption (leaves G dispatcher g (p past)) (past ++ (p past ∷ [])) p q ∙ ap (λ r. course G m disruption (leaves G dispatcher g (p past)) r q) (joined past p (p past))) ∙ ap (λ x. step x (course G m disruption (leaves G dispatcher g x) (λ later. p (past ++ (x ∷ later))) q)) (ap p (sym (append-nil past)))
-  where
-    step : Move → Course → Course
-    step x c = elim (allowed G dispatcher g x) [ true ↦ c | false ↦ wrong dispatcher ]
+onwards G (suc m) dispatcher g past p q =
+    let h = leaves G dispatcher g (p past) in
+    ap (step (p past)) (onwards G m disruption h (past ++ (p past ∷ [])) p q ∙ ap (λ r. course G m disruption h r q) (joined past p (p past)))
+    ∙ ap (λ x. step x (course G m disruption (leaves G dispatcher g x) (λ later. p (past ++ (x ∷ later))) q)) (ap p (sym (append-nil past))) where
+      step : Move → Course → Course
+      step x c = elim (allowed G dispatcher g x) [ true ↦ c | false ↦ wrong dispatcher ]
 onwards G (suc m) disruption g past p [] = refl
 onwards G (suc m) disruption g past p (x ∷ q) = λ t. elim (allowed G disruption g x) [ true ↦ (onwards G m dispatcher (leaves G disruption g x) (past ++ (x ∷ [])) p q ∙ ap (λ r. course G m dispatcher (leaves G disruption g x) r q) (joined past p x)) t | false ↦ wrong disruption ]
 

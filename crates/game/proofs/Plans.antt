@@ -17,29 +17,26 @@ module _ (G : Game) where
   pub plan-moves : (m : ℕ) (g : Graph) (p : Plan) (q : Play) → allowed G dispatcher g (p []) ≡ true
       → course G (suc m) dispatcher g p q ≡ course G m disruption (leaves G dispatcher g (p [])) (since p (p [])) q
   unfolding course
-  plan-moves m g p q e = go (allowed G dispatcher g (p [])) e
-    where
-      go : (b : Bool) → b ≡ true → (elim b as (λ c. Course) [ true ↦ course G m disruption (leaves G dispatcher g (p [])) (since p (p [])) q | false ↦ wrong dispatcher ]) ≡ course G m disruption (leaves G dispatcher g (p [])) (since p (p [])) q
-      go true e = refl
-      go false e = true-false e refl
+  plan-moves m g p q e = go (allowed G dispatcher g (p [])) e where
+    go : (b : Bool) → b ≡ true → (elim b as (λ c. Course) [ true ↦ course G m disruption (leaves G dispatcher g (p [])) (since p (p [])) q | false ↦ wrong dispatcher ]) ≡ course G m disruption (leaves G dispatcher g (p [])) (since p (p [])) q
+    go true e = refl
+    go false e = true-false e refl
 
   pub play-moves : (m : ℕ) (g : Graph) (p : Plan) (x : Move) (q : Play) → allowed G disruption g x ≡ true
       → course G (suc m) disruption g p (x ∷ q) ≡ course G m dispatcher (leaves G disruption g x) (since p x) q
   unfolding course
-  play-moves m g p x q e = go (allowed G disruption g x) e
-    where
-      go : (b : Bool) → b ≡ true → (elim b as (λ c. Course) [ true ↦ course G m dispatcher (leaves G disruption g x) (since p x) q | false ↦ wrong disruption ]) ≡ course G m dispatcher (leaves G disruption g x) (since p x) q
-      go true e = refl
-      go false e = true-false e refl
+  play-moves m g p x q e = go (allowed G disruption g x) e where
+    go : (b : Bool) → b ≡ true → (elim b as (λ c. Course) [ true ↦ course G m dispatcher (leaves G disruption g x) (since p x) q | false ↦ wrong disruption ]) ≡ course G m dispatcher (leaves G disruption g x) (since p x) q
+    go true e = refl
+    go false e = true-false e refl
 
   -- A plan that can be followed says a move that can be made.
   pub first-fair : (m : ℕ) (g : Graph) (p : Plan) → CanFollow G (suc m) dispatcher g p → allowed G dispatcher g (p []) ≡ true
   unfolding course
-  first-fair m g p f = go (allowed G dispatcher g (p [])) refl (f [])
-    where
-      go : (b : Bool) → allowed G dispatcher g (p []) ≡ b → Fair (elim b [ true ↦ course G m disruption (leaves G dispatcher g (p [])) (since p (p [])) [] | false ↦ wrong dispatcher ]) → allowed G dispatcher g (p []) ≡ true
-      go true e t = e
-      go false e t = absurd t
+  first-fair m g p f = go (allowed G dispatcher g (p [])) refl (f []) where
+    go : (b : Bool) → allowed G dispatcher g (p []) ≡ b → Fair (elim b [ true ↦ course G m disruption (leaves G dispatcher g (p [])) (since p (p [])) [] | false ↦ wrong dispatcher ]) → allowed G dispatcher g (p []) ≡ true
+    go true e t = e
+    go false e t = absurd t
 
   -- Where no win can be forced, every plan that can be followed meets a play that leaves the goal broken.
   pub breaks : (m : ℕ) (s : Side) (g : Graph) (p : Plan) → forced G m s g ≡ false → CanFollow G m s g p → SomeBreaks G m s g p
@@ -73,11 +70,10 @@ module _ (G : Game) where
   reply-wins : (m : ℕ) (g : Graph) (p : Move → Plan) → ((x : Move) → allowed G disruption g x ≡ true → Wins G m dispatcher (leaves G disruption g x) (p x)) → Wins G (suc m) disruption g (reply p)
   unfolding course
   reply-wins m g p w [] = tt
-  reply-wins m g p w (x ∷ q) = go (allowed G disruption g x) refl
-    where
-      go : (b : Bool) → allowed G disruption g x ≡ b → Won G (elim b [ true ↦ course G m dispatcher (leaves G disruption g x) (p x) q | false ↦ wrong disruption ])
-      go true e = w x e q
-      go false e = tt
+  reply-wins m g p w (x ∷ q) = go (allowed G disruption g x) refl where
+    go : (b : Bool) → allowed G disruption g x ≡ b → Won G (elim b [ true ↦ course G m dispatcher (leaves G disruption g x) (p x) q | false ↦ wrong disruption ])
+    go true e = w x e q
+    go false e = tt
 
   -- Where a win can be forced, some plan wins.
   pub wins : (m : ℕ) (s : Side) (g : Graph) → forced G m s g ≡ true → (p : Plan) × Wins G m s g p
@@ -106,20 +102,18 @@ module _ (G : Game) where
   won-fair (wrong disruption) w = tt
 
   pub won-unbroken : (c : Course) → Won G c → Broken G c → ⊥
-  won-unbroken (ended h) w b = go (value h (G .goal)) w b
-    where
-      go : (x : Bool) → T x → T (not x) → ⊥
-      go true w b = b
-      go false w b = w
+  won-unbroken (ended h) w b = go (value h (G .goal)) w b where
+    go : (x : Bool) → T x → T (not x) → ⊥
+    go true w b = b
+    go false w b = w
   won-unbroken (wrong s) w b = b
 
   -- Where some plan wins, a win can be forced.
   pub forced-by : (m : ℕ) (s : Side) (g : Graph) (p : Plan) → Wins G m s g p → forced G m s g ≡ true
-  forced-by m s g p w = go (forced G m s g) refl
-    where
-      go : (b : Bool) → forced G m s g ≡ b → forced G m s g ≡ true
-      go true e = e
-      go false e = let (q, b) = breaks m s g p e (λ q. won-fair (course G m s g p q) (w q)) in absurd (won-unbroken (course G m s g p q) (w q) b)
+  forced-by m s g p w = go (forced G m s g) refl where
+    go : (b : Bool) → forced G m s g ≡ b → forced G m s g ≡ true
+    go true e = e
+    go false e = let (q, b) = breaks m s g p e (λ q. won-fair (course G m s g p q) (w q)) in absurd (won-unbroken (course G m s g p q) (w q) b)
 
   -- There is a plan that can be followed,
   pub some-plan : (m : ℕ) (s : Side) (g : Graph) → (p : Plan) × CanFollow G m s g p
@@ -129,15 +123,14 @@ module _ (G : Game) where
       let (x, a) = some-move G dispatcher g in
       let (p, f) = some-plan m disruption (leaves G dispatcher g x) in
       (begin x p, λ q. subst Fair (sym (plan-moves m g (begin x p) q a)) (f q))
-  some-plan (suc m) disruption g = (reply (λ x. some-plan m dispatcher (leaves G disruption g x) .0), go (λ x. some-plan m dispatcher (leaves G disruption g x)))
-    where
-      one : (x : Move) (p : Plan) → CanFollow G m dispatcher (leaves G disruption g x) p → (q : Play) (b : Bool) → Fair (elim b [ true ↦ course G m dispatcher (leaves G disruption g x) p q | false ↦ wrong disruption ])
-      one x p f q true = f q
-      one x p f q false = tt
+  some-plan (suc m) disruption g = (reply (λ x. some-plan m dispatcher (leaves G disruption g x) .0), go (λ x. some-plan m dispatcher (leaves G disruption g x))) where
+    one : (x : Move) (p : Plan) → CanFollow G m dispatcher (leaves G disruption g x) p → (q : Play) (b : Bool) → Fair (elim b [ true ↦ course G m dispatcher (leaves G disruption g x) p q | false ↦ wrong disruption ])
+    one x p f q true = f q
+    one x p f q false = tt
 
-      go : (r : (x : Move) → (p : Plan) × CanFollow G m dispatcher (leaves G disruption g x) p) → CanFollow G (suc m) disruption g (reply (λ x. r x .0))
-      go r [] = tt
-      go r (x ∷ q) = one x (r x .0) (r x .1) q (allowed G disruption g x)
+    go : (r : (x : Move) → (p : Plan) × CanFollow G m dispatcher (leaves G disruption g x) p) → CanFollow G (suc m) disruption g (reply (λ x. r x .0))
+    go r [] = tt
+    go r (x ∷ q) = one x (r x .0) (r x .1) q (allowed G disruption g x)
 
   -- and under each such plan a play to its end.
   pub some-play : (m : ℕ) (s : Side) (g : Graph) (p : Plan) → CanFollow G m s g p → (q : Play) × (h : Graph) × (course G m s g p q ≡ ended h)

@@ -14,8 +14,8 @@ use Rattle.text.specs.Code.{editCode}
 use Rattle.text.specs.Reading.{longestText, textLimits}
 use Rattle.text.specs.Questions.{askEdit}
 use Rattle.join_edits.specs.Chain.{askJoined, JoinsByFirst, JoinsByLast}
-use Rattle.join_edits.proofs.Bytes.{some-byte, joined-length}
-use Rattle.join_edits.proofs.Passes.{Joins, joins, joined-passes}
+use Rattle.join_edits.proofs.JoinedBytes.{some-byte, joined-length}
+use Rattle.join_edits.proofs.JoinedPasses.{Joins, joins, joined-passes}
 
 followed-assoc : (P Q R : Edit) → followedBy (followedBy P Q) R ≡ followedBy P (followedBy Q R)
 unfolding followedBy
@@ -28,8 +28,7 @@ followed-assoc (choose K P₁ Q₁ P) Q R = ap (choose K P₁ Q₁) (followed-as
 
 module _ (p q : List ℕ) (P Q : Edit) (p-read : askEdit (textLimits maxNodes) p ≡ passed P) (q-read : askEdit (textLimits maxNodes) q ≡ passed Q) (short : length (editCode (followedBy P Q)) ≤ longestText) where
   join-so : askJoined p q ≡ passed (editCode (followedBy P Q))
-  unfolding askJoined _>>=_ _>>_ is
-  join-so = rw (p-read, q-read, le-leb (length (editCode (followedBy P Q))) longestText short)
+  join-so = unfold askJoined _>>=_ _>>_ is in rw (p-read, q-read, le-leb (length (editCode (followedBy P Q))) longestText short)
 
   read-so : askEdit (textLimits maxNodes) (editCode (followedBy P Q)) ≡ passed (followedBy P Q)
   read-so = joined-passes (textLimits maxNodes) p q P Q p-read q-read short

@@ -6,10 +6,9 @@ use Rattle.logic.specs.Carry.{followedBy}
 use Rattle.text.specs.Code.{code, editCode}
 use Rattle.text.specs.Reading.{codes, choice, follow}
 use Rattle.text.specs.Reading as reading
-use Rattle.text.specs.Questions.{whole, askEdit}
+use Rattle.text.specs.Questions.{whole, askOne}
 use Rattle.join_edits.specs.Chain.{askJoined, askJoinEdits}
 use Rattle.join_edits.specs.Examples.{calls, results}
 
 pub examples : calls askJoinEdits ≡ results
-unfolding calls results askJoinEdits askJoined askRoom askEdit whole codes choice follow reading._>>=_ _>>=_ _>>_ is followedBy code editCode
-examples = refl
+examples = unfold calls results askJoinEdits askJoined askRoom askOne whole codes choice follow reading._>>=_ _>>=_ _>>_ is followedBy code editCode in refl

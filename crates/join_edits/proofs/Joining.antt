@@ -2,7 +2,6 @@
 use mathlib.Core.Path.{_≡_, sym, _∙_, ap, ap₂}
 use mathlib.Core.List.{List, _++_}
 use Prim.Native.Nat.{ℕ, _+_, _-_, _≤_, _<_}
-use native.Mathlib.Nat.{zero-add}
 use native.Mathlib.Omega.{arith}
 use borrow.Author.Tests.{le-leb, lt-leb}
 use lib.ListN.{length, take, drop, length-take}
@@ -21,11 +20,12 @@ use Rattle.logic.specs.Limits.{maxNodes}
 use Rattle.text.specs.Code.{editCode}
 use Rattle.text.specs.Reading.{longestText, textLimits}
 use Rattle.text.specs.Questions.{askEdit}
-use Rattle.text.proofs.Books.{edit-is-spelled}
+use Rattle.text.proofs.TextSpelling.{edit-is-spelled}
 use Rattle.write.specs.Laid.{Wrote}
-use Rattle.write.proofs.Laying.{laid-fits, wrote-as, wrote-more}
+use Rattle.write.proofs.Laying.{wrote-as, wrote-more}
+use Rattle.write.proofs.Rules.{at-start}
 use Rattle.join_edits.specs.Chain.{askJoined, askJoinEdits, withoutLast}
-use Rattle.join_edits.proofs.Bytes.{some-byte, joined-bytes, joined-length}
+use Rattle.join_edits.proofs.JoinedBytes.{some-byte, joined-bytes, joined-length}
 
 -- An edit that has passed, with n as 60.
 pub record Passed (t : List ℕ) : Type 0 where
@@ -45,13 +45,11 @@ passed-some t s = omega (arith, ap length (spelled t s), some-byte (s .what))
 module _ (p q : List ℕ) (room : ℕ) where
   -- 21 to 26 of the first
   pub first-refused : (a : Answer) → asked a ≡ outcome (askEdit (textLimits maxNodes) p) → (r : Refusal) → a ≡ Refused r → askJoinEdits p q room ≡ refused (refusalNumber r) (refusalPlace r)
-  unfolding askJoinEdits askJoined _>>=_
-  first-refused a check r e = rw (not-learned _ _ _ (sym (ap asked e) ∙ check))
+  first-refused a check r e = unfold askJoinEdits askJoined _>>=_ in rw (not-learned _ _ _ (sym (ap asked e) ∙ check))
 
   -- and of the second
   pub second-refused : Passed p → (b : Answer) → asked b ≡ outcome (askEdit (textLimits maxNodes) q) → (r : Refusal) → b ≡ Refused r → askJoinEdits p q room ≡ refused (refusalNumber r) (refusalPlace r)
-  unfolding askJoinEdits askJoined _>>=_
-  second-refused s b check r e = rw (s .is, not-learned _ _ _ (sym (ap asked e) ∙ check))
+  second-refused s b check r e = unfold askJoinEdits askJoined _>>=_ in rw (s .is, not-learned _ _ _ (sym (ap asked e) ∙ check))
 
 module _ {p q : List ℕ} (s : Passed p) (t : Passed q) where
   abbrev pub joined : List ℕ
@@ -66,13 +64,11 @@ module _ {p q : List ℕ} (s : Passed p) (t : Passed q) where
   module _ (room : ℕ) where
     -- 21 of the joined edit
     pub too-long : longestText < length p - 1 + length q → askJoinEdits p q room ≡ refused 21 0
-    unfolding askJoinEdits askJoined _>>=_ _>>_ is
-    too-long h = rw (s .is, t .is, lt-leb (length joined) longestText (omega (arith, h, size-is)))
+    too-long h = unfold askJoinEdits askJoined _>>=_ _>>_ is in rw (s .is, t .is, lt-leb (length joined) longestText (omega (arith, h, size-is)))
 
     module _ (fits : length p - 1 + length q ≤ longestText) where
       to-room : askJoinEdits p q room ≡ askRoom joined room
-      unfolding askJoinEdits askJoined _>>=_ _>>_ is
-      to-room = rw (s .is, t .is, le-leb (length joined) longestText (omega (arith, fits, size-is)))
+      to-room = unfold askJoinEdits askJoined _>>=_ _>>_ is in rw (s .is, t .is, le-leb (length joined) longestText (omega (arith, fits, size-is)))
 
       -- 33
       pub short : room < length p - 1 + length q → askJoinEdits p q room ≡ refused 33 (length p - 1 + length q)
@@ -88,4 +84,4 @@ module _ {p q : List ℕ} (s : Passed p) (t : Passed q) where
       let w : Wrote output 0 (withoutLast p) (length p - 1) out₁ = record { counted = omega (arith, length-take (length p - 1) p); stored = u .stored } in
       let x : Wrote output 0 (withoutLast p ++ q) r₂ out₂ = wrote-more w (wrote-as (take-length q) v) in
       let y : Wrote output 0 joined r₂ out₂ = wrote-as (sym bytes-are) x in
-      y .stored ∙ laid-fits output 0 joined (omega (arith, h, size-is)) ∙ ap (λ (n : ℕ). joined ++ drop n output) (zero-add (length joined))
+      at-start y (omega (arith, h, size-is))

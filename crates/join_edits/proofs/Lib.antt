@@ -1,5 +1,5 @@
-pub mod Bytes
-pub mod Passes
+pub mod JoinedBytes
+pub mod JoinedPasses
 pub mod Joining
 pub mod AnyWay
 pub mod Examples

@@ -6,5 +6,4 @@ use Rattle.join_sheets.specs.Joined.{sideBySide, pairsBySide, joinedGrap
 use Rattle.join_sheets.specs.Examples.{shown, left-out, truths}
 
 pub examples : left-out ≡ truths
-unfolding left-out truths shown value joinedGraph sideBySide pairsBySide isNode anyBelow allBelow
-examples = refl
+examples = unfold left-out truths shown value joinedGraph sideBySide pairsBySide isNode anyBelow allBelow in refl

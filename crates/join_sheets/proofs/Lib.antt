@@ -1,8 +1,8 @@
-pub mod Below
+pub mod BelowSum
 pub mod Joined
 pub mod Together
 pub mod Examples
 pub mod Shifts
 pub mod Beside
-pub mod Sheets
-pub mod Answers
+pub mod BlocksJoined
+pub mod JoinStages

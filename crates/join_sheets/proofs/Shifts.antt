@@ -13,7 +13,7 @@ use Rattle.bitset.specs.Words.{setOf, member}
 use Rattle.bitset.proofs.SetLaws.{setOf-cong, setOf-wide, setOf-none, member-setOf, member-of, is-setOf}
 use Rattle.bitset.proofs.BitLaws.{member-shl}
 use Rattle.join_sheets.specs.Joined.{sideBySide}
-use Rattle.join_sheets.specs.Writes.{raised, beside}
+use Rattle.join_sheets.specs.BesideWrites.{raised, beside}
 
 -- a word is shifted as a word
 pub shifted : (x n : ℕ) → x * 2 ^ n % 2 ^ 64 ≡ raised n x
@@ -21,11 +21,10 @@ shifted x n = is-setOf 64 (x * 2 ^ n % 2 ^ 64) (λ j. leb n j && member x (j - n
 
 -- i is one of the m numbers from n on
 from-n : (n m i : ℕ) → n ≤ i → ltb (i - n) m ≡ ltb i (n + m)
-from-n n m i l = sym (go (ltb (i - n) m) refl)
-  where
-    go : (b : Bool) → ltb (i - n) m ≡ b → ltb i (n + m) ≡ b
-    go true e = lt-ltb i (n + m) (omega (arith, ltb-true (i - n) m e))
-    go false e = le-ltb i (n + m) (omega (arith, ltb-false (i - n) m e))
+from-n n m i l = sym (go (ltb (i - n) m) refl) where
+  go : (b : Bool) → ltb (i - n) m ≡ b → ltb i (n + m) ≡ b
+  go true e = lt-ltb i (n + m) (omega (arith, ltb-true (i - n) m e))
+  go false e = le-ltb i (n + m) (omega (arith, ltb-false (i - n) m e))
 
 pub beside-sets : (n m : ℕ) (v u : Nodes) → n + m ≤ 64 → beside n (setOf n v) (setOf m u) ≡ setOf (n + m) (sideBySide n v u)
 unfolding sideBySide
@@ -38,17 +37,15 @@ beside-sets n m v u h = setOf-cong 64 _ (λ i. ltb i (n + m) && cond (ltb i n) (
 -- the first's alone
 pub first-alone : (n m : ℕ) (v : Nodes) → setOf n v ≡ setOf (n + m) (sideBySide n v (λ j. false))
 unfolding sideBySide
-first-alone n m v = sym (setOf-cong (n + m) _ (λ i. ltb i n && v i) (λ i l. go (ltb i n) (v i)) ∙ setOf-wide n (n + m) v (omega arith))
-  where
-    go : (b c : Bool) → cond b c false ≡ (b && c)
-    go true c = refl
-    go false c = refl
+first-alone n m v = sym (setOf-cong (n + m) _ (λ i. ltb i n && v i) (λ i l. go (ltb i n) (v i)) ∙ setOf-wide n (n + m) v (omega arith)) where
+  go : (b c : Bool) → cond b c false ≡ (b && c)
+  go true c = refl
+  go false c = refl
 
 -- nothing beside nothing
 pub neither : (n m : ℕ) (v u w : Nodes) → ((i : ℕ) → w i ≡ false) → ((i : ℕ) → v i ≡ false) → ((i : ℕ) → u i ≡ false) → setOf n w ≡ setOf (n + m) (sideBySide n v u)
 unfolding sideBySide
-neither n m v u w z p q = setOf-cong n w (λ i. false) (λ i l. z i) ∙ setOf-none n ∙ sym (setOf-cong (n + m) _ (λ i. false) (λ i l. go (ltb i n) i) ∙ setOf-none (n + m))
-  where
-    go : (b : Bool) (i : ℕ) → cond b (v i) (u (i - n)) ≡ false
-    go true i = p i
-    go false i = q (i - n)
+neither n m v u w z p q = setOf-cong n w (λ i. false) (λ i l. z i) ∙ setOf-none n ∙ sym (setOf-cong (n + m) _ (λ i. false) (λ i l. go (ltb i n) i) ∙ setOf-none (n + m)) where
+  go : (b : Bool) (i : ℕ) → cond b (v i) (u (i - n)) ≡ false
+  go true i = p i
+  go false i = q (i - n)

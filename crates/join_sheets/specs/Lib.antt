@@ -1,4 +1,4 @@
 pub mod Joined
 pub mod Joinable
 pub mod Examples
-pub mod Writes
+pub mod BesideWrites

@@ -9,7 +9,7 @@ ghost use Rattle.sheet.specs.Sheet.{present, store, graphOf, lineCount};
 ghost use Rattle.sheet.specs.Questions.{Sound};
 ghost use Rattle.sheet.specs.Masks.{wordCount};
 ghost use Rattle.join_sheets.specs.Joined.{joinedGraph, nodesTotal, askJoin, joinedSheet};
-ghost use Rattle.join_sheets.specs.Writes.{raised, putBeside};
+ghost use Rattle.join_sheets.specs.BesideWrites.{raised, putBeside};
 use answer::Answer;
 use answer::Refusal;
 use sheet::Sheet;

@@ -1,5 +1,6 @@
 pub mod QuestionLaws
-mod Parts
-pub mod Rules
+mod PartLaws
+pub mod RulesJudged
+pub mod SheetAndBook
 mod Deciding
-pub mod Refusals
+pub mod RuleRefusals

@@ -23,38 +23,33 @@ module _ (g : Graph) where
   -- The first rule holds, or is broken.
   module _ (K : Expr rule) (rules : List (Expr rule)) (i : ℕ) where
     pub rule-holds : value g K ≡ true → askRules g (K ∷ rules) i ≡ askRules g rules (suc i)
-    unfolding askRules
-    rule-holds e = so-then 41 i _ e
+    rule-holds e = unfold askRules in so-then 41 i _ e
 
     pub rule-broken : value g K ≡ false → askRules g (K ∷ rules) i ≡ refused 41 i
-    unfolding askRules
-    rule-broken e = not-then 41 i _ e
+    rule-broken e = unfold askRules in not-then 41 i _ e
 
   -- 41 is not answered exactly when each rule holds.
   pub hold-asked : (rules : List (Expr rule)) (i : ℕ) → T (holdAll g rules) → askRules g rules i ≡ passed tt
   unfolding askRules holdAll is _>>_
   hold-asked [] i e = refl
-  hold-asked (K ∷ rules) i e = go (value g K) e (hold-asked rules (suc i))
-    where
-      go : (b : Bool) → T (b && holdAll g rules) → (T (holdAll g rules) → askRules g rules (suc i) ≡ passed tt) → (is b 41 i >> askRules g rules (suc i)) ≡ passed tt
-      go true e rest = rest e
-      go false e rest = absurd e
+  hold-asked (K ∷ rules) i e = go (value g K) e (hold-asked rules (suc i)) where
+    go : (b : Bool) → T (b && holdAll g rules) → (T (holdAll g rules) → askRules g rules (suc i) ≡ passed tt) → (is b 41 i >> askRules g rules (suc i)) ≡ passed tt
+    go true e rest = rest e
+    go false e rest = absurd e
 
   pub asked-hold : (rules : List (Expr rule)) (i : ℕ) → askRules g rules i ≡ passed tt → T (holdAll g rules)
   unfolding askRules holdAll is _>>_
   asked-hold [] i e = tt
-  asked-hold (K ∷ rules) i e = go (value g K) e (asked-hold rules (suc i))
-    where
-      go : (b : Bool) → (is b 41 i >> askRules g rules (suc i)) ≡ passed tt → (askRules g rules (suc i) ≡ passed tt → T (holdAll g rules)) → T (b && holdAll g rules)
-      go true e rest = rest e
-      go false e rest = refused-not-passed e
+  asked-hold (K ∷ rules) i e = go (value g K) e (asked-hold rules (suc i)) where
+    go : (b : Bool) → (is b 41 i >> askRules g rules (suc i)) ≡ passed tt → (askRules g rules (suc i) ≡ passed tt → T (holdAll g rules)) → T (b && holdAll g rules)
+    go true e rest = rest e
+    go false e rest = refused-not-passed e
 
   pub asked-broken : (rules : List (Expr rule)) (i q p : ℕ) → askRules g rules i ≡ refused q p → holdAll g rules ≡ false
-  asked-broken rules i q p e = go (holdAll g rules) refl
-    where
-      go : (b : Bool) → holdAll g rules ≡ b → b ≡ false
-      go true h = refused-not-passed (sym e ∙ hold-asked rules i (subst T (sym h) tt))
-      go false h = refl
+  asked-broken rules i q p e = go (holdAll g rules) refl where
+    go : (b : Bool) → holdAll g rules ≡ b → b ≡ false
+    go true h = refused-not-passed (sym e ∙ hold-asked rules i (subst T (sym h) tt))
+    go false h = refl
 
 -- Whether each rule holds, from the answer to 41.
 module _ (g : Graph) (rules : List (Expr rule)) (a : Answer) (judged : asked a ≡ askRules g rules 0) where

@@ -7,10 +7,10 @@ use Rattle.logic.specs.Syntax.{Edit}
 use Rattle.logic.specs.Carry.{carriedBook}
 use Rattle.sheet.specs.Sheet.{graphOf}
 use Rattle.judge.specs.Questions.{askSheetAndBook, askRules}
-use Rattle.single.specs.Scratch.{askScratch}
+use Rattle.runs.specs.Scratch.{askScratch}
 use Rattle.apply.specs.Apply.{afterSteps}
 use Rattle.runs.specs.Enter.{StepsAndCarried, askBefore41, askEnter, enterSheet}
-use Rattle.line.specs.Line.{askedLine}
+use Rattle.printed.specs.AnswerLine.{askedLine}
 use Rattle.printed.specs.Printed.{scratchBytes, printedLine, printedSheet}
 use Rattle.log.specs.Taken.{kept}
 use Rattle.log.proofs.KeptLaws.{kept-asked}
@@ -25,17 +25,14 @@ before-41 sheet book room q = do
 
 module _ (sheet book edit : List ℕ) (room : ℕ) where
   kept-before : askBefore41 sheet book (kept edit) room ≡ askBefore41 sheet book edit room
-  unfolding askBefore41 before-41
-  kept-before = ap (before-41 sheet book room) (kept-asked (graphOf sheet .n) edit)
+  kept-before = unfold askBefore41 before-41 in ap (before-41 sheet book room) (kept-asked (graphOf sheet .n) edit)
 
   kept-enter : askEnter sheet book (kept edit) room ≡ askEnter sheet book edit room
-  unfolding askEnter
-  kept-enter = ap (λ (q : Asked StepsAndCarried). q >>= (λ c. askRules (graphOf sheet) (c .carried) 0 >> passed (c .steps))) kept-before
+  kept-enter = unfold askEnter in ap (λ (q : Asked StepsAndCarried). q >>= (λ c. askRules (graphOf sheet) (c .carried) 0 >> passed (c .steps))) kept-before
 
 module _ (sheet book edit : List ℕ) where
   pub kept-line : printedLine sheet book (kept edit) ≡ printedLine sheet book edit
   kept-line = ap (λ (q : Asked Edit). askedLine (outcome q)) (kept-enter sheet book edit scratchBytes)
 
   pub kept-sheet : printedSheet sheet book (kept edit) ≡ printedSheet sheet book edit
-  unfolding enterSheet
-  kept-sheet = ap (λ (q : Asked Edit). after q (λ Z. afterSteps Z sheet) sheet) (kept-enter sheet book edit scratchBytes)
+  kept-sheet = unfold enterSheet in ap (λ (q : Asked Edit). after q (λ Z. afterSteps Z sheet) sheet) (kept-enter sheet book edit scratchBytes)

@@ -1,11 +1,12 @@
 -- The bytes of a log and its blocks.
 use mathlib.Core.Path.{_≡_, refl, sym, _∙_, ap, ap₂}
 use mathlib.Core.List.{List, [], _∷_, _++_}
-use Prim.Native.Nat.{ℕ, zero, suc, _+_, _-_, _*_, _≤_}
+use Prim.Native.Nat.{ℕ, zero, suc, _+_, _*_, _≤_}
 use native.Mathlib.Nat.{zero-add, suc-add}
 use native.Mathlib.Omega.{arith}
 use lib.ListN.{length, take, drop, take-append-drop, length-take, length-drop}
 use lib.Seq.{drop-nil, take-nil, drop-drop, take-take, take-at, drop-at}
+use Rattle.logic.specs.Lists.{All}
 use Rattle.log.specs.Log.{cut, blocksOf}
 use Rattle.log.specs.Making.{joined}
 
@@ -32,8 +33,7 @@ unfolding cut blocksOf
 blocks-cons x l = ap (take 512 (x ∷ l) ∷_) (enough (length l) (length (drop 512 (x ∷ l))) (drop 512 (x ∷ l)) (omega (arith, length-drop 512 (x ∷ l))) (omega arith))
 
 pub blocks-nil : blocksOf [] ≡ []
-unfolding cut blocksOf
-blocks-nil = refl
+blocks-nil = unfold cut blocksOf in refl
 
 pub blocks-drop : (m : ℕ) (l : List ℕ) → blocksOf (drop (512 * m) l) ≡ drop m (blocksOf l)
 blocks-drop zero l = refl
@@ -56,19 +56,17 @@ blocks-take (suc m) (x ∷ l) =
     ∙ ap (take 512 (x ∷ l) ∷_) (blocks-take m (drop 512 (x ∷ l))) ∙ ap (take (suc m)) (sym (blocks-cons x l))
 
 -- each has a byte
-unfoldable pub Filled : List (List ℕ) → Type 0
-Filled [] = Unit {0}
-Filled (k ∷ ks) = (length k ≡ 0 → ⊥) × Filled ks
+abbrev pub Filled : List (List ℕ) → Type 0
+Filled = All (λ k. length k ≡ 0 → ⊥)
 
 cut-filled : (f : ℕ) (l : List ℕ) → Filled (cut f l)
-unfolding cut Filled
+unfolding cut
 cut-filled zero l = tt
 cut-filled (suc f) [] = tt
 cut-filled (suc f) (x ∷ l) = (λ e. omega (arith, length-take 512 (x ∷ l)), cut-filled f (drop 512 (x ∷ l)))
 
 pub blocks-filled : (l : List ℕ) → Filled (blocksOf l)
-unfolding blocksOf
-blocks-filled l = cut-filled (length l) l
+blocks-filled l = unfold blocksOf in cut-filled (length l) l
 
 -- blocks joined, and cut again
 joined-cut : (f : ℕ) (l : List ℕ) → length l ≤ f → joined (cut f l) ≡ l
@@ -79,8 +77,7 @@ joined-cut (suc f) [] a = refl
 joined-cut (suc f) (x ∷ l) a = ap (take 512 (x ∷ l) ++_) (joined-cut f (drop 512 (x ∷ l)) (omega (arith, length-drop 512 (x ∷ l)))) ∙ take-append-drop 512 (x ∷ l)
 
 pub joined-blocks : (l : List ℕ) → joined (blocksOf l) ≡ l
-unfolding blocksOf
-joined-blocks l = joined-cut (length l) l (omega arith)
+joined-blocks l = unfold blocksOf in joined-cut (length l) l (omega arith)
 
 pub blocks-at : (k l : List ℕ) → length k ≡ 512 → blocksOf (k ++ l) ≡ k ∷ blocksOf l
 blocks-at [] l h = absurd (omega arith)

@@ -1,11 +1,11 @@
 -- The fields of a block, as the code asks them.
-use mathlib.Core.Path.{_≡_, refl, _∙_, ap, ap₂}
-use mathlib.Core.Bool.{Bool, true, false, _&&_, _||_, cond, and-eq-true-iff}
+use mathlib.Core.Path.{_≡_, refl, ap}
+use mathlib.Core.Bool.{Bool, true, false, _&&_, _||_, and-eq-true-iff}
 use mathlib.Core.List.{List}
 use Prim.Native.Nat.{ℕ, _+_, _≤_, _<_}
 use native.Mathlib.Numerals.{add-one}
 use native.Mathlib.Omega.{arith}
-use borrow.Author.Tests.{leb-true, eqb-true, le-leb, lt-leb, eq-eqb, ne-eqb}
+use borrow.Author.Tests.{leb-true, eqb-true, le-leb, lt-leb, ne-eqb}
 use lib.Dec.{eqb, leb}
 use lib.ListN.{length, getD, take, drop, drop-of-length-le}
 use lib.Seq.{slice-cons, length-take-le}
@@ -14,71 +14,55 @@ use Rattle.log.specs.Log.{isLast, markRight, count, countRight, allZero,
 -- a question with two yeses, asked one after the other
 pub or-yes : (a b : Bool) → a ≡ true → a ≡ (a || b)
 or-yes true b e = refl
-or-yes false b e = let z : _≡_ {A = ℕ} 0 1 = cc in absurd (omega arith)
+or-yes false b e = cc
 
 pub or-no : (a b : Bool) → a ≡ false → b ≡ (a || b)
 or-no false b e = refl
-or-no true b e = let z : _≡_ {A = ℕ} 0 1 = cc in absurd (omega arith)
+or-no true b e = cc
 
 pub mark-begun : (begun : Bool) (m : ℕ) → begun ≡ true → markRight begun m ≡ (eqb m 0 || eqb m 2)
-unfolding markRight
-mark-begun begun m e = ap (λ (b : Bool). cond b (eqb m 0 || eqb m 2) (eqb m 1 || eqb m 3)) e
+mark-begun begun m e = unfold markRight in cc
 
 pub mark-not-begun : (begun : Bool) (m : ℕ) → begun ≡ false → markRight begun m ≡ (eqb m 1 || eqb m 3)
-unfolding markRight
-mark-not-begun begun m e = ap (λ (b : Bool). cond b (eqb m 0 || eqb m 2) (eqb m 1 || eqb m 3)) e
+mark-not-begun begun m e = unfold markRight in cc
 
 module _ (last : Bool) (c : ℕ) where
   pub none-counted : c < 1 → countRight last c ≡ false
-  unfolding countRight
-  none-counted h = rw (lt-leb 1 c h)
+  none-counted h = unfold countRight in rw (lt-leb 1 c h)
 
   pub too-many-counted : 504 < c → countRight last c ≡ false
-  unfolding countRight
-  too-many-counted h = rw (le-leb 1 c (omega arith), lt-leb c 504 h)
+  too-many-counted h = unfold countRight in rw (le-leb 1 c (omega arith), lt-leb c 504 h)
 
   pub counted : 1 ≤ c → c ≤ 504 → countRight last c ≡ (eqb c 504 || last)
-  unfolding countRight
-  counted h k = rw (le-leb 1 c h, le-leb c 504 k)
+  counted h k = unfold countRight in rw (le-leb 1 c h, le-leb c 504 k)
 
 module _ (k : List ℕ) (h : length k ≡ 512) where
   pub zeros-step : (i : ℕ) → i < 508 → allZero (drop i (take 508 k)) ≡ (eqb (getD k i 0) 0 && allZero (drop (i + 1) (take 508 k)))
-  unfolding allZero
-  zeros-step i l = rw add-one (ap allZero (slice-cons i 508 k 0 l (omega arith)))
+  zeros-step i l = unfold allZero in rw add-one (ap allZero (slice-cons i 508 k 0 l (omega arith)))
 
   pub zeros-end : (i : ℕ) → 508 ≤ i → allZero (drop i (take 508 k)) ≡ true
-  unfolding allZero
-  zeros-end i l = ap allZero (drop-of-length-le (take 508 k) {i = i} (omega (arith, length-take-le 508 k (omega arith))))
+  zeros-end i l = unfold allZero in ap allZero (drop-of-length-le (take 508 k) {i = i} (omega (arith, length-take-le 508 k (omega arith))))
 
 -- the questions in turn
 module _ (begun : Bool) (k : List ℕ) where
   pub not-a-log : (getD k 0 0 ≡ 3 → ⊥) → fieldsRight begun k ≡ false
-  unfolding fieldsRight
-  not-a-log h = rw (ne-eqb (getD k 0 0) 3 h)
+  not-a-log h = unfold fieldsRight in rw (ne-eqb (getD k 0 0) 3 h)
 
   module _ (three : getD k 0 0 ≡ 3) where
     pub mark-wrong : markRight begun (getD k 1 0) ≡ false → fieldsRight begun k ≡ false
-    unfolding fieldsRight
-    mark-wrong m = ap₂ (λ a b. a && (b && (countRight (isLast k) (count k) && zerosBehind k))) (eq-eqb (getD k 0 0) 3 three) m
+    mark-wrong m = unfold fieldsRight in cc
 
     module _ (marked : markRight begun (getD k 1 0) ≡ true) where
       pub count-wrong : countRight (isLast k) (count k) ≡ false → fieldsRight begun k ≡ false
-      unfolding fieldsRight
-      count-wrong m = ap₂ (λ a b. a && (b && (countRight (isLast k) (count k) && zerosBehind k))) (eq-eqb (getD k 0 0) 3 three) marked ∙ ap (_&& zerosBehind k) m
+      count-wrong m = unfold fieldsRight in cc
 
       pub zeros-left : countRight (isLast k) (count k) ≡ true → fieldsRight begun k ≡ allZero (drop (4 + count k) (take 508 k))
-      unfolding fieldsRight zerosBehind
-      zeros-left m = ap₂ (λ a b. a && (b && (countRight (isLast k) (count k) && zerosBehind k))) (eq-eqb (getD k 0 0) 3 three) marked ∙ ap (_&& zerosBehind k) m
+      zeros-left m = unfold fieldsRight zerosBehind in cc
 
 -- a count that is right is small
 pub count-small : (last : Bool) (c : ℕ) → countRight last c ≡ true → c ≤ 504
 unfolding countRight
-count-small last c e = go (leb 1 c) (leb c 504) refl refl
-  where
-    go : (a b : Bool) → leb 1 c ≡ a → leb c 504 ≡ b → c ≤ 504
-    go a true f g = leb-true c 504 g
-    go true false f g = let z : _≡_ {A = ℕ} 0 1 = cc in absurd (omega arith)
-    go false false f g = let z : _≡_ {A = ℕ} 0 1 = cc in absurd (omega arith)
+count-small last c e = leb-true c 504 (and-eq-true-iff (leb c 504) (eqb c 504 || last) .0 (and-eq-true-iff (leb 1 c) (leb c 504 && (eqb c 504 || last)) .0 e .1) .0)
 
 -- what right fields say
 pub record Right (begun : Bool) (k : List ℕ) : Type 0 where

@@ -7,10 +7,10 @@ pub mod FaultLaws
 pub mod StopLaws
 pub mod CutLaws
 pub mod MakeLaws
-pub mod ReadBack
+pub mod LogReadBack
 pub mod OneLog
 pub mod Logs
 pub mod KeptLaws
 pub mod Answering
 pub mod Replays
-pub mod Refusals
+pub mod LogRefusals

@@ -27,25 +27,20 @@ body mark part = 3 ∷ mark ∷ (length part % 256) ∷ (length part / 256 % 256
 
 module _ (mark : ℕ) (part : List ℕ) where
   pub block-is : block mark part ≡ sealed modulo257 (body mark part)
-  unfolding block body bytes
-  block-is = refl
+  block-is = unfold block body bytes in refl
 
   pub mark-is : getD (block mark part) 1 0 ≡ mark
-  unfolding block sealed
-  mark-is = refl
+  mark-is = unfold block sealed in refl
 
   three-is : getD (block mark part) 0 0 ≡ 3
-  unfolding block sealed
-  three-is = refl
+  three-is = unfold block sealed in refl
 
   pub last-is : isLast (block mark part) ≡ (eqb mark 2 || eqb mark 3)
-  unfolding isLast
-  last-is = ap (λ (m : ℕ). eqb m 2 || eqb m 3) mark-is
+  last-is = unfold isLast in ap (λ (m : ℕ). eqb m 2 || eqb m 3) mark-is
 
   module _ (few : length part ≤ 504) where
     length-body : length (body mark part) ≡ 508
-    unfolding body
-    length-body = omega (arith, length-append part (replicate (504 - length part) 0), length-replicate {A = ℕ} (504 - length part) 0)
+    length-body = unfold body in omega (arith, length-append part (replicate (504 - length part) 0), length-replicate {A = ℕ} (504 - length part) 0)
 
     pub block-whole : length (block mark part) ≡ 512
     block-whole = ap length block-is ∙ length-sealed modulo257 (body mark part) length-body
@@ -54,8 +49,7 @@ module _ (mark : ℕ) (part : List ℕ) where
     block-right = ap (sealRight modulo257) block-is ∙ sealed-right modulo257 (body mark part) length-body
 
     pub count-is : count (block mark part) ≡ length part
-    unfolding count block sealed bytes
-    count-is = omega arith
+    count-is = unfold count block sealed bytes in omega arith
 
     pub content-is : content (block mark part) ≡ part
     unfolding content block sealed bytes body

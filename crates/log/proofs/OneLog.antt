@@ -1,25 +1,29 @@
 -- A log that ends well is the log of its edits.
 use mathlib.Core.Path.{_≡_, refl, sym, _∙_, ap, ap₂, subst}
 use mathlib.Core.Logic.{_⊎_, inl, inr, ⊎-elim}
-use mathlib.Core.Bool.{Bool, true, false, _&&_, _||_, and-eq-true-iff, or-false}
+use mathlib.Core.Bool.{Bool, true, false, _&&_, _||_, and-eq-true-iff, or-false, or-true}
 use mathlib.Core.List.{List, [], _∷_, _++_, append-assoc}
 use Prim.Native.Nat.{ℕ, zero, suc, _+_, _-_, _*_, _/_, _%_, _≤_, _<_}
 use native.Mathlib.Omega.{arith}
-use borrow.Author.Tests.{eqb-true, leb-true, leb-false}
+use borrow.Author.Tests.{eqb-true, eq-eqb, leb-true, leb-false}
 use lib.Dec.{eqb, leb}
 use lib.ListN.{length, getD, take, drop, replicate, take-append-drop, length-append, length-drop}
 use lib.Seq.{length-take-le, take-take, drop-drop, drop-cons, getD-take, take-at, drop-at, length-slice}
 use Rattle.answer.specs.Asked.{passed, is}
+use Rattle.answer.proofs.AskedLaws.{refused-not-passed}
+use Rattle.logic.specs.Lists.{All}
+use Rattle.logic.proofs.Bools.{true-false}
+use Rattle.bitset.specs.Words.{Bytes}
 use Rattle.seal.specs.Seal.{modulo257, sealed}
 use Rattle.seal.proofs.SealLaws.{right-sealed}
 use Rattle.log.specs.Log.{isLast, markRight, count, countRight, content, allZero, zerosBehind, isBegun, askLogBlock, askLogEnd, Recorded, recorded}
 use Rattle.log.specs.Making.{block, editBlocks, logBlocks, CanHold}
 use Rattle.log.proofs.PassedLaws.{Passed, passes, count-few, content-length, content-some, still-begun}
-use Rattle.log.proofs.ReadLaws.{read-bad, read-last, read-more, Block, bad, last, more, block-is}
+use Rattle.log.proofs.ReadLaws.{read-bad, read-last, read-more, each-log}
 use Rattle.log.proofs.CutLaws.{drop-take}
 use Rattle.log.proofs.MakeLaws.{body}
 use Rattle.log.proofs.MakeLaws as make
-use Rattle.log.proofs.ReadBack.{first, one-block, more-blocks}
+use Rattle.log.proofs.LogReadBack.{first, one-block, more-blocks}
 
 -- zeros, and nothing else
 all-zero : (l : List ℕ) → allZero l ≡ true → l ≡ replicate (length l) 0
@@ -36,14 +40,13 @@ two-bytes a b c h k e =
     (omega arith, r ∙ ap (_% 256) (sym q))
 
 -- a block that passed is the block of its content
-module _ (begun : Bool) (number : ℕ) (k : List ℕ) (bytes : (p : ℕ) → getD k p 0 < 256) (p : Passed begun number k) where
+module _ (begun : Bool) (number : ℕ) (k : List ℕ) (bytes : Bytes k) (p : Passed begun number k) where
   first-four : take 508 k ≡ getD k 0 0 ∷ getD k 1 0 ∷ getD k 2 0 ∷ getD k 3 0 ∷ drop 4 (take 508 k)
   first-four =
       let h : length (take 508 k) ≡ 508 = length-take-le 508 k (omega (arith, p .whole)) in
-      drop-cons (take 508 k) 0 0 (omega arith)
-      ∙ ap₂ _∷_ (getD-take 508 k 0 0 (omega arith)) (drop-cons (take 508 k) 1 0 (omega arith)
-      ∙ ap₂ _∷_ (getD-take 508 k 1 0 (omega arith)) (drop-cons (take 508 k) 2 0 (omega arith)
-      ∙ ap₂ _∷_ (getD-take 508 k 2 0 (omega arith)) (drop-cons (take 508 k) 3 0 (omega arith) ∙ ap (_∷ drop 4 (take 508 k)) (getD-take 508 k 3 0 (omega arith)))))
+      let opened : (i : ℕ) → i < 4 → drop i (take 508 k) ≡ getD k i 0 ∷ drop (suc i) (take 508 k) = λ i l.
+      drop-cons (take 508 k) i 0 (omega arith) ∙ ap (_∷ drop (suc i) (take 508 k)) (getD-take 508 k i 0 (omega arith)) in
+      cc (opened 0 (omega arith), opened 1 (omega arith), opened 2 (omega arith), opened 3 (omega arith))
 
   inner : drop 4 (take 508 k) ≡ content k ++ replicate (504 - length (content k)) 0
   unfolding content zerosBehind
@@ -51,43 +54,37 @@ module _ (begun : Bool) (number : ℕ) (k : List ℕ) (bytes : (p : ℕ) → get
       let z : List ℕ = drop (4 + count k) (take 508 k) in
       let n : length z ≡ 508 - (4 + count k) = length-slice (4 + count k) 508 k (omega (arith, p .whole)) in
       let m : length z ≡ 504 - length (content k) = omega (arith, n, content-length p) in
-      sym (take-append-drop (count k) (drop 4 (take 508 k)))
-      ∙ ap₂ _++_ (ap (take (count k)) (drop-take 4 504 k) ∙ take-take (count k) 504 (drop 4 k) (count-few p)) (drop-drop (count k) 4 (take 508 k) ∙ all-zero z (p .fields .zeros) ∙ ap (λ n. replicate n 0) m)
+      cc (take-append-drop (count k) (drop 4 (take 508 k)), drop-take 4 504 k, take-take (count k) 504 (drop 4 k) (count-few p), drop-drop (count k) 4 (take 508 k), all-zero z (p .fields .zeros))
 
   body-is : take 508 k ≡ body (getD k 1 0) (content k)
   unfolding body count
   body-is =
       let c : length (content k) ≡ getD k 2 0 + 256 * getD k 3 0 = content-length p in
       let two = two-bytes (getD k 2 0) (getD k 3 0) (length (content k)) (bytes 2) (bytes 3) c in
-      first-four ∙ ap₂ (λ x y. x ∷ getD k 1 0 ∷ y) (p .fields .three) (ap₂ _∷_ (two .0) (ap₂ _∷_ (two .1) inner))
+      cc (first-four, p .fields .three, two .0, two .1, inner)
 
   pub is-block : k ≡ block (getD k 1 0) (content k)
   is-block = right-sealed modulo257 k (p .sums) ∙ ap (sealed modulo257) body-is ∙ sym (make.block-is (getD k 1 0) (content k))
 
 -- its byte 1
-one-of : (a b : Bool) → (a || b) ≡ true → (a ≡ true) ⊎ (b ≡ true)
-one-of true b e = inl refl
-one-of false b e = inr e
+one-of : (m x y : ℕ) → (eqb m x || eqb m y) ≡ true → (m ≡ x) ⊎ (m ≡ y)
+one-of m x y e = go (eqb m x) refl where
+  go : (b : Bool) → eqb m x ≡ b → (m ≡ x) ⊎ (m ≡ y)
+  go true b = inl (eqb-true m x b)
+  go false b = inr (eqb-true m y (cc))
 
-none-of : (a b : Bool) → (a || b) ≡ false → (a ≡ false) × (b ≡ false)
-none-of false b e = (refl, e)
-none-of true b e = let z : _≡_ {A = ℕ} 0 1 = cc in absurd (omega arith)
+none-of : (m x y : ℕ) → (eqb m x || eqb m y) ≡ false → (m ≡ x → ⊥) × (m ≡ y → ⊥)
+none-of m x y e = (λ h. true-false (ap (_|| eqb m y) (eq-eqb m x h)) e, λ h. true-false (ap (eqb m x ||_) (eq-eqb m y h) ∙ or-true (eqb m x)) e)
 
 of-last : (begun : Bool) (m : ℕ) → markRight begun m ≡ true → (eqb m 2 || eqb m 3) ≡ true → m ≡ first begun + 2
 unfolding markRight
-of-last true m a b =
-    ⊎-elim (λ x. ⊎-elim (λ y. absurd (omega (arith, eqb-true m 0 x, eqb-true m 2 y))) (λ y. absurd (omega (arith, eqb-true m 0 x, eqb-true m 3 y))) (one-of (eqb m 2) (eqb m 3) b))
-    (λ x. eqb-true m 2 x) (one-of (eqb m 0) (eqb m 2) a)
-of-last false m a b =
-    ⊎-elim (λ x. ⊎-elim (λ y. absurd (omega (arith, eqb-true m 1 x, eqb-true m 2 y))) (λ y. absurd (omega (arith, eqb-true m 1 x, eqb-true m 3 y))) (one-of (eqb m 2) (eqb m 3) b))
-    (λ x. eqb-true m 3 x) (one-of (eqb m 1) (eqb m 3) a)
+of-last true m a b = ⊎-elim (λ x. ⊎-elim (λ y. absurd (omega arith)) (λ y. absurd (omega arith)) (one-of m 2 3 b)) (λ x. x) (one-of m 0 2 a)
+of-last false m a b = ⊎-elim (λ x. ⊎-elim (λ y. absurd (omega arith)) (λ y. absurd (omega arith)) (one-of m 2 3 b)) (λ x. x) (one-of m 1 3 a)
 
 of-more : (begun : Bool) (m : ℕ) → markRight begun m ≡ true → (eqb m 2 || eqb m 3) ≡ false → m ≡ first begun
 unfolding markRight
-of-more true m a b =
-    ⊎-elim (λ x. eqb-true m 0 x) (λ x. let z : _≡_ {A = ℕ} 0 1 = cc (none-of (eqb m 2) (eqb m 3) b .0) in absurd (omega arith)) (one-of (eqb m 0) (eqb m 2) a)
-of-more false m a b =
-    ⊎-elim (λ x. eqb-true m 1 x) (λ x. let z : _≡_ {A = ℕ} 0 1 = cc (none-of (eqb m 2) (eqb m 3) b .1) in absurd (omega arith)) (one-of (eqb m 1) (eqb m 3) a)
+of-more true m a b = ⊎-elim (λ x. x) (λ x. absurd (none-of m 2 3 b .0 x)) (one-of m 0 2 a)
+of-more false m a b = ⊎-elim (λ x. x) (λ x. absurd (none-of m 2 3 b .1 x)) (one-of m 1 3 a)
 
 -- its count
 all-of : (c : ℕ) → countRight false c ≡ true → c ≡ 504
@@ -101,18 +98,12 @@ enough : (f h mark : ℕ) (e : List ℕ) → 0 < length e → length e ≤ f →
 unfolding editBlocks
 enough zero h mark e s a b = absurd (omega arith)
 enough (suc f) zero mark e s a b = absurd (omega arith)
-enough (suc f) (suc h) mark e s a b = go (leb (length e) 504) refl (λ t. enough f h 0 (drop 504 e) t (omega (arith, length-drop 504 e)) (omega (arith, length-drop 504 e)))
-  where
-    go : (y : Bool) → leb (length e) 504 ≡ y → (0 < length (drop 504 e) → editBlocks f 0 (drop 504 e) ≡ editBlocks h 0 (drop 504 e)) → editBlocks (suc f) mark e ≡ editBlocks (suc h) mark e
-    go true y on = one-block f mark e (leb-true (length e) 504 y) ∙ sym (one-block h mark e (leb-true (length e) 504 y))
-    go false y on =
-        let many : 504 < length e = leb-false (length e) 504 y in
-        more-blocks f mark e many ∙ ap (block mark (take 504 e) ∷_) (on (omega (arith, length-drop 504 e))) ∙ sym (more-blocks h mark e many)
-
--- Blocks of bytes.
-unfoldable pub EachBytes : List (List ℕ) → Type 0
-EachBytes [] = Unit {0}
-EachBytes (k ∷ ks) = ((p : ℕ) → getD k p 0 < 256) × EachBytes ks
+enough (suc f) (suc h) mark e s a b = go (leb (length e) 504) refl (λ t. enough f h 0 (drop 504 e) t (omega (arith, length-drop 504 e)) (omega (arith, length-drop 504 e))) where
+  go : (y : Bool) → leb (length e) 504 ≡ y → (0 < length (drop 504 e) → editBlocks f 0 (drop 504 e) ≡ editBlocks h 0 (drop 504 e)) → editBlocks (suc f) mark e ≡ editBlocks (suc h) mark e
+  go true y on = one-block f mark e (leb-true (length e) 504 y) ∙ sym (one-block h mark e (leb-true (length e) 504 y))
+  go false y on =
+      let many : 504 < length e = leb-false (length e) 504 y in
+      more-blocks f mark e many ∙ ap (block mark (take 504 e) ∷_) (on (omega (arith, length-drop 504 e))) ∙ sym (more-blocks h mark e many)
 
 -- What blocks that end well are, behind what is gathered: nothing more, or the rest of an edit and the log of others.
 data Rest (begun : Bool) (g : List ℕ) (edits ks : List (List ℕ)) : Type 0 where
@@ -124,7 +115,7 @@ unfolding logBlocks CanHold
 of-rest edits ks (none b e k) = (k ∙ sym (ap logBlocks e), subst CanHold (sym e) tt)
 of-rest edits ks (edit part es e s k c) = (k ∙ sym (ap logBlocks e), subst CanHold (sym e) (s, c))
 
-module _ (number : ℕ) (g : List ℕ) (k : List ℕ) (ks : List (List ℕ)) (bytes : (p : ℕ) → getD k p 0 < 256) (e : askLogBlock (isBegun g) number k ≡ passed tt) where
+module _ (number : ℕ) (g : List ℕ) (k : List ℕ) (ks : List (List ℕ)) (bytes : Bytes k) (e : askLogBlock (isBegun g) number k ≡ passed tt) where
   it : Passed (isBegun g) number k
   it = passes (isBegun g) number k e
 
@@ -165,35 +156,27 @@ module _ (number : ℕ) (g : List ℕ) (k : List ℕ) (ks : List (List ℕ)) (by
       (ap₂ _∷_ (the-block (first (isBegun g)) (of-more (isBegun g) (getD k 1 0) (it .fields .marked) l)) r ∙ ap (_++ logBlocks es) (sym whole)) h
 
   rest-on : isLast k ≡ false → (edits : List (List ℕ)) → Rest (isBegun (g ++ content k)) (g ++ content k) edits ks → Rest (isBegun g) g edits (k ∷ ks)
-  rest-on l edits r = go (subst (λ (x : Bool). Rest x (g ++ content k) edits ks) (still-begun g it) r)
-    where
-      go : Rest true (g ++ content k) edits ks → Rest (isBegun g) g edits (k ∷ ks)
-      go (none b i j) = let z : _≡_ {A = ℕ} 0 1 = cc in absurd (omega arith)
-      go (edit part es i s r h) = subst (λ (x : List (List ℕ)). Rest (isBegun g) g x (k ∷ ks)) (sym i) (rest-more l part es s r h)
+  rest-on l edits r = go (subst (λ (x : Bool). Rest x (g ++ content k) edits ks) (still-begun g it) r) where
+    go : Rest true (g ++ content k) edits ks → Rest (isBegun g) g edits (k ∷ ks)
+    go (none b i j) = true-false refl b
+    go (edit part es i s r h) = rw i (rest-more l part es s r h)
 
-module _ (number : ℕ) (g : List ℕ) (k : List ℕ) (ks : List (List ℕ)) (bytes : (p : ℕ) → getD k p 0 < 256) where
-  rest-behind : Block number g k → recorded number g (k ∷ ks) .ending ≡ passed tt
-      → (recorded (suc number) [] ks .ending ≡ passed tt → Rest false [] (recorded (suc number) [] ks .edits) ks)
-      → (recorded (suc number) (g ++ content k) ks .ending ≡ passed tt → Rest (isBegun (g ++ content k)) (g ++ content k) (recorded (suc number) (g ++ content k) ks .edits) ks)
-      → Rest (isBegun g) g (recorded number g (k ∷ ks) .edits) (k ∷ ks)
-  rest-behind (bad q p f) d new on = let z : _≡_ {A = ℕ} 0 1 = cc (ap (λ (x : Recorded). x .ending) (read-bad number g k ks q p f)) in absurd (omega arith)
-  rest-behind (last f l) d new on =
-      let whole = read-last number g k ks f l in
-      let r = of-rest (recorded (suc number) [] ks .edits) ks (new (sym (ap (λ (x : Recorded). x .ending) whole) ∙ d)) in
-      subst (λ (x : Recorded). Rest (isBegun g) g (x .edits) (k ∷ ks)) (sym whole) (rest-last number g k ks bytes f l (recorded (suc number) [] ks .edits) (r .0) (r .1))
-  rest-behind (more f l) d new on =
-      let whole = read-more number g k ks f l in
-      subst (λ (x : Recorded). Rest (isBegun g) g (x .edits) (k ∷ ks)) (sym whole)
-      (rest-on number g k ks bytes f l (recorded (suc number) (g ++ content k) ks .edits) (on (sym (ap (λ (x : Recorded). x .ending) whole) ∙ d)))
+rest-end : (number : ℕ) (g : List ℕ) (y : Bool) → isBegun g ≡ y → recorded number g [] .ending ≡ passed tt → Rest (isBegun g) g (recorded number g [] .edits) []
+unfolding recorded askLogEnd is
+rest-end number g false y e = none y refl refl
+rest-end number g true y e = refused-not-passed (ap (λ b. askLogEnd b number) (sym y) ∙ e)
 
-rest-of : (number : ℕ) (g : List ℕ) (ks : List (List ℕ)) → EachBytes ks → recorded number g ks .ending ≡ passed tt → Rest (isBegun g) g (recorded number g ks .edits) ks
-unfolding recorded EachBytes askLogEnd is
-rest-of number g [] b e = go (isBegun g) refl e
-  where
-    go : (y : Bool) → isBegun g ≡ y → askLogEnd y number ≡ passed tt → Rest (isBegun g) g [] []
-    go false y f = none y refl refl
-    go true y f = let z : _≡_ {A = ℕ} 0 1 = cc in absurd (omega arith)
-rest-of number g (k ∷ ks) b e = rest-behind number g k ks (b .0) (block-is number g k) e (λ d. rest-of (suc number) [] ks (b .1) d) (λ d. rest-of (suc number) (g ++ content k) ks (b .1) d)
+rest-of : (number : ℕ) (g : List ℕ) (ks : List (List ℕ)) → All Bytes ks → recorded number g ks .ending ≡ passed tt → Rest (isBegun g) g (recorded number g ks .edits) ks
+rest-of = each-log (λ number g ks. All Bytes ks → recorded number g ks .ending ≡ passed tt → Rest (isBegun g) g (recorded number g ks .edits) ks)
+    (λ number g b e. rest-end number g (isBegun g) refl e)
+    (λ number g k ks q p f b e. refused-not-passed (sym (ap (λ (x : Recorded). x .ending) (read-bad number g k ks q p f)) ∙ e))
+    (λ number g k ks f l on b e.
+    let whole = read-last number g k ks f l in
+    let r = of-rest (recorded (suc number) [] ks .edits) ks (on (b .1) (cc whole)) in
+    rw whole (rest-last number g k ks (b .0) f l (recorded (suc number) [] ks .edits) (r .0) (r .1)))
+    (λ number g k ks f l on b e.
+    let whole = read-more number g k ks f l in
+    rw whole (rest-on number g k ks (b .0) f l (recorded (suc number) (g ++ content k) ks .edits) (on (b .1) (cc whole))))
 
-pub log-is : (number : ℕ) (ks : List (List ℕ)) → EachBytes ks → recorded number [] ks .ending ≡ passed tt → (ks ≡ logBlocks (recorded number [] ks .edits)) × CanHold (recorded number [] ks .edits)
+pub log-is : (number : ℕ) (ks : List (List ℕ)) → All Bytes ks → recorded number [] ks .ending ≡ passed tt → (ks ≡ logBlocks (recorded number [] ks .edits)) × CanHold (recorded number [] ks .edits)
 log-is number ks b e = of-rest (recorded number [] ks .edits) ks (rest-of number [] ks b e)

@@ -5,7 +5,7 @@ use mathlib.Core.List.{List, [], _∷_, _++_, append-assoc}
 use Prim.Native.Nat.{ℕ, suc, _≤_, _/_}
 use lib.ListN.{length, take, drop, length-replicate, take-append-drop}
 use Rattle.answer.specs.Asked.{Asked, passed, refused}
-use Rattle.line.specs.Line.{askedLine}
+use Rattle.printed.specs.AnswerLine.{askedLine}
 use Rattle.runs.specs.Clerk.{Line}
 use Rattle.runs.specs.Enter.{enterAnswer, enterSheet}
 use Rattle.runs.specs.Run.{Keeps, Call, log, Bytes}
@@ -18,7 +18,7 @@ use Rattle.log.specs.Taken.{kept, keptBehind}
 use Rattle.log.specs.Replay.{editLines, sheetHeld, stopLine, replayLines, replaySheet}
 use Rattle.log.specs.Step.{Step, due, stopped, replayStep}
 use Rattle.log.specs.Replays.{programScratch, calls, printedLog, lastSheet, written, Replays}
-use Rattle.log.proofs.ReadLaws.{read-bad, read-last, read-more, Block, bad, last, more, block-is}
+use Rattle.log.proofs.ReadLaws.{read-bad, read-last, read-more, each-log}
 use Rattle.log.proofs.CutLaws.{Filled, blocks-filled}
 use Rattle.log.proofs.StepLaws.{step-bad, step-last, step-more}
 use Rattle.log.proofs.KeptLaws.{kept-begun, kept-append}
@@ -27,8 +27,7 @@ use Rattle.log.proofs.Logs.{logs}
 
 -- the program's scratch has the room that the lines speak of
 room : length programScratch ≡ scratchBytes
-unfolding programScratch
-room = length-replicate {A = ℕ} scratchBytes 0
+room = unfold programScratch in length-replicate {A = ℕ} scratchBytes 0
 
 abbrev call : List ℕ → Call
 call edit = record { edit = edit; scratch = programScratch }
@@ -69,16 +68,12 @@ stop-and-go sheet book bytes i h few =
     ∙ ap (sheetHeld sheet book) (take-append-drop i (readLog bytes .edits))
 
 -- block by block
-regroup : (a b c d : List ℕ) → ((a ++ b) ++ c) ++ d ≡ a ++ ((b ++ c) ++ d)
-regroup a b c d = simp append-assoc
-
 module _ (book : List ℕ) where
   all : List ℕ → Recorded → List ℕ
   all sheet r = editLines sheet book (r .edits) ++ stopLine (r .ending) ++ sheetHeld sheet book (r .edits)
 
   follows-all : (sheet edit : List ℕ) (r : Recorded) → all sheet (follows edit r) ≡ printedLine sheet book edit ++ all (printedSheet sheet book edit) r
-  unfolding all editLines sheetHeld
-  follows-all sheet edit r = regroup (printedLine sheet book edit) (editLines (printedSheet sheet book edit) book (r .edits)) (stopLine (r .ending)) (sheetHeld (printedSheet sheet book edit) book (r .edits))
+  follows-all sheet edit r = unfold all editLines sheetHeld in simp append-assoc
 
   -- a stop writes its line and the sheet
   stop-writes : (x : Asked (Unit {0})) (number : ℕ) (part sheet : List ℕ) → due (stopped x number part sheet) ++ stopped x number part sheet .sheet ≡ stopLine x ++ sheet
@@ -91,57 +86,44 @@ module _ (book : List ℕ) where
     onward s = due s ++ cond (s .goesOn) (written (s .number) (s .part) (s .sheet) book ks) (s .sheet)
 
     written-stop : (q p : ℕ) → askLogBlock (isBegun part) number k ≡ refused q p → written number part sheet book (k ∷ ks) ≡ stopLine (refused q p) ++ sheet
-    unfolding written due stopped stopLine
-    written-stop q p e = ap onward (step-bad number part sheet book k some q p e)
+    written-stop q p e = unfold written due stopped stopLine in ap onward (step-bad number part sheet book k some q p e)
 
     written-last : askLogBlock (isBegun part) number k ≡ passed tt → isLast k ≡ true
         → written number part sheet book (k ∷ ks) ≡ printedLine sheet book (keptBehind part k) ++ written (suc number) [] (printedSheet sheet book (keptBehind part k)) book ks
-    unfolding written due
-    written-last e l = ap onward (step-last number part sheet book k some e l)
+    written-last e l = unfold written due in ap onward (step-last number part sheet book k some e l)
 
     written-more : askLogBlock (isBegun part) number k ≡ passed tt → isLast k ≡ false → written number part sheet book (k ∷ ks) ≡ written (suc number) (keptBehind part k) sheet book ks
-    unfolding written due
-    written-more e l = ap onward (step-more number part sheet book k some e l)
+    written-more e l = unfold written due in ap onward (step-more number part sheet book k some e l)
 
-  module _ (number : ℕ) (g sheet : List ℕ) (k : List ℕ) (ks : List (List ℕ)) where
+  module _ (number : ℕ) (g k : List ℕ) (ks : List (List ℕ)) where
     asked-alike : askLogBlock (isBegun (kept g)) number k ≡ askLogBlock (isBegun g) number k
     asked-alike = ap (λ b. askLogBlock b number k) (kept-begun g)
 
     kept-alike : keptBehind (kept g) k ≡ kept (g ++ content k)
-    unfolding keptBehind
-    kept-alike = kept-append g (content k)
+    kept-alike = unfold keptBehind in kept-append g (content k)
 
-    block-behind : (length k ≡ 0 → ⊥) → Block number g k
-        → ((s : List ℕ) → written (suc number) [] s book ks ≡ all s (recorded (suc number) [] ks))
-        → written (suc number) (kept (g ++ content k)) sheet book ks ≡ all sheet (recorded (suc number) (g ++ content k) ks)
-        → written number (kept g) sheet book (k ∷ ks) ≡ all sheet (recorded number g (k ∷ ks))
-    unfolding all editLines sheetHeld
-    block-behind some (bad q p e) new on = written-stop number (kept g) sheet k ks some q p (asked-alike ∙ e) ∙ ap (all sheet) (sym (read-bad number g k ks q p e))
-    block-behind some (last e l) new on =
-        let edit : List ℕ = g ++ content k in
-        written-last number (kept g) sheet k ks some (asked-alike ∙ e) l
-        ∙ ap (λ x. printedLine sheet book x ++ written (suc number) [] (printedSheet sheet book x) book ks) kept-alike
-        ∙ ap₂ (λ x y. x ++ written (suc number) [] y book ks) (kept-line sheet book edit) (kept-sheet sheet book edit)
-        ∙ ap (printedLine sheet book edit ++_) (new (printedSheet sheet book edit))
-        ∙ sym (follows-all sheet edit (recorded (suc number) [] ks)) ∙ ap (all sheet) (sym (read-last number g k ks e l))
-    block-behind some (more e l) new on =
-        written-more number (kept g) sheet k ks some (asked-alike ∙ e) l ∙ ap (λ x. written (suc number) x sheet book ks) kept-alike ∙ on
-        ∙ ap (all sheet) (sym (read-more number g k ks e l))
-
-  block-by-block : (number : ℕ) (g sheet : List ℕ) (ks : List (List ℕ)) → Filled ks → written number (kept g) sheet book ks ≡ all sheet (recorded number g ks)
-  unfolding written recorded all editLines sheetHeld kept replayStep Filled
-  block-by-block number g sheet [] h = stop-writes (askLogEnd (isBegun (kept g)) number) number (kept g) sheet ∙ ap (λ b. stopLine (askLogEnd b number) ++ sheet) (kept-begun g)
-  block-by-block number g sheet (k ∷ ks) h =
-      block-behind number g sheet k ks (h .0) (block-is number g k) (λ s. block-by-block (suc number) [] s ks (h .1)) (block-by-block (suc number) (g ++ content k) sheet ks (h .1))
+  block-by-block : (number : ℕ) (g : List ℕ) (ks : List (List ℕ)) (sheet : List ℕ) → Filled ks → written number (kept g) sheet book ks ≡ all sheet (recorded number g ks)
+  unfolding written recorded all editLines sheetHeld kept replayStep
+  block-by-block = each-log (λ number g ks. (sheet : List ℕ) → Filled ks → written number (kept g) sheet book ks ≡ all sheet (recorded number g ks))
+      (λ number g sheet h. stop-writes (askLogEnd (isBegun (kept g)) number) number (kept g) sheet ∙ ap (λ b. stopLine (askLogEnd b number) ++ sheet) (kept-begun g))
+      (λ number g k ks q p e sheet h. written-stop number (kept g) sheet k ks (h .0) q p (asked-alike number g k ks ∙ e) ∙ ap (all sheet) (sym (read-bad number g k ks q p e)))
+      (λ number g k ks e l on sheet h.
+      let edit : List ℕ = g ++ content k in
+      written-last number (kept g) sheet k ks (h .0) (asked-alike number g k ks ∙ e) l
+      ∙ ap (λ x. printedLine sheet book x ++ written (suc number) [] (printedSheet sheet book x) book ks) (kept-alike number g k ks)
+      ∙ ap₂ (λ x y. x ++ written (suc number) [] y book ks) (kept-line sheet book edit) (kept-sheet sheet book edit)
+      ∙ ap (printedLine sheet book edit ++_) (on (printedSheet sheet book edit) (h .1))
+      ∙ sym (follows-all sheet edit (recorded (suc number) [] ks)) ∙ ap (all sheet) (sym (read-last number g k ks e l)))
+      (λ number g k ks e l on sheet h.
+      written-more number (kept g) sheet k ks (h .0) (asked-alike number g k ks ∙ e) l ∙ ap (λ x. written (suc number) x sheet book ks) (kept-alike number g k ks)
+      ∙ on sheet (h .1) ∙ ap (all sheet) (sym (read-more number g k ks e l)))
 
 module _ (sheet book bytes : List ℕ) where
   lines-run : replayLines sheet book bytes ≡ printedLog (log book sheet (calls (readLog bytes .edits))) ++ stopLine (readLog bytes .ending)
-  unfolding replayLines
-  lines-run = ap (_++ stopLine (readLog bytes .ending)) (lines-of sheet book (readLog bytes .edits))
+  lines-run = unfold replayLines in ap (_++ stopLine (readLog bytes .ending)) (lines-of sheet book (readLog bytes .edits))
 
   sheet-run : replaySheet sheet book bytes ≡ lastSheet sheet (log book sheet (calls (readLog bytes .edits)))
-  unfolding replaySheet
-  sheet-run = held-is sheet book (readLog bytes .edits)
+  sheet-run = unfold replaySheet in held-is sheet book (readLog bytes .edits)
 
   sheet-keeps : Bytes sheet → Keeps book sheet → Keeps book (replaySheet sheet book bytes)
   sheet-keeps b k =
@@ -149,8 +131,7 @@ module _ (sheet book bytes : List ℕ) where
       (last-keeps book sheet (log book sheet (calls (readLog bytes .edits))) k (demand-3 .every-run sheet book (calls (readLog bytes .edits)) b k .kept))
 
   in-blocks : written 0 [] sheet book (blocksOf bytes) ≡ replayLines sheet book bytes ++ replaySheet sheet book bytes
-  unfolding replayLines replaySheet all kept
-  in-blocks = block-by-block book 0 [] sheet (blocksOf bytes) (blocks-filled bytes)
+  in-blocks = unfold replayLines replaySheet all kept in block-by-block book 0 [] (blocksOf bytes) sheet (blocks-filled bytes)
 
 pub replays : Replays
 replays = record {

@@ -14,10 +14,11 @@ use Rattle.answer.specs.declared.Refusal.{Refusal}
 use Rattle.answer.specs.Answers.{asked}
 use Rattle.answer.specs.Asked.{Asked, passed, refused, _>>_, after, askedNumber, askedPlace}
 use Rattle.answer.specs.Outputs.{writtenAtStart}
-use Rattle.line.specs.Line.{askedLine}
+use Rattle.logic.proofs.Bools.{true-false}
+use Rattle.printed.specs.AnswerLine.{askedLine}
 use Rattle.printed.specs.Printed.{printedLine, printedSheet}
 use Rattle.log.specs.Log.{isLast, isBegun, askLogBlock, askLogEnd}
-use Rattle.log.specs.Taken.{keptBehind, goesOn, finished, askTaken}
+use Rattle.log.specs.Taken.{keptBehind, Says, goesOn, finished, askTaken}
 use Rattle.log.specs.Step.{Step, stopped, gathered, answered, blockStep, replayStep, editThen}
 use Rattle.log.proofs.TakeLaws.{begun-kept}
 use Rattle.log.proofs.ReadLaws.{Block, bad, last, more, block-is}
@@ -33,7 +34,7 @@ answers line number sheet = record { prints = true; line = line; goesOn = true; 
 pub with-line : (a : Answer) (r : Refusal) → a ≡ Refused r → (line : List ℕ) → line ≡ askedLine (asked a) → (number : ℕ) (part sheet : List ℕ)
     → stopsWith line number part sheet ≡ stopped (asked a) number part sheet
 unfolding stopped askedNumber askedPlace
-with-line Done r e line l number part sheet = let z : _≡_ {A = ℕ} 0 1 = cc in absurd (omega arith)
+with-line Done r e line l number part sheet = cc
 with-line (Refused x) r e line l number part sheet = ap (λ y. stopsWith y number part sheet) l
 
 pub stopped-no-more : (x : Asked (Unit {0})) (number : ℕ) (part sheet : List ℕ) → stopped x number part sheet .goesOn ≡ false
@@ -53,53 +54,60 @@ module _ (number : ℕ) (part sheet book : List ℕ) where
   at-block (b ∷ k) h = refl
 
   module _ (k : List ℕ) (some : length k ≡ 0 → ⊥) where
-    abbrev onward : Asked (Unit {0}) → Bool → Step
-    onward x l = after x (λ _. cond l (answered (suc number) (keptBehind part k) sheet book) (gathered (suc number) (keptBehind part k) sheet)) (stopped x number part sheet)
-
     pub step-bad : (q p : ℕ) → askLogBlock (isBegun part) number k ≡ refused q p → replayStep number part sheet book k ≡ stopped (refused q p) number part sheet
-    unfolding blockStep after
-    step-bad q p e = at-block k some ∙ ap (λ x. onward x (isLast k)) e
+    step-bad q p e = unfold blockStep after in cc (at-block k some)
 
     pub step-last : askLogBlock (isBegun part) number k ≡ passed tt → isLast k ≡ true → replayStep number part sheet book k ≡ answered (suc number) (keptBehind part k) sheet book
-    unfolding blockStep after
-    step-last e l = at-block k some ∙ ap₂ onward e l
+    step-last e l = unfold blockStep after in cc (at-block k some)
 
     pub step-more : askLogBlock (isBegun part) number k ≡ passed tt → isLast k ≡ false → replayStep number part sheet book k ≡ gathered (suc number) (keptBehind part k) sheet
-    unfolding blockStep after
-    step-more e l = at-block k some ∙ ap₂ onward e l
+    step-more e l = unfold blockStep after in cc (at-block k some)
 
 -- what a taken block says of the questions
 module _ (before : List ℕ) (number : ℕ) (k : List ℕ) where
   abbrev keptThen : ℕ
   keptThen = length (keptBehind before k)
 
+  -- the questions passed, and the block is its edit's last or not, with so many bytes kept then
+  abbrev Said : Bool → ℕ → Type 0
+  Said l n = (askLogBlock (isBegun before) number k ≡ passed tt) × (isLast k ≡ l) × (keptThen ≡ n)
+
+  abbrev says : Bool → ℕ → Says
+  says l n = cond l (finished n) (goesOn n)
+
+  taken : (x : Asked (Unit {0})) (m : Bool) → askLogBlock (isBegun before) number k ≡ x → isLast k ≡ m → (l : Bool) (n : ℕ) → passed (says l n) ≡ (x >> passed (says m keptThen)) → Said l n
+  unfolding _>>_
+  taken (passed u) true a b true n f = (a, b, (cc))
+  taken (passed u) true a b false n f = ((cc), (cc), (cc))
+  taken (passed u) false a b true n f = ((cc), (cc), (cc))
+  taken (passed u) false a b false n f = (a, b, (cc))
+  taken (refused q p) m a b l n f = ((cc), (cc), (cc))
+
+  pub taken-says : (l : Bool) (n : ℕ) → passed (says l n) ≡ askTaken before number k → Said l n
+  taken-says l n e = unfold askTaken in taken (askLogBlock (isBegun before) number k) (isLast k) refl refl l n e
+
   bad-taken : (q p : ℕ) → refused q p ≡ askTaken before number k → askLogBlock (isBegun before) number k ≡ refused q p
   unfolding askTaken _>>_
-  bad-taken q p e = go (askLogBlock (isBegun before) number k) e
-    where
-      go : (x : Asked (Unit {0})) → refused q p ≡ (x >> passed (cond (isLast k) (finished keptThen) (goesOn keptThen))) → x ≡ refused q p
-      go (passed u) f = let z : _≡_ {A = ℕ} 0 1 = cc in absurd (omega arith)
-      go (refused a b) f = cc
+  bad-taken q p e = go (askLogBlock (isBegun before) number k) e where
+    go : (x : Asked (Unit {0})) → refused q p ≡ (x >> passed (says (isLast k) keptThen)) → x ≡ refused q p
+    go (passed u) f = cc
+    go (refused a b) f = cc
 
-  pub last-taken : (n : ℕ) → passed (finished n) ≡ askTaken before number k → (askLogBlock (isBegun before) number k ≡ passed tt) × (isLast k ≡ true) × (keptThen ≡ n)
-  unfolding askTaken _>>_
-  last-taken n e = go (askLogBlock (isBegun before) number k) (isLast k) refl refl e
-    where
-      go : (x : Asked (Unit {0})) (l : Bool) → askLogBlock (isBegun before) number k ≡ x → isLast k ≡ l → passed (finished n) ≡ (x >> passed (cond l (finished keptThen) (goesOn keptThen)))
-          → (askLogBlock (isBegun before) number k ≡ passed tt) × (isLast k ≡ true) × (keptThen ≡ n)
-      go (passed u) true a b f = (a, b, (cc))
-      go (passed u) false a b f = let z : _≡_ {A = ℕ} 0 1 = cc in absurd (omega arith)
-      go (refused q p) l a b f = let z : _≡_ {A = ℕ} 0 1 = cc in absurd (omega arith)
+-- the bytes of the edit, in its buffer
+module _ (edit : List ℕ) (n number : ℕ) where
+  abbrev kept-before : List ℕ
+  kept-before = take n edit
 
-  pub more-taken : (n : ℕ) → passed (goesOn n) ≡ askTaken before number k → (askLogBlock (isBegun before) number k ≡ passed tt) × (isLast k ≡ false) × (keptThen ≡ n)
-  unfolding askTaken _>>_
-  more-taken n e = go (askLogBlock (isBegun before) number k) (isLast k) refl refl e
-    where
-      go : (x : Asked (Unit {0})) (l : Bool) → askLogBlock (isBegun before) number k ≡ x → isLast k ≡ l → passed (goesOn n) ≡ (x >> passed (cond l (finished keptThen) (goesOn keptThen)))
-          → (askLogBlock (isBegun before) number k ≡ passed tt) × (isLast k ≡ false) × (keptThen ≡ n)
-      go (passed u) false a b f = (a, b, (cc))
-      go (passed u) true a b f = let z : _≡_ {A = ℕ} 0 1 = cc in absurd (omega arith)
-      go (refused q p) l a b f = let z : _≡_ {A = ℕ} 0 1 = cc in absurd (omega arith)
+  pub edit-stays : (k : List ℕ) → length k ≡ 0 → edit ≡ editThen number kept-before k edit
+  unfolding editThen
+  edit-stays [] none = refl
+  edit-stays (b ∷ k) none = absurd (omega arith)
+
+  pub edit-then : (k : List ℕ) → (length k ≡ 0 → ⊥) → (out : List ℕ) → out ≡ after (askLogBlock (isBegun kept-before) number k) (λ _. writtenAtStart (keptBehind kept-before k) edit) edit
+      → out ≡ editThen number kept-before k edit
+  unfolding editThen
+  edit-then [] some out o = absurd (some refl)
+  edit-then (b ∷ k) some out o = o
 
 -- the step as the code makes it, over the buffer of the kept bytes
 module _ (edit : List ℕ) (n number : ℕ) (sheet book : List ℕ) where
@@ -111,27 +119,13 @@ module _ (edit : List ℕ) (n number : ℕ) (sheet book : List ℕ) where
   stepped-end k none h x e =
       ap (λ y. stopped y number before sheet) (e ∙ ap (λ b. askLogEnd b number) (begun-kept edit n h)) ∙ sym (at-end number before sheet book k none)
 
-  pub edit-stays : (k : List ℕ) → length k ≡ 0 → edit ≡ editThen number before k edit
-  unfolding editThen
-  edit-stays [] none = refl
-  edit-stays (b ∷ k) none = absurd (omega arith)
-
   module _ (k : List ℕ) (some : length k ≡ 0 → ⊥) (out : List ℕ) where
     abbrev Kept : Asked (Unit {0}) → Type 0
     Kept x = out ≡ after x (λ _. writtenAtStart (keptBehind before k) edit) edit
 
-    pub edit-then : Kept (askLogBlock (isBegun before) number k) → out ≡ editThen number before k edit
-    unfolding editThen
-    edit-then o = o ∙ go k some
-      where
-        go : (k : List ℕ) → (length k ≡ 0 → ⊥) → after (askLogBlock (isBegun before) number k) (λ _. writtenAtStart (keptBehind before k) edit) edit ≡ editThen number before k edit
-        go [] h = absurd (h refl)
-        go (b ∷ k) h = refl
-
     module _ (o : Kept (askLogBlock (isBegun before) number k)) where
       unmoved : (q p : ℕ) → askLogBlock (isBegun before) number k ≡ refused q p → out ≡ edit
-      unfolding after
-      unmoved q p e = o ∙ ap (λ x. after x (λ _. writtenAtStart (keptBehind before k) edit) edit) e
+      unmoved q p e = unfold after in o ∙ ap (λ x. after x (λ _. writtenAtStart (keptBehind before k) edit) edit) e
 
       part-then : (m : ℕ) → askLogBlock (isBegun before) number k ≡ passed tt → length (keptBehind before k) ≡ m → take m out ≡ keptBehind before k
       unfolding after
@@ -146,14 +140,14 @@ module _ (edit : List ℕ) (n number : ℕ) (sheet book : List ℕ) where
 
       pub stepped-more : (m : ℕ) → passed (goesOn m) ≡ askTaken before number k → gathered (number + 1) (take m out) sheet ≡ replayStep number before sheet book k
       stepped-more m t =
-          let e = more-taken before number k m t in
+          let e = taken-says before number k false m t in
           ap₂ (λ x y. gathered x y sheet) (add-one number) (part-then m (e .0) (e .2)) ∙ sym (step-more number before sheet book k some (e .0) (e .1))
 
       -- the part is cut from place 0 to m
       pub stepped-last : (m : ℕ) → passed (finished m) ≡ askTaken before number k → (line left : List ℕ) → line ≡ printedLine sheet book (take (m - 0) out) → left ≡ printedSheet sheet book (take (m - 0) out)
           → answers line (number + 1) left ≡ replayStep number before sheet book k
       stepped-last m t line left a b =
-          let e = last-taken before number k m t in
+          let e = taken-says before number k true m t in
           let z : m - 0 ≡ m = omega arith in
           let same = ap (λ x. take x out) z ∙ part-then m (e .0) (e .2) in
           ap₂ (λ x y. answers x (number + 1) y) (a ∙ ap (printedLine sheet book) same) (b ∙ ap (printedSheet sheet book) same)
@@ -163,22 +157,19 @@ module _ (edit : List ℕ) (n number : ℕ) (sheet book : List ℕ) where
 module _ (number : ℕ) (part sheet book : List ℕ) where
   pub counts-on : (k : List ℕ) (s : Step) → s ≡ replayStep number part sheet book k → s .goesOn ≡ true → (s .number ≡ suc number) × (number ≤ 65534)
   unfolding stopped
-  counts-on [] s d e =
-      let z : _≡_ {A = ℕ} 0 1 = cc (at-end number part sheet book [] refl, stopped-no-more (askLogEnd (isBegun part) number) number part sheet) in absurd (omega arith)
-  counts-on (b ∷ k) s d e = go (block-is number part (b ∷ k))
-    where
-      some : length (b ∷ k) ≡ 0 → ⊥
-      some h = omega arith
+  counts-on [] s d e = true-false e (cc (at-end number part sheet book [] refl, stopped-no-more (askLogEnd (isBegun part) number) number part sheet))
+  counts-on (b ∷ k) s d e = go (block-is number part (b ∷ k)) where
+    some : length (b ∷ k) ≡ 0 → ⊥
+    some h = omega arith
 
-      go : Block number part (b ∷ k) → (s .number ≡ suc number) × (number ≤ 65534)
-      go (bad q p f) = let z : _≡_ {A = ℕ} 0 1 = cc (ap (λ (x : Step). x .goesOn) (d ∙ step-bad number part sheet book (b ∷ k) some q p f)) in absurd (omega arith)
-      go (last f l) = (ap (λ (x : Step). x .number) (d ∙ step-last number part sheet book (b ∷ k) some f l), passes (isBegun part) number (b ∷ k) f .low)
-      go (more f l) = (ap (λ (x : Step). x .number) (d ∙ step-more number part sheet book (b ∷ k) some f l), passes (isBegun part) number (b ∷ k) f .low)
+    go : Block number part (b ∷ k) → (s .number ≡ suc number) × (number ≤ 65534)
+    go (bad q p f) = true-false e (ap (λ (x : Step). x .goesOn) (d ∙ step-bad number part sheet book (b ∷ k) some q p f))
+    go (last f l) = (ap (λ (x : Step). x .number) (d ∙ step-last number part sheet book (b ∷ k) some f l), passes (isBegun part) number (b ∷ k) f .low)
+    go (more f l) = (ap (λ (x : Step). x .number) (d ∙ step-more number part sheet book (b ∷ k) some f l), passes (isBegun part) number (b ∷ k) f .low)
 
   -- nothing is read after a block of a higher number
   pub no-further : (k : List ℕ) → 65534 < number → replayStep number part sheet book k .goesOn ≡ false
-  no-further k h = go (replayStep number part sheet book k .goesOn) refl
-    where
-      go : (b : Bool) → replayStep number part sheet book k .goesOn ≡ b → replayStep number part sheet book k .goesOn ≡ false
-      go false e = e
-      go true e = absurd (omega (arith, counts-on k (replayStep number part sheet book k) refl e .1))
+  no-further k h = go (replayStep number part sheet book k .goesOn) refl where
+    go : (b : Bool) → replayStep number part sheet book k .goesOn ≡ b → replayStep number part sheet book k .goesOn ≡ false
+    go false e = e
+    go true e = absurd (omega (arith, counts-on k (replayStep number part sheet book k) refl e .1))

@@ -6,7 +6,7 @@ use lib.Dec.{leb}
 use lib.ListN.{length, getD, take, drop}
 use Rattle.answer.specs.Asked.{Asked, passed, refused}
 use Rattle.sheet.specs.Sheet.{sheetBytes}
-use Rattle.line.specs.Line.{answerLine, earlyLine}
+use Rattle.printed.specs.AnswerLine.{answerLine, earlyLine}
 use Rattle.printed.specs.Printed.{printedLine, printedSheet}
 use Rattle.log.specs.Log.{readLog}
 

@@ -5,7 +5,7 @@ use mathlib.Core.List.{List, [], _∷_, _++_, map}
 use Prim.Native.Nat.{ℕ, suc, _/_, _≤_}
 use lib.ListN.{length, replicate}
 use Rattle.seal.specs.Seal.{blockBytes}
-use Rattle.line.specs.Line.{askedLine}
+use Rattle.printed.specs.AnswerLine.{askedLine}
 use Rattle.runs.specs.Clerk.{Line}
 use Rattle.runs.specs.Run.{Keeps, Call, log, Bytes}
 use Rattle.runs.specs.Demand3.{RunRight}

@@ -5,7 +5,7 @@ use Prim.Native.Nat.{ℕ, suc}
 use lib.ListN.{take, replicate}
 use Rattle.answer.specs.Asked.{Asked, passed, refused, after}
 use Rattle.answer.specs.Outputs.{writtenAtStart}
-use Rattle.line.specs.Line.{answerLine}
+use Rattle.printed.specs.AnswerLine.{answerLine}
 use Rattle.printed.specs.Printed.{printedLine, printedSheet}
 use Rattle.log.specs.Log.{isLast, isBegun, askLogBlock, askLogEnd}
 use Rattle.log.specs.Taken.{keptBehind}

@@ -45,7 +45,7 @@ pub struct Held {
 // What a step says: whether a line is due, and the line, zeros where none is; whether to go on, and what is held then.
 pub struct Stepped {
     pub prints: bool,
-    pub line: [u8; line::BYTES],
+    pub line: [u8; printed::line::BYTES],
     pub onward: bool,
     pub held: Held,
 }
@@ -198,14 +198,14 @@ fn stop(answer: Answer, held: Held) -> Stepped
     let Answer::Refused(_) = answer else {
         return Stepped {
             prints: false,
-            line: [0u8; line::BYTES],
+            line: [0u8; printed::line::BYTES],
             onward: false,
             held,
         };
     };
     Stepped {
         prints: true,
-        line: line::line_of(answer),
+        line: printed::line::line_of(answer),
         onward: false,
         held,
     }
@@ -227,7 +227,7 @@ pub fn step(block: &[u8], held: Held, edit: &mut [u8], sheet: &mut [u8], book: &
         Taken::Refused(r) => stop(Answer::Refused(r), held),
         Taken::GoesOn(n) => Stepped {
             prints: false,
-            line: [0u8; line::BYTES],
+            line: [0u8; printed::line::BYTES],
             onward: true,
             held: Held {
                 number: number + 1,

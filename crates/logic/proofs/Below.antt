@@ -35,27 +35,24 @@ any-none (suc n) v h = ap₂ _||_ (any-none n v (λ i l. h i (omega arith))) (h 
 pub any-found : (n : ℕ) (v : Nodes) → anyBelow n v ≡ true → (i : ℕ) × (i < n) × (v i ≡ true)
 unfolding anyBelow
 any-found zero v h = let z : _≡_ {A = ℕ} 0 1 = cc in absurd (omega arith)
-any-found (suc n) v h = go (any-found n v) (anyBelow n v) refl (v n) refl h
-  where
-    go : (anyBelow n v ≡ true → (i : ℕ) × (i < n) × (v i ≡ true)) → (a : Bool) → anyBelow n v ≡ a → (b : Bool) → v n ≡ b → (a || b) ≡ true → (i : ℕ) × (i < suc n) × (v i ≡ true)
-    go rest true e b f h = let (i, l, t) = rest e in (i, omega arith, t)
-    go rest false e b f h = (n, omega arith, f ∙ h)
+any-found (suc n) v h = go (any-found n v) (anyBelow n v) refl (v n) refl h where
+  go : (anyBelow n v ≡ true → (i : ℕ) × (i < n) × (v i ≡ true)) → (a : Bool) → anyBelow n v ≡ a → (b : Bool) → v n ≡ b → (a || b) ≡ true → (i : ℕ) × (i < suc n) × (v i ≡ true)
+  go rest true e b f h = let (i, l, t) = rest e in (i, omega arith, t)
+  go rest false e b f h = (n, omega arith, f ∙ h)
 
 pub any-one : (n : ℕ) (v : Nodes) (i : ℕ) → i < n → v i ≡ true → anyBelow n v ≡ true
 unfolding anyBelow
 any-one zero v i l e = absurd (omega arith)
-any-one (suc n) v i l e = go (decLt i n) (any-one n v i)
-  where
-    go : Dec (i < n) → (i < n → v i ≡ true → anyBelow n v ≡ true) → (anyBelow n v || v n) ≡ true
-    go (yes k) r = ap (_|| v n) (r k e)
-    go (no k) r = let q : n ≡ i = omega arith in ap (anyBelow n v ||_) (ap v q ∙ e) ∙ or-true (anyBelow n v)
+any-one (suc n) v i l e = go (decLt i n) (any-one n v i) where
+  go : Dec (i < n) → (i < n → v i ≡ true → anyBelow n v ≡ true) → (anyBelow n v || v n) ≡ true
+  go (yes k) r = ap (_|| v n) (r k e)
+  go (no k) r = let q : n ≡ i = omega arith in ap (anyBelow n v ||_) (ap v q ∙ e) ∙ or-true (anyBelow n v)
 
 pub any-not : (n : ℕ) (v : Nodes) → anyBelow n v ≡ false → (i : ℕ) → i < n → v i ≡ false
-any-not n v h i l = go (v i) refl
-  where
-    go : (b : Bool) → v i ≡ b → v i ≡ false
-    go true e = let z : _≡_ {A = ℕ} 0 1 = cc (sym (any-one n v i l e) ∙ h) in absurd (omega arith)
-    go false e = e
+any-not n v h i l = go (v i) refl where
+  go : (b : Bool) → v i ≡ b → v i ≡ false
+  go true e = let z : _≡_ {A = ℕ} 0 1 = cc (sym (any-one n v i l e) ∙ h) in absurd (omega arith)
+  go false e = e
 
 pub any-and : (n : ℕ) (v : Nodes) (c : Bool) → anyBelow n (λ i. v i && c) ≡ (anyBelow n v && c)
 unfolding anyBelow
@@ -71,48 +68,42 @@ all-true (suc n) v h = ap₂ _&&_ (all-true n v (λ i l. h i (omega arith))) (h 
 pub all-each : (n : ℕ) (v : Nodes) → allBelow n v ≡ true → (i : ℕ) → i < n → v i ≡ true
 unfolding allBelow
 all-each zero v e i l = absurd (omega arith)
-all-each (suc n) v e i l = go (decLt i n) (and-eq-true-iff (allBelow n v) (v n) .0 e) (all-each n v)
-  where
-    go : Dec (i < n) → (allBelow n v ≡ true) × (v n ≡ true) → (allBelow n v ≡ true → (i : ℕ) → i < n → v i ≡ true) → v i ≡ true
-    go (yes k) b r = r (b .0) i k
-    go (no k) b r = let q : i ≡ n = omega arith in ap v q ∙ b .1
+all-each (suc n) v e i l = go (decLt i n) (and-eq-true-iff (allBelow n v) (v n) .0 e) (all-each n v) where
+  go : Dec (i < n) → (allBelow n v ≡ true) × (v n ≡ true) → (allBelow n v ≡ true → (i : ℕ) → i < n → v i ≡ true) → v i ≡ true
+  go (yes k) b r = r (b .0) i k
+  go (no k) b r = let q : i ≡ n = omega arith in ap v q ∙ b .1
 
 -- all are when none of the others is
 pub all-not-any : (n : ℕ) (v u : Nodes) → ((i : ℕ) → i < n → v i ≡ not (u i)) → allBelow n v ≡ not (anyBelow n u)
 unfolding allBelow anyBelow
 all-not-any zero v u h = refl
-all-not-any (suc n) v u h = ap₂ _&&_ (all-not-any n v u (λ i l. h i (omega arith))) (h n (omega arith)) ∙ neither (anyBelow n u) (u n)
-  where
-    neither : (a b : Bool) → (not a && not b) ≡ not (a || b)
-    neither true b = refl
-    neither false b = refl
+all-not-any (suc n) v u h = ap₂ _&&_ (all-not-any n v u (λ i l. h i (omega arith))) (h n (omega arith)) ∙ neither (anyBelow n u) (u n) where
+  neither : (a b : Bool) → (not a && not b) ≡ not (a || b)
+  neither true b = refl
+  neither false b = refl
 
 pub none-outside : (n : ℕ) (v u : Nodes) → not (anyBelow n (λ i. v i && not (u i))) ≡ allBelow n (λ i. implies (v i) (u i))
-none-outside n v u = sym (all-not-any n (λ i. implies (v i) (u i)) (λ i. v i && not (u i)) (λ i l. go (v i) (u i)))
-  where
-    go : (x y : Bool) → implies x y ≡ not (x && not y)
-    go true true = refl
-    go true false = refl
-    go false y = refl
+none-outside n v u = sym (all-not-any n (λ i. implies (v i) (u i)) (λ i. v i && not (u i)) (λ i l. go (v i) (u i))) where
+  go : (x y : Bool) → implies x y ≡ not (x && not y)
+  go true true = refl
+  go true false = refl
+  go false y = refl
 
 -- all are, taken one by one
 module _ (v : Nodes) where
   pub all-none : allBelow 0 v ≡ true
-  unfolding allBelow
-  all-none = refl
+  all-none = unfold allBelow in refl
 
   pub all-next : (i : ℕ) → allBelow i v ≡ true → v i ≡ true → allBelow (i + 1) v ≡ true
-  unfolding allBelow
-  all-next i e t = ap (λ x. allBelow x v) (add-one i) ∙ ap₂ _&&_ e t
+  all-next i e t = unfold allBelow in ap (λ x. allBelow x v) (add-one i) ∙ ap₂ _&&_ e t
 
   pub all-stop : (n i : ℕ) → i < n → v i ≡ false → allBelow n v ≡ false
   unfolding allBelow
   all-stop zero i h e = absurd (omega arith)
-  all-stop (suc n) i h e = go (decLt i n) (λ l. all-stop n i l e)
-    where
-      go : Dec (i < n) → (i < n → allBelow n v ≡ false) → allBelow (suc n) v ≡ false
-      go (yes l) r = ap (_&& v n) (r l)
-      go (no l) r = let q : n ≡ i = omega arith in ap (allBelow n v &&_) (ap v q ∙ e) ∙ and-false (allBelow n v)
+  all-stop (suc n) i h e = go (decLt i n) (λ l. all-stop n i l e) where
+    go : Dec (i < n) → (i < n → allBelow n v ≡ false) → allBelow (suc n) v ≡ false
+    go (yes l) r = ap (_&& v n) (r l)
+    go (no l) r = let q : n ≡ i = omega arith in ap (allBelow n v &&_) (ap v q ∙ e) ∙ and-false (allBelow n v)
 
   pub all-end : (n i : ℕ) → i ≤ n → n ≤ i → allBelow i v ≡ true → allBelow n v ≡ true
   all-end n i h l e = let q : n ≡ i = omega arith in ap (λ x. allBelow x v) q ∙ e
@@ -121,11 +112,10 @@ module _ (v : Nodes) where
 pub one-or-more : (n : ℕ) (v : Nodes) → leb 1 (countBelow n v) ≡ anyBelow n v
 unfolding countBelow anyBelow
 one-or-more zero v = refl
-one-or-more (suc n) v = go (v n) (one-or-more n v)
-  where
-    go : (b : Bool) → leb 1 (countBelow n v) ≡ anyBelow n v → leb 1 (cond b (suc (countBelow n v)) (countBelow n v)) ≡ (anyBelow n v || b)
-    go true h = le-leb 1 (suc (countBelow n v)) (omega arith) ∙ sym (or-true (anyBelow n v))
-    go false h = h ∙ sym (or-false (anyBelow n v))
+one-or-more (suc n) v = go (v n) (one-or-more n v) where
+  go : (b : Bool) → leb 1 (countBelow n v) ≡ anyBelow n v → leb 1 (cond b (suc (countBelow n v)) (countBelow n v)) ≡ (anyBelow n v || b)
+  go true h = le-leb 1 (suc (countBelow n v)) (omega arith) ∙ sym (or-true (anyBelow n v))
+  go false h = h ∙ sym (or-false (anyBelow n v))
 
 -- without one
 abbrev pub leave : Nodes → ℕ → Nodes
@@ -137,12 +127,11 @@ leave-below n i v h k l = ap (λ (b : Bool). v k && not b) (ne-eqb k i (λ e. om
 pub count-leave : (n i : ℕ) (v : Nodes) → i < n → v i ≡ true → countBelow n v ≡ suc (countBelow n (leave v i))
 unfolding countBelow
 count-leave zero i v h e = absurd (omega arith)
-count-leave (suc n) i v h e = go (decLt i n) (λ l. count-leave n i v l e)
-  where
-    more : (b : Bool) (c : ℕ) → cond b (suc (suc c)) (suc c) ≡ suc (cond b (suc c) c)
-    more true c = refl
-    more false c = refl
+count-leave (suc n) i v h e = go (decLt i n) (λ l. count-leave n i v l e) where
+  more : (b : Bool) (c : ℕ) → cond b (suc (suc c)) (suc c) ≡ suc (cond b (suc c) c)
+  more true c = refl
+  more false c = refl
 
-    go : Dec (i < n) → (i < n → countBelow n v ≡ suc (countBelow n (leave v i))) → countBelow (suc n) v ≡ suc (countBelow (suc n) (leave v i))
-    go (yes l) r = rw (ne-eqb n i (λ q. omega arith), and-true (v n), r l) (more (v n) (countBelow n (leave v i)))
-    go (no l) r = let q : i ≡ n = omega arith in rw (ap v (sym q) ∙ e, eq-eqb n i (sym q), count-cong n (leave v i) v (leave-below n i v (omega arith)))
+  go : Dec (i < n) → (i < n → countBelow n v ≡ suc (countBelow n (leave v i))) → countBelow (suc n) v ≡ suc (countBelow (suc n) (leave v i))
+  go (yes l) r = rw (ne-eqb n i (λ q. omega arith), and-true (v n), r l) (more (v n) (countBelow n (leave v i)))
+  go (no l) r = let q : i ≡ n = omega arith in rw (ap v (sym q) ∙ e, eq-eqb n i (sym q), count-cong n (leave v i) v (leave-below n i v (omega arith)))

@@ -29,43 +29,35 @@ only-in-use g w E = value-in g w E
 
 -- A node that is not in use is no node of the graph.
 pub closed-none : (g : Graph) (i : ℕ) → g .inUse i ≡ false → isNode g i ≡ false
-unfolding isNode
-closed-none g i h = ap (ltb i (g .n) &&_) h ∙ and-false (ltb i (g .n))
+closed-none g i h = unfold isNode in ap (ltb i (g .n) &&_) h ∙ and-false (ltb i (g .n))
 
 -- "04 and 17 on a closed node are empty", on every graph.
 module _ (g : Graph) where
   at-closed : (i j : ℕ) → isNode g j ≡ false → (isNode g i && eqb i j) ≡ false
-  at-closed i j h = go (eqb i j) refl
-    where
-      go : (b : Bool) → eqb i j ≡ b → (isNode g i && b) ≡ false
-      go true e = ap (λ x. isNode g x && true) (eqb-true i j e) ∙ ap (_&& true) h
-      go false e = and-false (isNode g i)
+  at-closed i j h = go (eqb i j) refl where
+    go : (b : Bool) → eqb i j ≡ b → (isNode g i && b) ≡ false
+    go true e = ap (λ x. isNode g x && true) (eqb-true i j e) ∙ ap (_&& true) h
+    go false e = and-false (isNode g i)
 
   pub nominal-empty : (j : ℕ) → isNode g j ≡ false → (i : ℕ) → value g (nominal j) i ≡ false
-  unfolding value
-  nominal-empty j h i = at-closed i j h
+  nominal-empty j h i = unfold value in at-closed i j h
 
   pub pair-empty-from : (k l : ℕ) → isNode g k ≡ false → (i j : ℕ) → value g (pair k l) i j ≡ false
-  unfolding value
-  pair-empty-from k l h i j = ap (_&& (isNode g j && eqb j l)) (at-closed i k h)
+  pair-empty-from k l h i j = unfold value in ap (_&& (isNode g j && eqb j l)) (at-closed i k h)
 
   pub pair-empty-to : (k l : ℕ) → isNode g l ≡ false → (i j : ℕ) → value g (pair k l) i j ≡ false
-  unfolding value
-  pair-empty-to k l h i j = ap ((isNode g i && eqb i k) &&_) (at-closed j l h) ∙ and-false (isNode g i && eqb i k)
+  pair-empty-to k l h i j = unfold value in ap ((isNode g i && eqb i k) &&_) (at-closed j l h) ∙ and-false (isNode g i && eqb i k)
 
 -- "23 and 24 are false there"
 module _ (g : Graph) (w : Within g) where
   pub node-in-false : (i : ℕ) (E : Expr node) → isNode g i ≡ false → value g (nodeIn i E) ≡ false
-  unfolding value
-  node-in-false i E h = value-in g w E i h
+  node-in-false i E h = unfold value in value-in g w E i h
 
   pub pair-in-false-from : (i j : ℕ) (R : Expr arrow) → isNode g i ≡ false → value g (pairIn i j R) ≡ false
-  unfolding value
-  pair-in-false-from i j R h = value-in g w R .starts i j h
+  pair-in-false-from i j R h = unfold value in value-in g w R .starts i j h
 
   pub pair-in-false-to : (i j : ℕ) (R : Expr arrow) → isNode g j ≡ false → value g (pairIn i j R) ≡ false
-  unfolding value
-  pair-in-false-to i j R h = value-in g w R .ends i j h
+  pair-in-false-to i j R h = unfold value in value-in g w R .ends i j h
 
 -- "no step of an edit changes them"
 pub run-inUse : (Z : Edit) (g : Graph) → (run Z g) .inUse ≡ g .inUse
@@ -78,64 +70,55 @@ run-inUse (takeArrow a R Z) g = run-inUse Z _
 run-inUse (choose K P Q Z) g = run-inUse Z _ ∙ cond-both (λ h. h .inUse ≡ g .inUse) (value g K) (run P g) (run Q g) (run-inUse P g) (run-inUse Q g)
 
 update-both : {A : Type 0} (P : A → Type 0) (f : ℕ → A) (k : ℕ) (v : A) (x : ℕ) → P v → P (f x) → P (update f k v x)
-unfolding update
-update-both P f k v x p q = cond-both P (eqb x k) v (f x) p q
+update-both P f k v x p q = unfold update in cond-both P (eqb x k) v (f x) p q
 
 update-same : {A : Type 0} (f : ℕ → A) (k : ℕ) (v : A) → update f k v k ≡ v
-unfolding update
-update-same f k v = ap (λ b. cond b v (f k)) (eq-eqb k k refl)
+update-same f k v = unfold update in ap (λ b. cond b v (f k)) (eq-eqb k k refl)
 
 update-other : {A : Type 0} (f : ℕ → A) (k : ℕ) (v : A) (x : ℕ) → eqb x k ≡ false → update f k v x ≡ f x
-unfolding update
-update-other f k v x e = ap (λ b. cond b v (f x)) e
+update-other f k v x e = unfold update in ap (λ b. cond b v (f x)) e
 
 -- a table with its own value put in is itself, whatever was put in before
 update-back : {A : Type 0} (f : ℕ → A) (k : ℕ) (u v : A) → f k ≡ v → update (update f k u) k v ≡ f
 unfolding update
-update-back f k u v h = fun-ext (λ x. go x (eqb x k) refl)
-  where
-    go : (x : ℕ) (b : Bool) → eqb x k ≡ b → cond b v (cond b u (f x)) ≡ f x
-    go x true e = sym h ∙ ap f (sym (eqb-true x k e))
-    go x false e = refl
+update-back f k u v h = fun-ext (λ x. go x (eqb x k) refl) where
+  go : (x : ℕ) (b : Bool) → eqb x k ≡ b → cond b v (cond b u (f x)) ≡ f x
+  go x true e = sym h ∙ ap f (sym (eqb-true x k e))
+  go x false e = refl
 
 -- Closing then opening a node gives the graph back, and opening then closing.
 pub close-open : (g : Graph) (i : ℕ) → g .inUse i ≡ true → openNode (closeNode g i) i ≡ g
-unfolding closeNode openNode
-close-open g i h = ap (withUse g) (update-back (g .inUse) i false true h)
+close-open g i h = unfold closeNode openNode in ap (withUse g) (update-back (g .inUse) i false true h)
 
 pub open-close : (g : Graph) (i : ℕ) → g .inUse i ≡ false → closeNode (openNode g i) i ≡ g
-unfolding closeNode openNode
-open-close g i h = ap (withUse g) (update-back (g .inUse) i true false h)
+open-close g i h = unfold closeNode openNode in ap (withUse g) (update-back (g .inUse) i true false h)
 
 module _ (g : Graph) (w : Within g) (i : ℕ) where
   -- A node without a label has none of any number, and one without an arrow none of any kind.
   no-label : hasLabel g i ≡ false → (k : ℕ) → g .labelled k i ≡ false
   unfolding hasLabel
-  no-label h k = go (decLt k labelCount)
-    where
-      go : Dec (k < labelCount) → g .labelled k i ≡ false
-      go (yes l) = any-not labelCount (λ k. g .labelled k i) h k l
-      go (no l) = w .no-more-labels k i (omega arith)
+  no-label h k = go (decLt k labelCount) where
+    go : Dec (k < labelCount) → g .labelled k i ≡ false
+    go (yes l) = any-not labelCount (λ k. g .labelled k i) h k l
+    go (no l) = w .no-more-labels k i (omega arith)
 
   no-arrow : hasArrow g i ≡ false → (a j : ℕ) → (g .joined a i j ≡ false) × (g .joined a j i ≡ false)
   unfolding hasArrow
-  no-arrow h a j = go (decLt a arrowCount) (decLt j (g .n))
-    where
-      go : Dec (a < arrowCount) → Dec (j < g .n) → (g .joined a i j ≡ false) × (g .joined a j i ≡ false)
-      go (yes l) (yes u) =
-          let one : (g .joined a i j || g .joined a j i) ≡ false = any-not (g .n) (λ j. g .joined a i j || g .joined a j i) (any-not arrowCount (λ a. anyBelow (g .n) (λ j. g .joined a i j || g .joined a j i)) h a l) j u in
-          (or-left-false (g .joined a i j) (g .joined a j i) one, or-right-false (g .joined a i j) (g .joined a j i) one)
-      go (yes l) (no u) = let b : isNode g j ≡ false = no-node g j (omega arith) in (w .arrows-in a .ends i j b, w .arrows-in a .starts j i b)
-      go (no l) d = (w .no-more-arrows a i j (omega arith), w .no-more-arrows a j i (omega arith))
+  no-arrow h a j = go (decLt a arrowCount) (decLt j (g .n)) where
+    go : Dec (a < arrowCount) → Dec (j < g .n) → (g .joined a i j ≡ false) × (g .joined a j i ≡ false)
+    go (yes l) (yes u) =
+        let one : (g .joined a i j || g .joined a j i) ≡ false = any-not (g .n) (λ j. g .joined a i j || g .joined a j i) (any-not arrowCount (λ a. anyBelow (g .n) (λ j. g .joined a i j || g .joined a j i)) h a l) j u in
+        (or-left-false (g .joined a i j) (g .joined a j i) one, or-right-false (g .joined a i j) (g .joined a j i) one)
+    go (yes l) (no u) = let b : isNode g j ≡ false = no-node g j (omega arith) in (w .arrows-in a .ends i j b, w .arrows-in a .starts j i b)
+    go (no l) d = (w .no-more-arrows a i j (omega arith), w .no-more-arrows a j i (omega arith))
 
   -- What is no node in use after closing i is i, or was none before.
   closed-or : {A : Type 0} (x : ℕ) → isNode (closeNode g i) x ≡ false → (x ≡ i → A) → (isNode g x ≡ false → A) → A
   unfolding closeNode isNode update
-  closed-or {A} x h f k = go (eqb x i) refl h
-    where
-      go : (b : Bool) → eqb x i ≡ b → (ltb x (g .n) && cond b false (g .inUse x)) ≡ false → A
-      go true e h = f (eqb-true x i e)
-      go false e h = k h
+  closed-or {A} x h f k = go (eqb x i) refl h where
+    go : (b : Bool) → eqb x i ≡ b → (ltb x (g .n) && cond b false (g .inUse x)) ≡ false → A
+    go true e h = f (eqb-true x i e)
+    go false e h = k h
 
   -- A node that may be closed leaves a graph within the limits.
   pub close-within : canClose g i ≡ true → Within (closeNode g i)
@@ -152,27 +135,26 @@ module _ (g : Graph) (w : Within g) (i : ℕ) where
         };
         no-more-labels = w .no-more-labels;
         no-more-arrows = w .no-more-arrows;
-      }
-    where
-      none : (hasLabel g i || hasArrow g i || isOnly g i) ≡ false
-      none = not-true _ c
+      } where
+        none : (hasLabel g i || hasArrow g i || isOnly g i) ≡ false
+        none = not-true _ c
 
-      bare : hasLabel g i ≡ false
-      bare = or-left-false (hasLabel g i) (hasArrow g i) (or-left-false (hasLabel g i || hasArrow g i) (isOnly g i) none)
+        bare : hasLabel g i ≡ false
+        bare = or-left-false (hasLabel g i) (hasArrow g i) (or-left-false (hasLabel g i || hasArrow g i) (isOnly g i) none)
 
-      free : hasArrow g i ≡ false
-      free = or-right-false (hasLabel g i) (hasArrow g i) (or-left-false (hasLabel g i || hasArrow g i) (isOnly g i) none)
+        free : hasArrow g i ≡ false
+        free = or-right-false (hasLabel g i) (hasArrow g i) (or-left-false (hasLabel g i || hasArrow g i) (isOnly g i) none)
 
-      unused : (x : ℕ) → g .n ≤ x → update (g .inUse) i false x ≡ false
-      unused x l = update-both (λ v. v ≡ false) (g .inUse) i false x refl (w .use-below x l)
+        unused : (x : ℕ) → g .n ≤ x → update (g .inUse) i false x ≡ false
+        unused x l = update-both (λ v. v ≡ false) (g .inUse) i false x refl (w .use-below x l)
 
-      other : anyBelow (g .n) (update (g .inUse) i false) ≡ true
-      other =
-          let (j, l, e) = any-found (g .n) (λ j. g .inUse j && not (eqb j i)) (not-false _ (or-right-false (hasLabel g i || hasArrow g i) (isOnly g i) none)) in
-          any-one (g .n) (update (g .inUse) i false) j l (stays j (and-eq-true-iff (g .inUse j) (not (eqb j i)) .0 e .0) (not-true _ (and-eq-true-iff (g .inUse j) (not (eqb j i)) .0 e .1)))
-        where
-          stays : (j : ℕ) → g .inUse j ≡ true → eqb j i ≡ false → update (g .inUse) i false j ≡ true
-          stays j e f = update-other (g .inUse) i false j f ∙ e
+        other : anyBelow (g .n) (update (g .inUse) i false) ≡ true
+        other =
+            let (j, l, e) = any-found (g .n) (λ j. g .inUse j && not (eqb j i)) (not-false _ (or-right-false (hasLabel g i || hasArrow g i) (isOnly g i) none)) in
+            any-one (g .n) (update (g .inUse) i false) j l (stays j (and-eq-true-iff (g .inUse j) (not (eqb j i)) .0 e .0) (not-true _ (and-eq-true-iff (g .inUse j) (not (eqb j i)) .0 e .1)))
+          where
+            stays : (j : ℕ) → g .inUse j ≡ true → eqb j i ≡ false → update (g .inUse) i false j ≡ true
+            stays j e f = update-other (g .inUse) i false j f ∙ e
 
   -- Opening a node below n does.
   pub open-within : i < g .n → Within (openNode g i)
@@ -186,11 +168,9 @@ module _ (g : Graph) (w : Within g) (i : ℕ) where
         arrows-in = λ a. record { starts = λ x y h. w .arrows-in a .starts x y (was x h); ends = λ x y h. w .arrows-in a .ends x y (was y h) };
         no-more-labels = w .no-more-labels;
         no-more-arrows = w .no-more-arrows;
-      }
-    where
-      was : (x : ℕ) → (ltb x (g .n) && update (g .inUse) i true x) ≡ false → (ltb x (g .n) && g .inUse x) ≡ false
-      was x h = go (ltb x (g .n)) (eqb x i) h
-        where
+      } where
+        was : (x : ℕ) → (ltb x (g .n) && update (g .inUse) i true x) ≡ false → (ltb x (g .n) && g .inUse x) ≡ false
+        was x h = go (ltb x (g .n)) (eqb x i) h where
           go : (a b : Bool) → (a && cond b true (g .inUse x)) ≡ false → (a && g .inUse x) ≡ false
           go true true h = let z : _≡_ {A = ℕ} 0 1 = cc in absurd (omega arith)
           go true false h = h

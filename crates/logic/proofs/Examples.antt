@@ -5,13 +5,10 @@ use Rattle.logic.specs.Meaning.{value}
 use Rattle.logic.specs.Examples.{on, values, values-are, truths, truths-are, strays, strays-are}
 
 pub values-right : values ≡ values-are
-unfolding values values-are on value isNode anyBelow allBelow countBelow
-values-right = refl
+values-right = unfold values values-are on value isNode anyBelow allBelow countBelow in refl
 
 pub truths-right : truths ≡ truths-are
-unfolding truths truths-are value isNode anyBelow allBelow
-truths-right = refl
+truths-right = unfold truths truths-are value isNode anyBelow allBelow in refl
 
 pub strays-right : strays ≡ strays-are
-unfolding strays strays-are value isNode anyBelow allBelow
-strays-right = refl
+strays-right = unfold strays strays-are value isNode anyBelow allBelow in refl

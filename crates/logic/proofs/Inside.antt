@@ -21,8 +21,7 @@ Inside rule g v = Unit {0}
 
 -- numbers from n on are no nodes
 pub no-node : (g : Graph) (i : ℕ) → g .n ≤ i → isNode g i ≡ false
-unfolding isNode
-no-node g i h = ap (_&& g .inUse i) (le-ltb i (g .n) h)
+no-node g i h = unfold isNode in ap (_&& g .inUse i) (le-ltb i (g .n) h)
 
 -- A graph within the limits has a node.
 pub some-n : (g : Graph) → Within g → 1 ≤ g .n
@@ -64,33 +63,29 @@ module _ (g : Graph) (w : Within g) where
   -- What 32 and 34 take away is the difference.
   pub taken-label : (k : ℕ) (E : Expr node) (Z : Edit) → run (takeLabel k E Z) g ≡ run Z (relabel g k (λ i. g .labelled k i && not (value g E i)))
   unfolding run
-  taken-label k E Z = ap (λ v. run Z (relabel g k v)) (fun-ext (λ i. go i (isNode g i) (g .labelled k i) (w .labels-in k i)))
-    where
-      go : (i : ℕ) (b l : Bool) → (b ≡ false → l ≡ false) → (l && (b && not (value g E i))) ≡ (l && not (value g E i))
-      go i true l h = refl
-      go i false l h = rw (h refl)
+  taken-label k E Z = ap (λ v. run Z (relabel g k v)) (fun-ext (λ i. go i (isNode g i) (g .labelled k i) (w .labels-in k i))) where
+    go : (i : ℕ) (b l : Bool) → (b ≡ false → l ≡ false) → (l && (b && not (value g E i))) ≡ (l && not (value g E i))
+    go i true l h = refl
+    go i false l h = rw (h refl)
 
 pub taken-arrow : (g : Graph) (a : ℕ) (R : Expr arrow) (Z : Edit) → run (takeArrow a R Z) g ≡ run Z (rejoin g a (λ i j. g .joined a i j && not (value g R i j)))
-unfolding run
-taken-arrow g a R Z = refl
+taken-arrow g a R Z = unfold run in refl
 
 -- what holds of each entry of a table and of v holds of the table with v at k
 update-all : {A : Type 0} (P : A → Type 0) (f : ℕ → A) (k : ℕ) (v : A) → ((x : ℕ) → P (f x)) → P v → (x : ℕ) → P (update f k v x)
 unfolding update
-update-all P f k v h p x = go (eqb x k)
-  where
-    go : (b : Bool) → P (cond b v (f x))
-    go true = p
-    go false = h x
+update-all P f k v h p x = go (eqb x k) where
+  go : (b : Bool) → P (cond b v (f x))
+  go true = p
+  go false = h x
 
 -- and beyond k nothing changes
 update-beyond : {A : Type 0} (P : A → Type 0) (f : ℕ → A) (k m : ℕ) (v : A) → T (ltb k m) → ((x : ℕ) → m ≤ x → P (f x)) → (x : ℕ) → m ≤ x → P (update f k v x)
 unfolding update
-update-beyond P f k m v b h x l = go (eqb x k) (eqb→eq x k) (ltb→lt k m b)
-  where
-    go : (c : Bool) → (T c → x ≡ k) → k < m → P (cond c v (f x))
-    go true e s = let q : x ≡ k = e tt in absurd (omega arith)
-    go false e s = h x l
+update-beyond P f k m v b h x l = go (eqb x k) (eqb→eq x k) (ltb→lt k m b) where
+  go : (c : Bool) → (T c → x ≡ k) → k < m → P (cond c v (f x))
+  go true e s = let q : x ≡ k = e tt in absurd (omega arith)
+  go false e s = h x l
 
 module _ (g : Graph) (w : Within g) where
   pub relabel-within : (k : ℕ) (v : Nodes) → T (ltb k labelCount) → NodesIn g v → Within (relabel g k v)

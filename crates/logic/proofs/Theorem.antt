@@ -3,55 +3,41 @@ use mathlib.Core.Path.{_≡_, refl, sym, _∙_, ap, ap₂, fun-ext, subst}
 use mathlib.Core.Bool.{Bool, true, false, not, _&&_, _||_, cond}
 use mathlib.Core.List.{List, [], _∷_}
 use Prim.Native.Nat.{ℕ}
-use lib.Dec.{T, leb, eqb}
-use Rattle.logic.specs.Syntax.{Sort, node, arrow, rule, Expr, all, none, label, nominal, complement, and, or, some, every, atLeast, atMost, arrowKind, reversed, union, common, minus, endingIn, pair, subNodes, subArrows, nodeIn, pairIn, both, either, notRule, Edit, finish, addLabel, takeLabel, addArrow, takeArrow, choose}
-use Rattle.logic.specs.Graph.{Graph, isNode, allBelow, anyBelow, countBelow, implies}
+use lib.Dec.{T, eqb}
+use Rattle.logic.specs.Syntax.{Sort, node, arrow, rule, Expr, label, complement, and, or, arrowKind, union, minus, both, either, notRule, Edit, finish, addLabel, takeLabel, addArrow, takeArrow, choose}
+use Rattle.logic.specs.Graph.{Graph, isNode}
 use Rattle.logic.specs.Meaning.{value, holdAll}
 use Rattle.logic.specs.Steps.{update, relabel, rejoin, run}
 use Rattle.logic.specs.Carry.{replace, putLabel, putArrow, carry, carriedBook, followedBy}
+use Rattle.logic.specs.Arity.{Nullary, all·, none·, label·, nominal·, arrowKind·, pair·, build0, byArity}
+use Rattle.logic.proofs.ArityLaws.{replace-1, replace-2, value-1, value-2}
 
 -- the graph on which label k is f k and arrow a is h a, as g has them
 abbrev through : Graph → (ℕ → Expr node) → (ℕ → Expr arrow) → Graph
 through g f h = record { n = g .n; inUse = g .inUse; labelled = λ k. value g (f k); joined = λ a. value g (h a) }
 
--- each constructor's meaning, along the paths that its operands give
 module _ (g : Graph) (f : ℕ → Expr node) (h : ℕ → Expr arrow) where
   value-replace : {s : Sort} (e : Expr s) → value g (replace f h e) ≡ value (through g f h) e
-  unfolding value replace isNode
-  value-replace all = refl
-  value-replace none = refl
-  value-replace (label k) = refl
-  value-replace (nominal i) = refl
-  value-replace (complement E) = λ t i. isNode g i && not (value-replace E t i)
-  value-replace (and E F) = λ t i. value-replace E t i && value-replace F t i
-  value-replace (or E F) = λ t i. value-replace E t i || value-replace F t i
-  value-replace (some R E) = λ t i. anyBelow (g .n) (λ j. value-replace R t i j && value-replace E t j)
-  value-replace (every R E) = λ t i. isNode g i && allBelow (g .n) (λ j. implies (value-replace R t i j) (value-replace E t j))
-  value-replace (atLeast m R E) = λ t i. isNode g i && leb m (countBelow (g .n) (λ j. value-replace R t i j && value-replace E t j))
-  value-replace (atMost m R E) = λ t i. isNode g i && leb (countBelow (g .n) (λ j. value-replace R t i j && value-replace E t j)) m
-  value-replace (arrowKind a) = refl
-  value-replace (reversed R) = λ t i j. value-replace R t j i
-  value-replace (union R S) = λ t i j. value-replace R t i j || value-replace S t i j
-  value-replace (common R S) = λ t i j. value-replace R t i j && value-replace S t i j
-  value-replace (minus R S) = λ t i j. value-replace R t i j && not (value-replace S t i j)
-  value-replace (endingIn R E) = λ t i j. value-replace R t i j && value-replace E t j
-  value-replace (pair i j) = refl
-  value-replace (subNodes E F) = λ t. allBelow (g .n) (λ i. implies (value-replace E t i) (value-replace F t i))
-  value-replace (subArrows R S) = λ t. allBelow (g .n) (λ i. allBelow (g .n) (λ j. implies (value-replace R t i j) (value-replace S t i j)))
-  value-replace (nodeIn i E) = λ t. value-replace E t i
-  value-replace (pairIn i j R) = λ t. value-replace R t i j
-  value-replace (both K L) = λ t. value-replace K t && value-replace L t
-  value-replace (either K L) = λ t. value-replace K t || value-replace L t
-  value-replace (notRule K) = λ t. not (value-replace K t)
+  unfolding value replace build0 isNode
+  value-replace e = byArity (λ s e. value g (replace f h e) ≡ value (through g f h) e) (λ s b. leaf b)
+      (λ u t b x p. rw (replace-1 f h b x) (value-1 g _ _ b (replace f h x) x p))
+      (λ u v t b x y p q. rw (replace-2 f h b x y) (value-2 g _ _ b (replace f h x) x (replace f h y) y p q))
+      e where
+        leaf : {s : Sort} (b : Nullary s) → value g (replace f h (build0 b)) ≡ value (through g f h) (build0 b)
+        leaf all· = refl
+        leaf none· = refl
+        leaf (label· k) = refl
+        leaf (nominal· i) = refl
+        leaf (arrowKind· a) = refl
+        leaf (pair· i j) = refl
 
 -- to update a table of expressions is to update the table of their values
 value-update : (g : Graph) {s : Sort} (f : ℕ → Expr s) (k : ℕ) (F : Expr s) → (λ x. value g (update f k F x)) ≡ update (λ x. value g (f x)) k (value g F)
 unfolding update
-value-update g f k F = fun-ext (λ x. go x (eqb x k))
-  where
-    go : (x : ℕ) (b : Bool) → value g (cond b F (f x)) ≡ cond b (value g F) (value g (f x))
-    go x true = refl
-    go x false = refl
+value-update g f k F = fun-ext (λ x. go x (eqb x k)) where
+  go : (x : ℕ) (b : Bool) → value g (cond b F (f x)) ≡ cond b (value g F) (value g (f x))
+  go x true = refl
+  go x false = refl
 
 -- a rule in which label k is replaced by F says what the rule says where label k is F
 value-putLabel : (g : Graph) (k : ℕ) (F : Expr node) (K : Expr rule) → value g (putLabel k F K) ≡ value (relabel g k (value g F)) K
@@ -103,8 +89,7 @@ carry-followedBy (takeArrow a R P) Z K = ap (putArrow a (minus (arrowKind a) R))
 carry-followedBy (choose K₁ P Q P′) Z K = ap (λ L. both (either (notRule K₁) (carry P L)) (either K₁ (carry Q L))) (carry-followedBy P′ Z K)
 
 pub carry-choose : (K₁ : Expr rule) (P Q Z : Edit) (K : Expr rule) → carry (choose K₁ P Q Z) K ≡ both (either (notRule K₁) (carry (followedBy P Z) K)) (either K₁ (carry (followedBy Q Z) K))
-unfolding carry
-carry-choose K₁ P Q Z K = rw (carry-followedBy P Z K, carry-followedBy Q Z K)
+carry-choose K₁ P Q Z K = unfold carry in rw (carry-followedBy P Z K, carry-followedBy Q Z K)
 
 pub run-followedBy : (P Z : Edit) (g : Graph) → run (followedBy P Z) g ≡ run Z (run P g)
 unfolding run followedBy

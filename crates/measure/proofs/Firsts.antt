@@ -10,7 +10,7 @@ use Rattle.tree.specs.Tree.{tree}
 use Rattle.tree.specs.Sizes.{Measure, measure, substituted, chosen, back}
 use Rattle.tree.specs.Stack.{touched}
 use Rattle.ends.specs.Edits.{behindStep}
-use Rattle.ends.proofs.Steps.{editTag, editNumber, editTree, stepCode, step-code, IsChoose}
+use Rattle.ends.proofs.FirstSteps.{editTag, editNumber, editTree, stepCode, step-code, IsChoose}
 use Rattle.measure.specs.Pruned.{pruned}
 
 -- 31 to 34
@@ -41,9 +41,7 @@ pruned-step (choose K P Q Z) n m r M = absurd (m refl)
 -- 35
 module _ {text : List ℕ} {at : ℕ} {Z : Edit} (c : IsChoose text at Z) (r : ℕ) (M : Measure) where
   pub back-choose : back r Z M ≡ chosen r (measure (tree (c .K))) (back r (c .P) (back r (behindStep Z) M)) (back r (c .Q) (back r (behindStep Z) M))
-  unfolding back
-  back-choose = ap (λ (Y : Edit). back r Y M) (c .is)
+  back-choose = unfold back in ap (λ (Y : Edit). back r Y M) (c .is)
 
   pub pruned-choose : editCode (pruned r Z M) ≡ (0x35 ∷ code (c .K)) ++ editCode (pruned r (c .P) (back r (behindStep Z) M)) ++ editCode (pruned r (c .Q) (back r (behindStep Z) M)) ++ editCode (pruned r (behindStep Z) M)
-  unfolding pruned editCode
-  pruned-choose = ap (λ (Y : Edit). editCode (pruned r Y M)) (c .is)
+  pruned-choose = unfold pruned editCode in ap (λ (Y : Edit). editCode (pruned r Y M)) (c .is)

@@ -11,13 +11,12 @@ use Rattle.tree.specs.Sizes.{Measure, measure, substituted, beyond, capped, cap
 use Rattle.tree.proofs.Measured.{under-max, under-under, under-nothing, height-pos}
 use Rattle.tree.proofs.Capped.{capped-max, capped-under, capped-mul}
 use Rattle.ends.specs.Shapes.{Named, cell}
-use Rattle.ends.proofs.Names.{named-lt, apart, alike}
+use Rattle.ends.proofs.NameCells.{named-lt, apart, alike}
 use Rattle.ends.proofs.Kept.{elsewhere}
 use Rattle.measure.specs.State.{Holds, added}
 
 pub deeper-none : (v : ℕ) → v ≡ 0 → 0 ≡ capped (under v 2)
-unfolding under
-deeper-none v e = sym (ap (λ (u : ℕ). capped (under u 2)) e)
+deeper-none v e = unfold under in sym (ap (λ (u : ℕ). capped (under u 2)) e)
 
 pub deeper-some : (v : ℕ) → (v ≡ 0 → ⊥) → v < beyond → v + 1 ≡ capped (under v 2)
 unfolding under
@@ -67,37 +66,36 @@ holds-touch l M c k w v e b n h = record {
   tall-at = elsewhere m (64 + i) 129 y (λ q. omega (arith, named-lt c k n)) ∙ elsewhere l i 129 x (λ q. omega (arith, named-lt c k n)) ∙ h .tall-at;
   count-at = λ c′ k′ n′. elsewhere m (64 + i) (cell c′ k′) y (λ q. omega (arith, named-lt c k n, named-lt c′ k′ n′)) ∙ counts c′ k′ n′ (same c k c′ k′) refl;
   deep-at = λ c′ k′ n′. deeps c′ k′ n′ (same c k c′ k′) refl;
-}
-  where
-    i : ℕ
-    i = cell c k
+} where
+  i : ℕ
+  i = cell c k
 
-    x : ℕ
-    x = capped (getD l i 0 + w)
+  x : ℕ
+  x = capped (getD l i 0 + w)
 
-    y : ℕ
-    y = max (getD l (64 + i) 0) v
+  y : ℕ
+  y = max (getD l (64 + i) 0) v
 
-    m : List ℕ
-    m = set l i x
+  m : List ℕ
+  m = set l i x
 
-    counts : (c′ k′ : ℕ) → Named c′ k′ → (b : Bool) → same c k c′ k′ ≡ b → getD m (cell c′ k′) 0 ≡ capped (M .counts c′ k′ + w * cond b 1 0)
-    counts c′ k′ n′ true q =
-        let j : cell c′ k′ ≡ i = alike c k c′ k′ q in
-        ap (λ (u : ℕ). getD m u 0) j ∙ getD-set-same l i x 0 (omega (arith, named-lt c k n)) ∙ ap (λ (u : ℕ). capped (u + w)) (ap (λ (u : ℕ). getD l u 0) (sym j) ∙ h .count-at c′ k′ n′) ∙ omega arith
-    counts c′ k′ n′ false q = elsewhere l i (cell c′ k′) x (apart c k c′ k′ n n′ q) ∙ h .count-at c′ k′ n′ ∙ omega arith
+  counts : (c′ k′ : ℕ) → Named c′ k′ → (b : Bool) → same c k c′ k′ ≡ b → getD m (cell c′ k′) 0 ≡ capped (M .counts c′ k′ + w * cond b 1 0)
+  counts c′ k′ n′ true q =
+      let j : cell c′ k′ ≡ i = alike c k c′ k′ q in
+      ap (λ (u : ℕ). getD m u 0) j ∙ getD-set-same l i x 0 (omega (arith, named-lt c k n)) ∙ ap (λ (u : ℕ). capped (u + w)) (ap (λ (u : ℕ). getD l u 0) (sym j) ∙ h .count-at c′ k′ n′) ∙ omega arith
+  counts c′ k′ n′ false q = elsewhere l i (cell c′ k′) x (apart c k c′ k′ n n′ q) ∙ h .count-at c′ k′ n′ ∙ omega arith
 
-    deeps : (c′ k′ : ℕ) → Named c′ k′ → (b : Bool) → same c k c′ k′ ≡ b → getD (set m (64 + i) y) (64 + cell c′ k′) 0 ≡ capped (max (M .deeps c′ k′) (under v (cond b 1 0)))
-    deeps c′ k′ n′ true q =
-        let j : cell c′ k′ ≡ i = alike c k c′ k′ q in
-        let z : getD l (64 + i) 0 ≡ capped (M .deeps c′ k′) = ap (λ (u : ℕ). getD l (64 + u) 0) (sym j) ∙ h .deep-at c′ k′ n′ in
-        ap (λ (u : ℕ). getD (set m (64 + i) y) (64 + u) 0) j ∙ getD-set-same m (64 + i) y 0 (omega (arith, named-lt c k n, length-set l i x)) ∙ ap (λ (u : ℕ). max u v) z ∙ both (M .deeps c′ k′) ∙ sym (ap (λ (u : ℕ). capped (max (M .deeps c′ k′) u)) (under-1 v))
-      where
-        both : (d : ℕ) → max (capped d) v ≡ capped (max d v)
-        both d = omega arith
-    deeps c′ k′ n′ false q =
-        elsewhere m (64 + i) (64 + cell c′ k′) y (λ r. apart c k c′ k′ n n′ q (omega (arith, r))) ∙ elsewhere l i (64 + cell c′ k′) x (λ r. omega (arith, named-lt c k n)) ∙ h .deep-at c′ k′ n′
-        ∙ (let z : M .deeps c′ k′ ≡ max (M .deeps c′ k′) (under v 0) = omega (arith, under-nothing v) in ap capped z)
+  deeps : (c′ k′ : ℕ) → Named c′ k′ → (b : Bool) → same c k c′ k′ ≡ b → getD (set m (64 + i) y) (64 + cell c′ k′) 0 ≡ capped (max (M .deeps c′ k′) (under v (cond b 1 0)))
+  deeps c′ k′ n′ true q =
+      let j : cell c′ k′ ≡ i = alike c k c′ k′ q in
+      let z : getD l (64 + i) 0 ≡ capped (M .deeps c′ k′) = ap (λ (u : ℕ). getD l (64 + u) 0) (sym j) ∙ h .deep-at c′ k′ n′ in
+      ap (λ (u : ℕ). getD (set m (64 + i) y) (64 + u) 0) j ∙ getD-set-same m (64 + i) y 0 (omega (arith, named-lt c k n, length-set l i x)) ∙ ap (λ (u : ℕ). max u v) z ∙ both (M .deeps c′ k′) ∙ sym (ap (λ (u : ℕ). capped (max (M .deeps c′ k′) u)) (under-1 v))
+    where
+      both : (d : ℕ) → max (capped d) v ≡ capped (max d v)
+      both d = omega arith
+  deeps c′ k′ n′ false q =
+      elsewhere m (64 + i) (64 + cell c′ k′) y (λ r. apart c k c′ k′ n n′ q (omega (arith, r))) ∙ elsewhere l i (64 + cell c′ k′) x (λ r. omega (arith, named-lt c k n)) ∙ h .deep-at c′ k′ n′
+      ∙ (let z : M .deeps c′ k′ ≡ max (M .deeps c′ k′) (under v 0) = omega (arith, under-nothing v) in ap capped z)
 
 -- a tree's codes one by one
 pub added-name : (w v c k : ℕ) (M : Measure) → marked c k w v (risen v M) ≡ added w v (measure (name c k)) M
@@ -106,13 +104,12 @@ added-name w v c k M = λ i. record { len = M .len; tall = max (M .tall) (sym (u
 
 pub added-leaf : (w v : ℕ) (h : List ℕ) (M : Measure) → risen v M ≡ added w v (measure (leaf h)) M
 unfolding added measure height count deep
-added-leaf w v h M = λ i. record { len = M .len; tall = max (M .tall) (sym (under-1 v) i); counts = λ c k. none (M .counts c k) i; deeps = λ c k. flat (M .deeps c k) i }
-  where
-    none : (x : ℕ) → x ≡ x + w * 0
-    none x = omega arith
+added-leaf w v h M = λ i. record { len = M .len; tall = max (M .tall) (sym (under-1 v) i); counts = λ c k. none (M .counts c k) i; deeps = λ c k. flat (M .deeps c k) i } where
+  none : (x : ℕ) → x ≡ x + w * 0
+  none x = omega arith
 
-    flat : (x : ℕ) → x ≡ max x (under v 0)
-    flat x = omega (arith, under-nothing v)
+  flat : (x : ℕ) → x ≡ max x (under v 0)
+  flat x = omega (arith, under-nothing v)
 
 -- one level on; what is lower down stands deepest
 on : (v x : ℕ) → 0 < x → under (under v 2) x ≡ under v (suc x)
@@ -159,15 +156,14 @@ holds-lower l M c k x e n f h = record {
   tall-at = elsewhere l j 129 x (λ q. omega (arith, named-lt c k n)) ∙ h .tall-at;
   count-at = λ c′ k′ n′. elsewhere l j (cell c′ k′) x (λ q. omega (arith, named-lt c k n, named-lt c′ k′ n′)) ∙ h .count-at c′ k′ n′;
   deep-at = λ c′ k′ n′. deeps c′ k′ n′ (same c′ k′ c k) refl;
-}
-  where
-    j : ℕ
-    j = 64 + cell c k
+} where
+  j : ℕ
+  j = 64 + cell c k
 
-    deeps : (c′ k′ : ℕ) → Named c′ k′ → (b : Bool) → same c′ k′ c k ≡ b → getD (set l j x) (64 + cell c′ k′) 0 ≡ capped (cond b (under (M .deeps c k) 2) (M .deeps c′ k′))
-    deeps c′ k′ n′ true q =
-        ap (λ (u : ℕ). getD (set l j x) (64 + u) 0) (sym (alike c′ k′ c k q)) ∙ getD-set-same l j x 0 (omega (arith, named-lt c k n)) ∙ f ∙ ap (λ (u : ℕ). capped (under u 2)) (h .deep-at c k n) ∙ capped-under (M .deeps c k) 2
-    deeps c′ k′ n′ false q = elsewhere l j (64 + cell c′ k′) x (λ r. apart c′ k′ c k n′ n q (omega (arith, r))) ∙ h .deep-at c′ k′ n′
+  deeps : (c′ k′ : ℕ) → Named c′ k′ → (b : Bool) → same c′ k′ c k ≡ b → getD (set l j x) (64 + cell c′ k′) 0 ≡ capped (cond b (under (M .deeps c k) 2) (M .deeps c′ k′))
+  deeps c′ k′ n′ true q =
+      ap (λ (u : ℕ). getD (set l j x) (64 + u) 0) (sym (alike c′ k′ c k q)) ∙ getD-set-same l j x 0 (omega (arith, named-lt c k n)) ∙ f ∙ ap (λ (u : ℕ). capped (under u 2)) (h .deep-at c k n) ∙ capped-under (M .deeps c k) 2
+  deeps c′ k′ n′ false q = elsewhere l j (64 + cell c′ k′) x (λ r. apart c′ k′ c k n′ n q (omega (arith, r))) ∙ h .deep-at c′ k′ n′
 
 -- x bytes more
 abbrev pub longer : ℕ → Measure → Measure
@@ -189,20 +185,18 @@ together c k more E M = λ i. record {
   tall = tips (M .tall) (E .tall) i;
   counts = λ c′ k′. sums (M .counts c′ k′) (E .counts c′ k′) i;
   deeps = λ c′ k′. tips (cond (same c′ k′ c k) (under (M .deeps c k) 2) (M .deeps c′ k′)) (E .deeps c′ k′) i;
-}
-  where
-    d : ℕ
-    d = under (M .deeps c k) (suc more)
+} where
+  d : ℕ
+  d = under (M .deeps c k) (suc more)
 
-    w : ℕ
-    w = M .counts c k
+  w : ℕ
+  w = M .counts c k
 
-    sums : (x y : ℕ) → capped (x + capped w * y) ≡ capped (x + w * y)
-    sums x y = (let a : capped (x + capped w * y) ≡ capped (capped x + capped w * y) = omega arith in a) ∙ capped-mul x w y
+  sums : (x y : ℕ) → capped (x + capped w * y) ≡ capped (x + w * y)
+  sums x y = (let a : capped (x + capped w * y) ≡ capped (capped x + capped w * y) = omega arith in a) ∙ capped-mul x w y
 
-    tips : (m e : ℕ) → capped (max m (under (capped d) e)) ≡ capped (max m (under d e))
-    tips m e = capped-max m (under (capped d) e) ∙ ap (max (capped m)) (capped-under d e) ∙ sym (capped-max m (under d e))
+  tips : (m e : ℕ) → capped (max m (under (capped d) e)) ≡ capped (max m (under d e))
+  tips m e = capped-max m (under (capped d) e) ∙ ap (max (capped m)) (capped-under d e) ∙ sym (capped-max m (under d e))
 
 pub twice : (d x : ℕ) → x ≡ capped (under d 2) → capped (under x 2) ≡ capped (under d 3)
-unfolding under
-twice d x e = ap (λ (u : ℕ). capped (under u 2)) e ∙ capped-under (under d 2) 2 ∙ ap capped (under-under d 2 2)
+twice d x e = unfold under in ap (λ (u : ℕ). capped (under u 2)) e ∙ capped-under (under d 2) 2 ∙ ap capped (under-under d 2 2)

@@ -5,8 +5,8 @@ use Prim.Native.Nat.{ℕ, suc, _+_, _-_, _≤_, _<_}
 use native.Mathlib.Omega.{arith}
 use lib.ListN.{length, getD, set, take, drop, length-set}
 use lib.Seq.{drop-cons, drop-set-lt, getD-set-same, take-at}
-use Rattle.measure.specs.Edits.{PutBefore, EndBefore}
-use Rattle.text.proofs.Standing.{behind}
+use Rattle.measure.specs.EditMeasures.{PutBefore, EndBefore}
+use Rattle.text.proofs.StandingLaws.{behind}
 
 pub head-of : (text : List ℕ) (at : ℕ) (h l : List ℕ) (n : ℕ) → drop at text ≡ h ++ l → length h ≡ n → take n (drop at text) ≡ h
 head-of text at h l n e f = ap (take n) e ∙ take-at h l n f
@@ -45,19 +45,18 @@ putting-more text at end out₀ pos out e p l t r w h = record {
   moved = omega (arith, h .moved, h .high);
   long = length-set out (p - 1) (getD text (e - 1) 0) ∙ h .long;
   put-is = drop-set out (p - 1) x (omega (arith, h .moved, h .high, h .long)) ∙ ap (λ (n : ℕ). x ∷ drop n out) sp ∙ ap (λ (l : List ℕ). x ∷ l) (h .put-is) ∙ sym (λ i. taken i ++ drop pos out₀);
-}
-  where
-    x : ℕ
-    x = getD text (e - 1) 0
+} where
+  x : ℕ
+  x = getD text (e - 1) 0
 
-    sp : suc (p - 1) ≡ p
-    sp = omega (arith, h .moved, h .high)
+  sp : suc (p - 1) ≡ p
+  sp = omega (arith, h .moved, h .high)
 
-    se : suc (e - 1) ≡ e
-    se = omega arith
+  se : suc (e - 1) ≡ e
+  se = omega arith
 
-    taken : take (end - (e - 1)) (drop (e - 1) text) ≡ x ∷ take (end - e) (drop e text)
-    taken = ap (λ (n : ℕ). take n (drop (e - 1) text)) (let f : end - (e - 1) ≡ suc (end - e) = omega (arith, h .high) in f) ∙ ap (take (suc (end - e))) (drop-cons text (e - 1) 0 (omega (arith, h .high)) ∙ ap (λ (n : ℕ). x ∷ drop n text) se)
+  taken : take (end - (e - 1)) (drop (e - 1) text) ≡ x ∷ take (end - e) (drop e text)
+  taken = ap (λ (n : ℕ). take n (drop (e - 1) text)) (let f : end - (e - 1) ≡ suc (end - e) = omega (arith, h .high) in f) ∙ ap (take (suc (end - e))) (drop-cons text (e - 1) 0 (omega (arith, h .high)) ∙ ap (λ (n : ℕ). x ∷ drop n text) se)
 
 pub putting-end : (text : List ℕ) (at end : ℕ) (out₀ : List ℕ) (pos : ℕ) (out : List ℕ) (e p : ℕ) → e ≤ at → Putting text at end out₀ pos out e p → PutBefore text at end out₀ pos out p
 putting-end text at end out₀ pos out e p l h =

@@ -8,8 +8,8 @@ use Rattle.tree.specs.Tree.{Tree, name, leaf, one, two, size, under}
 use Rattle.tree.specs.Sizes.{Measure, measure, beyond, capped, cappedMeasure}
 use Rattle.ends.specs.Shapes.{shapeOf, cell, Formed, At, Some}
 use Rattle.measure.specs.State.{Holds, added, Scanned}
-use Rattle.ends.proofs.Places.{IsName, IsLeaf, IsOne, IsTwo, tag-at, as-one, as-two, as-any}
-use Rattle.ends.proofs.Names.{named-lt}
+use Rattle.ends.proofs.TreePlaces.{IsName, IsLeaf, IsOne, IsTwo, tag-at, as-one, as-two, as-any}
+use Rattle.ends.proofs.NameCells.{named-lt}
 use Rattle.measure.proofs.Held.{holds-same, holds-is, holds-rise, holds-touch, risen, marked, added-name, added-leaf, added-one, added-two, added-capped}
 
 module _ (text : List ℕ) (at w v : ℕ) where
@@ -43,10 +43,9 @@ module _ (text : List ℕ) (at w v : ℕ) where
   -- the level below, cut
   module _ (below : ℕ) (down : below ≡ capped (under v 2)) where
     lower : {l : List ℕ} (E M : Measure) → Holds l (added w below E M) → Holds l (added w (under v 2) E M)
-    lower E M h = holds-same (ap (λ (x : ℕ). cappedAt x) down ∙ added-capped w (under v 2) E M) h
-      where
-        cappedAt : ℕ → Measure
-        cappedAt x = cappedMeasure (added w x E M)
+    lower E M h = holds-same (ap (λ (x : ℕ). cappedAt x) down ∙ added-capped w (under v 2) E M) h where
+      cappedAt : ℕ → Measure
+      cappedAt x = cappedMeasure (added w x E M)
 
     one-scanned : (t : Tree) (q : IsOne text at t) (first next : ℕ) (l l′ : List ℕ) → first ≡ at + shapeOf (getD text at 0) % 4 → Scanned first w below (q .x) next l l′ → Scanned at w v t next l l′
     unfolding size

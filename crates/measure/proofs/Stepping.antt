@@ -13,14 +13,14 @@ use Rattle.text.specs.Code.{editCode}
 use Rattle.tree.specs.Tree.{Tree, size, under}
 use Rattle.tree.specs.Sizes.{Measure, measure, substituted, back, beyond, capped}
 use Rattle.tree.specs.Stack.{touched}
-use Rattle.tree.proofs.Trees.{size-is}
+use Rattle.tree.proofs.TreeLaws.{size-is}
 use Rattle.tree.proofs.Capped.{capped-under}
 use Rattle.ends.specs.Shapes.{cell, At}
 use Rattle.ends.specs.Edits.{behindStep}
-use Rattle.ends.proofs.Names.{named-lt}
-use Rattle.ends.proofs.Steps.{editTag, editNumber, editTree, stepCode, IsStep}
+use Rattle.ends.proofs.NameCells.{named-lt}
+use Rattle.ends.proofs.FirstSteps.{editTag, editNumber, editTree, stepCode, IsStep}
 use Rattle.measure.specs.State.{Holds, added, Scanned}
-use Rattle.measure.specs.Edits.{Held, StepMeasured, Prefixed, PutBefore}
+use Rattle.measure.specs.EditMeasures.{Held, StepMeasured, Prefixed, PutBefore}
 use Rattle.measure.specs.Pruned.{pruned}
 use Rattle.measure.proofs.Puts.{head-of}
 use Rattle.measure.proofs.Held.{holds-same, holds-is, holds-lower, holds-longer, lowered, longer, together, twice}
@@ -45,14 +45,13 @@ module _ (text : List ℕ) (at : ℕ) (Z : Edit) (q : IsStep text at Z) where
 
   -- the level of the step's expression
   level : (D d v : ℕ) → d ≡ capped (under (capped D) 2) → v ≡ cond (eqb (getD text at 0) 0x32) (capped (under d 2)) d → v ≡ capped (under D (suc more))
-  level D d v e f = go (eqb (editTag Z) 0x32) (f ∙ ap (λ (x : ℕ). cond (eqb x 0x32) (capped (under d 2)) d) (q .reads-op))
-    where
-      e′ : d ≡ capped (under D 2)
-      e′ = e ∙ capped-under D 2
+  level D d v e f = go (eqb (editTag Z) 0x32) (f ∙ ap (λ (x : ℕ). cond (eqb x 0x32) (capped (under d 2)) d) (q .reads-op)) where
+    e′ : d ≡ capped (under D 2)
+    e′ = e ∙ capped-under D 2
 
-      go : (b : Bool) → v ≡ cond b (capped (under d 2)) d → v ≡ capped (under D (suc (cond b 2 1)))
-      go true p = p ∙ twice D d e′
-      go false p = p ∙ e′
+    go : (b : Bool) → v ≡ cond b (capped (under d 2)) d → v ≡ capped (under D (suc (cond b 2 1)))
+    go true p = p ∙ twice D d e′
+    go false p = p ∙ e′
 
   pub step-measured : (l₀ l₁ l₂ l₃ : List ℕ) (x i d w v next m y : ℕ) → length l₀ ≡ 130 → length l₂ ≡ 130
       → x ≡ touched (getD text at 0) → i ≡ cell x (getD text (at + 1) 0)
@@ -86,9 +85,13 @@ module _ (text : List ℕ) (at : ℕ) (Z : Edit) (q : IsStep text at Z) where
   counted : (l : List ℕ) (i : ℕ) → i ≡ cell c k → (N : Measure) → Holds l N → getD l i 0 ≡ capped (N .counts c k)
   counted l i j N h = ap (λ (u : ℕ). getD l u 0) j ∙ h .count-at c k (q .named)
 
+  -- the text without idle steps, of one that is idle or not
+  text-is : (rules : ℕ) (M : Measure) (b : Bool) → eqb (back rules (behindStep Z) M .counts c k) 0 ≡ b → editCode (pruned rules Z M) ≡ cond b (editCode (pruned rules (behindStep Z) M)) (stepCode Z ++ editCode (pruned rules (behindStep Z) M))
+  text-is rules M b e = pruned-step Z (q .no-end) (q .no-choice) rules M ∙ rw e
+
   pub step-idle : (l out : List ℕ) (pos i : ℕ) → i ≡ cell c k → getD l i 0 ≡ 0 → (rules : ℕ) → Prefixed rules Z l out pos out pos
   step-idle l out pos i j z rules = record {
-    text = λ M h tail e. e ∙ sym ((λ t. pruned-step Z (q .no-end) (q .no-choice) rules M t ++ tail) ∙ (λ t. cond (eq-eqb (back rules (behindStep Z) M .counts c k) 0 (omega (arith, counted l i j (back rules (behindStep Z) M) h)) t) (editCode (pruned rules (behindStep Z) M)) (stepCode Z ++ editCode (pruned rules (behindStep Z) M)) ++ tail));
+    text = λ M h tail e. e ∙ sym (ap (_++ tail) (text-is rules M true (eq-eqb (back rules (behindStep Z) M .counts c k) 0 (omega (arith, counted l i j (back rules (behindStep Z) M) h)))));
     room = omega (arith, q .long);
     low = omega arith;
   }
@@ -99,7 +102,7 @@ module _ (text : List ℕ) (at : ℕ) (Z : Edit) (q : IsStep text at Z) where
       record {
         text = λ M h tail p.
             w .put-is ∙ (λ t. head-of text at (stepCode Z) (q .tail) (end - at) (q .split) f t ++ p t) ∙ sym (append-assoc (stepCode Z) (editCode (pruned rules (behindStep Z) M)) tail)
-            ∙ sym ((λ t. pruned-step Z (q .no-end) (q .no-choice) rules M t ++ tail) ∙ (λ t. cond (ne-eqb (back rules (behindStep Z) M .counts c k) 0 (λ z. n (counted l i j (back rules (behindStep Z) M) h ∙ ap capped z)) t) (editCode (pruned rules (behindStep Z) M)) (stepCode Z ++ editCode (pruned rules (behindStep Z) M)) ++ tail));
+            ∙ sym (ap (_++ tail) (text-is rules M false (ne-eqb (back rules (behindStep Z) M .counts c k) 0 (λ z. n (counted l i j (back rules (behindStep Z) M) h ∙ ap capped z)))));
         room = omega (arith, q .long, w .start, e);
         low = omega (arith, w .start);
       }

@@ -1,4 +1,4 @@
--- A measure in 130 numbers, cut: 64 counts, 64 deepest levels, the length, the levels.
+-- A measure in numbers, cut: how often each name stands there, its deepest level, the length, the levels.
 use mathlib.Core.Path.{_≡_}
 use mathlib.Core.List.{List}
 use Prim.Native.Nat.{ℕ, _+_, _*_, max}
@@ -7,11 +7,12 @@ use Rattle.tree.specs.Tree.{Tree, under, size}
 use Rattle.tree.specs.Sizes.{Measure, measure, capped}
 use Rattle.ends.specs.Shapes.{Named, cell}
 
-pub record Holds (l : List ℕ) (M : Measure) : Type 0 where
-  pub len-at : getD l 128 0 ≡ capped (M .len)
-  pub tall-at : getD l 129 0 ≡ capped (M .tall)
-  pub count-at : (c k : ℕ) → Named c k → getD l (cell c k) 0 ≡ capped (M .counts c k)
-  pub deep-at : (c k : ℕ) → Named c k → getD l (64 + cell c k) 0 ≡ capped (M .deeps c k)
+-- so many names there are, and so many numbers
+abbrev pub names : ℕ
+names = 64
+
+abbrev pub numbers : ℕ
+numbers = 130
 
 -- w copies of a text put in, their first codes on level v at the deepest; their length not counted
 unfoldable pub added : (w v : ℕ) (E M : Measure) → Measure
@@ -21,6 +22,19 @@ added w v E M = record {
   counts = λ c k. M .counts c k + w * E .counts c k;
   deeps = λ c k. max (M .deeps c k) (under v (E .deeps c k));
 }
+
+-- where the length and the levels stand
+abbrev pub lengthCell : ℕ
+lengthCell = 128
+
+abbrev pub levelsCell : ℕ
+levelsCell = 129
+
+pub record Holds (l : List ℕ) (M : Measure) : Type 0 where
+  pub len-at : getD l lengthCell 0 ≡ capped (M .len)
+  pub tall-at : getD l levelsCell 0 ≡ capped (M .tall)
+  pub count-at : (c k : ℕ) → Named c k → getD l (cell c k) 0 ≡ capped (M .counts c k)
+  pub deep-at : (c k : ℕ) → Named c k → getD l (names + cell c k) 0 ≡ capped (M .deeps c k)
 
 pub record Scanned (at w v : ℕ) (t : Tree) (next : ℕ) (l l′ : List ℕ) : Type 0 where
   pub ends : next ≡ at + size t

@@ -11,10 +11,18 @@ ghost use Rattle.tree.specs.Sizes.{capped};
 ghost use Rattle.ends.specs.Shapes.{At, Some};
 ghost use Rattle.ends.specs.Edits.{EditAt, SomeEdit};
 ghost use Rattle.ends.specs.Kept.{Kept};
-ghost use Rattle.measure.specs.Edits.{EditRoom, StepRoom, Held, StepMeasured, Prefixed, Backed, Pushed, Joined};
+ghost use Rattle.measure.specs.State.{numbers};
+ghost use Rattle.measure.specs.EditMeasures.{EditRoom, StepRoom, Held, StepMeasured, Prefixed, Backed, Pushed, Joined};
 use super::keep;
 use super::numbers;
 use super::scan;
+
+// Where a walk back stands: at an edit, above what its stack holds already, in front of what is written.
+pub struct Spot {
+    pub at: usize,
+    pub top: usize,
+    pub pos: usize,
+}
 
 // How many codes a step puts above its expression: 32 puts 06 and 05.
 fn extra(op: u8) -> usize
@@ -39,10 +47,13 @@ fn step_back(text: &[u8], at: usize, state: &mut [usize])
     let op = text[at];
     let i = ends::cell_of(ends::name_code(op), text[at + 1]);
     let w = state[i];
-    let d = numbers::deeper(state[64 + i]);
-    state[64 + i] = d;
+    let d = numbers::deeper(state[numbers::DEEPEST + i]);
+    state[numbers::DEEPEST + i] = d;
     let next = scan::scan(text, at + 2, w, lower(op, d), state);
-    state[128] = numbers::sum(state[128], w * (extra(op) + (next - (at + 2))));
+    state[numbers::LENGTH] = numbers::sum(
+        state[numbers::LENGTH],
+        w * (extra(op) + (next - (at + 2))),
+    );
 }
 
 // The places of an edit's steps, put on a stack; answers its new top. A step takes a byte at least, so a stack as long as the text suffices.
@@ -64,41 +75,43 @@ fn push(text: &[u8], at: usize, stack: &mut [u16], top: usize) -> usize
 // The two ways of a 35 together, with its rule at `at`, which stands twice for each rule of the book: 25 26 27 K T 26 K U.
 // Inner: the text was read before.
 fn join_ways(text: &[u8], at: usize, rules: usize, t: &[usize], state: &mut [usize])
-    requires { ⌜ Some (now text) at × (length (now text) ≤ longestText) × (rules ≤ mostRules) × (length (now t) ≡ 130) × (length (now state) ≡ 130) ⌝ }
+    requires { ⌜ Some (now text) at × (length (now text) ≤ longestText) × (rules ≤ mostRules) × (length (now t) ≡ numbers) × (length (now state) ≡ numbers) ⌝ }
     ensures { λ r. ⌜ ((K : Tree) → At (now (text .entry)) at K → Joined rules K (now (t .entry)) (now (state .entry)) (now (state .exit))) ⌝ }
 {
     numbers::merge(t, state);
     let next = scan::scan(text, at, 2 * rules, 4, state);
-    state[128] = numbers::sum(state[128], rules * (4 + 2 * (next - at)));
+    state[numbers::LENGTH] = numbers::sum(state[numbers::LENGTH], rules * (4 + 2 * (next - at)));
 }
 
 // Back over one step: the numbers in `state`, and the step in front of what stands at `pos` unless it is idle.
 // Inner: the edit was read before. The two ways of a 35 are written last way first.
 fn one_back(
     text: &[u8],
-    at: usize,
     rules: usize,
+    spot: Spot,
     stack: &mut [u16],
-    top: usize,
     state: &mut [usize],
     out: &mut [u8],
-    pos: usize,
 ) -> usize
-    requires { ⌜ StepRoom (now text) at pos × (getD (now text) at 0 ≡ 0x30 → ⊥) × (top ≤ at) × (length (now text) ≤ length (now stack)) × (length (now text) ≤ longestText) × (rules ≤ mostRules) × Held (now state) × (pos ≤ length (now out)) ⌝ }
-    ensures { λ r. ⌜ ((Z : Edit) → EditAt (now (text .entry)) at Z → StepMeasured rules Z (now (state .entry)) (now (state .exit)) × Prefixed rules Z (now (state .entry)) (now (out .entry)) pos (now (out .exit)) r) × Kept top (now (stack .entry)) (now (stack .exit)) ⌝ }
+    requires { ⌜ StepRoom (now text) (spot .at) (spot .pos) × (getD (now text) (spot .at) 0 ≡ 0x30 → ⊥) × (spot .top ≤ spot .at) × (length (now text) ≤ length (now stack)) × (length (now text) ≤ longestText) × (rules ≤ mostRules) × Held (now state) × (spot .pos ≤ length (now out)) ⌝ }
+    ensures { λ r. ⌜ ((Z : Edit) → EditAt (now (text .entry)) (spot .at) Z → StepMeasured rules Z (now (state .entry)) (now (state .exit)) × Prefixed rules Z (now (state .entry)) (now (out .entry)) (spot .pos) (now (out .exit)) r) × Kept (spot .top) (now (stack .entry)) (now (stack .exit)) ⌝ }
 {
-    let c = text[at];
-    if c != 0x35 {
-        let start = keep::keep_step(text, at, state, out, pos);
+    let at = spot.at;
+    if text[at] != 0x35 {
+        let start = keep::keep_step(text, at, state, out, spot.pos);
         step_back(text, at, state);
         return start;
     }
     let first = ends::past(text, at + 1);
     let second = ends::end_of(text, first);
-    let mut other = [0usize; 130];
+    let mut other = [0usize; numbers::ALL];
     numbers::copy(state, &mut other);
-    let q = back(text, second, rules, stack, top, state, out, pos);
-    let p = back(text, first, rules, stack, top, &mut other, out, q);
+    let mut way = spot;
+    way.at = second;
+    let q = back(text, rules, way, stack, state, out);
+    way.at = first;
+    way.pos = q;
+    let p = back(text, rules, way, stack, &mut other, out);
     join_ways(text, at + 1, rules, &other, state);
     keep::put_before(text, at, first, out, p)
 }
@@ -107,23 +120,21 @@ fn one_back(
 // Inner: the edit was read before.
 pub fn back(
     text: &[u8],
-    at: usize,
     rules: usize,
+    spot: Spot,
     stack: &mut [u16],
-    top: usize,
     state: &mut [usize],
     out: &mut [u8],
-    pos: usize,
 ) -> usize
-    requires { ⌜ EditRoom (now text) at pos × (top ≤ at) × (length (now text) ≤ length (now stack)) × (length (now text) ≤ longestText) × (rules ≤ mostRules) × Held (now state) × (pos ≤ length (now out)) ⌝ }
-    ensures { λ r. ⌜ ((Z : Edit) → EditAt (now (text .entry)) at Z → Backed rules Z (now (state .entry)) (now (out .entry)) pos (now (state .exit)) (now (out .exit)) r) × Kept top (now (stack .entry)) (now (stack .exit)) ⌝ }
+    requires { ⌜ EditRoom (now text) (spot .at) (spot .pos) × (spot .top ≤ spot .at) × (length (now text) ≤ length (now stack)) × (length (now text) ≤ longestText) × (rules ≤ mostRules) × Held (now state) × (spot .pos ≤ length (now out)) ⌝ }
+    ensures { λ r. ⌜ ((Z : Edit) → EditAt (now (text .entry)) (spot .at) Z → Backed rules Z (now (state .entry)) (now (out .entry)) (spot .pos) (now (state .exit)) (now (out .exit)) r) × Kept (spot .top) (now (stack .entry)) (now (stack .exit)) ⌝ }
 {
-    let mut n = push(text, at, stack, top);
-    let mut start = keep::end_before(out, pos);
-    while n > top {
-        n -= 1;
-        let p = stack[n] as usize;
-        start = one_back(text, p, rules, stack, n, state, out, start);
+    let mut top = push(text, spot.at, stack, spot.top);
+    let mut pos = keep::end_before(out, spot.pos);
+    while top > spot.top {
+        top -= 1;
+        let at = stack[top] as usize;
+        pos = one_back(text, rules, Spot { at, top, pos }, stack, state, out);
     }
-    start
+    pos
 }

@@ -4,6 +4,7 @@ ghost use mathlib.Core.List.{List};
 ghost use lib.ListN.{length, replicate};
 ghost use Rattle.logic.specs.Syntax.{Expr, rule};
 ghost use Rattle.ends.specs.Books.{RuleAt, SomeRule, BookIs, SomeBook};
+ghost use Rattle.measure.specs.State.{numbers};
 ghost use Rattle.measure.specs.Book.{RuleAdded, BookAdded};
 use super::numbers;
 use super::scan;
@@ -11,18 +12,18 @@ use super::scan;
 // The measure of the rule at `at`, joined to that in `state`; answers the place behind the rule.
 // Inner: the text was read before.
 fn add_rule(book: &[u8], at: usize, state: &mut [usize]) -> usize
-    requires { ⌜ SomeRule (now book) at × (length (now state) ≡ 130) ⌝ }
+    requires { ⌜ SomeRule (now book) at × (length (now state) ≡ numbers) ⌝ }
     ensures { λ r. ⌜ ((K : Expr rule) → RuleAt (now (book .entry)) at K → RuleAdded at K r (now (state .entry)) (now (state .exit))) ⌝ }
 {
     let next = scan::scan(book, at, 1, 1, state);
-    state[128] = numbers::sum(state[128], next - at);
+    state[numbers::LENGTH] = numbers::sum(state[numbers::LENGTH], next - at);
     next
 }
 
 // The measure of a book, into numbers that are 0; answers how many rules it has.
 // Inner: the book was read before.
 pub fn add_book(book: &[u8], state: &mut [usize]) -> usize
-    requires { ⌜ SomeBook (now book) × (now state ≡ replicate 130 0) ⌝ }
+    requires { ⌜ SomeBook (now book) × (now state ≡ replicate numbers 0) ⌝ }
     ensures { λ r. ⌜ ((rules : List (Expr rule)) → BookIs (now (book .entry)) rules → BookAdded rules r (now (state .exit))) ⌝ }
 {
     let mut at = 0;

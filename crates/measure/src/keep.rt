@@ -5,7 +5,7 @@ ghost use lib.ListN.{length, getD};
 ghost use Rattle.text.specs.Reading.{longestText};
 ghost use Rattle.logic.specs.Syntax.{Edit};
 ghost use Rattle.ends.specs.Edits.{EditAt};
-ghost use Rattle.measure.specs.Edits.{StepRoom, Held, Prefixed, PutBefore, EndBefore};
+ghost use Rattle.measure.specs.EditMeasures.{StepRoom, Held, Prefixed, PutBefore, EndBefore};
 
 // The bytes of `text` from `at` to `end`, put in front of what stands at `pos`; answers where they start.
 // Inner: the caller knows that there is room.

@@ -10,6 +10,7 @@ ghost use Rattle.logic.specs.Syntax.{Edit, Expr, rule};
 ghost use Rattle.ends.specs.Edits.{EditAt, SomeEdit};
 ghost use Rattle.ends.specs.Books.{BookIs, SomeBook};
 ghost use Rattle.measure.specs.Book.{BookSized, BookKept};
+use back::Spot;
 use text::Text;
 
 mod back;
@@ -40,12 +41,17 @@ pub fn size_of_book(book: &[u8], edit: &[u8], stack: &mut [u16], kept: &mut [u8]
             start: 0,
         };
     }
-    let mut state = [0usize; 130];
+    let mut state = [0usize; numbers::ALL];
     let rules = book::add_book(book, &mut state);
-    let start = back::back(edit, 0, rules, stack, 0, &mut state, kept, Text::LONGEST);
+    let spot = Spot {
+        at: 0,
+        top: 0,
+        pos: Text::LONGEST,
+    };
+    let start = back::back(edit, rules, spot, stack, &mut state, kept);
     BookSize {
-        len: state[128],
-        levels: state[129],
+        len: state[numbers::LENGTH],
+        levels: state[numbers::LEVELS],
         start: start,
     }
 }

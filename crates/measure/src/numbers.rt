@@ -1,13 +1,23 @@
-// The 130 numbers that are kept of the carried text, each cut at one more than a carried book may have bytes: how often each of the 64 names stands there
-// (cells 0 to 63 of `ends::cell_of`, of labels and arrows alike), its deepest level (64 to 127, 0 where it stands nowhere), the length (128) and the levels (129).
+// The numbers that are kept of the carried text, each cut at one more than a carried book may have bytes.
 ghost use mathlib.Core.Path.{_≡_};
 ghost use Prim.Native.Nat.{_+_, _<_, max};
 ghost use lib.ListN.{length, getD, set};
 ghost use Rattle.tree.specs.Tree.{under};
 ghost use Rattle.tree.specs.Sizes.{capped};
 ghost use Rattle.ends.specs.Kept.{Kept};
-ghost use Rattle.measure.specs.Edits.{Merged};
+ghost use Rattle.measure.specs.State.{names, levelsCell, numbers};
+ghost use Rattle.measure.specs.EditMeasures.{Merged};
 use text::Text;
+
+// The parts: how often each of the 64 names stands there, by its cell of `ends::cell_of`, of labels and arrows alike; from here on the deepest
+// level of each, 0 where it stands nowhere; then the length and the levels.
+pub const DEEPEST: usize = 64;
+
+pub const LENGTH: usize = 128;
+
+pub const LEVELS: usize = 129;
+
+pub const ALL: usize = 130;
 
 // Where counting ends: one more than the most bytes of a carried book.
 const BEYOND: usize = Text::LONGEST_CARRIED + 1;
@@ -43,64 +53,64 @@ pub fn deeper(v: usize) -> usize
 }
 
 // A code on level `v`.
-// Inner: over the 130 numbers.
+// Inner: over all the numbers.
 pub fn rise(state: &mut [usize], v: usize)
-    requires { ⌜ length (now state) ≡ 130 ⌝ }
-    ensures { λ r. ⌜ now (state .exit) ≡ set (now (state .entry)) 129 (max (getD (now (state .entry)) 129 0) v) ⌝ }
+    requires { ⌜ length (now state) ≡ numbers ⌝ }
+    ensures { λ r. ⌜ now (state .exit) ≡ set (now (state .entry)) levelsCell (max (getD (now (state .entry)) levelsCell 0) v) ⌝ }
 {
-    state[129] = larger(state[129], v);
+    state[LEVELS] = larger(state[LEVELS], v);
 }
 
 // The name of cell `i`, `w` times more, on level `v` at the deepest.
-// Inner: over the 130 numbers.
+// Inner: over all the numbers.
 pub fn touch(state: &mut [usize], i: usize, w: usize, v: usize)
-    requires { ⌜ (length (now state) ≡ 130) × (i < 64) ⌝ }
-    ensures { λ r. ⌜ now (state .exit) ≡ set (set (now (state .entry)) i (capped (getD (now (state .entry)) i 0 + w))) (64 + i) (max (getD (now (state .entry)) (64 + i) 0) v) ⌝ }
+    requires { ⌜ (length (now state) ≡ numbers) × (i < names) ⌝ }
+    ensures { λ r. ⌜ now (state .exit) ≡ set (set (now (state .entry)) i (capped (getD (now (state .entry)) i 0 + w))) (names + i) (max (getD (now (state .entry)) (names + i) 0) v) ⌝ }
 {
     let n = sum(state[i], w);
-    let d = larger(state[64 + i], v);
+    let d = larger(state[DEEPEST + i], v);
     state[i] = n;
-    state[64 + i] = d;
+    state[DEEPEST + i] = d;
 }
 
-// The 130 numbers of `src`.
-// Inner: over the 130 numbers.
+// The numbers of `src`.
+// Inner: over all the numbers.
 pub fn copy(src: &[usize], out: &mut [usize])
-    requires { ⌜ (length (now src) ≡ 130) × (length (now out) ≡ 130) ⌝ }
-    ensures { λ r. ⌜ Kept 130 (now (src .entry)) (now (out .exit)) ⌝ }
+    requires { ⌜ (length (now src) ≡ numbers) × (length (now out) ≡ numbers) ⌝ }
+    ensures { λ r. ⌜ Kept numbers (now (src .entry)) (now (out .exit)) ⌝ }
 {
     let mut i = 0;
-    while i < 130 {
+    while i < ALL {
         out[i] = src[i];
         i += 1;
     }
 }
 
 // The numbers of one name in both ways of a 35, whose codes 25 26 27 and 25 26 put it two levels deeper.
-// Inner: over the 130 numbers.
+// Inner: over all the numbers.
 fn merge_one(t: &[usize], state: &mut [usize], i: usize)
-    requires { ⌜ (length (now t) ≡ 130) × (length (now state) ≡ 130) × (i < 64) ⌝ }
-    ensures { λ r. ⌜ now (state .exit) ≡ set (set (now (state .entry)) i (capped (getD (now (t .entry)) i 0 + getD (now (state .entry)) i 0))) (64 + i) (capped (under (capped (under (max (getD (now (t .entry)) (64 + i) 0) (getD (now (state .entry)) (64 + i) 0)) 2)) 2)) ⌝ }
+    requires { ⌜ (length (now t) ≡ numbers) × (length (now state) ≡ numbers) × (i < names) ⌝ }
+    ensures { λ r. ⌜ now (state .exit) ≡ set (set (now (state .entry)) i (capped (getD (now (t .entry)) i 0 + getD (now (state .entry)) i 0))) (names + i) (capped (under (capped (under (max (getD (now (t .entry)) (names + i) 0) (getD (now (state .entry)) (names + i) 0)) 2)) 2)) ⌝ }
 {
     let n = sum(t[i], state[i]);
-    let d = deeper(deeper(larger(t[64 + i], state[64 + i])));
+    let d = deeper(deeper(larger(t[DEEPEST + i], state[DEEPEST + i])));
     state[i] = n;
-    state[64 + i] = d;
+    state[DEEPEST + i] = d;
 }
 
 // The numbers of both ways of a 35.
-// Inner: over the 130 numbers.
+// Inner: over all the numbers.
 pub fn merge(t: &[usize], state: &mut [usize])
-    requires { ⌜ (length (now t) ≡ 130) × (length (now state) ≡ 130) ⌝ }
+    requires { ⌜ (length (now t) ≡ numbers) × (length (now state) ≡ numbers) ⌝ }
     ensures { λ r. ⌜ Merged (now (t .entry)) (now (state .entry)) (now (state .exit)) ⌝ }
 {
-    let n = sum(t[128], state[128]);
-    let h = sum(larger(t[129], state[129]), 2);
+    let n = sum(t[LENGTH], state[LENGTH]);
+    let h = sum(larger(t[LEVELS], state[LEVELS]), 2);
     let mut i = 0;
-    while i < 64 {
+    while i < DEEPEST {
         merge_one(t, state, i);
         i += 1;
     }
-    state[128] = n;
-    state[129] = h;
+    state[LENGTH] = n;
+    state[LEVELS] = h;
 }

@@ -5,14 +5,14 @@ ghost use lib.ListN.{length};
 ghost use Rattle.tree.specs.Tree.{Tree};
 ghost use Rattle.tree.specs.Sizes.{beyond};
 ghost use Rattle.ends.specs.Shapes.{At, Some};
-ghost use Rattle.measure.specs.State.{Scanned};
+ghost use Rattle.measure.specs.State.{Scanned, numbers};
 use super::numbers;
 
 // Puts `w` copies of the expression at `at`, their first codes on level `v`, into the numbers, without their length; answers the place behind it.
 // The last operand is reached in a loop: only the first of two is a call. A code above others adds no level to the deepest, so `rise` is for the last.
 // One body serves every code. Inner: the text was read before.
 pub fn scan(text: &[u8], at: usize, w: usize, v: usize, state: &mut [usize]) -> usize
-    requires { ⌜ Some (now text) at × (v ≤ beyond) × (length (now state) ≡ 130) ⌝ }
+    requires { ⌜ Some (now text) at × (v ≤ beyond) × (length (now state) ≡ numbers) ⌝ }
     ensures { λ r. ⌜ ((t : Tree) → At (now (text .entry)) at t → Scanned at w v t r (now (state .entry)) (now (state .exit))) ⌝ }
 {
     let mut p = at;

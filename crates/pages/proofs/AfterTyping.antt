@@ -14,15 +14,15 @@ use Rattle.logic.specs.Steps.{update}
 use Rattle.bitset.specs.Words.{setOf}
 use Rattle.sheet.specs.Sheet.{present, store, graphOf, block, labelBlock, arrowBlock, blockCount}
 use Rattle.sheet.specs.Questions.{blockOf, askSheet, Sound}
-use Rattle.sheet.proofs.Opening.{opening}
-use Rattle.sheet.proofs.Blocks.{first-block, later-block}
-use Rattle.sheet.proofs.Passes.{stored-passes}
-use Rattle.sheet.proofs.ReadBack.{read-back}
+use Rattle.sheet.proofs.SoundSheets.{sound-is-stored}
+use Rattle.sheet.proofs.BlockLaws.{first-block, later-block}
+use Rattle.store.proofs.StoredPasses.{stored-passes}
+use Rattle.store.proofs.StoredReads.{read-back}
 use Rattle.pages.specs.Typed.{Block, arrows, labels, askPage, marked, typed, askType, typedSheet}
 use Rattle.pages.specs.Prints.{pageOf}
-use Rattle.pages.proofs.TypeLaws.{both-passed}
+use Rattle.pages.proofs.TypeLaws.{both-passed, head-named}
 use Rattle.pages.proofs.RightLines.{typed-alike, typed-within}
-use Rattle.pages.proofs.Accepted.{Right, accepted-right, accepted-page, head-block}
+use Rattle.pages.proofs.PageAccepted.{Right, accepted-right, accepted-page}
 
 -- The number of a block in the sheet.
 abbrev pub blockNumber : Block → ℕ
@@ -31,8 +31,7 @@ blockNumber labels = 0
 
 -- its other blocks are those of the graph as it was
 other-labels : (g : Graph) (page : List ℕ) (a : ℕ) → labelBlock present (typed g page (arrows a)) ≡ labelBlock present g
-unfolding labelBlock typed
-other-labels g page a = refl
+other-labels g page a = unfold labelBlock typed in refl
 
 other-arrows : (g : Graph) (page : List ℕ) (b : Block) (c : ℕ) → suc c ≢ blockNumber b → arrowBlock present (typed g page b) c ≡ arrowBlock present g c
 unfolding arrowBlock typed update
@@ -45,21 +44,19 @@ module _ (sheet page : List ℕ) (are-bytes : (p : ℕ) → getD sheet p 0 < 256
   g = graphOf sheet
 
   asked : Sound sheet × (askPage g page ≡ passed b)
-  unfolding askType
-  asked = both-passed (askSheet sheet) (askPage g page) b done
+  asked = unfold askType in both-passed (askSheet sheet) (askPage g page) b done
 
   within : Within g
-  within = opening present sheet are-bytes (asked .0) .within
+  within = sound-is-stored present sheet are-bytes (asked .0) .within
 
   right : Right g page b
   right = accepted-right g page b (asked .1)
 
   whole : Within (typed g page b)
-  whole = typed-within g page within b (head-block (g .n) page b (right .head))
+  whole = typed-within g page within b (head-named (g .n) page b (right .head) .0)
 
   pub sheet-after : typedSheet sheet page ≡ store (typed g page b)
-  unfolding typedSheet after
-  sheet-after = ap (λ x. after x (λ c. store (typed g page c)) sheet) done
+  sheet-after = unfold typedSheet after in ap (λ x. after x (λ c. store (typed g page c)) sheet) done
 
   pub sound-after : Sound (typedSheet sheet page)
   sound-after = ap askSheet sheet-after ∙ stored-passes (typed g page b) whole
@@ -77,9 +74,8 @@ module _ (sheet page : List ℕ) (are-bytes : (p : ℕ) → getD sheet p 0 < 256
 
   -- Every other block is as it was.
   pub others-after : (c : ℕ) → c < blockCount → c ≢ blockNumber b → blockOf (typedSheet sheet page) c ≡ blockOf sheet c
-  others-after c l d = ap (λ t. blockOf t c) sheet-after ∙ same c b l d ∙ ap (λ t. blockOf t c) (sym (opening present sheet are-bytes (asked .0) .stored))
-    where
-      same : (c : ℕ) (b : Block) → c < blockCount → c ≢ blockNumber b → blockOf (store (typed g page b)) c ≡ blockOf (store g) c
-      same zero (arrows a) l d = first-block present (typed g page (arrows a)) ∙ other-labels g page a ∙ sym (first-block present g)
-      same zero labels l d = absurd (d refl)
-      same (suc c) b l d = later-block present (typed g page b) c (omega arith) ∙ other-arrows g page b c d ∙ sym (later-block present g c (omega arith))
+  others-after c l d = ap (λ t. blockOf t c) sheet-after ∙ same c b l d ∙ ap (λ t. blockOf t c) (sym (sound-is-stored present sheet are-bytes (asked .0) .stored)) where
+    same : (c : ℕ) (b : Block) → c < blockCount → c ≢ blockNumber b → blockOf (store (typed g page b)) c ≡ blockOf (store g) c
+    same zero (arrows a) l d = first-block present (typed g page (arrows a)) ∙ other-labels g page a ∙ sym (first-block present g)
+    same zero labels l d = absurd (d refl)
+    same (suc c) b l d = later-block present (typed g page b) c (omega arith) ∙ other-arrows g page b c d ∙ sym (later-block present g c (omega arith))

@@ -16,16 +16,17 @@ use Rattle.logic.specs.Steps.{update, rejoin}
 use Rattle.logic.proofs.Inside.{no-node}
 use Rattle.sheet.specs.Sheet.{present, store, graphOf, relabelAll}
 use Rattle.sheet.specs.Questions.{askSheet, Sound}
-use Rattle.sheet.proofs.Blocks.{line-label}
-use Rattle.sheet.proofs.Opening.{opening, is-yes}
+use Rattle.sheet.proofs.BlockLaws.{line-label}
+use Rattle.answer.proofs.AskedLaws.{is-yes}
+use Rattle.sheet.proofs.SoundSheets.{sound-is-stored}
 use Rattle.pages.specs.Page.{arrowPage, labelPage}
 use Rattle.pages.specs.Print.{askPrintArrow, askPrintLabels}
 use Rattle.pages.specs.Typed.{pageLine, marks, Block, arrows, labels, linesOf, askPage, marked, typed, askType, typedSheet}
-use Rattle.pages.specs.Prints.{pageOf, HasBlock, Alike}
+use Rattle.pages.specs.Prints.{setAt, pageOf, HasBlock, Alike}
 use Rattle.pages.proofs.TypeLaws.{both-passed}
-use Rattle.pages.proofs.PageParts.{setAt, page-line}
+use Rattle.pages.proofs.PageParts.{page-line}
 use Rattle.pages.proofs.RightLines.{marks-of-line, nodes-kept, pairs-kept, same-node}
-use Rattle.pages.proofs.Accepted.{printed-right, right-accepted}
+use Rattle.pages.proofs.PageAccepted.{printed-right, right-accepted}
 
 itself : (g : Graph) → Alike g g
 itself g = record { nodes = refl; in-use = refl }
@@ -36,28 +37,26 @@ module _ (g : Graph) (w : Within g) where
   line-marks b x j l k = ap (λ line. marks line j) (page-line g b x l) ∙ marks-of-line (g .n) x (w .few-nodes) (setAt g b x) j k
 
   arrow-marks : (a i j : ℕ) → (isNode g i && marked g (arrowPage g a) i j) ≡ g .joined a i j
-  arrow-marks a i j = go (decLt i (g .n)) (decLt j (g .n))
-    where
-      go : Dec (i < g .n) → Dec (j < g .n) → (isNode g i && marked g (arrowPage g a) i j) ≡ g .joined a i j
-      go (yes l) (yes m) = ap (λ x. isNode g i && (isNode g j && x)) (line-marks (arrows a) i j l m) ∙ pairs-kept g (g .joined a) (w .arrows-in a) i j
-      go (yes l) (no m) =
-          let e : isNode g j ≡ false = no-node g j (omega arith) in
-          ap (λ y. isNode g i && (y && marks (pageLine (arrowPage g a) (suc i)) j)) e ∙ and-false (isNode g i) ∙ sym (w .arrows-in a .ends i j e)
-      go (no l) m =
-          let e : isNode g i ≡ false = no-node g i (omega arith) in
-          ap (λ x. x && marked g (arrowPage g a) i j) e ∙ sym (w .arrows-in a .starts i j e)
+  arrow-marks a i j = go (decLt i (g .n)) (decLt j (g .n)) where
+    go : Dec (i < g .n) → Dec (j < g .n) → (isNode g i && marked g (arrowPage g a) i j) ≡ g .joined a i j
+    go (yes l) (yes m) = ap (λ x. isNode g i && (isNode g j && x)) (line-marks (arrows a) i j l m) ∙ pairs-kept g (g .joined a) (w .arrows-in a) i j
+    go (yes l) (no m) =
+        let e : isNode g j ≡ false = no-node g j (omega arith) in
+        ap (λ y. isNode g i && (y && marks (pageLine (arrowPage g a) (suc i)) j)) e ∙ and-false (isNode g i) ∙ sym (w .arrows-in a .ends i j e)
+    go (no l) m =
+        let e : isNode g i ≡ false = no-node g i (omega arith) in
+        ap (λ x. x && marked g (arrowPage g a) i j) e ∙ sym (w .arrows-in a .starts i j e)
 
   label-marks : (k i : ℕ) → (ltb k labelCount && marked g (labelPage g) k i) ≡ g .labelled k i
-  label-marks k i = go (decLt k labelCount) (decLt i (g .n))
-    where
-      go : Dec (k < labelCount) → Dec (i < g .n) → (ltb k labelCount && marked g (labelPage g) k i) ≡ g .labelled k i
-      go (yes l) (yes m) =
-          ap₂ (λ x y. x && (isNode g i && y)) (lt-ltb k labelCount l) (line-marks labels k i (omega arith) m ∙ ap (λ (v : Nodes). v i) (line-label g k l))
-          ∙ nodes-kept g (g .labelled k) (w .labels-in k) i
-      go (yes l) (no m) =
-          let e : isNode g i ≡ false = no-node g i (omega arith) in
-          ap (λ y. ltb k labelCount && (y && marks (pageLine (labelPage g) (suc k)) i)) e ∙ and-false (ltb k labelCount) ∙ sym (w .labels-in k i e)
-      go (no l) m = ap (λ x. x && marked g (labelPage g) k i) (le-ltb k labelCount (omega arith)) ∙ sym (w .no-more-labels k i (omega arith))
+  label-marks k i = go (decLt k labelCount) (decLt i (g .n)) where
+    go : Dec (k < labelCount) → Dec (i < g .n) → (ltb k labelCount && marked g (labelPage g) k i) ≡ g .labelled k i
+    go (yes l) (yes m) =
+        ap₂ (λ x y. x && (isNode g i && y)) (lt-ltb k labelCount l) (line-marks labels k i (omega arith) m ∙ ap (λ (v : Nodes). v i) (line-label g k l))
+        ∙ nodes-kept g (g .labelled k) (w .labels-in k) i
+    go (yes l) (no m) =
+        let e : isNode g i ≡ false = no-node g i (omega arith) in
+        ap (λ y. ltb k labelCount && (y && marks (pageLine (labelPage g) (suc k)) i)) e ∙ and-false (ltb k labelCount) ∙ sym (w .labels-in k i e)
+    go (no l) m = ap (λ x. x && marked g (labelPage g) k i) (le-ltb k labelCount (omega arith)) ∙ sym (w .no-more-labels k i (omega arith))
 
   -- so a graph alike with them has what the graph has
   module _ (h : Graph) (e : Alike h g) where
@@ -73,11 +72,10 @@ module _ (g : Graph) (w : Within g) where
   -- and the graph itself is as it was
   pub same-graph : (b : Block) → typed g (pageOf g b) b ≡ g
   unfolding update
-  same-graph (arrows a) = arrows-into g (itself g) a ∙ (λ t. record { n = g .n; inUse = g .inUse; labelled = g .labelled; joined = fun-ext (λ c. go c (eqb c a) refl) t })
-    where
-      go : (c : ℕ) (x : Bool) → eqb c a ≡ x → cond x (g .joined a) (g .joined c) ≡ g .joined c
-      go c true e = ap (g .joined) (sym (eqb-true c a e))
-      go c false e = refl
+  same-graph (arrows a) = arrows-into g (itself g) a ∙ (λ t. record { n = g .n; inUse = g .inUse; labelled = g .labelled; joined = fun-ext (λ c. go c (eqb c a) refl) t }) where
+    go : (c : ℕ) (x : Bool) → eqb c a ≡ x → cond x (g .joined a) (g .joined c) ≡ g .joined c
+    go c true e = ap (g .joined) (sym (eqb-true c a e))
+    go c false e = refl
   same-graph labels = labels-into g (itself g)
 
 -- The page of a block of a sound sheet, typed into a sound sheet alike.
@@ -86,7 +84,7 @@ module _ (first second : List ℕ) (first-bytes : (p : ℕ) → getD first p 0 <
   unfolding askType _>>_
   page-accepted b h =
       ap (λ x. x >> askPage (graphOf second) (pageOf (graphOf first) b)) second-sound
-      ∙ right-accepted (graphOf second) (pageOf (graphOf first) b) b (printed-right (graphOf second) (graphOf first) (opening present first first-bytes first-sound .within) e b h)
+      ∙ right-accepted (graphOf second) (pageOf (graphOf first) b) b (printed-right (graphOf second) (graphOf first) (sound-is-stored present first first-bytes first-sound .within) e b h)
 
 -- What printing asks: the sheet is sound, has the block, and the page is that block's.
 pub record Printed (sheet page : List ℕ) (b : Block) : Type 0 where
@@ -96,8 +94,7 @@ pub record Printed (sheet page : List ℕ) (b : Block) : Type 0 where
 
 module _ (sheet : List ℕ) (room : ℕ) (page : List ℕ) where
   room-page : (p : List ℕ) → askRoom p room ≡ passed page → page ≡ p
-  unfolding askRoom
-  room-page p e = let f : passed p ≡ passed page = both-passed (is (leb (length p) room) 33 (length p)) (passed p) page e .1 in cc
+  room-page p e = unfold askRoom in let f : passed p ≡ passed page = both-passed (is (leb (length p) room) 33 (length p)) (passed p) page e .1 in cc
 
   pub arrow-printed : (a : ℕ) → askPrintArrow sheet a room ≡ passed page → Printed sheet page (arrows a)
   unfolding askPrintArrow
@@ -121,7 +118,7 @@ module _ (sheet : List ℕ) (are-bytes : (p : ℕ) → getD sheet p 0 < 256) (ro
   unfolding typedSheet after
   back b s =
       let g : Graph = graphOf sheet in
-      let o = opening present sheet are-bytes (s .sound) in
+      let o = sound-is-stored present sheet are-bytes (s .sound) in
       let p = page-accepted sheet sheet are-bytes (s .sound) (s .sound) (itself g) b (s .block) in
       (ap (askType sheet) (s .is-page) ∙ p, ap (typedSheet sheet) (s .is-page) ∙ ap (λ x. after x (λ c. store (typed g (pageOf g b) c)) sheet) p ∙ ap store (same-graph g (o .within) b) ∙ sym (o .stored))
 

@@ -13,8 +13,8 @@ use Rattle.logic.specs.Steps.{update, rejoin}
 use Rattle.bitset.specs.Words.{setOf}
 use Rattle.sheet.specs.Sheet.{present, store, graphOf, block, labelBlock, arrowBlock, lineCount, relabelAll}
 use Rattle.sheet.specs.Questions.{blockOf, Sound}
-use Rattle.sheet.proofs.Opening.{opening}
-use Rattle.sheet.proofs.Blocks.{first-block, later-block}
+use Rattle.sheet.proofs.SoundSheets.{sound-is-stored}
+use Rattle.sheet.proofs.BlockLaws.{first-block, later-block}
 use Rattle.pages.specs.Typed.{Block, arrows, labels, typed, askType, typedSheet}
 use Rattle.pages.specs.Prints.{pageOf, HasBlock, Alike}
 use Rattle.pages.proofs.ComesBack.{arrows-into, labels-into, page-accepted, Printed}
@@ -39,17 +39,16 @@ module _ (first second page : List ℕ) (first-bytes : (p : ℕ) → getD first 
   pub becomes : blockOf (typedSheet second page) (blockNumber b) ≡ blockOf first (blockNumber b)
   becomes =
       ap (λ t. blockOf t (blockNumber b)) (sheet-after second page second-bytes b accepted ∙ ap (λ p. store (typed (graphOf second) p b)) (printed .is-page)) ∙ same b (printed .block)
-      ∙ ap (λ t. blockOf t (blockNumber b)) (sym (opening present first first-bytes (printed .sound) .stored))
-    where
-      g : Graph
-      g = graphOf first
+      ∙ ap (λ t. blockOf t (blockNumber b)) (sym (sound-is-stored present first first-bytes (printed .sound) .stored)) where
+        g : Graph
+        g = graphOf first
 
-      h : Graph
-      h = graphOf second
+        h : Graph
+        h = graphOf second
 
-      within : Within g
-      within = opening present first first-bytes (printed .sound) .within
+        within : Within g
+        within = sound-is-stored present first first-bytes (printed .sound) .within
 
-      same : (c : Block) → HasBlock c → blockOf (store (typed h (pageOf g c) c)) (blockNumber c) ≡ blockOf (store g) (blockNumber c)
-      same (arrows a) l = ap (λ x. blockOf (store x) (suc a)) (arrows-into g within h e a) ∙ later-block present (rejoin h a (g .joined a)) a l ∙ same-arrows g h e a ∙ sym (later-block present g a l)
-      same labels l = ap (λ x. blockOf (store x) 0) (labels-into g within h e) ∙ first-block present (relabelAll h (g .labelled)) ∙ same-labels g h e ∙ sym (first-block present g)
+        same : (c : Block) → HasBlock c → blockOf (store (typed h (pageOf g c) c)) (blockNumber c) ≡ blockOf (store g) (blockNumber c)
+        same (arrows a) l = ap (λ x. blockOf (store x) (suc a)) (arrows-into g within h e a) ∙ later-block present (rejoin h a (g .joined a)) a l ∙ same-arrows g h e a ∙ sym (later-block present g a l)
+        same labels l = ap (λ x. blockOf (store x) 0) (labels-into g within h e) ∙ first-block present (relabelAll h (g .labelled)) ∙ same-labels g h e ∙ sym (first-block present g)

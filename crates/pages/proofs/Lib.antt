@@ -1,10 +1,10 @@
 pub mod LineLaws
 pub mod PageLaws
+pub mod PageParts
 pub mod PrintLaws
 pub mod TypeLaws
-pub mod PageParts
 pub mod RightLines
-pub mod Accepted
+pub mod PageAccepted
 pub mod ComesBack
 pub mod PlaceOf51
 pub mod AfterTyping

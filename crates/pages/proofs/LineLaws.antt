@@ -9,126 +9,102 @@ use native.Mathlib.Decide.{decLt}
 use borrow.Author.Tests.{lt-ltb, le-ltb}
 use lib.Dec.{eqb, ltb}
 use lib.ListN.{length, getD, set, take, drop, replicate, length-append, length-set, length-drop, drop-of-length-le}
+use borrow.Rule.Slice.PartMut.{postOf, post-is}
 use lib.Seq.{drop-cons, take-suc-set, take-at, set-split, length-take-le}
 use Rattle.logic.specs.Graph.{Graph, Nodes, isNode}
 use Rattle.bitset.specs.Words.{setOf, member}
 use Rattle.bitset.proofs.SetLaws.{setOf-cong, member-setOf}
 use Rattle.seal.specs.Seal.{sameBytes}
-use Rattle.line.specs.Line.{digits}
-use Rattle.line.proofs.LineLaws.{digits-length}
+use Rattle.decimal.specs.Digits.{digits}
+use Rattle.decimal.proofs.DigitLaws.{digits-length}
 use Rattle.sheet.specs.Sheet.{chunks}
-use Rattle.sheet.proofs.Writes.{chunks-more}
-use Rattle.pages.specs.Page.{headLine, square, setLine}
+use Rattle.sheet.proofs.ChunkLaws.{chunks-more}
+use Rattle.pages.specs.Page.{headLine, square, squares, setLine}
 
 -- comparing: one byte more
 pub same-step : (a b : List ℕ) (i : ℕ) → i < length a → i < length b
     → sameBytes (drop i a) (drop i b) ≡ (eqb (getD a i 0) (getD b i 0) && sameBytes (drop (i + 1) a) (drop (i + 1) b))
-unfolding sameBytes
-same-step a b i h k = rw add-one (ap₂ sameBytes (drop-cons a i 0 h) (drop-cons b i 0 k))
+same-step a b i h k = unfold sameBytes in rw add-one (ap₂ sameBytes (drop-cons a i 0 h) (drop-cons b i 0 k))
 
 -- both at their ends
 pub same-end : (a b : List ℕ) (i : ℕ) → length a ≤ i → length b ≤ i → sameBytes (drop i a) (drop i b) ≡ true
-unfolding sameBytes
-same-end a b i h k = ap₂ sameBytes (drop-of-length-le a h) (drop-of-length-le b k)
+same-end a b i h k = unfold sameBytes in ap₂ sameBytes (drop-of-length-le a h) (drop-of-length-le b k)
 
 -- a line shows only what a set has below n
-pub square-cong : (n : ℕ) (v w : Nodes) (j : ℕ) → ((i : ℕ) → i < n → v i ≡ w i) → square n v j ≡ square n w j
+square-cong : (n : ℕ) (v w : Nodes) (j : ℕ) → ((i : ℕ) → i < n → v i ≡ w i) → square n v j ≡ square n w j
 unfolding square
-square-cong n v w j h = go (decLt j n)
-  where
-    go : Dec (j < n) → _≡_ {A = ℕ} (cond (ltb j n) (cond (v j) 0x23 0x2E) 0x20) (cond (ltb j n) (cond (w j) 0x23 0x2E) 0x20)
-    go (yes l) = ap (λ (b : Bool). cond {A = ℕ} (ltb j n) (cond b 0x23 0x2E) 0x20) (h j l)
-    go (no l) = rw (le-ltb j n (omega arith))
+square-cong n v w j h = go (decLt j n) where
+  go : Dec (j < n) → _≡_ {A = ℕ} (cond (ltb j n) (cond (v j) 0x23 0x2E) 0x20) (cond (ltb j n) (cond (w j) 0x23 0x2E) 0x20)
+  go (yes l) = ap (λ (b : Bool). cond {A = ℕ} (ltb j n) (cond b 0x23 0x2E) 0x20) (h j l)
+  go (no l) = rw (le-ltb j n (omega arith))
 
 pub setLine-cong : (n x : ℕ) (v w : Nodes) → ((i : ℕ) → i < n → v i ≡ w i) → setLine n x v ≡ setLine n x w
-unfolding setLine
-setLine-cong n x v w h = simp (square-cong n v w)
+setLine-cong n x v w h = unfold setLine squares in simp (square-cong n v w)
 
 pub setLine-word : (n x : ℕ) (v : Nodes) (row : ℕ) → row ≡ setOf n v → setLine n x (member row) ≡ setLine n x v
 setLine-word n x v row e = setLine-cong n x (member row) v (λ i l. ap (λ r. member r i) e ∙ member-setOf n v i l)
 
 -- of the numbers below n the nodes in use are the nodes
 pub nodes-used : (g : Graph) → setOf (g .n) (isNode g) ≡ setOf (g .n) (g .inUse)
-unfolding isNode
-nodes-used g = setOf-cong (g .n) (isNode g) (g .inUse) (λ i l. ap (_&& g .inUse i) (lt-ltb i (g .n) l))
+nodes-used g = unfold isNode in setOf-cong (g .n) (isNode g) (g .inUse) (λ i l. ap (_&& g .inUse i) (lt-ltb i (g .n) l))
 
--- a line of which the front is written: one byte more, and the last byte
-pub front-more : (l f : List ℕ) (p b : ℕ) → 3 + p < length l → take (3 + p) l ≡ f → take (3 + (p + 1)) (set l (3 + p) b) ≡ f ++ (b ∷ [])
-front-more l f p b h e =
-    let s : 3 + (p + 1) ≡ suc (3 + p) = omega arith in
-    ap (λ k. take k (set l (3 + p) b)) s ∙ take-suc-set l (3 + p) b h ∙ ap (_++ (b ∷ [])) e
+-- The first j squares are written after a line's first three bytes.
+pub record Squares (start : List ℕ) (n row j : ℕ) (line : List ℕ) : Type 0 where
+  pub few : j ≤ 60
+  pub whole : length line ≡ 64
+  pub front : take (3 + j) line ≡ take 3 start ++ chunks j 0 (λ i. square n (member row) i ∷ [])
 
-pub last-byte : (l f : List ℕ) (p b : ℕ) → length l ≡ 64 → p ≤ 60 → 60 ≤ p → take (3 + p) l ≡ f → set l 63 b ≡ f ++ (b ∷ [])
-last-byte l f p b h k m e =
-    let s : 63 ≡ 3 + p = omega arith in
-    set-split l 63 b (omega arith) ∙ ap₂ (λ x y. x ++ b ∷ y) (ap (λ q. take q l) s ∙ e) (drop-of-length-le l {i = 64} (omega arith))
+pub no-squares : {start : List ℕ} {n row : ℕ} → length start ≡ 64 → Squares start n row 0 start
+no-squares {start} h = unfold chunks in record { few = omega arith; whole = h; front = sym (append-nil (take 3 start)) }
 
-pub squares-more : (A : List ℕ) (f : ℕ → ℕ) (j b : ℕ) → b ≡ f j → (A ++ chunks j 0 (λ i. f i ∷ [])) ++ (b ∷ []) ≡ A ++ chunks (j + 1) 0 (λ i. f i ∷ [])
-squares-more A f j b e = append-assoc A _ _ ∙ ap (A ++_) (ap (λ x. chunks j 0 (λ i. f i ∷ []) ++ (x ∷ [])) e ∙ sym (chunks-more j (λ i. f i ∷ [])))
+module _ {start : List ℕ} {n row j : ℕ} {line : List ℕ} (s : Squares start n row j line) where
+  pub square-more : (b : ℕ) → j < 60 → b ≡ square n (member row) j → Squares start n row (j + 1) (set line (3 + j) b)
+  square-more b h e =
+      let k : 3 + (j + 1) ≡ suc (3 + j) = omega arith in
+      record {
+        few = omega arith;
+        whole = length-set line (3 + j) b ∙ s .whole;
+        front =
+            ap (λ m. take m (set line (3 + j) b)) k ∙ take-suc-set line (3 + j) b (omega (arith, s .whole)) ∙ ap₂ (λ x y. x ++ (y ∷ [])) (s .front) e
+            ∙ append-assoc (take 3 start) _ _ ∙ ap (take 3 start ++_) (sym (chunks-more j (λ i. square n (member row) i ∷ [])));
+      }
 
-replicate-more : (j x : ℕ) → replicate j x ++ (x ∷ []) ≡ replicate (suc j) x
-replicate-more zero x = refl
-replicate-more (suc j) x = ap (x ∷_) (replicate-more j x)
+  pub all-squares : 60 ≤ j → set line 63 0x0A ≡ take 3 start ++ squares n (member row)
+  unfolding squares
+  all-squares k =
+      let q : j ≡ 60 = omega (arith, s .few) in
+      set-split line 63 0x0A (omega (arith, s .whole))
+      ∙ ap₂ (λ x y. x ++ 0x0A ∷ y) (rw q at (s .front)) (drop-of-length-le line {i = 64} (omega (arith, s .whole))) ∙ append-assoc (take 3 start) _ _
 
-pub blanks-more : (A : List ℕ) (j x : ℕ) → (A ++ replicate j x) ++ (x ∷ []) ≡ A ++ replicate (j + 1) x
-blanks-more A j x = append-assoc A _ _ ∙ ap (A ++_) (replicate-more j x ∙ ap (λ k. replicate k x) (sym (add-one j)))
+-- The first three bytes are written: two digits and a blank, or a letter and two digits.
+pub record Started (three line : List ℕ) : Type 0 where
+  pub whole : length line ≡ 64
+  pub front : take 3 line ≡ three
 
--- two digits and a blank at a line's start; a letter and two digits
-pub digits-blank : (d rest : List ℕ) (b : ℕ) → length d ≡ 2 → 1 ≤ length rest → take 3 (set (d ++ rest) 2 b) ≡ d ++ (b ∷ [])
-digits-blank d rest b h k = take-suc-set (d ++ rest) 2 b (omega (arith, length-append d rest)) ∙ ap (_++ (b ∷ [])) (take-at d rest 2 h)
+module _ {d : List ℕ} (x : ℕ) where
+  pub line-started : (line : List ℕ) → length line ≡ 64 → d ≡ digits (length (take 2 line)) x → Started (digits 2 x ++ (0x20 ∷ [])) (set (d ++ drop 2 line) 2 0x20)
+  line-started line h e =
+      let w : d ≡ digits 2 x = e ∙ ap (λ k. digits k x) (length-take-le 2 line (omega arith)) in
+      let k : length d ≡ 2 = ap length w ∙ digits-length 2 x in
+      let l : length (d ++ drop 2 line) ≡ 64 = simp (length-append, length-drop) (omega arith) in
+      record {
+        whole = length-set (d ++ drop 2 line) 2 0x20 ∙ l;
+        front = take-suc-set (d ++ drop 2 line) 2 0x20 (omega arith) ∙ ap (_++ (0x20 ∷ [])) (take-at d (drop 2 line) 2 k ∙ w);
+      }
 
-pub letter-digits : (l d rest : List ℕ) (a : ℕ) → length d ≡ 2 → length l ≡ 64 → take 3 (take 1 (set l 0 a) ++ (d ++ rest)) ≡ a ∷ d
-letter-digits [] d rest a h k = absurd (omega arith)
-letter-digits (x ∷ l) d rest a h k = ap (a ∷_) (take-at d rest 2 h)
+  pub head-started : (line : List ℕ) (a : ℕ) → length line ≡ 64 → d ≡ digits (length (take 2 (drop 1 (set line 0 a)))) x
+      → Started (a ∷ digits 2 x) (take 1 (set line 0 a) ++ (d ++ postOf 1 2 (set line 0 a)))
+  head-started [] a h e = absurd (omega arith)
+  head-started (y ∷ line) a h e =
+      let w : d ≡ digits 2 x = e ∙ ap (λ k. digits k x) (length-take-le 2 line (omega arith)) in
+      let k : length d ≡ 2 = ap length w ∙ digits-length 2 x in
+      let r : length (postOf 1 2 (a ∷ line)) ≡ 61 = ap length (post-is 1 3 (a ∷ line) (omega arith)) ∙ length-drop 2 line ∙ omega arith in
+      record { whole = ap suc (length-append d (postOf 1 2 (a ∷ line))) ∙ omega arith; front = ap (a ∷_) (take-at d (postOf 1 2 (a ∷ line)) 2 k ∙ w) }
 
--- `put_line` before its loop, in it and behind it
-module _ (n x row : ℕ) where
-  abbrev pub Squares : ℕ → List ℕ → Type 0
-  Squares j line = (length line ≡ 64) × (take (3 + j) line ≡ (digits 2 x ++ (0x20 ∷ [])) ++ chunks j 0 (λ i. square n (member row) i ∷ []))
+-- With the squares, the line is the set's; with those of no columns, it is the head.
+pub line-written : {line : List ℕ} (n x row : ℕ) → Started (digits 2 x ++ (0x20 ∷ [])) line → take 3 line ++ squares n (member row) ≡ setLine n x (member row)
+line-written n x row s = unfold setLine in ap (_++ squares n (member row)) (s .front) ∙ append-assoc (digits 2 x) _ _
 
-  pub squares-first : (line d : List ℕ) → length line ≡ 64 → d ≡ digits 2 x → Squares 0 (set (d ++ drop 2 line) 2 0x20)
-  unfolding chunks
-  squares-first line d h e =
-      let k : length d ≡ 2 = ap length e ∙ digits-length 2 x in (
-        length-set (d ++ drop 2 line) 2 0x20 ∙ length-append d (drop 2 line) ∙ omega (arith, length-drop 2 line),
-        digits-blank d (drop 2 line) 0x20 k (omega (arith, length-drop 2 line)) ∙ ap (_++ (0x20 ∷ [])) e ∙ sym (append-nil _),
-      )
-
-  pub squares-next : (j : ℕ) (line : List ℕ) (b : ℕ) → j < 60 → Squares j line → b ≡ square n (member row) j → Squares (j + 1) (set line (3 + j) b)
-  squares-next j line b h s e = (
-    length-set line (3 + j) b ∙ s .0,
-    front-more line _ j b (omega (arith, s .0)) (s .1) ∙ squares-more (digits 2 x ++ (0x20 ∷ [])) (square n (member row)) j b e,
-  )
-
-  pub squares-last : (j : ℕ) (line : List ℕ) → j ≤ 60 → 60 ≤ j → Squares j line → set line 63 0x0A ≡ setLine n x (member row)
-  unfolding setLine
-  squares-last j line h k s =
-      let q : j ≡ 60 = omega arith in
-      last-byte line _ j 0x0A (s .0) h k (s .1)
-      ∙ ap (λ m. ((digits 2 x ++ (0x20 ∷ [])) ++ chunks m 0 (λ i. square n (member row) i ∷ [])) ++ (0x0A ∷ [])) q
-      ∙ ap (_++ (0x0A ∷ [])) (append-assoc (digits 2 x) _ _) ∙ append-assoc (digits 2 x) _ _
-
--- `put_head` likewise
-module _ (letter x : ℕ) where
-  abbrev pub Blanks : ℕ → List ℕ → Type 0
-  Blanks j line = (length line ≡ 64) × (take (3 + j) line ≡ (letter ∷ digits 2 x) ++ replicate j 0x20)
-
-  pub blanks-first : (line d rest : List ℕ) → length line ≡ 64 → d ≡ digits 2 x → length rest ≡ 61 → Blanks 0 (take 1 (set line 0 letter) ++ (d ++ rest))
-  blanks-first line d rest h e r =
-      let k : length d ≡ 2 = ap length e ∙ digits-length 2 x in
-      let s : length (set line 0 letter) ≡ 64 = length-set line 0 letter ∙ h in (
-        length-append (take 1 (set line 0 letter)) _ ∙ omega (arith, length-take-le 1 (set line 0 letter) (omega arith), length-append d rest),
-        letter-digits line d rest letter k h ∙ ap (letter ∷_) e ∙ sym (append-nil _),
-      )
-
-  pub blanks-next : (j : ℕ) (line : List ℕ) → j < 60 → Blanks j line → Blanks (j + 1) (set line (3 + j) 0x20)
-  blanks-next j line h s = (
-    length-set line (3 + j) 0x20 ∙ s .0,
-    front-more line _ j 0x20 (omega (arith, s .0)) (s .1) ∙ blanks-more (letter ∷ digits 2 x) j 0x20,
-  )
-
-  pub blanks-last : (j : ℕ) (line : List ℕ) → j ≤ 60 → 60 ≤ j → Blanks j line → set line 63 0x0A ≡ headLine letter x
-  unfolding headLine
-  blanks-last j line h k s =
-      let q : j ≡ 60 = omega arith in
-      last-byte line _ j 0x0A (s .0) h k (s .1) ∙ ap (λ m. ((letter ∷ digits 2 x) ++ replicate m 0x20) ++ (0x0A ∷ [])) q
+pub head-written : {letter : ℕ} {line : List ℕ} (x : ℕ) → Started (letter ∷ digits 2 x) line → take 3 line ++ squares 0 (member 0) ≡ headLine letter x
+unfolding headLine squares square chunks
+head-written {letter} x s = ap (_++ squares 0 (member 0)) (s .front) ∙ sym (append-assoc (letter ∷ digits 2 x) (replicate 60 0x20) (0x0A ∷ []))

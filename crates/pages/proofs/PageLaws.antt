@@ -8,64 +8,64 @@ use lib.Seq.{take-at, drop-append-add, length-take-le, drop-drop}
 use borrow.Rule.Slice.PartMut.{putMid, post-is}
 use Rattle.answer.specs.Outputs.{writtenAtStart}
 use Rattle.logic.specs.Graph.{Nodes}
-use Rattle.line.specs.Line.{digits}
-use Rattle.line.proofs.LineLaws.{digits-length}
+use Rattle.decimal.specs.Digits.{digits}
+use Rattle.decimal.proofs.DigitLaws.{digits-length}
 use Rattle.sheet.specs.Sheet.{chunks}
-use Rattle.sheet.proofs.Blocks.{length-chunks}
-use Rattle.sheet.proofs.Writes.{chunks-more}
-use Rattle.pages.specs.Page.{headLine, square, setLine}
+use Rattle.sheet.proofs.ChunkLaws.{length-chunks, chunks-more}
+use Rattle.pages.specs.Typed.{Block, arrows, labels, headOf}
+use Rattle.pages.specs.Page.{headLine, square, squares, setLine}
 
 pub length-headLine : (letter x : ℕ) → length (headLine letter x) ≡ 64
-unfolding headLine
-length-headLine letter x =
-    length-append ((letter ∷ digits 2 x) ++ replicate 60 0x20) (0x0A ∷ [])
-    ∙ omega (arith, length-append (letter ∷ digits 2 x) (replicate 60 0x20), length-replicate {A = ℕ} 60 0x20, digits-length 2 x)
+length-headLine letter x = unfold headLine in simp length-append (omega (arith, length-replicate {A = ℕ} 60 0x20, digits-length 2 x))
+
+pub length-headOf : (n : ℕ) (b : Block) → length (headOf n b) ≡ 64
+length-headOf n (arrows a) = length-headLine 0x41 a
+length-headOf n labels = length-headLine 0x4C n
 
 pub length-setLine : (n x : ℕ) (v : Nodes) → length (setLine n x v) ≡ 64
-unfolding setLine
-length-setLine n x v =
-    let sq = chunks 60 0 (λ j. square n v j ∷ []) in
-    length-append (digits 2 x) ((0x20 ∷ sq) ++ (0x0A ∷ []))
-    ∙ omega (arith, length-append (0x20 ∷ sq) (0x0A ∷ []), length-chunks 1 (λ j. square n v j ∷ []) (λ j. refl) 60 0, digits-length 2 x)
+length-setLine n x v = unfold setLine squares in simp length-append (omega (arith, length-chunks 1 (λ j. square n v j ∷ []) (λ j. refl) 60 0, digits-length 2 x))
 
--- lines written one behind the other over the start of an output
-module _ (output : List ℕ) (n : ℕ) (v : ℕ → Nodes) where
+-- The first x lines are written over the start of an output.
+pub record Grown (output : List ℕ) (n : ℕ) (v : ℕ → Nodes) (x : ℕ) (out : List ℕ) : Type 0 where
+  pub room : 64 * x ≤ length output
+  pub is : out ≡ chunks x 0 (λ i. setLine n i (v i)) ++ drop (64 * x) output
+
+pub grown-first : {output : List ℕ} {n : ℕ} {v : ℕ → Nodes} → Grown output n v 0 output
+grown-first = unfold chunks in record { room = omega arith; is = refl }
+
+module _ {output : List ℕ} {n : ℕ} {v : ℕ → Nodes} {x : ℕ} {out : List ℕ} (g : Grown output n v x out) where
   abbrev f : ℕ → List ℕ
   f i = setLine n i (v i)
 
-  lines : (i : ℕ) → length (f i) ≡ 64
-  lines i = length-setLine n i (v i)
+  lines-length : (m : ℕ) → length (chunks m 0 f) ≡ 64 * m
+  lines-length m = length-chunks 64 f (λ i. length-setLine n i (v i)) m 0
 
-  abbrev pub Grown : ℕ → List ℕ → Type 0
-  Grown i out = out ≡ chunks i 0 f ++ drop (64 * i) output
+  pub grown-length : length out ≡ length output
+  grown-length = rw (g .is, length-append, length-drop) (omega (arith, lines-length x, g .room))
 
-  pub grown-first : Grown 0 output
-  unfolding chunks
-  grown-first = refl
+  module _ (h : 64 * x + 64 ≤ length output) where
+    -- the part that the next line fills
+    pub grown-part : length (take (64 * x + 64 - 64 * x) (drop (64 * x) out)) ≡ 64
+    grown-part = length-take-le (64 * x + 64 - 64 * x) (drop (64 * x) out) (omega (arith, length-drop (64 * x) out, grown-length)) ∙ omega arith
 
-  pub grown-length : (i : ℕ) (out : List ℕ) → Grown i out → 64 * i ≤ length output → length out ≡ length output
-  grown-length i out g h = ap length g ∙ length-append (chunks i 0 f) (drop (64 * i) output) ∙ omega (arith, length-chunks 64 f lines i 0, length-drop (64 * i) output)
-
-  -- the part that the next line fills
-  pub grown-part : (i : ℕ) (out : List ℕ) → Grown i out → 64 * i + 64 ≤ length output → length (take (64 * i + 64 - 64 * i) (drop (64 * i) out)) ≡ 64
-  grown-part i out g h =
-      length-take-le (64 * i + 64 - 64 * i) (drop (64 * i) out) (omega (arith, length-drop (64 * i) out, grown-length i out g (omega arith))) ∙ omega arith
-
-  pub grown-next : (i : ℕ) (out l : List ℕ) → Grown i out → 64 * i + 64 ≤ length output → l ≡ f i → Grown (i + 1) (putMid (64 * i) (64 * i + 64 - 64 * i) out l)
-  grown-next i out l g h e =
-      let front = chunks i 0 f in
-      let w = length-chunks 64 f lines i 0 in
-      let s : 64 * i + 64 ≡ 64 * (i + 1) = omega arith in
-      ap (λ z. take (64 * i) out ++ (l ++ z)) (post-is (64 * i) (64 * i + 64) out (omega arith))
-      ∙ ap₂ (λ y z. y ++ (l ++ z))
-      (ap (take (64 * i)) g ∙ take-at front (drop (64 * i) output) (64 * i) w)
-      (ap (drop (64 * i + 64)) g ∙ ap (λ k. drop (k + 64) (front ++ drop (64 * i) output)) (sym w) ∙ drop-append-add front (drop (64 * i) output) 64 ∙ drop-drop 64 (64 * i) output)
-      ∙ ap (λ z. front ++ (z ++ drop (64 * i + 64) output)) e
-      ∙ sym (append-assoc front (f i) _)
-      ∙ ap₂ (λ y z. y ++ drop z output) (sym (chunks-more i f)) s
+    pub grown-next : {l : List ℕ} → l ≡ f x → Grown output n v (x + 1) (putMid (64 * x) (64 * x + 64 - 64 * x) out l)
+    grown-next {l} e =
+        let front = chunks x 0 f in
+        let w = lines-length x in
+        let s : 64 * x + 64 ≡ 64 * (x + 1) = omega arith in
+        record {
+          room = omega arith;
+          is =
+              ap (λ z. take (64 * x) out ++ (l ++ z)) (post-is (64 * x) (64 * x + 64) out (omega (arith, grown-length)))
+              ∙ ap₂ (λ y z. y ++ (l ++ z)) (ap (take (64 * x)) (g .is) ∙ take-at front (drop (64 * x) output) (64 * x) w)
+              (ap (drop (64 * x + 64)) (g .is) ∙ ap (λ k. drop (k + 64) (front ++ drop (64 * x) output)) (sym w)
+              ∙ drop-append-add front (drop (64 * x) output) 64 ∙ drop-drop 64 (64 * x) output)
+              ∙ ap (λ z. front ++ (z ++ drop (64 * x + 64) output)) e ∙ sym (append-assoc front (f x) _)
+              ∙ ap₂ (λ y z. y ++ drop z output) (sym (chunks-more x f)) s;
+        }
 
   -- all m lines
-  pub grown-last : (m i : ℕ) (out : List ℕ) → i ≤ m → m ≤ i → Grown i out → out ≡ writtenAtStart (chunks m 0 f) output
-  grown-last m i out a b g =
-      let e : i ≡ m = omega arith in
-      g ∙ ap (λ k. chunks k 0 f ++ drop (64 * k) output) e ∙ ap (λ k. chunks m 0 f ++ drop k output) (sym (length-chunks 64 f lines m 0))
+  pub grown-last : (m : ℕ) → x ≤ m → m ≤ x → out ≡ writtenAtStart (chunks m 0 f) output
+  grown-last m a b =
+      let e : x ≡ m = omega arith in
+      g .is ∙ ap (λ k. chunks k 0 f ++ drop (64 * k) output) e ∙ ap (λ k. chunks m 0 f ++ drop k output) (sym (lines-length m))

@@ -1,38 +1,40 @@
 -- A page and its lines.
-use mathlib.Core.Path.{_≡_, sym, _∙_, ap}
+use mathlib.Core.Path.{_≡_, refl, sym, _∙_, ap}
 use mathlib.Core.List.{List, _++_}
 use Prim.Native.Nat.{ℕ, zero, suc, _+_, _*_, _<_}
 use native.Mathlib.Omega.{arith}
-use lib.ListN.{length, take, drop, take-append-drop, drop-of-length-le}
+use lib.ListN.{length, drop, length-append, take-append-drop, drop-of-length-le}
 use lib.Seq.{take-at, drop-append-add, drop-drop}
-use Rattle.logic.specs.Graph.{Graph, Nodes}
-use Rattle.sheet.specs.Sheet.{chunks, lineOf}
-use Rattle.sheet.proofs.Blocks.{take-chunk}
-use Rattle.pages.specs.Page.{headLine, setLine, rowLines, arrowPage, labelPageLines, labelLines, labelPage}
-use Rattle.pages.specs.Typed.{pageLine, Block, arrows, labels, linesOf}
-use Rattle.pages.specs.Prints.{pageOf}
-use Rattle.pages.proofs.PageLaws.{length-headLine, length-setLine}
+use Rattle.logic.specs.Graph.{Graph}
+use Rattle.sheet.specs.Sheet.{chunks}
+use Rattle.sheet.proofs.ChunkLaws.{length-chunks, take-chunk}
+use Rattle.pages.specs.Page.{setLine, rowLines, arrowPage, labelLines, labelPage}
+use Rattle.pages.specs.Typed.{pageLine, Block, arrows, labels, headOf, linesOf}
+use Rattle.pages.specs.Prints.{setAt, pageLines, pageOf}
+use Rattle.pages.proofs.PageLaws.{length-headOf, length-setLine}
 
--- the lines of what was put together
-module _ (head : List ℕ) (f : ℕ → List ℕ) (m : ℕ) (whole : length head ≡ 64) where
-  pub first-line : pageLine (head ++ chunks m 0 f) 0 ≡ head
-  first-line = take-at head (chunks m 0 f) 64 whole
+-- a page is its head and its lines
+pub page-is : (h : Graph) (b : Block) → pageOf h b ≡ headOf (h .n) b ++ pageLines h b
+unfolding arrowPage rowLines labelPage labelLines pageLines
+page-is h (arrows a) = refl
+page-is h labels = refl
 
-  pub later-line : ((i : ℕ) → length (f i) ≡ 64) → (x : ℕ) → x < m → pageLine (head ++ chunks m 0 f) (suc x) ≡ f x
-  later-line lines x h =
-      let e : 64 * suc x ≡ length head + 64 * x = omega arith in
+module _ (h : Graph) (b : Block) where
+  set-lines : (x : ℕ) → length (setLine (h .n) x (setAt h b x)) ≡ 64
+  set-lines x = length-setLine (h .n) x (setAt h b x)
+
+  pub length-page : length (pageOf h b) ≡ 64 * linesOf (h .n) b + 64
+  length-page = unfold pageLines in rw (page-is h b, length-append, length-chunks 64 _ set-lines (linesOf (h .n) b) 0) (omega (arith, length-headOf (h .n) b))
+
+  pub page-head : pageLine (pageOf h b) 0 ≡ headOf (h .n) b
+  page-head = unfold pageLines in rw (page-is h b) (take-at (headOf (h .n) b) (pageLines h b) 64 (length-headOf (h .n) b))
+
+  pub page-line : (x : ℕ) → x < linesOf (h .n) b → pageLine (pageOf h b) (suc x) ≡ setLine (h .n) x (setAt h b x)
+  unfolding pageLines
+  page-line x l =
+      let e : 64 * suc x ≡ length (headOf (h .n) b) + 64 * x = omega (arith, length-headOf (h .n) b) in
       let z : 0 + x ≡ x = omega arith in
-      ap (λ p. take 64 (drop p (head ++ chunks m 0 f))) e ∙ ap (take 64) (drop-append-add head (chunks m 0 f) (64 * x)) ∙ take-chunk 64 f lines m 0 x h ∙ ap f z
-
--- the set that a line of a graph's page has
-abbrev pub setAt : Graph → Block → ℕ → Nodes
-setAt h (arrows a) i = h .joined a i
-setAt h labels k = lineOf h k
-
-pub page-line : (h : Graph) (b : Block) (x : ℕ) → x < linesOf (h .n) b → pageLine (pageOf h b) (suc x) ≡ setLine (h .n) x (setAt h b x)
-unfolding arrowPage rowLines labelPage labelLines
-page-line h (arrows a) = later-line (headLine 0x41 a) (λ i. setLine (h .n) i (h .joined a i)) (h .n) (length-headLine 0x41 a) (λ i. length-setLine (h .n) i (h .joined a i))
-page-line h labels = later-line (headLine 0x4C (h .n)) (λ k. setLine (h .n) k (lineOf h k)) labelPageLines (length-headLine 0x4C (h .n)) (λ k. length-setLine (h .n) k (lineOf h k))
+      rw (page-is h b, e, drop-append-add) (take-chunk 64 _ set-lines (linesOf (h .n) b) 0 x l ∙ ap (λ y. setLine (h .n) y (setAt h b y)) z)
 
 -- a page is its lines put together
 module _ (page : List ℕ) where

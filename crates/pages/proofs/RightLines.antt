@@ -14,15 +14,15 @@ use Rattle.logic.specs.Steps.{update}
 use Rattle.logic.proofs.Inside.{rejoin-within}
 use Rattle.seal.specs.Seal.{sameBytes}
 use Rattle.seal.proofs.SealLaws.{same-refl, same-is}
-use Rattle.line.specs.Line.{digits}
-use Rattle.line.proofs.LineLaws.{digits-length}
+use Rattle.decimal.specs.Digits.{digits}
+use Rattle.decimal.proofs.DigitLaws.{digits-length}
 use Rattle.sheet.specs.Sheet.{chunks}
-use Rattle.sheet.proofs.Blocks.{length-chunks}
-use Rattle.pages.specs.Page.{square, setLine}
-use Rattle.pages.specs.Typed.{pageLine, marks, Block, arrows, labels, linesOf, hasRows, setShown, lineRight, marked, typed}
-use Rattle.pages.specs.Prints.{pageOf, HasBlock, Alike, IsLine}
+use Rattle.sheet.proofs.ChunkLaws.{length-chunks}
+use Rattle.pages.specs.Page.{square, squares, setLine}
+use Rattle.pages.specs.Typed.{pageLine, marks, Block, arrows, labels, linesOf, setShown, lineRight, marked, typed}
+use Rattle.pages.specs.Prints.{setAt, pageOf, HasBlock, Alike, IsLine}
 use Rattle.pages.proofs.LineLaws.{setLine-cong}
-use Rattle.pages.proofs.PageParts.{setAt, page-line}
+use Rattle.pages.proofs.PageParts.{page-line}
 
 singles : (f : ℕ → ℕ) (m i j : ℕ) → j < m → getD (chunks m i (λ k. f k ∷ [])) j 0 ≡ f (i + j)
 unfolding chunks
@@ -33,7 +33,7 @@ singles f (suc m) i (suc j) h = singles f m (suc i) j (omega arith) ∙ ap f (om
 module _ (n x : ℕ) where
   -- the square of column j
   square-at : (v : Nodes) (j : ℕ) → j < maxNodes → getD (setLine n x v) (3 + j) 0 ≡ square n v j
-  unfolding setLine
+  unfolding setLine squares
   square-at v j h =
       let sq = chunks maxNodes 0 (λ k. square n v k ∷ []) in
       let e : 3 + j ≡ length (digits 2 x) + suc j = omega (arith, digits-length 2 x) in
@@ -55,51 +55,48 @@ module _ (n x : ℕ) where
 
 -- sets of nodes in use
 pub nodes-kept : (g : Graph) (v : Nodes) → NodesIn g v → (i : ℕ) → (isNode g i && v i) ≡ v i
-nodes-kept g v h i = go (isNode g i) (v i) (h i)
-  where
-    go : (b x : Bool) → (b ≡ false → x ≡ false) → (b && x) ≡ x
-    go true x k = refl
-    go false x k = sym (k refl)
+nodes-kept g v h i = go (isNode g i) (v i) (h i) where
+  go : (b x : Bool) → (b ≡ false → x ≡ false) → (b && x) ≡ x
+  go true x k = refl
+  go false x k = sym (k refl)
 
 pub pairs-kept : (g : Graph) (v : Pairs) → PairsIn g v → (i j : ℕ) → (isNode g i && (isNode g j && v i j)) ≡ v i j
 pairs-kept g v h i j = ap (isNode g i &&_) (nodes-kept g (v i) (λ k e. h .ends i k e) j) ∙ nodes-kept g (λ k. v k j) (λ k e. h .starts k j e) i
 
 -- the nodes of graphs alike
 pub same-node : (g h : Graph) → Alike g h → (i : ℕ) → isNode g i ≡ isNode h i
-unfolding isNode
-same-node g h e i = sym (ap₂ (λ m (u : Nodes). ltb i m && u i) (e .nodes) (e .in-use))
+same-node g h e i = unfold isNode in sym (ap₂ (λ m (u : Nodes). ltb i m && u i) (e .nodes) (e .in-use))
 
 -- the set that a line has by its marks: a graph's own, the same for graphs alike
 module _ (g : Graph) (x : ℕ) where
-  shown-own : Within g → (b : Block) (j : ℕ) → setShown g (hasRows b) x (setAt g b x) j ≡ setAt g b x j
+  shown-own : Within g → (b : Block) (j : ℕ) → setShown g b x (setAt g b x) j ≡ setAt g b x j
   shown-own w (arrows a) j = pairs-kept g (g .joined a) (w .arrows-in a) x j
-  shown-own w labels j = go (ltb x labelCount)
-    where
-      go : (c : Bool) → cond c (isNode g j && cond c (g .labelled x) (g .inUse) j) (g .inUse j) ≡ cond c (g .labelled x) (g .inUse) j
-      go true = nodes-kept g (g .labelled x) (w .labels-in x) j
-      go false = refl
+  shown-own w labels j = go (ltb x labelCount) where
+    go : (c : Bool) → cond c (isNode g j && cond c (g .labelled x) (g .inUse) j) (g .inUse j) ≡ cond c (g .labelled x) (g .inUse) j
+    go true = nodes-kept g (g .labelled x) (w .labels-in x) j
+    go false = refl
 
-  shown-cong : (r : Bool) (v w : Nodes) (j : ℕ) → v j ≡ w j → setShown g r x v j ≡ setShown g r x w j
-  shown-cong true v w j e = ap (λ b. isNode g x && (isNode g j && b)) e
-  shown-cong false v w j e = ap (λ b. cond (ltb x labelCount) (isNode g j && b) (g .inUse j)) e
+  shown-cong : (b : Block) (v w : Nodes) (j : ℕ) → v j ≡ w j → setShown g b x v j ≡ setShown g b x w j
+  shown-cong (arrows a) v w j e = ap (λ b. isNode g x && (isNode g j && b)) e
+  shown-cong labels v w j e = ap (λ b. cond (ltb x labelCount) (isNode g j && b) (g .inUse j)) e
 
   module _ (h : Graph) (e : Alike g h) where
-    shown-alike : (r : Bool) (v : Nodes) (j : ℕ) → setShown g r x v j ≡ setShown h r x v j
-    shown-alike true v j = ap₂ (λ a b. a && (b && v j)) (same-node g h e x) (same-node g h e j)
-    shown-alike false v j = ap₂ (λ a b. cond (ltb x labelCount) (a && v j) b) (same-node g h e j) (sym (ap (λ (u : Nodes). u j) (e .in-use)))
+    shown-alike : (b : Block) (v : Nodes) (j : ℕ) → setShown g b x v j ≡ setShown h b x v j
+    shown-alike (arrows k) v j = ap₂ (λ a b. a && (b && v j)) (same-node g h e x) (same-node g h e j)
+    shown-alike labels v j = ap₂ (λ a b. cond (ltb x labelCount) (a && v j) b) (same-node g h e j) (sym (ap (λ (u : Nodes). u j) (e .in-use)))
 
     -- the line of a graph alike
     pub alike-line : (b : Block) → x < linesOf (g .n) b → pageLine (pageOf h b) (suc x) ≡ setLine (g .n) x (setAt h b x)
     alike-line b l = page-line h b x (subst (λ m. x < linesOf m b) (sym (e .nodes)) l) ∙ ap (λ m. setLine m x (setAt h b x)) (e .nodes)
 
 -- A LINE OF A GRAPH ALIKE IS RIGHT.
-pub line-right : (g : Graph) → g .n ≤ maxNodes → (b : Block) (x : ℕ) → x < linesOf (g .n) b → (line : List ℕ) → IsLine g b x line → lineRight g (hasRows b) x line ≡ true
+pub line-right : (g : Graph) → g .n ≤ maxNodes → (b : Block) (x : ℕ) → x < linesOf (g .n) b → (line : List ℕ) → IsLine g b x line → lineRight g b x line ≡ true
 unfolding lineRight
 line-right g few b x l line s =
     let h = s .graph in
     let v = setAt h b x in
-    ap (λ t. sameBytes t (setLine (g .n) x (setShown g (hasRows b) x (marks t)))) (s .is-line ∙ alike-line g x h (s .alike) b l)
-    ∙ ap (sameBytes (setLine (g .n) x v)) (setLine-cong (g .n) x (setShown g (hasRows b) x (marks (setLine (g .n) x v))) v (λ j k. shown-cong g x (hasRows b) (marks (setLine (g .n) x v)) v j (marks-of-line (g .n) x few v j k) ∙ shown-alike g x h (s .alike) (hasRows b) v j ∙ shown-own h x (s .within) b j))
+    ap (λ t. sameBytes t (setLine (g .n) x (setShown g b x (marks t)))) (s .is-line ∙ alike-line g x h (s .alike) b l)
+    ∙ ap (sameBytes (setLine (g .n) x v)) (setLine-cong (g .n) x (setShown g b x (marks (setLine (g .n) x v))) v (λ j k. shown-cong g x b (marks (setLine (g .n) x v)) v j (marks-of-line (g .n) x few v j k) ∙ shown-alike g x h (s .alike) b v j ∙ shown-own h x (s .within) b j))
     ∙ same-refl (setLine (g .n) x v)
 
 -- the graph with a page's marks
@@ -130,22 +127,20 @@ module _ (g : Graph) (page : List ℕ) where
         no-more-arrows = w .no-more-arrows;
       }
 
-  typed-set : (b : Block) (x j : ℕ) → setAt (typed g page b) b x j ≡ setShown g (hasRows b) x (marks (pageLine page (suc x))) j
+  typed-set : (b : Block) (x j : ℕ) → setAt (typed g page b) b x j ≡ setShown g b x (marks (pageLine page (suc x))) j
   unfolding typed update
   typed-set (arrows a) x j = ap (λ (c : Bool). cond c (λ i k. isNode g i && marked g page i k) (g .joined a) x j) (eq-eqb a a refl)
-  typed-set labels x j = go (ltb x labelCount)
-    where
-      go : (c : Bool) → cond c (λ i. c && marked g page x i) (g .inUse) j ≡ cond c (marked g page x j) (g .inUse j)
-      go true = refl
-      go false = refl
+  typed-set labels x j = go (ltb x labelCount) where
+    go : (c : Bool) → cond c (λ i. c && marked g page x i) (g .inUse) j ≡ cond c (marked g page x j) (g .inUse j)
+    go true = refl
+    go false = refl
 
   -- a line that is right is its line
-  pub typed-line : (b : Block) (x : ℕ) → lineRight g (hasRows b) x (pageLine page (suc x)) ≡ true → pageLine page (suc x) ≡ setLine (g .n) x (setAt (typed g page b) b x)
-  unfolding lineRight
-  typed-line b x e = same-is (pageLine page (suc x)) _ e ∙ setLine-cong (g .n) x _ _ (λ j l. sym (typed-set b x j))
+  pub typed-line : (b : Block) (x : ℕ) → lineRight g b x (pageLine page (suc x)) ≡ true → pageLine page (suc x) ≡ setLine (g .n) x (setAt (typed g page b) b x)
+  typed-line b x e = unfold lineRight in same-is (pageLine page (suc x)) _ e ∙ setLine-cong (g .n) x _ _ (λ j l. sym (typed-set b x j))
 
   -- A RIGHT LINE IS ONE OF A GRAPH ALIKE.
-  pub right-line : Within g → (b : Block) → HasBlock b → (x : ℕ) → x < linesOf (g .n) b → lineRight g (hasRows b) x (pageLine page (suc x)) ≡ true → IsLine g b x (pageLine page (suc x))
+  pub right-line : Within g → (b : Block) → HasBlock b → (x : ℕ) → x < linesOf (g .n) b → lineRight g b x (pageLine page (suc x)) ≡ true → IsLine g b x (pageLine page (suc x))
   right-line w b h x l e =
       record {
         graph = typed g page b;

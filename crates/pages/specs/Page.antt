@@ -7,7 +7,7 @@ use lib.Dec.{ltb}
 use lib.ListN.{replicate}
 use Rattle.logic.specs.Graph.{Graph, Nodes}
 use Rattle.logic.specs.Limits.{maxNodes, labelCount}
-use Rattle.line.specs.Line.{digits}
+use Rattle.decimal.specs.Digits.{digits}
 use Rattle.sheet.specs.Sheet.{chunks, lineOf}
 
 abbrev pub lineBytes : ℕ
@@ -21,9 +21,13 @@ headLine letter x = letter ∷ digits 2 x ++ replicate maxNodes 0x20 ++ (0x0A �
 unfoldable pub square : (n : ℕ) → Nodes → ℕ → ℕ
 square n v j = cond (ltb j n) (cond (v j) 0x23 0x2E) 0x20
 
--- A line: two digits, a blank, 60 squares.
+-- The 60 squares of a set, and the line feed.
+unfoldable pub squares : (n : ℕ) → Nodes → List ℕ
+squares n v = chunks maxNodes 0 (λ j. square n v j ∷ []) ++ (0x0A ∷ [])
+
+-- A line: two digits, a blank, the squares.
 unfoldable pub setLine : (n x : ℕ) → Nodes → List ℕ
-setLine n x v = digits 2 x ++ (0x20 ∷ chunks maxNodes 0 (λ j. square n v j ∷ []) ++ (0x0A ∷ []))
+setLine n x v = digits 2 x ++ (0x20 ∷ squares n v)
 
 -- The page of an arrow kind: A, two digits of the kind; then one line for each node.
 unfoldable pub rowLines : Graph → ℕ → List ℕ

@@ -2,10 +2,19 @@
 use mathlib.Core.Path.{_≡_}
 use mathlib.Core.List.{List}
 use Prim.Native.Nat.{ℕ, suc, _<_}
-use Rattle.logic.specs.Graph.{Graph}
+use Rattle.logic.specs.Graph.{Graph, Nodes}
 use Rattle.logic.specs.Limits.{Within, arrowCount}
-use Rattle.pages.specs.Page.{arrowPage, labelPage}
-use Rattle.pages.specs.Typed.{pageLine, Block, arrows, labels}
+use Rattle.sheet.specs.Sheet.{chunks, lineOf}
+use Rattle.pages.specs.Page.{setLine, arrowPage, labelPage}
+use Rattle.pages.specs.Typed.{pageLine, Block, arrows, labels, linesOf}
+
+-- The set that a line of a block shows, and its lines.
+abbrev pub setAt : Graph → Block → ℕ → Nodes
+setAt g (arrows a) i = g .joined a i
+setAt g labels k = lineOf g k
+
+unfoldable pub pageLines : Graph → Block → List ℕ
+pageLines g b = chunks (linesOf (g .n) b) 0 (λ x. setLine (g .n) x (setAt g b x))
 
 -- The page of a block.
 abbrev pub pageOf : Graph → Block → List ℕ

@@ -1,20 +1,24 @@
 -- Typing a page back into a sheet: 1 to 4 of the sheet, then 51 when the page isn't what printing a sheet of this n, with this sheet's nodes in use,
 -- could give, place 0 for its length or its head, else the first such line, from 0.
-use mathlib.Core.Bool.{Bool, true, false, _&&_, cond}
+use mathlib.Core.Path.{_≡_}
+use mathlib.Core.Bool.{Bool, _&&_, cond}
 use mathlib.Core.List.{List}
-use Prim.Native.Nat.{ℕ, zero, suc, _+_, _*_, _%_}
+use Prim.Native.Nat.{ℕ, zero, suc, _+_, _*_, _%_, _<_}
 use lib.Dec.{eqb, ltb}
 use lib.ListN.{length, getD, take, drop}
 use Rattle.answer.specs.Asked.{Asked, passed, refused, _>>=_, _>>_, is, after}
 use Rattle.logic.specs.Graph.{Graph, Nodes, isNode}
 use Rattle.logic.specs.Limits.{labelCount, arrowCount}
 use Rattle.logic.specs.Steps.{rejoin}
+use Rattle.bitset.specs.Words.{setOf}
 use Rattle.seal.specs.Seal.{sameBytes}
 use Rattle.sheet.specs.Sheet.{store, graphOf, relabelAll}
 use Rattle.sheet.specs.Questions.{askSheet}
 use Rattle.pages.specs.Page.{lineBytes, headLine, setLine, labelPageLines}
 use Rattle.pages.specs.declared.typed.Head.{Head}
-use Rattle.pages.specs.declared.typed.Head.the-variants.{Arrows, Labels, Wrong}
+use Rattle.pages.specs.declared.typed.Head.the-variants.{Page, Wrong}
+use Rattle.pages.specs.declared.lines.Shown.{Shown}
+use Rattle.pages.specs.declared.lines.Shown.the-variants.{Arrows, Labels}
 
 -- Line l of a page; a line's marks.
 abbrev pub pageLine : List ℕ → ℕ → List ℕ
@@ -28,18 +32,22 @@ pub data Block : Type 0 where
   arrows : ℕ → Block
   labels : Block
 
--- How many lines follow the head, and whether they are rows of an arrow.
+abbrev pub blockShown : Shown → Block
+blockShown (Arrows a) = arrows a
+blockShown Labels = labels
+
+-- The head of such a page, on a sheet of n, and how many lines follow it.
+abbrev pub headOf : ℕ → Block → List ℕ
+headOf n (arrows a) = headLine 0x41 a
+headOf n labels = headLine 0x4C n
+
 abbrev pub linesOf : ℕ → Block → ℕ
 linesOf n (arrows a) = n
 linesOf n labels = labelPageLines
 
-abbrev pub hasRows : Block → Bool
-hasRows (arrows a) = true
-hasRows labels = false
-
--- Whether the head is this one, and the page has so many lines behind it.
-unfoldable pub headIs : List ℕ → (letter x lines : ℕ) → Bool
-headIs page letter x lines = eqb (length page) (lineBytes * lines + lineBytes) && sameBytes (pageLine page 0) (headLine letter x)
+-- Whether the page has this head, and so many lines after it.
+unfoldable pub headIs : ℕ → List ℕ → Block → Bool
+headIs n page b = eqb (length page) (lineBytes * linesOf n b + lineBytes) && sameBytes (pageLine page 0) (headOf n b)
 
 -- The number that a head's two digits say. The low half of a digit's byte is the digit; that they are digits is for `headIs` to ask.
 abbrev pub headNumber : List ℕ → ℕ
@@ -47,29 +55,33 @@ headNumber page = 10 * (getD page 1 0 % 16) + getD page 2 0 % 16
 
 unfoldable pub askHead : ℕ → List ℕ → Asked Block
 askHead n page =
-    cond (headIs page 0x4C n labelPageLines) (passed labels)
-    (cond (ltb (headNumber page) arrowCount && headIs page 0x41 (headNumber page) n) (passed (arrows (headNumber page))) (refused 51 0))
+    cond (headIs n page labels) (passed labels)
+    (cond (ltb (headNumber page) arrowCount && headIs n page (arrows (headNumber page))) (passed (arrows (headNumber page))) (refused 51 0))
 
 -- The set that line x has, with the marks v, in a graph with these nodes in use: closed nodes have no arrows and no labels, and line 48 of the
 -- label page is the nodes in use, whatever is marked.
-abbrev pub setShown : Graph → (rows : Bool) → ℕ → Nodes → Nodes
-setShown g true i v j = isNode g i && (isNode g j && v j)
-setShown g false k v i = cond (ltb k labelCount) (isNode g i && v i) (g .inUse i)
+abbrev pub setShown : Graph → Block → ℕ → Nodes → Nodes
+setShown g (arrows a) i v j = isNode g i && (isNode g j && v j)
+setShown g labels k v i = cond (ltb k labelCount) (isNode g i && v i) (g .inUse i)
+
+-- Each of m words is the set that its line has.
+abbrev pub SetsRead : Graph → Block → (page sets : List ℕ) → (m : ℕ) → Type 0
+SetsRead g b page sets m = (x : ℕ) → x < m → getD sets x 0 ≡ setOf (g .n) (setShown g b x (marks (pageLine page (suc x))))
 
 -- What printing could give as the line of number x is the line of that set, of its own marks.
-unfoldable pub lineRight : Graph → (rows : Bool) → ℕ → List ℕ → Bool
-lineRight g rows x line = sameBytes line (setLine (g .n) x (setShown g rows x (marks line)))
+unfoldable pub lineRight : Graph → Block → ℕ → List ℕ → Bool
+lineRight g b x line = sameBytes line (setLine (g .n) x (setShown g b x (marks line)))
 
 -- The m lines from number x on, each one line further down.
-unfoldable pub askLines : Graph → (rows : Bool) → List ℕ → (m x : ℕ) → Asked (Unit {0})
-askLines g rows page zero x = passed tt
-askLines g rows page (suc m) x = is (lineRight g rows x (pageLine page (suc x))) 51 (suc x) >> askLines g rows page m (suc x)
+unfoldable pub askLines : Graph → Block → List ℕ → (m x : ℕ) → Asked (Unit {0})
+askLines g b page zero x = passed tt
+askLines g b page (suc m) x = is (lineRight g b x (pageLine page (suc x))) 51 (suc x) >> askLines g b page m (suc x)
 
 -- The page, for a sheet of this graph: its head, then its lines in turn. What is learned is the block.
 unfoldable pub askPage : Graph → List ℕ → Asked Block
 askPage g page = do
   b ← askHead (g .n) page
-  askLines g (hasRows b) page (linesOf (g .n) b) 0
+  askLines g b page (linesOf (g .n) b) 0
   passed b
 
 -- The set of nodes in use that a line marks.
@@ -92,6 +104,5 @@ typedSheet sheet page = after (askType sheet page) (λ b. store (typed (graphOf 
 
 -- What the code says of a head.
 abbrev pub headAsked : Head → Asked Block
-headAsked (Arrows a) = passed (arrows a)
-headAsked Labels = passed labels
+headAsked (Page shown) = passed (blockShown shown)
 headAsked Wrong = refused 51 0

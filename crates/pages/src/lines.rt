@@ -1,19 +1,20 @@
 // One line of a page: written, and read back. Inner: each function is lent a whole line of 64 bytes.
 ghost use mathlib.Core.Path.{_≡_};
 ghost use Prim.Native.Nat.{_<_, _≤_};
-ghost use lib.ListN.{length};
+ghost use mathlib.Core.List.{_++_};
+ghost use lib.ListN.{length, take};
 ghost use Rattle.logic.specs.Limits.{maxNodes};
 ghost use Rattle.bitset.specs.Words.{setOf, member};
 ghost use Rattle.seal.specs.Seal.{sameBytes};
-ghost use Rattle.pages.specs.Page.{lineBytes, headLine, square, setLine};
-ghost use Rattle.pages.specs.Typed.{marks};
+ghost use Rattle.pages.specs.Page.{lineBytes, headLine, square, squares, setLine};
+ghost use Rattle.pages.specs.Typed.{blockShown, headOf, linesOf, marks};
 use sheet::Sheet;
 
 // The bytes of a line, its line feed included.
 pub const LINE: usize = 64;
 
-// The lines behind the label page's head: one per label, and one for the nodes in use.
-pub const LABEL_LINES: usize = Sheet::LABELS + 1;
+// The lines after the label page's head: one per label, and one for the nodes in use.
+const LABEL_LINES: usize = Sheet::LABELS + 1;
 
 // The square of column j in the row of a set. Inner: j is the number of a bit.
 fn square(n: usize, row: u64, j: usize) -> u8
@@ -26,13 +27,11 @@ fn square(n: usize, row: u64, j: usize) -> u8
     if bitset::member(row, j) { b'#' } else { b'.' }
 }
 
-// Makes the line that of number x of a set.
-pub fn put_line(line: &mut [u8], n: usize, x: usize, row: u64)
+// Makes what stands after a line's first three bytes the squares of a set, and a line feed.
+fn put_squares(line: &mut [u8], n: usize, row: u64)
     requires { ⌜ length (now line) ≡ lineBytes ⌝ }
-    ensures { λ _. ⌜ now (line .exit) ≡ setLine n x (member row) ⌝ }
+    ensures { λ _. ⌜ now (line .exit) ≡ take 3 (now (line .entry)) ++ squares n (member row) ⌝ }
 {
-    line::write_digits(&mut line[0..2], x);
-    line[2] = b' ';
     let mut j = 0;
     while j < Sheet::NODES {
         line[3 + j] = square(n, row, j);
@@ -41,19 +40,52 @@ pub fn put_line(line: &mut [u8], n: usize, x: usize, row: u64)
     line[63] = b'\n';
 }
 
-// Makes the line a head.
-pub fn put_head(line: &mut [u8], letter: u8, x: usize)
+// Makes the line that of number x of a set.
+pub fn put_line(line: &mut [u8], n: usize, x: usize, row: u64)
+    requires { ⌜ length (now line) ≡ lineBytes ⌝ }
+    ensures { λ _. ⌜ now (line .exit) ≡ setLine n x (member row) ⌝ }
+{
+    decimal::write_digits(&mut line[0..2], x);
+    line[2] = b' ';
+    put_squares(line, n, row);
+}
+
+// Makes the line a head: it has the squares of no columns.
+fn put_head(line: &mut [u8], letter: u8, x: usize)
     requires { ⌜ length (now line) ≡ lineBytes ⌝ }
     ensures { λ _. ⌜ now (line .exit) ≡ headLine letter x ⌝ }
 {
     line[0] = letter;
-    line::write_digits(&mut line[1..3], x);
-    let mut j = 0;
-    while j < Sheet::NODES {
-        line[3 + j] = b' ';
-        j += 1;
+    decimal::write_digits(&mut line[1..3], x);
+    put_squares(line, 0, 0);
+}
+
+// What a page shows: the arrows of a kind, or the labels and the nodes in use.
+pub enum Shown {
+    Arrows(usize),
+    Labels,
+}
+
+// Makes the line the head of a page that shows this, of a sheet of n.
+pub fn put_head_of(line: &mut [u8], n: usize, shown: Shown)
+    requires { ⌜ length (now line) ≡ lineBytes ⌝ }
+    ensures { λ _. ⌜ now (line .exit) ≡ headOf n (blockShown shown) ⌝ }
+{
+    match shown {
+        Shown::Arrows(a) => put_head(line, b'A', a),
+        Shown::Labels => put_head(line, b'L', n),
     }
-    line[63] = b'\n';
+}
+
+// How many lines follow that head. Inner: n is a sheet's.
+pub fn lines_of(n: usize, shown: Shown) -> usize
+    requires { ⌜ n ≤ maxNodes ⌝ }
+    ensures { λ r. ⌜ (r ≡ linesOf n (blockShown shown)) × (r ≤ maxNodes) ⌝ }
+{
+    match shown {
+        Shown::Arrows(_) => n,
+        Shown::Labels => LABEL_LINES,
+    }
 }
 
 // The set of a line's marks. Inner: n is a sheet's.

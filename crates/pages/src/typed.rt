@@ -1,45 +1,47 @@
 // A page typed back into a sheet.
 ghost use mathlib.Core.Path.{_≡_};
-ghost use mathlib.Core.Bool.{true, false};
-ghost use Prim.Native.Nat.{ℕ, suc, _+_, _*_, _<_, _≤_};
-ghost use lib.ListN.{length, getD};
+ghost use mathlib.Core.List.{List};
+ghost use Prim.Native.Nat.{ℕ, _+_, _*_, _<_, _≤_};
+ghost use lib.ListN.{length};
 ghost use Rattle.answer.specs.Answers.{asked};
-ghost use Rattle.answer.specs.Asked.{passed, after, outcome};
+ghost use Rattle.answer.specs.Asked.{passed, outcome};
 ghost use Rattle.logic.specs.Graph.{Graph, Nodes, isNode};
-ghost use Rattle.logic.specs.Limits.{maxNodes, arrowCount};
+ghost use Rattle.logic.specs.Limits.{maxNodes};
 ghost use Rattle.bitset.specs.Words.{setOf};
 ghost use Rattle.sheet.specs.Sheet.{store, graphOf};
 ghost use Rattle.sheet.specs.Questions.{Sound};
-ghost use Rattle.pages.specs.Page.{lineBytes, labelPageLines};
-ghost use Rattle.pages.specs.Typed.{pageLine, marks, headIs, headAsked, askHead, setShown, askLines, arrows, labels, typed, askType, typedSheet};
-use crate::lines::LABEL_LINES;
+ghost use Rattle.pages.specs.Page.{lineBytes};
+ghost use Rattle.pages.specs.Typed.{blockShown, linesOf, headIs, headAsked, askHead, setShown, SetsRead, askLines, typed, askType, typedSheet};
+ghost use Rattle.pages.specs.Prints.{HasBlock};
 use crate::lines::LINE;
+use crate::lines::Shown;
 use crate::lines::line_is;
+use crate::lines::lines_of;
 use crate::lines::marks_of;
-use crate::lines::put_head;
+use crate::lines::put_head_of;
 use crate::lines::same;
 use answer::Answer;
 use answer::Refusal;
 use logic::Arrow;
 use sheet::Sheet;
+use store::Store;
 
-// What the head of a page names: the arrows of a kind, the labels, or nothing.
+// What the head of a page names, or nothing.
 pub enum Head {
-    Arrows(usize),
-    Labels,
+    Page(Shown),
     Wrong,
 }
 
-// Whether the page has this head and so many lines behind it. Inner: no page has more than 60.
-fn head_is(page: &[u8], letter: u8, x: usize, lines: usize) -> bool
-    requires { ⌜ lines ≤ maxNodes ⌝ }
-    ensures { λ r. ⌜ r ≡ headIs (now (page .entry)) letter x lines ⌝ }
+// Whether the page has the head of what it should show, and so many lines after it. Inner: n is a sheet's.
+fn head_is(page: &[u8], n: usize, shown: Shown) -> bool
+    requires { ⌜ n ≤ maxNodes ⌝ }
+    ensures { λ r. ⌜ r ≡ headIs n (now (page .entry)) (blockShown shown) ⌝ }
 {
-    if page.len() != LINE * lines + LINE {
+    if page.len() != LINE * lines_of(n, shown) + LINE {
         return false;
     }
     let mut wanted = [0u8; LINE];
-    put_head(&mut wanted, letter, x);
+    put_head_of(&mut wanted, n, shown);
     same(&page[0..LINE], &wanted)
 }
 
@@ -48,44 +50,38 @@ fn head_of(page: &[u8], n: usize) -> Head
     requires { ⌜ n ≤ maxNodes ⌝ }
     ensures { λ r. ⌜ headAsked r ≡ askHead n (now (page .entry)) ⌝ }
 {
-    if head_is(page, b'L', n, LABEL_LINES) {
-        return Head::Labels;
+    if head_is(page, n, Shown::Labels) {
+        return Head::Page(Shown::Labels);
     }
     if page.len() < LINE {
         return Head::Wrong;
     }
     let kind = 10 * (page[1] % 16) as usize + (page[2] % 16) as usize;
     if kind < Sheet::ARROWS {
-        if head_is(page, b'A', kind, n) {
-            return Head::Arrows(kind);
+        if head_is(page, n, Shown::Arrows(kind)) {
+            return Head::Page(Shown::Arrows(kind));
         }
     }
     Head::Wrong
 }
 
 // The set that line x has, with these marks and nodes in use. Inner: x is the number of a bit, the words are of a graph with at most 60 nodes.
-fn set_shown(used: u64, rows: bool, x: usize, marked: u64) -> u64
+fn set_shown(used: u64, shown: Shown, x: usize, marked: u64) -> u64
     requires { ⌜ x < 64 ⌝ }
-    ensures { λ r. ⌜ ((g : Graph) (v : Nodes) → g .n ≤ maxNodes → used ≡ setOf (g .n) (isNode g) → marked ≡ setOf (g .n) v → r ≡ setOf (g .n) (setShown g rows x v)) ⌝ }
+    ensures { λ r. ⌜ ((g : Graph) (v : Nodes) → g .n ≤ maxNodes → used ≡ setOf (g .n) (isNode g) → marked ≡ setOf (g .n) v → r ≡ setOf (g .n) (setShown g (blockShown shown) x v)) ⌝ }
 {
     let kept = bitset::both(used, marked);
-    if rows {
-        if !bitset::member(used, x) {
-            return 0;
-        }
-        return kept;
+    match shown {
+        Shown::Arrows(_) => { if bitset::member(used, x) { kept } else { 0 } }
+        Shown::Labels => { if x < Sheet::LABELS { kept } else { used } }
     }
-    if x < Sheet::LABELS {
-        return kept;
-    }
-    used
 }
 
-// Reads the sets of m lines, and answers 51 at the first line that printing could not give. Inner: the sheet is sound, the page has these lines, and each has its word.
-fn read_lines(sheet: &[u8], page: &[u8], rows: bool, m: usize, sets: &mut [u64]) -> Answer
+// Reads the sets of the page's m lines, and answers 51 at the first that printing could not give. Inner: the sheet is sound, the page has these lines, and each has its word.
+fn read_lines(sheet: &[u8], page: &[u8], shown: Shown, m: usize, sets: &mut [u64]) -> Answer
     requires { ⌜ Sound (now sheet) × (m ≤ maxNodes) × (length (now page) ≡ lineBytes * m + lineBytes) × (length (now sets) ≡ 64) ⌝ }
-    ensures { λ r. ⌜ asked r ≡ askLines (graphOf (now (sheet .entry))) rows (now (page .entry)) m 0 ⌝ }
-    ensures { λ r. ⌜ (asked r ≡ passed tt → (x : ℕ) → x < m → getD (now (sets .exit)) x 0 ≡ setOf (graphOf (now (sheet .entry)) .n) (setShown (graphOf (now (sheet .entry))) rows x (marks (pageLine (now (page .entry)) (suc x))))) ⌝ }
+    ensures { λ r. ⌜ asked r ≡ askLines (graphOf (now (sheet .entry))) (blockShown shown) (now (page .entry)) m 0 ⌝ }
+    ensures { λ r. ⌜ (asked r ≡ passed tt → SetsRead (graphOf (now (sheet .entry))) (blockShown shown) (now (page .entry)) (now (sets .exit)) m) ⌝ }
 {
     let n = Sheet::node_count(sheet);
     let used = Sheet::all_nodes(sheet);
@@ -93,7 +89,7 @@ fn read_lines(sheet: &[u8], page: &[u8], rows: bool, m: usize, sets: &mut [u64])
     while x < m {
         let from = LINE * (x + 1);
         let to = from + LINE;
-        let set = set_shown(used, rows, x, marks_of(&page[from..to], n));
+        let set = set_shown(used, shown, x, marks_of(&page[from..to], n));
         if !line_is(&page[from..to], n, x, set) {
             return Answer::Refused(Refusal::PageLine { place: x + 1 });
         }
@@ -103,34 +99,15 @@ fn read_lines(sheet: &[u8], page: &[u8], rows: bool, m: usize, sets: &mut [u64])
     Answer::Done
 }
 
-// Gives an arrow the pairs that the page marks. Inner: the sheet is sound with these n nodes, and the page has a line for each.
-fn type_arrows(sheet: &mut [u8], page: &[u8], n: usize, a: Arrow) -> Answer
-    requires { ⌜ Sound (now sheet) × (n ≡ graphOf (now sheet) .n) × (n ≤ maxNodes) × (a .0 < arrowCount) × (length (now page) ≡ lineBytes * n + lineBytes) ⌝ }
-    ensures { λ r. ⌜ asked r ≡ askLines (graphOf (now (sheet .entry))) true (now (page .entry)) n 0 ⌝ }
-    ensures { λ _. ⌜ now (sheet .exit) ≡ after (askLines (graphOf (now (sheet .entry))) true (now (page .entry)) n 0) (λ _. store (typed (graphOf (now (sheet .entry))) (now (page .entry)) (arrows (a .0)))) (now (sheet .entry)) ⌝ }
+// Gives an arrow the pairs, or each label the nodes, that these sets are of. Inner: the sheet is sound.
+fn put_sets(sheet: &mut [u8], shown: Shown, sets: [u64; 64])
+    requires { ⌜ Sound (now sheet) × HasBlock (blockShown shown) ⌝ }
+    ensures { λ _. ⌜ ((page : List ℕ) → SetsRead (graphOf (now (sheet .entry))) (blockShown shown) page sets (linesOf (graphOf (now (sheet .entry)) .n) (blockShown shown)) → now (sheet .exit) ≡ store (typed (graphOf (now (sheet .entry))) page (blockShown shown))) ⌝ }
 {
-    let mut rows = [0u64; 64];
-    let answer = read_lines(sheet, page, true, n, &mut rows);
-    let Answer::Done = answer else {
-        return answer;
-    };
-    Sheet::put_rows(sheet, a, rows);
-    Answer::Done
-}
-
-// Gives each label the nodes that the page marks. Inner: the sheet is sound, and the page has a line for each label and one for the nodes in use.
-fn type_labels(sheet: &mut [u8], page: &[u8]) -> Answer
-    requires { ⌜ Sound (now sheet) × (length (now page) ≡ lineBytes * labelPageLines + lineBytes) ⌝ }
-    ensures { λ r. ⌜ asked r ≡ askLines (graphOf (now (sheet .entry))) false (now (page .entry)) labelPageLines 0 ⌝ }
-    ensures { λ _. ⌜ now (sheet .exit) ≡ after (askLines (graphOf (now (sheet .entry))) false (now (page .entry)) labelPageLines 0) (λ _. store (typed (graphOf (now (sheet .entry))) (now (page .entry)) labels)) (now (sheet .entry)) ⌝ }
-{
-    let mut sets = [0u64; 64];
-    let answer = read_lines(sheet, page, false, LABEL_LINES, &mut sets);
-    let Answer::Done = answer else {
-        return answer;
-    };
-    Sheet::put_labels(sheet, sets);
-    Answer::Done
+    match shown {
+        Shown::Arrows(a) => Store::put_rows(sheet, Arrow(a as u8), sets),
+        Shown::Labels => Store::put_labels(sheet, sets),
+    }
 }
 
 // Types the page back into the sheet, in place of the block that its head names: 1 to 4 of the sheet, then 51.
@@ -143,9 +120,14 @@ pub fn type_page(sheet: &mut [u8], page: &[u8]) -> Answer
         return answer;
     };
     let n = Sheet::node_count(sheet);
-    match head_of(page, n) {
-        Head::Arrows(a) => type_arrows(sheet, page, n, Arrow(a as u8)),
-        Head::Labels => type_labels(sheet, page),
-        Head::Wrong => Answer::Refused(Refusal::PageLine { place: 0 }),
-    }
+    let Head::Page(shown) = head_of(page, n) else {
+        return Answer::Refused(Refusal::PageLine { place: 0 });
+    };
+    let mut sets = [0u64; 64];
+    let lines = read_lines(sheet, page, shown, lines_of(n, shown), &mut sets);
+    let Answer::Done = lines else {
+        return lines;
+    };
+    put_sets(sheet, shown, sets);
+    Answer::Done
 }

@@ -1,9 +1,9 @@
-pub mod Bytes
-pub mod Heads
+pub mod ByteLoops
+pub mod StoreHead
 pub mod Asks
-pub mod Places
-pub mod Laws
-pub mod Writes
-pub mod Answers
-pub mod Noticed
-pub mod Small
+pub mod StorePlaces
+pub mod StoreLaws
+pub mod StoreWrites
+pub mod StoreStages
+pub mod StoreNoticed
+pub mod StoreIsBytes

@@ -1,8 +1,8 @@
 pub mod Moves
-pub mod Edits
+pub mod GameEdits
 pub mod Trying
 pub mod Goal
-pub mod Fitting
-pub mod Asking
+pub mod FitsTold
+pub mod PlayStages
 pub mod Playing
 pub mod Right

@@ -1,6 +1,6 @@
 -- One move: the book judged on a sheet, and an edit made on a copy.
-use mathlib.Core.Path.{_≡_, refl, sym, ap, ap₂, _∙_}
-use mathlib.Core.Bool.{Bool, true, false, not, _&&_, and-true}
+use mathlib.Core.Path.{_≡_, sym, ap, ap₂, _∙_}
+use mathlib.Core.Bool.{Bool, true, false, not, and-true}
 use mathlib.Core.List.{List, [], _∷_, _++_, append-nil}
 use Prim.Native.Nat.{ℕ, suc, _+_, _-_, _<_}
 use native.Mathlib.Omega.{arith}
@@ -14,9 +14,9 @@ use Rattle.logic.specs.Limits.{ranges}
 use Rattle.logic.proofs.Inside.{run-within}
 use Rattle.sheet.specs.Sheet.{present, sheetBytes, graphOf}
 use Rattle.sheet.specs.Questions.{Sound}
-use Rattle.sheet.proofs.Blocks.{length-store}
-use Rattle.sheet.proofs.ReadBack.{read-back}
-use Rattle.sheet.proofs.Opening.{opening}
+use Rattle.sheet.proofs.BlockLaws.{length-store}
+use Rattle.store.proofs.StoredReads.{read-back}
+use Rattle.sheet.proofs.SoundSheets.{sound-is-stored}
 use Rattle.text.specs.Stands.{EditStands}
 use Rattle.write.specs.Laid.{laid}
 use Rattle.write.proofs.Laying.{laid-fits}
@@ -29,22 +29,19 @@ use Rattle.play.specs.Standing.{OnCopy, outcomeOf}
 
 -- The goal is a book of one rule.
 pub one-holds : (g : Graph) (K : Expr rule) → holdAll g (K ∷ []) ≡ value g K
-unfolding holdAll
-one-holds g K = and-true (value g K)
+one-holds g K = unfold holdAll in and-true (value g K)
 
 -- Whether a side may leave a graph.
 module _ (G : Game) (h : Graph) {ours : Bool} where
   pub may-ours : ours ≡ true → mayLeave G (sideOf ours) h ≡ holdAll h (G .book)
-  unfolding mayLeave
-  may-ours e = ap (λ (b : Bool). mayLeave G (sideOf b) h) e
+  may-ours e = unfold mayLeave in ap (λ (b : Bool). mayLeave G (sideOf b) h) e
 
   pub may-theirs : ours ≡ false → mayLeave G (sideOf ours) h ≡ true
-  unfolding mayLeave
-  may-theirs e = ap (λ (b : Bool). mayLeave G (sideOf b) h) e
+  may-theirs e = unfold mayLeave in ap (λ (b : Bool). mayLeave G (sideOf b) h) e
 
 module _ (sheet : List ℕ) (small : (p : ℕ) → getD sheet p 0 < 256) (sound : Sound sheet) where
   pub sheet-length : length sheet ≡ sheetBytes
-  sheet-length = ap length (opening present sheet small sound .stored) ∙ length-store present (graphOf sheet)
+  sheet-length = ap length (sound-is-stored present sheet small sound .stored) ∙ length-store present (graphOf sheet)
 
   -- A copy of the sheet is the sheet,
   pub copied : (buffer copy : List ℕ) → length buffer ≡ sheetBytes → copy ≡ laid buffer 0 (take (length sheet) (drop 0 sheet)) → copy ≡ sheet
@@ -58,7 +55,7 @@ module _ (sheet : List ℕ) (small : (p : ℕ) → getD sheet p 0 < 256) (sound 
   -- and the edit's steps made there leave the graph that they leave.
   pub on-copy : (edits : List ℕ) (at : ℕ) (Z : Edit) (next : ℕ) (copy : List ℕ) → EditStands (ranges (graphOf sheet .n)) edits at Z → Made at Z next sheet copy → OnCopy at Z next sheet copy
   on-copy edits at Z next copy s m =
-      record { graph = ap graphOf (m .sheet-is) ∙ read-back (run Z (graphOf sheet)) (run-within (ranges (graphOf sheet .n)) Z (s .range) (graphOf sheet) (opening present sheet small sound .within)); ends = m .ends }
+      record { graph = ap graphOf (m .sheet-is) ∙ read-back (run Z (graphOf sheet)) (run-within (ranges (graphOf sheet .n)) Z (s .range) (graphOf sheet) (sound-is-stored present sheet small sound .within)); ends = m .ends }
 
 -- After the last move, by the goal; before it, when the other side has no move.
 module _ (G : Game) (g : Graph) (ours : Bool) (moves : ℕ) where

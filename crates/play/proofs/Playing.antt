@@ -17,7 +17,7 @@ use Rattle.logic.specs.Limits.{Ranges, ranges}
 use Rattle.sheet.specs.Sheet.{graphOf}
 use Rattle.text.specs.Code.{editCode}
 use Rattle.text.specs.Reading.{textLimits}
-use Rattle.judge.proofs.Rules.{read-book-stands}
+use Rattle.judge.proofs.RulesJudged.{read-book-stands}
 use Rattle.game.specs.Game.{Game, editsOf, Outcome, answer}
 use Rattle.game.specs.Search.{sideOf, chosen}
 use Rattle.game.proofs.Chosen.{chosen-answer}
@@ -25,9 +25,9 @@ use Rattle.play.specs.declared.search.Lists.{Lists}
 use Rattle.play.specs.declared.search.Found.{Found}
 use Rattle.play.specs.Questions.{askGame, askPlay, faultyEdit, outcomeNumber, noOutcome, outcomeEdit}
 use Rattle.play.specs.Standing.{EditsStand, countOf, startOf, EditsAt, GameStands, outcomeOf}
-use Rattle.play.proofs.Edits.{edits-stand}
+use Rattle.play.proofs.GameEdits.{edits-stand}
 use Rattle.play.proofs.Goal.{goal-stands}
-use Rattle.play.proofs.Asking.{enough, some-moves, gameOf, Passed, all-passed, edits-at}
+use Rattle.play.proofs.PlayStages.{enough, some-moves, gameOf, Passed, all-passed, edits-at}
 
 -- The first of the edits that stand there stand there.
 first-stand : (r : Ranges) (text : List ℕ) (m at : ℕ) (Zs : List Edit) → EditsStand r text at Zs → EditsStand r text at (take m Zs)
@@ -41,22 +41,16 @@ module _ (sheet book goal edits lengths : List ℕ) (d moves : ℕ) where
   Played = askPlay sheet book goal edits lengths d moves
 
   -- What is answered: the outcome of the questions, and the game's outcome in numbers.
-  pub record Says (a : Asked (Unit {0})) (number edit : ℕ) : Type 0 where
-    pub answer-is : a ≡ outcome Played
-    pub number-is : number ≡ after Played outcomeNumber noOutcome
-    pub edit-is : edit ≡ after Played outcomeEdit (faultyEdit sheet book goal edits lengths d moves)
+  abbrev Says : Asked (Unit {0}) → (number edit : ℕ) → Type 0
+  Says a number edit = (a ≡ outcome Played) × ((number ≡ after Played outcomeNumber noOutcome) × (edit ≡ after Played outcomeEdit (faultyEdit sheet book goal edits lengths d moves)))
 
   module _ (a : Answer) (s : asked a ≡ outcome (askGame sheet book goal edits lengths d moves)) where
     -- A question stops.
-    pub game-stops : (r : Refusal) → a ≡ Refused r → (edit : ℕ) → edit ≡ faultyEdit sheet book goal edits lengths d moves → Says (asked a) noOutcome edit
+    pub game-stops : {r : Refusal} → a ≡ Refused r → (edit : ℕ) → edit ≡ faultyEdit sheet book goal edits lengths d moves → Says (asked a) noOutcome edit
     unfolding askPlay _>>=_ outcome after
-    game-stops r e edit f =
-        let q = ap (λ (x : Asked Game). x >>= (λ G. passed (answer G (moves - 1) (graphOf sheet)))) (not-learned (askGame sheet book goal edits lengths d moves) (refusalNumber r) (refusalPlace r) (sym (ap asked e) ∙ s)) in
-        record {
-          answer-is = ap asked e ∙ sym (ap outcome q);
-          number-is = sym (ap (λ (x : Asked Outcome). after x outcomeNumber noOutcome) q);
-          edit-is = f ∙ sym (ap (λ (x : Asked Outcome). after x outcomeEdit (faultyEdit sheet book goal edits lengths d moves)) q);
-        }
+    game-stops {r} e edit f =
+        let q = not-learned (askGame sheet book goal edits lengths d moves) (refusalNumber r) (refusalPlace r) (sym (ap asked e) ∙ s) in
+        (rw (q, e), (rw q, rw q f))
 
     -- All pass.
     module _ (e : a ≡ Done) where
@@ -98,14 +92,9 @@ module _ (sheet book goal edits lengths : List ℕ) (d moves : ℕ) where
             })
 
         -- The search has found this.
-        pub found-is : (f : Found) → ((G : Game) → GameStands (graphOf sheet .n) book goal edits lists G → outcomeOf f ≡ chosen G (moves - 1) true (graphOf sheet)) → (h : Found) → f ≡ h
+        pub found-is : {f h : Found} → ((G : Game) → GameStands (graphOf sheet .n) book goal edits lists G → outcomeOf f ≡ chosen G (moves - 1) true (graphOf sheet)) → f ≡ h
             → Says (passed tt) (outcomeNumber (outcomeOf h)) (outcomeEdit (outcomeOf h))
         unfolding askPlay _>>=_ outcome after
-        found-is f w h q =
+        found-is {f} {h} w q =
             let x : answer (read .what) (moves - 1) (graphOf sheet) ≡ outcomeOf h = sym (chosen-answer (read .what) (moves - 1) (graphOf sheet)) ∙ sym (w (read .what) game-stands) ∙ ap outcomeOf q in
-            let p : Played ≡ passed (outcomeOf h) = ap (λ (y : Asked Game). y >>= (λ G. passed (answer G (moves - 1) (graphOf sheet)))) (read .is) ∙ ap passed x in
-            record {
-              answer-is = sym (ap outcome p);
-              number-is = sym (ap (λ (y : Asked Outcome). after y outcomeNumber noOutcome) p);
-              edit-is = sym (ap (λ (y : Asked Outcome). after y outcomeEdit (faultyEdit sheet book goal edits lengths d moves)) p);
-            }
+            (rw (read .is), (rw (read .is, x), rw (read .is, x)))

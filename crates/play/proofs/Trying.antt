@@ -19,7 +19,7 @@ use Rattle.game.specs.Search.{sideOf, goesWell, serves, chosen}
 use Rattle.game.proofs.Chosen.{chosen-edit, chosen-last, no-pass, pass-serves}
 use Rattle.play.specs.declared.search.Lists.{Lists}
 use Rattle.play.specs.Standing.{EditsStand, countOf, startOf, GameStands, OnCopy}
-use Rattle.play.proofs.Edits.{FromHere, next-stands, others-stand}
+use Rattle.play.proofs.GameEdits.{FromHere, next-stands, others-stand}
 
 -- The first i edits were tried and none served; those that are left stand at `at`, and `made` says whether one could be made.
 pub record Trying (edits : List ℕ) (ours : Bool) (m n : ℕ) (g : Graph) (G : Game) (i at : ℕ) (made : Bool) : Type 0 where
@@ -60,34 +60,30 @@ module _ (book goal edits : List ℕ) (lists : Lists) (ours : Bool) (m : ℕ) (s
     from-here = record { stand = t .left }
 
     pub here-stands : EditStands (ranges (g .n)) edits at here
-    here-stands = next-stands (ranges (g .n)) edits ofSide i at from-here below
+    here-stands = next-stands from-here below
 
     module _ (next : ℕ) (copy : List ℕ) (o : OnCopy at here next sheet copy) (can : Bool) (may : can ≡ mayLeave G (sideOf ours) (graphOf copy)) where
       left-here : graphOf copy ≡ leaves G (sideOf ours) g (edit i)
-      unfolding leaves
-      left-here = o .graph
+      left-here = unfold leaves in o .graph
 
       can-make : canMake G (sideOf ours) g i ≡ can
-      unfolding canMake
-      can-make = ap₂ _&&_ (lt-ltb i (length ofSide) below) (ap (mayLeave G (sideOf ours)) (sym left-here)) ∙ sym may
+      can-make = unfold canMake in ap₂ _&&_ (lt-ltb i (length ofSide) below) (ap (mayLeave G (sideOf ours)) (sym left-here)) ∙ sym may
 
       serves-if : (well : Bool) → well ≡ goesWell G m ours (graphOf copy) → serves G m ours g (edit i) ≡ (can && well)
-      unfolding serves allowed
-      serves-if well w = ap₂ _&&_ can-make (ap (goesWell G m ours) (sym left-here) ∙ sym w)
+      serves-if well w = unfold serves allowed in ap₂ _&&_ can-make (ap (goesWell G m ours) (sym left-here) ∙ sym w)
 
       -- It did not serve.
       one-more : (made′ : Bool) → made′ ≡ (made || can) → serves G m ours g (edit i) ≡ false → Tried (i + 1) next made′
       unfolding anyBelow
       one-more made′ e f =
           record {
-            left = others-stand (ranges (g .n)) edits ofSide i at from-here below next (o .ends) .stand;
+            left = others-stand from-here below (o .ends) .stand;
             none = λ j k. before j k (decLt j i);
             some-made = e ∙ ap₂ _||_ (t .some-made) (sym can-make) ∙ ap (λ (k : ℕ). anyBelow k (canMake G (sideOf ours) g)) (sym (add-one i));
-          }
-        where
-          before : (j : ℕ) → j < i + 1 → Dec (j < i) → serves G m ours g (edit j) ≡ false
-          before j k (yes b) = t .none j b
-          before j k (no b) = let q : j ≡ i = omega arith in ap (λ (x : ℕ). serves G m ours g (edit x)) q ∙ f
+          } where
+            before : (j : ℕ) → j < i + 1 → Dec (j < i) → serves G m ours g (edit j) ≡ false
+            before j k (yes b) = t .none j b
+            before j k (no b) = let q : j ≡ i = omega arith in ap (λ (x : ℕ). serves G m ours g (edit x)) q ∙ f
 
       pub no-use : can ≡ true → (well : Bool) → well ≡ goesWell G m ours (graphOf copy) → well ≡ false → (made′ : Bool) → made′ ≡ true → Tried (i + 1) next made′
       no-use e well w f made′ q = one-more made′ (q ∙ sym (ap (made ||_) e ∙ or-true made)) (serves-if well w ∙ ap₂ _&&_ e f)

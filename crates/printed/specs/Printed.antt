@@ -3,7 +3,7 @@ use mathlib.Core.List.{List}
 use Prim.Native.Nat.{ℕ}
 use Rattle.text.specs.Reading.{longestCarried}
 use Rattle.runs.specs.Enter.{enterAnswer, enterSheet}
-use Rattle.line.specs.Line.{askedLine}
+use Rattle.printed.specs.AnswerLine.{askedLine}
 
 -- The bytes of its scratch: as many as a carried book may have.
 abbrev pub scratchBytes : ℕ

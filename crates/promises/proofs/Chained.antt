@@ -5,12 +5,12 @@ use Prim.Native.Nat.{ℕ}
 use Rattle.answer.specs.Asked.{passed, outcome}
 use Rattle.join_edits.specs.Chain.{askJoined, askJoinEdits}
 use Rattle.join_edits.proofs.Joining.{bytes-are}
-use Rattle.join_edits.proofs.Passes.{Joins, joins, call-joins}
+use Rattle.join_edits.proofs.JoinedPasses.{Joins, joins, call-joins}
 use Rattle.promises.specs.Chained.{Chained}
-use Rattle.promises.proofs.Reading.{read-for-60, passes-when}
-use Rattle.promises.proofs.Carried.{is-carried, same-answer, same-output}
-use Rattle.promises.proofs.Sheets.{applies-when, same-sheet}
-use Rattle.promises.proofs.Entered.{joined-leaves, joined-when, one-by-one}
+use Rattle.promises.proofs.JoinedReading.{read-for-60, passes-when}
+use Rattle.promises.proofs.CarriedJoined.{is-carried, same-answer, same-output}
+use Rattle.promises.proofs.JoinedCarriedOut.{applies-when, same-sheet}
+use Rattle.promises.proofs.EnteredJoined.{joined-leaves, joined-when, one-by-one}
 
 pub chained : (p q joined : List ℕ) → askJoined p q ≡ passed joined → Chained p q joined
 unfolding outcome

@@ -19,7 +19,7 @@ use Rattle.sheet.specs.Sheet.{graphOf}
 use Rattle.text.specs.Reading.{textLimits}
 use Rattle.text.specs.Questions.{askBook}
 use Rattle.judge.specs.Questions.{askRules, askSheetAndBook, askJudge}
-use Rattle.single.specs.Scratch.{longestRule}
+use Rattle.runs.specs.Scratch.{longestRule}
 use Rattle.apply.specs.Apply.{appliedSheet}
 use Rattle.runs.specs.Enter.{enterSheet}
 use Rattle.runs.specs.Run.{Bytes}
@@ -31,7 +31,7 @@ use Rattle.game.proofs.Search.{edit-below}
 use Rattle.game.proofs.Plans.{plan-moves, play-moves, first-fair, won-fair}
 use Rattle.play.specs.Questions.{cut, askGame, askPlay}
 use Rattle.play.proofs.Goal.{goal-read}
-use Rattle.play.proofs.Asking.{all-passed}
+use Rattle.play.proofs.PlayStages.{all-passed}
 use Rattle.play.proofs.Right.{play-right}
 use Rattle.promises.specs.Played.{Held, Made, ByCalls}
 use Rattle.promises.specs.Course.{Lent, Makes, Moves, Calls, Follows, WinsByCalls, BrokenByCalls, OverBytes, BeginsByCalls, StatedByCalls}
@@ -79,12 +79,11 @@ module _ (nodes : ℕ) (book : List ℕ) (texts : List (List ℕ)) (G : Game) (s
     of-game : (s : Side) (x : Move) (next : List ℕ) → Moves lent s sheet x next → OfGame s x next
     unfolding Moves allowed leaves
     of-game s (edit i) next m = let (c, d) = can s i next m in record { may = c; held = d .held; graph = d .graph }
-    of-game s pass next (none, n) =
-        record {
-          may = ap not (any-none (length (editsOf G s)) (canMake G s g) (λ i l. is-false (canMake G s g i) (λ c. let (other, m) = makes s i c in none i other m)));
-          held = subst (Held nodes) (sym n) k;
-          graph = ap graphOf n;
-        }
+    of-game s pass next (none, n) = record {
+      may = ap not (any-none (length (editsOf G s)) (canMake G s g) (λ i l. is-false (canMake G s g i) (λ c. let (other, m) = makes s i c in none i other m)));
+      held = subst (Held nodes) (sym n) k;
+      graph = ap graphOf n;
+    }
 
     by-call : (s : Side) (x : Move) → allowed G s g x ≡ true → (next : List ℕ) × Moves lent s sheet x next
     unfolding Moves allowed
@@ -103,18 +102,12 @@ module _ (nodes : ℕ) (book : List ℕ) (texts : List (List ℕ)) (G : Game) (s
   as-game (suc m) dispatcher sheet k p q last (next, move, rest) =
       let o = of-game sheet k dispatcher (p []) next move in
       let r = as-game m disruption next (o .held) (since p (p [])) q last rest in
-      record {
-        held = r .held;
-        ends = plan-moves G m (graphOf sheet) p q (o .may) ∙ ap (λ h. course G m disruption h (since p (p [])) q) (sym (o .graph)) ∙ r .ends;
-      }
+      record { held = r .held; ends = plan-moves G m (graphOf sheet) p q (o .may) ∙ ap (λ h. course G m disruption h (since p (p [])) q) (sym (o .graph)) ∙ r .ends }
   as-game (suc m) disruption sheet k p [] last c = absurd c
   as-game (suc m) disruption sheet k p (x ∷ q) last (next, move, rest) =
       let o = of-game sheet k disruption x next move in
       let r = as-game m dispatcher next (o .held) (since p x) q last rest in
-      record {
-        held = r .held;
-        ends = play-moves G m (graphOf sheet) p x q (o .may) ∙ ap (λ h. course G m dispatcher h (since p x) q) (sym (o .graph)) ∙ r .ends;
-      }
+      record { held = r .held; ends = play-moves G m (graphOf sheet) p x q (o .may) ∙ ap (λ h. course G m dispatcher h (since p x) q) (sym (o .graph)) ∙ r .ends }
 
   -- and each of the game that ends is one by calls: a move, and what follows it.
   module _ (sheet : List ℕ) (k : Held nodes sheet) (s : Side) (x : Move) (rest : Graph → Course) (h : Graph) (then : List ℕ → List ℕ → Type 0)
@@ -211,12 +204,11 @@ module _ (nodes : ℕ) (book : List ℕ) (texts : List (List ℕ)) (G : Game) (s
           (last, c, same)
 
       wins-won : WinsByCalls lent m sheet goal p → Wins G m dispatcher (graphOf sheet) p
-      wins-won w q = go (Comes q) refl
-        where
-          go : (x : Course) → Comes q ≡ x → Won G (Comes q)
-          go (ended h) e = let (last, c, same) = each-course q h e in won-judged q last c .1 (w .wins q last c)
-          go (wrong dispatcher) e = absurd (subst Fair e (follow-fair m dispatcher sheet k p (w .follows) q))
-          go (wrong disruption) e = subst (Won G) (sym e) tt
+      wins-won w q = go (Comes q) refl where
+        go : (x : Course) → Comes q ≡ x → Won G (Comes q)
+        go (ended h) e = let (last, c, same) = each-course q h e in won-judged q last c .1 (w .wins q last c)
+        go (wrong dispatcher) e = absurd (subst Fair e (follow-fair m dispatcher sheet k p (w .follows) q))
+        go (wrong disruption) e = subst (Won G) (sym e) tt
 
       won-wins : Wins G m dispatcher (graphOf sheet) p → WinsByCalls lent m sheet goal p
       won-wins w = record { follows = fair-follow m dispatcher sheet k p (λ q. won-fair G (Comes q) (w q)); wins = λ q last c. won-judged q last c .0 (w q) }
@@ -225,25 +217,23 @@ module _ (nodes : ℕ) (book : List ℕ) (texts : List (List ℕ)) (G : Game) (s
       broken-breaks (q, last, c, e) = let a = as-game m dispatcher sheet k p q last c in (q, subst (Broken G) (sym (a .ends)) (judged-broken last (a .held) .1 e))
 
       breaks-broken : SomeBreaks G m dispatcher (graphOf sheet) p → BrokenByCalls lent m sheet goal p
-      breaks-broken (q, b) = go (Comes q) refl b
-        where
-          go : (x : Course) → Comes q ≡ x → Broken G x → BrokenByCalls lent m sheet goal p
-          go (wrong s) e b = absurd b
-          go (ended h) e b =
-              let (last, c, same) = each-course q h e in
-              (q, last, c, judged-broken last (as-game m dispatcher sheet k p q last c .held) .0 (subst (λ f. T (not (value f (G .goal)))) (sym same) b))
+      breaks-broken (q, b) = go (Comes q) refl b where
+        go : (x : Course) → Comes q ≡ x → Broken G x → BrokenByCalls lent m sheet goal p
+        go (wrong s) e b = absurd b
+        go (ended h) e b =
+            let (last, c, same) = each-course q h e in
+            (q, last, c, judged-broken last (as-game m dispatcher sheet k p q last c .held) .0 (subst (λ f. T (not (value f (G .goal)))) (sym same) b))
 
     pub over-bytes : (sheet : List ℕ) → graphOf sheet .n ≡ nodes → Held nodes sheet → OverBytes sheet goal lent G
-    over-bytes sheet n k =
-        record {
-          held = λ m p q last c. subst (λ j. Held j last) (sym n) (as-game m dispatcher sheet k p q last c .held);
-          ends = λ m p q last c. as-game m dispatcher sheet k p q last c .ends;
-          won = λ m p q last c. won-judged sheet k m p q last c;
-          each = λ m p q h e. each-course sheet k m p q h e;
-          follows = λ m p. ((λ f. follow-fair m dispatcher sheet k p f), (λ f. fair-follow m dispatcher sheet k p f));
-          wins = λ m p. ((λ w. wins-won sheet k m p w), (λ w. won-wins sheet k m p w));
-          broken = λ m p. ((λ b. broken-breaks sheet k m p b), (λ b. breaks-broken sheet k m p b));
-        }
+    over-bytes sheet n k = record {
+      held = λ m p q last c. subst (λ j. Held j last) (sym n) (as-game m dispatcher sheet k p q last c .held);
+      ends = λ m p q last c. as-game m dispatcher sheet k p q last c .ends;
+      won = λ m p q last c. won-judged sheet k m p q last c;
+      each = λ m p q h e. each-course sheet k m p q h e;
+      follows = λ m p. ((λ f. follow-fair m dispatcher sheet k p f), (λ f. fair-follow m dispatcher sheet k p f));
+      wins = λ m p. ((λ w. wins-won sheet k m p w), (λ w. won-wins sheet k m p w));
+      broken = λ m p. ((λ b. broken-breaks sheet k m p b), (λ b. breaks-broken sheet k m p b));
+    }
 
 -- Of each game that was read.
 pub course-by-calls : (sheet book goal edits lengths : List ℕ) (dispatchers moves : ℕ) (G : Game) → askGame sheet book goal edits lengths dispatchers moves ≡ passed G → Bytes sheet
@@ -265,18 +255,17 @@ module _ (sheet goal : List ℕ) (l : Lent) (G : Game) (o : OverBytes sheet goal
   begins-by-calls x (p, e, w) = (p, e, o .wins (suc m) p .1 w)
 
   stated-right : (x : Outcome) → x ≡ answer G m (graphOf sheet) → Right G m (graphOf sheet) → StatedByCalls sheet goal l (suc m) x
-  stated-right x is r =
-      record {
-        first-edit = λ i. (
-          (λ e. let (b, lowest) = r .first-edit i .0 (sym is ∙ e) in (begins-by-calls (edit i) b, λ j h c. lowest j h (begins (edit j) c))),
-          (λ (b, lowest). is ∙ r .first-edit i .1 (begins (edit i) b, λ j h c. lowest j h (begins-by-calls (edit j) c))),
-        );
-        first-pass = ((λ e. begins-by-calls pass (r .first-pass .0 (sym is ∙ e))), (λ b. is ∙ r .first-pass .1 (begins pass b)));
-        cannot-when = (
-          (λ e p f. o .broken (suc m) p .1 (r .cannot-when .0 (sym is ∙ e) p (o .follows (suc m) p .0 f))),
-          (λ h. is ∙ r .cannot-when .1 (λ p f. o .broken (suc m) p .0 (h p (o .follows (suc m) p .1 f)))),
-        );
-      }
+  stated-right x is r = record {
+    first-edit = λ i. (
+      (λ e. let (b, lowest) = r .first-edit i .0 (sym is ∙ e) in (begins-by-calls (edit i) b, λ j h c. lowest j h (begins (edit j) c))),
+      (λ (b, lowest). is ∙ r .first-edit i .1 (begins (edit i) b, λ j h c. lowest j h (begins-by-calls (edit j) c))),
+    );
+    first-pass = ((λ e. begins-by-calls pass (r .first-pass .0 (sym is ∙ e))), (λ b. is ∙ r .first-pass .1 (begins pass b)));
+    cannot-when = (
+      (λ e p f. o .broken (suc m) p .1 (r .cannot-when .0 (sym is ∙ e) p (o .follows (suc m) p .0 f))),
+      (λ h. is ∙ r .cannot-when .1 (λ p f. o .broken (suc m) p .0 (h p (o .follows (suc m) p .1 f)))),
+    );
+  }
 
 pub stated-by-calls : (sheet book goal edits lengths : List ℕ) (dispatchers moves : ℕ) (x : Outcome) → askPlay sheet book goal edits lengths dispatchers moves ≡ passed x → Bytes sheet
     → StatedByCalls sheet goal (record { book = book; texts = cut edits lengths; dispatchers = dispatchers }) moves x

@@ -3,10 +3,10 @@ use Rattle.logic.proofs.Dual.{every-is-no-other, at-least-none, at-least-one-mo
 use Rattle.logic.proofs.Inside.{taken-label, taken-arrow, run-within}
 use Rattle.logic.proofs.Theorem.{carry-choose}
 use Rattle.sheet.specs.Sheet.{present}
-use Rattle.sheet.proofs.Passes.{stored-passes}
-use Rattle.sheet.proofs.ReadBack.{read-back}
-use Rattle.sheet.proofs.Opening.{one-sheet}
-use Rattle.text.proofs.Books.{one-text-of-a-book, one-text-of-an-edit}
+use Rattle.store.proofs.StoredPasses.{stored-passes}
+use Rattle.store.proofs.StoredReads.{read-back}
+use Rattle.sheet.proofs.SoundSheets.{one-sheet}
+use Rattle.text.proofs.TextSpelling.{one-text-of-a-book, one-text-of-an-edit}
 use Rattle.text.proofs.Marked.{marked, faults}
 use Rattle.runs.proofs.Judged.{judge-says-kept}
 use Rattle.runs.proofs.Examples.{examples}

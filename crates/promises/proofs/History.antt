@@ -5,15 +5,16 @@ use Prim.Native.Nat.{ℕ}
 use Rattle.logic.specs.Syntax.{Expr, rule}
 use Rattle.logic.specs.Closing.{closeNode, openNode}
 use Rattle.sheet.specs.Sheet.{present, store, graphOf}
-use Rattle.sheet.proofs.Opening as sheets
+use Rattle.sheet.proofs.SoundSheets as sheets
 use Rattle.close_node.specs.Questions.{askClose, askOpen, closedSheet, openedSheet}
 use Rattle.runs.specs.Run.{Keeps, Call, Bytes}
 use Rattle.runs.specs.Demand3.{RunRight}
 use Rattle.runs.proofs.Runs.{keeps}
 use Rattle.runs.proofs.Demand3.{stored-right}
-use Rattle.promises.specs.History.{Event, entering, closing, opening, leaves, sheetsAfter, Run, runs, enterLines, All, HistoryRight}
-use Rattle.promises.proofs.Steps.{Stores, stores-next}
-use Rattle.promises.proofs.Runs.{Begins, opened, added, ended}
+use Rattle.logic.specs.Lists.{All}
+use Rattle.promises.specs.History.{Event, entering, closing, opening, leaves, sheetsAfter, Run, runs, enterLines, HistoryRight}
+use Rattle.promises.proofs.HistorySteps.{Stores, stores-next}
+use Rattle.promises.proofs.HistoryRuns.{Begins, opened, added, ended}
 
 module _ (book : List ℕ) (rules : List (Expr rule)) where
   pub keeps-stored : (sheet : List ℕ) → Stores book rules sheet → Keeps book sheet
@@ -23,7 +24,7 @@ module _ (book : List ℕ) (rules : List (Expr rule)) where
   right-stored sheet calls s = subst (λ (t : List ℕ). RunRight t book calls) (sym (s .is)) (stored-right book rules (s .graph) calls (s .kept))
 
   all-kept : (sheet : List ℕ) (es : List Event) → Stores book rules sheet → All (Keeps book) (sheetsAfter book sheet es)
-  unfolding All sheetsAfter
+  unfolding sheetsAfter
   all-kept sheet [] s = tt
   all-kept sheet (e ∷ es) s = let n = stores-next book rules sheet e s in (keeps-stored (leaves book sheet e) n, all-kept (leaves book sheet e) es n)
 
@@ -37,13 +38,12 @@ module _ (book : List ℕ) (rules : List (Expr rule)) where
       ended book (Stores book rules) sheet (leaves book sheet (opening i)) (store (openNode (graphOf sheet) i)) (askOpen sheet book i) _ _ s refl (begins (leaves book sheet (opening i)) es (stores-next book rules sheet (opening i) s))
 
   all-right : (rs : List Run) → All (λ r. Stores book rules (r .opens)) rs → All (λ r. Keeps book (r .opens) × RunRight (r .opens) book (r .calls)) rs
-  unfolding All
   all-right [] h = tt
   all-right (r ∷ rs) h = ((keeps-stored (r .opens) (h .0), right-stored (r .opens) (r .calls) (h .0)), all-right rs (h .1))
 
 pub history-right : (book sheet : List ℕ) (es : List Event) → Bytes sheet → Keeps book sheet → HistoryRight book sheet es
 history-right book sheet es bytes k =
-    let o = sheets.opening present sheet bytes (k .sound) in
+    let o = sheets.sound-is-stored present sheet bytes (k .sound) in
     let s : Stores book (k .rules) sheet = record { graph = graphOf sheet; is = o .stored; kept = record { within = o .within; book-read = k .book-read; hold = k .hold } } in
     let b = begins book (k .rules) sheet es s in
     record { kept = all-kept book (k .rules) sheet es s; runs-right = all-right book (k .rules) (runs book sheet es) (b .stored); runs-are = b .lines }

@@ -18,8 +18,7 @@ becomes-block first second page w b p =
     }
 
 pub item-1 : Item1
-item-1 =
-    record {
-      arrow-page = λ first second page a room w e. becomes-block first second page w (arrows a) (arrow-printed first room page a e);
-      label-page = λ first second page room w e. becomes-block first second page w labels (labels-printed first room page e);
-    }
+item-1 = record {
+  arrow-page = λ first second page a room w e. becomes-block first second page w (arrows a) (arrow-printed first room page a e);
+  label-page = λ first second page room w e. becomes-block first second page w labels (labels-printed first room page e);
+}

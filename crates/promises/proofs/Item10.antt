@@ -13,11 +13,10 @@ use Rattle.sheet.specs.Questions.{askSheet}
 use Rattle.text.specs.Code.{code, bookCode}
 use Rattle.text.specs.Reading.{longestCarried, textLimits}
 use Rattle.text.specs.Questions.{readRules, askBook, askEdit}
-use Rattle.text.proofs.Books.{book-is-spelled}
+use Rattle.text.proofs.TextSpelling.{book-is-spelled}
 use Rattle.judge.specs.Questions.{askSheetAndBook}
-use Rattle.single.specs.Scratch.{longestRule, askScratch, upToBroken, overwritten, writings}
-use Rattle.single.proofs.Rooms.{passed-fits}
-use Rattle.single.proofs.Writings.{length-stays, rest-stays, last-at-start, longest-written, Broken, broken-at, all-written}
+use Rattle.runs.specs.Scratch.{longestRule, askScratch, upToBroken, overwritten, writings}
+use Rattle.runs.proofs.ScratchLaws.{passed-fits, length-stays, rest-stays, last-at-start, longest-written, Broken, broken-at, all-written}
 use Rattle.apply.specs.Apply.{afterSteps}
 use Rattle.runs.specs.Enter.{StepsAndCarried, askBefore41, askEnter, enterAnswer, enterSheet, enterScratch}
 use Rattle.runs.specs.Leaves.{ScratchWritten}
@@ -75,54 +74,50 @@ module _ (sheet book edit scratch : List ℕ) where
 
   after-done : book ≢ [] → answer ≡ passed tt → (w : Written sheet book edit scratch) × (w .unwritten ≡ [])
   unfolding left
-  after-done some e = go (eq-nil-or-concat (s .what .carried))
-    where
-      s : ScratchWritten sheet book edit scratch
-      s = leaves .scratch-written sheet book edit scratch 0 (inl e)
+  after-done some e = go (eq-nil-or-concat (s .what .carried)) where
+    s : ScratchWritten sheet book edit scratch
+    s = leaves .scratch-written sheet book edit scratch 0 (inl e)
 
-      go : (s .what .carried ≡ []) ⊎ ((before : List (Expr rule)) × (last : Expr rule) × (s .what .carried ≡ concat before last)) → (w : Written sheet book edit scratch) × (w .unwritten ≡ [])
-      go (inl none) = absurd (some (some-rule (known s .rules) (s .what .steps) (known s .read) (sym (known s .carried-are) ∙ none)))
-      go (inr (before, last, are)) =
-          let rules : s .what .carried ≡ before ++ (last ∷ []) = are ∙ concat-eq-append before last in
-          (left s before last [] rules (all-written (graphOf sheet) (s .what .carried) 0 (sym (known s .answer) ∙ e) ∙ rules), refl)
+    go : (s .what .carried ≡ []) ⊎ ((before : List (Expr rule)) × (last : Expr rule) × (s .what .carried ≡ concat before last)) → (w : Written sheet book edit scratch) × (w .unwritten ≡ [])
+    go (inl none) = absurd (some (some-rule (known s .rules) (s .what .steps) (known s .read) (sym (known s .carried-are) ∙ none)))
+    go (inr (before, last, are)) =
+        let rules : s .what .carried ≡ before ++ (last ∷ []) = are ∙ concat-eq-append before last in
+        (left s before last [] rules (all-written (graphOf sheet) (s .what .carried) 0 (sym (known s .answer) ∙ e) ∙ rules), refl)
 
   same-length : length (enterScratch sheet book edit scratch) ≡ length scratch
   unfolding enterScratch after
-  same-length = go (askBefore41 sheet book edit (length scratch)) refl
-    where
-      go : (a : Asked StepsAndCarried) → askBefore41 sheet book edit (length scratch) ≡ a → length (after a (λ c. writings (graphOf sheet) (c .carried) scratch) scratch) ≡ length scratch
-      go (passed c) e =
-          length-stays (map code (upToBroken (graphOf sheet) (c .carried))) scratch
-          (omega (arith, longest-written (graphOf sheet) (c .carried), passed-fits (c .carried) (length scratch) (passed-33 sheet book edit (length scratch) c e .fits)))
-      go (refused n p) e = refl
+  same-length = go (askBefore41 sheet book edit (length scratch)) refl where
+    go : (a : Asked StepsAndCarried) → askBefore41 sheet book edit (length scratch) ≡ a → length (after a (λ c. writings (graphOf sheet) (c .carried) scratch) scratch) ≡ length scratch
+    go (passed c) e =
+        length-stays (map code (upToBroken (graphOf sheet) (c .carried))) scratch
+        (omega (arith, longest-written (graphOf sheet) (c .carried), passed-fits (c .carried) (length scratch) (passed-33 sheet book edit (length scratch) c e .fits)))
+    go (refused n p) e = refl
 
 empty-book : (sheet edit scratch : List ℕ) → enterScratch sheet [] edit scratch ≡ scratch
 unfolding enterScratch askBefore41 askSheetAndBook askBook readRules upToBroken overwritten after is _>>=_ _>>_
-empty-book sheet edit scratch = go (askSheet sheet) (askEdit (textLimits (graphOf sheet .n)) edit)
-  where
-    size : List (Expr rule) → Edit → Asked StepsAndCarried
-    size rules Z = askScratch (carriedBook Z rules) (length scratch) >> passed (record { steps = Z; carried = carriedBook Z rules })
+empty-book sheet edit scratch = go (askSheet sheet) (askEdit (textLimits (graphOf sheet .n)) edit) where
+  size : List (Expr rule) → Edit → Asked StepsAndCarried
+  size rules Z = askScratch (carriedBook Z rules) (length scratch) >> passed (record { steps = Z; carried = carriedBook Z rules })
 
-    left : Asked StepsAndCarried → List ℕ
-    left a = after a (λ c. writings (graphOf sheet) (c .carried) scratch) scratch
+  left : Asked StepsAndCarried → List ℕ
+  left a = after a (λ c. writings (graphOf sheet) (c .carried) scratch) scratch
 
-    sized : (Z : Edit) (q : Asked (Unit {0})) → left (q >> passed (record { steps = Z; carried = [] })) ≡ scratch
-    sized Z (passed u) = refl
-    sized Z (refused n p) = refl
+  sized : (Z : Edit) (q : Asked (Unit {0})) → left (q >> passed (record { steps = Z; carried = [] })) ≡ scratch
+  sized Z (passed u) = refl
+  sized Z (refused n p) = refl
 
-    go : (q : Asked (Unit {0})) (r : Asked Edit) → left ((q >> askBook (textLimits (graphOf sheet .n)) []) >>= (λ rules. r >>= size rules)) ≡ scratch
-    go (passed u) (passed Z) = sized Z (askScratch [] (length scratch))
-    go (passed u) (refused n p) = refl
-    go (refused n p) r = refl
+  go : (q : Asked (Unit {0})) (r : Asked Edit) → left ((q >> askBook (textLimits (graphOf sheet .n)) []) >>= (λ rules. r >>= size rules)) ≡ scratch
+  go (passed u) (passed Z) = sized Z (askScratch [] (length scratch))
+  go (passed u) (refused n p) = refl
+  go (refused n p) r = refl
 
 pub item-10 : Item10
-item-10 =
-    record {
-      unmoved = unmoved;
-      any-scratch = any-scratch;
-      leaves = leaves;
-      after-41 = after-41;
-      after-done = after-done;
-      empty-book = empty-book;
-      same-length = same-length;
-    }
+item-10 = record {
+  unmoved = unmoved;
+  any-scratch = any-scratch;
+  leaves = leaves;
+  after-41 = after-41;
+  after-done = after-done;
+  empty-book = empty-book;
+  same-length = same-length;
+}

@@ -15,10 +15,10 @@ use Rattle.logic.specs.Limits.{Within}
 use Rattle.logic.proofs.Bools.{true-false, so, is-true}
 use Rattle.logic.proofs.Inside.{run-n}
 use Rattle.sheet.specs.Sheet.{present, store, graphOf}
-use Rattle.sheet.proofs.ReadBack.{read-back}
-use Rattle.sheet.proofs.Opening.{opening}
-use Rattle.sheet.proofs.Passes.{stored-passes}
-use Rattle.sheet.proofs.Small.{store-small}
+use Rattle.store.proofs.StoredReads.{read-back}
+use Rattle.sheet.proofs.SoundSheets.{sound-is-stored}
+use Rattle.store.proofs.StoredPasses.{stored-passes}
+use Rattle.store.proofs.StoredBytes.{store-small}
 use Rattle.text.specs.Reading.{textLimits}
 use Rattle.text.specs.Questions.{askBook, askEdit}
 use Rattle.apply.specs.Apply.{afterSteps}
@@ -32,8 +32,8 @@ use Rattle.count_small.specs.Questions.{mostSmall, Texts, askCount, countsOf}
 use Rattle.count_small.specs.Examples.{cases}
 use Rattle.count_small.proofs.Numbering.{and-both}
 use Rattle.count_small.proofs.Matched.{matched}
-use Rattle.count_small.proofs.Exact.{SmallAnd}
-use Rattle.count_small.proofs.Right.{counted-graphs, total-is}
+use Rattle.count_small.proofs.ExactCounts.{SmallAnd}
+use Rattle.count_small.proofs.CountsRight.{counted-graphs, total-is}
 use Rattle.count_small.proofs.Examples.{cases-right}
 use Rattle.promises.specs.Item12.{SmallSheet, Counted, Item12}
 
@@ -54,17 +54,16 @@ said false false e = (λ p a. true-false (e .1 a) refl, λ not-a. refl)
 module _ (n : ℕ) (book : List ℕ) (rules : List (Expr rule)) (book-read : askBook (textLimits n) book ≡ passed rules) where
   -- The sheet that stores a graph keeps the book exactly when the rules hold on the graph.
   kept : (g : Graph) → Within g → g .n ≡ n → (holdAll g rules ≡ true) ↔ Keeps book (store g)
-  kept g w e = (there, back)
-    where
-      there : holdAll g rules ≡ true → Keeps book (store g)
-      there h = keeps book rules g (record { within = w; book-read = subst (λ m. askBook (textLimits m) book ≡ passed rules) (sym e) book-read; hold = so h })
+  kept g w e = (there, back) where
+    there : holdAll g rules ≡ true → Keeps book (store g)
+    there h = keeps book rules g (record { within = w; book-read = subst (λ m. askBook (textLimits m) book ≡ passed rules) (sym e) book-read; hold = so h })
 
-      back : Keeps book (store g) → holdAll g rules ≡ true
-      back k =
-          let same : graphOf (store g) ≡ g = read-back g w in
-          let read : askBook (textLimits n) book ≡ passed (k .rules) = subst (λ m. askBook (textLimits m) book ≡ passed (k .rules)) (ap (λ h. h .n) same ∙ e) (k .book-read) in
-          let one : k .rules ≡ rules = passed-same (sym read ∙ book-read) in
-          is-true _ (subst (λ h. T (holdAll h rules)) same (subst (λ rs. T (holdAll (graphOf (store g)) rs)) one (k .hold)))
+    back : Keeps book (store g) → holdAll g rules ≡ true
+    back k =
+        let same : graphOf (store g) ≡ g = read-back g w in
+        let read : askBook (textLimits n) book ≡ passed (k .rules) = subst (λ m. askBook (textLimits m) book ≡ passed (k .rules)) (ap (λ h. h .n) same ∙ e) (k .book-read) in
+        let one : k .rules ≡ rules = passed-same (sym read ∙ book-read) in
+        is-true _ (subst (λ h. T (holdAll h rules)) same (subst (λ rs. T (holdAll (graphOf (store g)) rs)) one (k .hold)))
 
   module _ (edit : List ℕ) (Z : Edit) (edit-read : askEdit (textLimits n) edit ≡ passed Z) (b c : Bool) where
     -- small graphs and small sheets, by whether the book is kept before and after
@@ -91,7 +90,7 @@ module _ (n : ℕ) (book : List ℕ) (rules : List (Expr rule)) (book-read : ask
 
     back : (sheet : List ℕ) → Sheets sheet → Graphs (graphOf sheet) × (store (graphOf sheet) ≡ sheet)
     back sheet (s, x, y) =
-        let stored : sheet ≡ store (graphOf sheet) = opening present sheet (s .are-bytes) (s .sound) .stored in
+        let stored : sheet ≡ store (graphOf sheet) = sound-is-stored present sheet (s .are-bytes) (s .sound) .stored in
         let first : test b (holdAll (graphOf sheet) rules) ≡ true = before (graphOf sheet) (s .small) .1 (subst (λ t. Said b (Keeps book t)) stored x) in
         ((s .small, ap₂ _&&_ first (next (graphOf sheet) (s .small) .1 y)), sym stored)
 
@@ -121,8 +120,7 @@ module _ (n : ℕ) (book edit : List ℕ) (t : Texts) (h : askCount n book edit 
       }
 
 marked-case : countsOf 1 (0x21 ∷ 0x01 ∷ 0x03 ∷ 0x00 ∷ []) (0x30 ∷ []) ≡ record { kept = 2; lost = 0; repaired = 0; broken = 2 }
-unfolding cases
-marked-case = let e = cases-right in cc
+marked-case = unfold cases in let e = cases-right in cc
 
 pub item-12 : Item12
 item-12 = record { counted = counts-right; total-of-one = total-is 1; total-of-two = total-is 2; total-of-three = total-is 3; marked = marked-case }

@@ -7,7 +7,7 @@ use native.Mathlib.Omega.{arith}
 use lib.Dec.{leb}
 use lib.ListN.{length, take}
 use Rattle.answer.specs.Asked.{refused}
-use Rattle.line.specs.Line.{answerLine, earlyLine}
+use Rattle.printed.specs.AnswerLine.{answerLine, earlyLine}
 use Rattle.log.specs.Log.{recorded, blocksOf, readLog}
 use Rattle.log.specs.Faults.{editsIn}
 use Rattle.log.specs.Replay.{editLines, sheetHeld, stopLine, replayLines, replaySheet, logStart, sheetIn, bookIn, logIn, replayed}
@@ -35,19 +35,16 @@ module _ (bytes : List ℕ) (q p : ℕ) where
   }
 
   faulty : readLog bytes .ending ≡ refused q p → Faulty bytes q p
-  faulty e = go (ends-badly 0 [] (blocksOf bytes) q p e)
-    where
-      go : Somewhere 0 [] (blocksOf bytes) q p → Faulty bytes q p
-      go (after m b) = let d : m ≡ p = omega (arith, b .place) in of-bad (subst (Bad 0 [] (blocksOf bytes) q p) d b)
+  faulty e = go (ends-badly 0 [] (blocksOf bytes) q p e) where
+    go : Somewhere 0 [] (blocksOf bytes) q p → Faulty bytes q p
+    go (after m b) = let d : m ≡ p = omega (arith, b .place) in of-bad (subst (Bad 0 [] (blocksOf bytes) q p) d b)
 
   module _ (sheet book : List ℕ) (e : readLog bytes .ending ≡ refused q p) where
     bad-lines : replayLines sheet book bytes ≡ editLines sheet book (editsIn (take p (blocksOf bytes))) ++ answerLine q p
-    unfolding replayLines stopLine
-    bad-lines = ap₂ (λ x y. editLines sheet book x ++ stopLine y) (faulty e .counted) e
+    bad-lines = unfold replayLines stopLine in ap₂ (λ x y. editLines sheet book x ++ stopLine y) (faulty e .counted) e
 
     bad-sheet : replaySheet sheet book bytes ≡ sheetHeld sheet book (editsIn (take p (blocksOf bytes)))
-    unfolding replaySheet
-    bad-sheet = ap (sheetHeld sheet book) (faulty e .counted)
+    bad-sheet = unfold replaySheet in ap (sheetHeld sheet book) (faulty e .counted)
 
 pub item-4 : Item4
 item-4 = record {

@@ -1,6 +1,6 @@
 -- Item 6 of document 02 is kept.
 use mathlib.Core.Path.{_≡_, refl, sym, ap, _∙_}
-use mathlib.Core.Bool.{Bool, true, false, _&&_, cond, and-false}
+use mathlib.Core.Bool.{Bool, true, false, _&&_, and-false}
 use mathlib.Core.List.{List}
 use mathlib.Core.Logic.{_⊎_, inl, inr, ⊎-elim}
 use Prim.Native.Nat.{ℕ, zero, suc, _+_, _-_, _*_, _/_, _%_, _≤_, _<_}
@@ -16,49 +16,49 @@ use Rattle.logic.specs.Syntax.{Edit}
 use Rattle.logic.specs.Graph.{Graph, Nodes, isNode, anyBelow}
 use Rattle.logic.specs.Limits.{Within, labelCount, arrowCount, maxNodes}
 use Rattle.logic.proofs.Below.{any-cong, any-one}
+use Rattle.logic.proofs.Bools.{true-false, is-false}
 use Rattle.logic.proofs.Closing.{closed-none, nominal-empty, pair-empty-from, pair-empty-to, node-in-false, pair-in-false-from, pair-in-false-to, run-inUse, only-in-use}
 use Rattle.logic.proofs.Theorem.{carried}
 use Rattle.seal.specs.Seal.{blockBytes, Form, sealRight}
 use Rattle.sheet.specs.Sheet.{present, former, blockCount, sheetBytes, bitIn, usedIn, blank, graphIn, graphOf}
 use Rattle.sheet.specs.Questions.{blockOf, headRight, free, zeroRight, askBlocks, askSheet, SoundIn}
-use Rattle.sheet.specs.Converted.{converted}
-use Rattle.sheet.proofs.Parts.{block-bit, byte-2, used-0}
-use Rattle.sheet.proofs.Blocks.{labels-fit, label-lines, rows-fit}
-use Rattle.sheet.proofs.Free.{guarded, label-closed, arrow-end, arrow-start, word-bit-clear}
-use Rattle.sheet.proofs.Asks.{ask-3, ask-4, right-length, block-next, block-stop}
-use Rattle.sheet.proofs.Opening.{opening, one-sheet}
-use Rattle.sheet.proofs.ReadBack.{read-back}
-use Rattle.sheet.proofs.Converted.{converted-reads}
+use Rattle.text.specs.Reading.{textLimits}
+use Rattle.text.specs.Questions.{askEdit}
+use Rattle.store.specs.Converted.{converted}
+use Rattle.sheet.proofs.BlockParts.{block-bit, byte-2, used-0}
+use Rattle.sheet.proofs.BlockLaws.{labels-fit, label-lines, rows-fit}
+use Rattle.sheet.proofs.FreeBits.{guarded, label-closed, arrow-end, arrow-start, word-bit-clear}
+use Rattle.sheet.proofs.SheetQuestionLaws.{ask-3, ask-4, right-length, block-next, block-stop}
+use Rattle.sheet.proofs.SoundSheets.{sound-is-stored, one-sheet}
+use Rattle.store.proofs.StoredReads.{read-back}
+use Rattle.store.proofs.ConvertedLaws.{converted-reads}
 use Rattle.apply.specs.Apply.{afterSteps, askApply, appliedSheet}
 use Rattle.runs.specs.Enter.{askEnter, enterSheet}
 use Rattle.runs.specs.Run.{Bytes}
 use Rattle.runs.proofs.After.{applied-is, applied-read, after-graph}
-use Rattle.close_node.proofs.Answers.{found, close-already, close-kept, open-already}
-use Rattle.promises.proofs.Entered.{entered, enter-leaves}
+use Rattle.close_node.proofs.CloseStages.{found, close-already, close-kept, open-already}
+use Rattle.promises.proofs.EnteredJoined.{entered, enter-leaves}
 use Rattle.promises.proofs.History.{history-right}
 use Rattle.promises.specs.Item6.{Closed, UpTo4, Item6}
 
 -- The nodes in use after apply and after enter: the same after a refusal, and those of the steps after done.
 module _ (sheet : List ℕ) (bytes : Bytes sheet) where
+  uses-after : (edit : List ℕ) (Z : Edit) → askSheet sheet ≡ passed tt → askEdit (textLimits (graphOf sheet .n)) edit ≡ passed Z → graphOf (afterSteps Z sheet) .inUse ≡ graphOf sheet .inUse
+  uses-after edit Z s f = ap (λ (g : Graph). g .inUse) (after-graph sheet bytes s edit Z f) ∙ run-inUse Z (graphOf sheet)
+
   applied-uses : (edit : List ℕ) → graphOf (appliedSheet sheet edit) .inUse ≡ graphOf sheet .inUse
   unfolding appliedSheet after
-  applied-uses edit = go (askApply sheet edit) refl
-    where
-      go : (x : Asked Edit) → askApply sheet edit ≡ x → graphOf (appliedSheet sheet edit) .inUse ≡ graphOf sheet .inUse
-      go (passed Z) e =
-          let (s, f) = applied-read sheet edit Z e in
-          ap (λ (t : List ℕ). graphOf t .inUse) (applied-is sheet edit Z e) ∙ ap (λ (g : Graph). g .inUse) (after-graph sheet bytes s edit Z f) ∙ run-inUse Z (graphOf sheet)
-      go (refused q p) e = ap (λ (x : Asked Edit). graphOf (after x (λ Z. afterSteps Z sheet) sheet) .inUse) e
+  applied-uses edit = go (askApply sheet edit) refl where
+    go : (x : Asked Edit) → askApply sheet edit ≡ x → graphOf (appliedSheet sheet edit) .inUse ≡ graphOf sheet .inUse
+    go (passed Z) e = let (s, f) = applied-read sheet edit Z e in cc (applied-is sheet edit Z e, uses-after edit Z s f)
+    go (refused q p) e = cc
 
   entered-uses : (book edit : List ℕ) (room : ℕ) → graphOf (enterSheet sheet book edit room) .inUse ≡ graphOf sheet .inUse
   unfolding enterSheet after
-  entered-uses book edit room = go (askEnter sheet book edit room) refl
-    where
-      go : (x : Asked Edit) → askEnter sheet book edit room ≡ x → graphOf (enterSheet sheet book edit room) .inUse ≡ graphOf sheet .inUse
-      go (passed Z) e =
-          let s = entered sheet book edit room Z e in
-          ap (λ (t : List ℕ). graphOf t .inUse) (enter-leaves sheet book edit room Z e) ∙ ap (λ (g : Graph). g .inUse) (after-graph sheet bytes (s .sound) edit Z (s .edit-read)) ∙ run-inUse Z (graphOf sheet)
-      go (refused q p) e = ap (λ (x : Asked Edit). graphOf (after x (λ Z. afterSteps Z sheet) sheet) .inUse) e
+  entered-uses book edit room = go (askEnter sheet book edit room) refl where
+    go : (x : Asked Edit) → askEnter sheet book edit room ≡ x → graphOf (enterSheet sheet book edit room) .inUse ≡ graphOf sheet .inUse
+    go (passed Z) e = let s = entered sheet book edit room Z e in cc (enter-leaves sheet book edit room Z e, uses-after edit Z (s .sound) (s .edit-read))
+    go (refused q p) e = cc
 
 -- Question 4 of block b, once all before it has passed.
 module _ (t : List ℕ) where
@@ -86,8 +86,7 @@ module _ (t : List ℕ) where
       ap (λ (m : ℕ). anyBelow m (usedIn present (blockOf t 0))) (byte-2 t) ∙ sym (any-cong (getD t 2 0) (usedIn present t) (usedIn present (blockOf t 0)) (λ i l. used-0 t present i)) ∙ e
 
   head-wrong : anyBelow (getD (blockOf t 0) 2 0) (usedIn present (blockOf t 0)) ≡ false → headRight present 0 (blockOf t 0) ≡ false
-  unfolding headRight
-  head-wrong e = rw (e, and-false, and-false, and-false)
+  head-wrong e = unfold headRight in rw (e, and-false, and-false, and-false)
 
   answers-3 : length t ≡ sheetBytes → sealRight (present .sums) (blockOf t 0) ≡ true → anyBelow (graphOf t .n) (graphOf t .inUse) ≡ false → askSheet t ≡ refused 3 0
   answers-3 long check e =
@@ -96,11 +95,7 @@ module _ (t : List ℕ) where
 
   -- a bit that is there where the zeros would be right
   wrong : (b : ℕ) → (x : Bool) → (zeros b ≡ true → x ≡ false) → x ≡ true → zeros b ≡ false
-  wrong b x f e = go (zeros b) refl
-    where
-      go : (c : Bool) → zeros b ≡ c → zeros b ≡ false
-      go false h = h
-      go true h = let z : _≡_ {A = ℕ} 0 1 = ap {B = ℕ} (λ (y : Bool). cond y 1 0) (sym (f h) ∙ e) in absurd (omega (arith, z))
+  wrong b x f e = is-false (zeros b) (λ h. true-false e (f h))
 
   clear : (b j q i : ℕ) → zeros b ≡ true → 16 + 8 * suc j ≤ present .sums .bodyBytes → q ≡ blockBytes * b + (16 + 8 * j)
       → ((p r : ℕ) → p ≡ 16 + 8 * j + i / 8 → r ≡ i % 8 → i < 64 → free present (getD t 2 0) nodes b p r ≡ false) → bitIn t q i ≡ false
@@ -125,68 +120,63 @@ module _ (t : List ℕ) where
   -- an arrow that is there is of one of the 16 kinds
   kind-few : (a i j : ℕ) → graphOf t .joined a i j ≡ true → a < arrowCount
   unfolding graphIn
-  kind-few a i j e = go (decLt a arrowCount)
-    where
-      go : Dec (a < arrowCount) → a < arrowCount
-      go (yes l) = l
-      go (no l) = let z : _≡_ {A = ℕ} 0 1 = ap {B = ℕ} (λ (y : Bool). cond y 1 0) (sym (ap (_&& (ltb i maxNodes && bitIn t (blockBytes * (a + 1) + (16 + 8 * i)) j)) (le-ltb a arrowCount (omega arith))) ∙ e) in absurd (omega (arith, z))
+  kind-few a i j e = go (decLt a arrowCount) where
+    go : Dec (a < arrowCount) → a < arrowCount
+    go (yes l) = l
+    go (no l) = true-false e (ap (_&& (ltb i maxNodes && bitIn t (blockBytes * (a + 1) + (16 + 8 * i)) j)) (le-ltb a arrowCount (omega arith)))
 
 closed-nodes : (g : Graph) (i j : ℕ) → Closed g i ⊎ Closed g j → (isNode g i ≡ false) ⊎ (isNode g j ≡ false)
 closed-nodes g i j = ⊎-elim (λ x. inl (closed-none g i x)) (λ y. inr (closed-none g j y))
 
 -- A blank sheet's graph is within the limits.
 blank-within : (n : ℕ) → 1 ≤ n → n ≤ maxNodes → Within (blank n)
-blank-within n l u =
-    record {
-      some-node = any-one n (λ i. ltb i n) 0 (omega arith) (lt-ltb 0 n (omega arith));
-      few-nodes = u;
-      use-below = λ i m. le-ltb i n m;
-      labels-in = λ k i h. refl;
-      arrows-in = λ a. record { starts = λ i j h. refl; ends = λ i j h. refl };
-      no-more-labels = λ k i m. refl;
-      no-more-arrows = λ a i j m. refl;
-    }
+blank-within n l u = record {
+  some-node = any-one n (λ i. ltb i n) 0 (omega arith) (lt-ltb 0 n (omega arith));
+  few-nodes = u;
+  use-below = λ i m. le-ltb i n m;
+  labels-in = λ k i h. refl;
+  arrows-in = λ a. record { starts = λ i j h. refl; ends = λ i j h. refl };
+  no-more-labels = λ k i m. refl;
+  no-more-arrows = λ a i j m. refl;
+}
 
 all-in-use : (f : Form) (card : List ℕ) (i : ℕ) → graphIn (former f) card .inUse i ≡ ltb i (graphIn (former f) card .n)
-unfolding graphIn
-all-in-use f card i = refl
+all-in-use f card i = unfold graphIn in refl
 
 converted-uses : (f : Form) (card : List ℕ) → Bytes card → SoundIn (former f) card → (i : ℕ) → graphOf (converted f card) .inUse i ≡ ltb i (graphOf (converted f card) .n)
 converted-uses f card small sound i = rw (converted-reads f card small sound) (all-in-use f card i)
 
 held : (t : List ℕ) (i : ℕ) → graphOf t .inUse i ≡ bitIn t 400 i
-unfolding graphIn
-held t i = refl
+held t i = unfold graphIn in refl
 
 pub item-6 : Item6
-item-6 =
-    record {
-      in-use-at-400 = held;
-      part-of-the-graph = one-sheet present;
-      steps-keep-them = run-inUse;
-      apply-keeps-them = λ sheet edit bytes. applied-uses sheet bytes edit;
-      enter-keeps-them = λ sheet book edit room bytes. entered-uses sheet bytes book edit room;
-      only-in-use = λ sheet bytes sound E i c. only-in-use (graphOf sheet) (opening present sheet bytes sound .within) E i (closed-none (graphOf sheet) i c);
-      nominal-empty = λ g k c. nominal-empty g k (closed-none g k c);
-      pair-empty = λ g k l. ⊎-elim (λ c. pair-empty-from g k l (closed-none g k c)) (λ c. pair-empty-to g k l (closed-none g l c));
-      node-in-false = λ sheet bytes sound k E c. node-in-false (graphOf sheet) (opening present sheet bytes sound .within) k E (closed-none (graphOf sheet) k c);
-      pair-in-false = λ sheet bytes sound k l R.
-          let w = opening present sheet bytes sound .within in
-          ⊎-elim (λ c. pair-in-false-from (graphOf sheet) w k l R (closed-none (graphOf sheet) k c)) (λ c. pair-in-false-to (graphOf sheet) w k l R (closed-none (graphOf sheet) l c));
-      no-label = λ sheet bytes sound i c k. opening present sheet bytes sound .within .labels-in k i (closed-none (graphOf sheet) i c);
-      no-arrow = λ sheet bytes sound i j c a.
-          let w = opening present sheet bytes sound .within .arrows-in a in
-          ⊎-elim (λ x. w .starts i j (closed-none (graphOf sheet) i x)) (λ y. w .ends i j (closed-none (graphOf sheet) j y)) c;
-      label-else-4 = λ sheet u k i c e. answers-4 sheet 0 (omega arith) u (wrong sheet 0 _ (λ z. label-clear sheet z k i (closed-none (graphOf sheet) i c)) e);
-      arrow-else-4 = λ sheet a u i j c e.
-          let l : a < arrowCount = kind-few sheet a i j e in
-          answers-4 sheet (suc a) (omega arith) u (wrong sheet (suc a) _ (λ z. arrow-clear sheet a z i j (closed-nodes (graphOf sheet) i j c)) e);
-      blank-in-use = λ n i l u. ap (λ (g : Graph). g .inUse i) (read-back (blank n) (blank-within n l u));
-      converted-in-use = converted-uses;
-      histories = history-right;
-      still-exact = carried;
-      close-closed = λ sheet book i rules bytes q c. let d = close-already sheet book i (found sheet book i (record { what = rules; is = q })) bytes c in (sym (d .0), sym (d .1));
-      open-open = λ sheet book i rules bytes q c. let d = open-already sheet book i (found sheet book i (record { what = rules; is = q })) bytes c in (sym (d .0), sym (d .1));
-      none-in-use-3 = answers-3;
-      close-54 = λ sheet book i rules q c k. let d = close-kept sheet book i (found sheet book i (record { what = rules; is = q })) c k in (sym (d .0), sym (d .1));
-    }
+item-6 = record {
+  in-use-at-400 = held;
+  part-of-the-graph = one-sheet present;
+  steps-keep-them = run-inUse;
+  apply-keeps-them = λ sheet edit bytes. applied-uses sheet bytes edit;
+  enter-keeps-them = λ sheet book edit room bytes. entered-uses sheet bytes book edit room;
+  only-in-use = λ sheet bytes sound E i c. only-in-use (graphOf sheet) (sound-is-stored present sheet bytes sound .within) E i (closed-none (graphOf sheet) i c);
+  nominal-empty = λ g k c. nominal-empty g k (closed-none g k c);
+  pair-empty = λ g k l. ⊎-elim (λ c. pair-empty-from g k l (closed-none g k c)) (λ c. pair-empty-to g k l (closed-none g l c));
+  node-in-false = λ sheet bytes sound k E c. node-in-false (graphOf sheet) (sound-is-stored present sheet bytes sound .within) k E (closed-none (graphOf sheet) k c);
+  pair-in-false = λ sheet bytes sound k l R.
+      let w = sound-is-stored present sheet bytes sound .within in
+      ⊎-elim (λ c. pair-in-false-from (graphOf sheet) w k l R (closed-none (graphOf sheet) k c)) (λ c. pair-in-false-to (graphOf sheet) w k l R (closed-none (graphOf sheet) l c));
+  no-label = λ sheet bytes sound i c k. sound-is-stored present sheet bytes sound .within .labels-in k i (closed-none (graphOf sheet) i c);
+  no-arrow = λ sheet bytes sound i j c a.
+      let w = sound-is-stored present sheet bytes sound .within .arrows-in a in
+      ⊎-elim (λ x. w .starts i j (closed-none (graphOf sheet) i x)) (λ y. w .ends i j (closed-none (graphOf sheet) j y)) c;
+  label-else-4 = λ sheet u k i c e. answers-4 sheet 0 (omega arith) u (wrong sheet 0 _ (λ z. label-clear sheet z k i (closed-none (graphOf sheet) i c)) e);
+  arrow-else-4 = λ sheet a u i j c e.
+      let l : a < arrowCount = kind-few sheet a i j e in
+      answers-4 sheet (suc a) (omega arith) u (wrong sheet (suc a) _ (λ z. arrow-clear sheet a z i j (closed-nodes (graphOf sheet) i j c)) e);
+  blank-in-use = λ n i l u. ap (λ (g : Graph). g .inUse i) (read-back (blank n) (blank-within n l u));
+  converted-in-use = converted-uses;
+  histories = history-right;
+  still-exact = carried;
+  close-closed = λ sheet book i rules bytes q c. let d = close-already sheet book i (found sheet book i (record { what = rules; is = q })) bytes c in (sym (d .0), sym (d .1));
+  open-open = λ sheet book i rules bytes q c. let d = open-already sheet book i (found sheet book i (record { what = rules; is = q })) bytes c in (sym (d .0), sym (d .1));
+  none-in-use-3 = answers-3;
+  close-54 = λ sheet book i rules q c k. let d = close-kept sheet book i (found sheet book i (record { what = rules; is = q })) c k in (sym (d .0), sym (d .1));
+}

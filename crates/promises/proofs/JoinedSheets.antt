@@ -14,9 +14,9 @@ use Rattle.logic.specs.Limits.{Within, maxNodes}
 use Rattle.logic.proofs.Bools.{both-so, so-both}
 use Rattle.sheet.specs.Sheet.{present, store, graphOf}
 use Rattle.sheet.specs.Questions.{askSheet, Sound}
-use Rattle.sheet.proofs.Opening.{opening}
-use Rattle.sheet.proofs.Passes.{stored-passes}
-use Rattle.sheet.proofs.ReadBack.{read-back}
+use Rattle.sheet.proofs.SoundSheets.{sound-is-stored}
+use Rattle.store.proofs.StoredPasses.{stored-passes}
+use Rattle.store.proofs.StoredReads.{read-back}
 use Rattle.text.specs.Reading.{textLimits}
 use Rattle.text.specs.Questions.{askBook}
 use Rattle.runs.specs.Run.{Keeps}
@@ -24,7 +24,7 @@ use Rattle.join_sheets.specs.Joined.{joinedGraph, nodesTotal, askJoin, joinedSh
 use Rattle.join_sheets.specs.Joinable.{JoinableBook}
 use Rattle.join_sheets.proofs.Joined.{nodes-joined, pairs-joined, rule-joined}
 use Rattle.join_sheets.proofs.Together.{join-within, join-assoc}
-use Rattle.join_sheets.proofs.Answers.{joins, passes, joined-is}
+use Rattle.join_sheets.proofs.JoinStages.{joins, passes, joined-is}
 use Rattle.promises.specs.JoinedSheets.{TwoJoined, ThreeJoined, JoinedRight}
 use Rattle.promises.proofs.Ranges.{read-alike}
 
@@ -74,21 +74,19 @@ module _ (first second : List ℕ) (v : Within (graphOf first)) (w : Within (gra
       book-read = alike (joinedSheet first second);
       hold = subst (λ x. T (holdAll x rules)) (sym reads) (book-joined g h rules q .1 (keeps-these book first rules (alike first) (k .0), keeps-these book second rules (alike second) (k .1)));
     }),
-  )
-    where
-      alike : (sheet : List ℕ) → askBook (textLimits (graphOf sheet .n)) book ≡ passed rules
-      alike sheet = read-alike n (graphOf sheet .n) book rules q r
+  ) where
+    alike : (sheet : List ℕ) → askBook (textLimits (graphOf sheet .n)) book ≡ passed rules
+    alike sheet = read-alike n (graphOf sheet .n) book rules q r
 
   pub two-joined : TwoJoined first second
-  two-joined =
-      record {
-        sound = is-sound;
-        graph-is = reads;
-        nodes = λ E q. ap (λ x. value x E) reads ∙ nodes-joined g h E q;
-        pairs = λ R q. ap (λ x. value x R) reads ∙ pairs-joined g h R q;
-        rule-holds = λ K q. subst (λ x. T (value x K) ↔ (T (value g K) × T (value h K))) (sym reads) (rule-joined g h K q);
-        book-kept = kept;
-      }
+  two-joined = record {
+    sound = is-sound;
+    graph-is = reads;
+    nodes = λ E q. ap (λ x. value x E) reads ∙ nodes-joined g h E q;
+    pairs = λ R q. ap (λ x. value x R) reads ∙ pairs-joined g h R q;
+    rule-holds = λ K q. subst (λ x. T (value x K) ↔ (T (value g K) × T (value h K))) (sym reads) (rule-joined g h K q);
+    book-kept = kept;
+  }
 
 -- Three.
 module _ (first second third : List ℕ) (u : Within (graphOf first)) (v : Within (graphOf second)) (w : Within (graphOf third))
@@ -100,12 +98,10 @@ module _ (first second third : List ℕ) (u : Within (graphOf first)) (v : Withi
   two-three = passes second third b c (omega arith)
 
   left-n : graphOf (joinedSheet first second) .n ≡ nodesTotal first second
-  unfolding joinedGraph
-  left-n = ap (λ x. x .n) (reads first second u v one-two)
+  left-n = unfold joinedGraph in ap (λ x. x .n) (reads first second u v one-two)
 
   right-n : graphOf (joinedSheet second third) .n ≡ nodesTotal second third
-  unfolding joinedGraph
-  right-n = ap (λ x. x .n) (reads second third v w two-three)
+  right-n = unfold joinedGraph in ap (λ x. x .n) (reads second third v w two-three)
 
   left : askJoin (joinedSheet first second) third ≡ passed tt
   left = passes (joinedSheet first second) third (is-sound first second u v one-two) c (omega (arith, left-n))
@@ -114,21 +110,19 @@ module _ (first second third : List ℕ) (u : Within (graphOf first)) (v : Withi
   right = passes first (joinedSheet second third) a (is-sound second third v w two-three) (omega (arith, right-n))
 
   pub three-joined : ThreeJoined first second third
-  three-joined =
-      record {
-        from-the-left = (one-two, left);
-        from-the-right = (two-three, right);
-        same-bytes =
-            joined-is (joinedSheet first second) third left
-            ∙ ap store (ap (λ x. joinedGraph x (graphOf third)) (reads first second u v one-two) ∙ join-assoc (graphOf first) (graphOf second) (graphOf third) ∙ ap (joinedGraph (graphOf first)) (sym (reads second third v w two-three)))
-            ∙ sym (joined-is first (joinedSheet second third) right);
-      }
+  three-joined = record {
+    from-the-left = (one-two, left);
+    from-the-right = (two-three, right);
+    same-bytes =
+        joined-is (joinedSheet first second) third left
+        ∙ ap store (ap (λ x. joinedGraph x (graphOf third)) (reads first second u v one-two) ∙ join-assoc (graphOf first) (graphOf second) (graphOf third) ∙ ap (joinedGraph (graphOf first)) (sym (reads second third v w two-three)))
+        ∙ sym (joined-is first (joinedSheet second third) right);
+  }
 
 pub joined-right : JoinedRight
-joined-right =
-    record {
-      two = λ first second p q e.
-          two-joined first second (opening present first p (joins first second e .first-sound) .within) (opening present second q (joins first second e .second-sound) .within) e;
-      three = λ first second third p q r a b c few.
-          three-joined first second third (opening present first p a .within) (opening present second q b .within) (opening present third r c .within) a b c few;
-    }
+joined-right = record {
+  two = λ first second p q e.
+      two-joined first second (sound-is-stored present first p (joins first second e .first-sound) .within) (sound-is-stored present second q (joins first second e .second-sound) .within) e;
+  three = λ first second third p q r a b c few.
+      three-joined first second third (sound-is-stored present first p a .within) (sound-is-stored present second q b .within) (sound-is-stored present third r c .within) a b c few;
+}

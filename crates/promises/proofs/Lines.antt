@@ -7,14 +7,15 @@ use lib.ListN.{length}
 use Rattle.answer.specs.Asked.{Asked, passed, refused, askedNumber, askedPlace}
 use Rattle.answer.proofs.Refusals.{Refuses, passes, refuses, number-by, place-by, outcome-refuses, wider}
 use Rattle.runs.specs.Enter.{enterAnswer}
-use Rattle.runs.proofs.Numbers.{enter-refuses}
+use Rattle.runs.proofs.EnterRefusals.{enter-refuses}
 use Rattle.runs.proofs.Examples as examples
-use Rattle.line.specs.Line.{digits, answerLine, askedLine, said, earlyLine}
-use Rattle.line.proofs.Says.{says-number, says-place, lines-tell, not-early}
+use Rattle.decimal.specs.Digits.{digits, said}
+use Rattle.printed.specs.AnswerLine.{answerLine, askedLine, earlyLine}
+use Rattle.printed.proofs.AnswerLineLaws.{says-number, says-place, lines-tell, not-early}
 use Rattle.printed.specs.Printed.{scratchBytes}
 use Rattle.log.specs.Log.{readLog}
 use Rattle.log.specs.Replay.{stopLine}
-use Rattle.log.proofs.Refusals.{log-refuses}
+use Rattle.log.proofs.LogRefusals.{log-refuses}
 use Rattle.promises.specs.Lines.{Says, Lines}
 
 -- Answers of enter, and the end of a log, have no more digits than a line.
@@ -32,8 +33,7 @@ line sheet book edit = of-enter (entered sheet book edit scratchBytes)
 
 -- A replay that does not stop prints no line, which is none of these.
 no-line : (number place : ℕ) → stopLine (passed tt) ≡ answerLine number place → ⊥
-unfolding stopLine answerLine digits
-no-line number place e = let z : _≡_ {A = ℕ} 0 9 = ap length e in omega arith
+no-line number place e = unfold stopLine answerLine digits in let z : _≡_ {A = ℕ} 0 9 = ap length e in omega arith
 
 says : {x : Asked (Unit {0})} → Refuses 52 53 65535 x → Says (stopLine x) x
 unfolding stopLine askedNumber askedPlace said

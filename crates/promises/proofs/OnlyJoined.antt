@@ -6,7 +6,7 @@ use Rattle.logic.specs.Carry.{followedBy}
 use Rattle.text.specs.Code.{code, editCode}
 use Rattle.text.specs.Reading.{codes, choice, follow}
 use Rattle.text.specs.Reading as reading
-use Rattle.text.specs.Questions.{whole, askEdit}
+use Rattle.text.specs.Questions.{whole, askOne}
 use Rattle.runs.specs.Examples.{Result, enteredOnT, calls, results}
 use Rattle.runs.proofs.Examples.{examples}
 use Rattle.join_edits.specs.Chain.{askJoined}
@@ -19,9 +19,7 @@ firstTwo (a ∷ []) = []
 firstTwo (a ∷ b ∷ rest) = a .answer ∷ b .answer ∷ []
 
 joined-so : askJoined takes adds ≡ passed takesThenAdds
-unfolding askJoined askEdit whole codes choice follow reading._>>=_ _>>=_ _>>_ is followedBy code editCode
-joined-so = refl
+joined-so = unfold askJoined askOne whole codes choice follow reading._>>=_ _>>=_ _>>_ is followedBy code editCode in refl
 
 pub only-joined : OnlyJoined
-unfolding calls results enteredOnT firstTwo
-only-joined = let e = ap firstTwo examples in record { joins = joined-so; joined-entered = cc; first-refused = cc }
+only-joined = unfold calls results enteredOnT firstTwo in let e = ap firstTwo examples in record { joins = joined-so; joined-entered = cc; first-refused = cc }

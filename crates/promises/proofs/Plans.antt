@@ -5,28 +5,28 @@ use Prim.Native.Nat.{ℕ, _-_}
 use Rattle.answer.specs.Asked.{Asked, passed, refused, after}
 use Rattle.logic.specs.Closing.{closeNode, openNode}
 use Rattle.sheet.specs.Sheet.{present, store, graphOf}
-use Rattle.sheet.proofs.Opening as sheets
+use Rattle.sheet.proofs.SoundSheets as sheets
 use Rattle.close_node.specs.Questions.{askClose, askOpen, closedSheet, openedSheet}
 use Rattle.plan_store.specs.Store.{placeIn}
 use Rattle.plan_store.specs.Questions.{askReturn}
 use Rattle.plan_store.specs.Calls.{returnedSheet}
 use Rattle.runs.specs.Run.{Keeps}
 use Rattle.runs.specs.Demand3.{RunRight}
-use Rattle.promises.specs.History.{entering, closing, opening, Run, All}
+use Rattle.logic.specs.Lists.{All}
+use Rattle.promises.specs.History.{entering, closing, opening, Run}
 use Rattle.promises.specs.Plans.{Step, making, keeping, returning, dropping, State, left, sheetsThrough, runsThrough, linesThrough, PlannedRight}
-use Rattle.promises.proofs.Steps.{stores-next}
-use Rattle.promises.proofs.Runs.{Begins, opened, added, ended}
-use Rattle.promises.proofs.Bytes.{StateBytes, bytes-next}
+use Rattle.promises.proofs.HistorySteps.{stores-next}
+use Rattle.promises.proofs.HistoryRuns.{Begins, opened, added, ended}
+use Rattle.promises.proofs.HistoryBytes.{StateBytes, bytes-next}
 use Rattle.promises.proofs.Returns.{Good, good-keeps, good-right, returned-good}
 
 module _ (book : List ℕ) where
   good-returned : (x : State) (v : ℕ) → StateBytes x → Good book (x .sheet) → Good book (returnedSheet (x .sheet) (x .store) v book)
   unfolding returnedSheet after
-  good-returned x v b g = go (askReturn (x .sheet) (x .store) v book) refl
-    where
-      go : (q : Asked (Unit {0})) → askReturn (x .sheet) (x .store) v book ≡ q → Good book (returnedSheet (x .sheet) (x .store) v book)
-      go (refused n p) e = subst (Good book) (sym (ap (λ (q : Asked (Unit {0})). after q (λ u. placeIn (x .store) (v - 1)) (x .sheet)) e)) g
-      go (passed u) e = returned-good book (x .sheet) (x .store) v (b .store-bytes) e
+  good-returned x v b g = go (askReturn (x .sheet) (x .store) v book) refl where
+    go : (q : Asked (Unit {0})) → askReturn (x .sheet) (x .store) v book ≡ q → Good book (returnedSheet (x .sheet) (x .store) v book)
+    go (refused n p) e = subst (Good book) (sym (ap (λ (q : Asked (Unit {0})). after q (λ u. placeIn (x .store) (v - 1)) (x .sheet)) e)) g
+    go (passed u) e = returned-good book (x .sheet) (x .store) v (b .store-bytes) e
 
   good-next : (x : State) (c : Step) → StateBytes x → Good book (x .sheet) → Good book (left book x c .sheet)
   good-next x (making e) b g = record { rules = g .rules; stores = stores-next book (g .rules) (x .sheet) e (g .stores) }
@@ -35,7 +35,7 @@ module _ (book : List ℕ) where
   good-next x (dropping v) b g = g
 
   all-kept : (x : State) (cs : List Step) → StateBytes x → Good book (x .sheet) → All (Keeps book) (sheetsThrough book x cs)
-  unfolding All sheetsThrough
+  unfolding sheetsThrough
   all-kept x [] b g = tt
   all-kept x (c ∷ cs) b g = let n = good-next x c b g in (good-keeps book (left book x c .sheet) n, all-kept (left book x c) cs (bytes-next book x c b) n)
 
@@ -54,13 +54,12 @@ module _ (book : List ℕ) where
   begins x (dropping v ∷ cs) b g = begins (left book x (dropping v)) cs (bytes-next book x (dropping v) b) g
 
   all-right : (rs : List Run) → All (λ r. Good book (r .opens)) rs → All (λ r. Keeps book (r .opens) × RunRight (r .opens) book (r .calls)) rs
-  unfolding All
   all-right [] h = tt
   all-right (r ∷ rs) h = ((good-keeps book (r .opens) (h .0), good-right book (r .opens) (r .calls) (h .0)), all-right rs (h .1))
 
 pub planned-right : (book : List ℕ) (x : State) (calls : List Step) → StateBytes x → Keeps book (x .sheet) → PlannedRight book x calls
 planned-right book x calls b k =
-    let o = sheets.opening present (x .sheet) (b .sheet-bytes) (k .sound) in
+    let o = sheets.sound-is-stored present (x .sheet) (b .sheet-bytes) (k .sound) in
     let g : Good book (x .sheet) = record { rules = k .rules; stores = record { graph = graphOf (x .sheet); is = o .stored; kept = record { within = o .within; book-read = k .book-read; hold = k .hold } } } in
     let s = begins book x calls b g in
     record { kept = all-kept book x calls b g; runs-right = all-right book (runsThrough book x calls) (s .stored); runs-are = s .lines }

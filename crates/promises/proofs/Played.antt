@@ -5,26 +5,25 @@ use mathlib.Core.List.{List, [], _∷_}
 use Prim.Native.Nat.{ℕ, zero, suc, _+_, _≤_, _<_}
 use native.Mathlib.Omega.{arith}
 use borrow.Author.Tests.{le-leb}
-use lib.Dec.{T, leb}
+use lib.Dec.{T}
 use lib.ListN.{length, getD, take, drop, length-drop}
 use lib.Seq.{getD-take, getD-drop, length-take-le}
-use Rattle.answer.specs.Asked.{passed, _>>=_, _>>_, is, outcome}
+use Rattle.answer.specs.Asked.{passed, _>>_, is, outcome}
 use Rattle.logic.specs.Syntax.{Expr, rule, Edit, finish}
 use Rattle.logic.specs.Steps.{run}
 use Rattle.logic.specs.Carry.{carriedBook}
 use Rattle.logic.proofs.Inside.{run-n}
 use Rattle.sheet.specs.Sheet.{graphIn, graphOf}
-use Rattle.sheet.proofs.Small.{store-small}
-use Rattle.text.specs.Reading.{Limits, textLimits, longestCarried, deepestCarried}
-use Rattle.text.specs.Code.{bookCode, bookLevels}
+use Rattle.store.proofs.StoredBytes.{store-small}
+use Rattle.text.specs.Reading.{Limits, textLimits}
 use Rattle.text.specs.Questions.{askBook, askEdit}
 use Rattle.judge.specs.Questions.{askSheetAndBook}
-use Rattle.single.specs.Scratch.{longestRule, askScratch}
+use Rattle.runs.specs.Scratch.{longestRule, askScratch}
 use Rattle.apply.specs.Apply.{afterSteps, askApply}
 use Rattle.runs.specs.Clerk.{Fed}
 use Rattle.runs.specs.Enter.{askEnter, enterAnswer}
 use Rattle.runs.specs.Run.{Given}
-use Rattle.answer.proofs.AskedLaws.{passed-same, bind-passed, then-passed, outcome-passed, then-on, is-so}
+use Rattle.answer.proofs.AskedLaws.{passed-same, bind-passed, outcome-passed, then-on, is-so}
 use Rattle.judge.proofs.QuestionLaws.{hold-asked, asked-hold}
 use Rattle.runs.proofs.OneCall.{enter-asks, when-passed}
 use Rattle.runs.proofs.After.{applied-is, applies, after-sound, after-graph, after-n}
@@ -32,8 +31,8 @@ use Rattle.runs.proofs.Demand3.{demand-3}
 use Rattle.game.specs.Game.{Side, dispatcher, disruption, Game, editsOf, leaves, canMake}
 use Rattle.carry.specs.Carrying.{askCarried}
 use Rattle.play.specs.Questions.{cut, askEdits}
-use Rattle.play.proofs.Edits.{edits-stand}
-use Rattle.play.proofs.Asking.{Passed, all-passed, enough, gameOf}
+use Rattle.play.proofs.GameEdits.{edits-stand}
+use Rattle.play.proofs.PlayStages.{Passed, all-passed, enough, gameOf}
 use Rattle.play.proofs.Right.{each-fits, made-entered}
 use Rattle.promises.specs.Played.{Held, Made, ByCalls, PlayedByCalls}
 
@@ -45,17 +44,15 @@ each-read l (t ∷ ts) Zs e i h =
     let (Z, r, e₁) = bind-passed (askEdit l t) _ Zs e in
     let (Ys, rs, e₂) = bind-passed (askEdits l ts) _ Zs e₁ in
     let same : Z ∷ Ys ≡ Zs = passed-same e₂ in
-    subst (λ Xs. i < length Xs → askEdit l (getD (t ∷ ts) i []) ≡ passed (getD Xs i finish)) same (go Z Ys r (λ j k. each-read l ts Ys rs j k) i) h
-  where
-    go : (Z : Edit) (Ys : List Edit) → askEdit l t ≡ passed Z → ((j : ℕ) → j < length Ys → askEdit l (getD ts j []) ≡ passed (getD Ys j finish)) → (i : ℕ) → i < suc (length Ys)
-        → askEdit l (getD (t ∷ ts) i []) ≡ passed (getD (Z ∷ Ys) i finish)
-    go Z Ys r rest zero h = r
-    go Z Ys r rest (suc i) h = rest i (omega arith)
+    subst (λ Xs. i < length Xs → askEdit l (getD (t ∷ ts) i []) ≡ passed (getD Xs i finish)) same (go Z Ys r (λ j k. each-read l ts Ys rs j k) i) h where
+      go : (Z : Edit) (Ys : List Edit) → askEdit l t ≡ passed Z → ((j : ℕ) → j < length Ys → askEdit l (getD ts j []) ≡ passed (getD Ys j finish)) → (i : ℕ) → i < suc (length Ys)
+          → askEdit l (getD (t ∷ ts) i []) ≡ passed (getD (Z ∷ Ys) i finish)
+      go Z Ys r rest zero h = r
+      go Z Ys r rest (suc i) h = rest i (omega arith)
 
 -- A carried book that fits, and a scratch that is long enough.
 long-enough : (carried : List (Expr rule)) (room : ℕ) → askCarried carried ≡ passed tt → longestRule carried ≤ room → askScratch carried room ≡ passed tt
-unfolding askScratch
-long-enough carried room e h = then-on e _ ∙ is-so _ _ (le-leb (longestRule carried) room h)
+long-enough carried room e h = unfold askScratch in then-on e _ ∙ is-so _ _ (le-leb (longestRule carried) room h)
 
 -- The sheet that the steps of an edit leave is one that the game may come to.
 module _ (nodes : ℕ) (sheet : List ℕ) (k : Held nodes sheet) (text : List ℕ) (Z : Edit) (read : askEdit (textLimits nodes) text ≡ passed Z) where
@@ -63,16 +60,14 @@ module _ (nodes : ℕ) (sheet : List ℕ) (k : Held nodes sheet) (text : List �
   edit-read = subst (λ n. askEdit (textLimits n) text ≡ passed Z) (sym (k .as-many)) read
 
   few : run Z (graphOf sheet) .n < 256
-  unfolding graphIn
-  few = omega (arith, run-n Z (graphOf sheet), k .are-bytes 2)
+  few = unfold graphIn in omega (arith, run-n Z (graphOf sheet), k .are-bytes 2)
 
   left : Held nodes (afterSteps Z sheet)
-  left =
-      record {
-        are-bytes = store-small (run Z (graphOf sheet)) few;
-        sound = after-sound sheet (k .are-bytes) (k .sound) text Z edit-read;
-        as-many = after-n sheet (k .are-bytes) (k .sound) text Z edit-read ∙ k .as-many;
-      }
+  left = record {
+    are-bytes = store-small (run Z (graphOf sheet)) few;
+    sound = after-sound sheet (k .are-bytes) (k .sound) text Z edit-read;
+    as-many = after-n sheet (k .are-bytes) (k .sound) text Z edit-read ∙ k .as-many;
+  }
 
   made : (G : Game) (s : Side) (i : ℕ) → getD (editsOf G s) i finish ≡ Z → (after : List ℕ) → after ≡ afterSteps Z sheet → Made nodes G s i sheet after
   unfolding leaves
@@ -117,15 +112,14 @@ module _ (sheet book goal edits lengths : List ℕ) (d moves : ℕ) (G : Game) (
 
   module _ (held : List ℕ) (k : Held nodes held) where
     abbrev for-enter : (i : ℕ) → i < length (take d Zs) → Given book (getD texts i []) held
-    for-enter i l =
-        record {
-          are-bytes = k .are-bytes;
-          sound = k .sound;
-          rules = rules;
-          book-read = subst (λ n. askBook (textLimits n) book ≡ passed rules) (sym (k .as-many)) (p .book-read .is);
-          steps = getD (take d Zs) i finish;
-          edit-read = edit-read nodes held k (getD texts i []) (getD (take d Zs) i finish) (dispatcher-read i l);
-        }
+    for-enter i l = record {
+      are-bytes = k .are-bytes;
+      sound = k .sound;
+      rules = rules;
+      book-read = subst (λ n. askBook (textLimits n) book ≡ passed rules) (sym (k .as-many)) (p .book-read .is);
+      steps = getD (take d Zs) i finish;
+      edit-read = edit-read nodes held k (getD texts i []) (getD (take d Zs) i finish) (dispatcher-read i l);
+    }
 
     can-make : (i : ℕ) (l : i < length (take d Zs)) (room : ℕ) → longestRule (carriedBook (getD (take d Zs) i finish) rules) ≤ room
         → T (canMake read dispatcher (graphOf held) i) ↔ (enterAnswer held book (getD texts i []) room ≡ passed tt)
@@ -154,17 +148,15 @@ module _ (sheet book goal edits lengths : List ℕ) (d moves : ℕ) (G : Game) (
 
     by-calls-read : ByCalls nodes book texts read held
     unfolding outcome
-    by-calls-read =
-        record {
-          made-when = can-make;
-          made-if = made-if;
-          entered = λ i l room e. made nodes held k (getD texts i []) (getD (take d Zs) i finish) (dispatcher-read i l) read dispatcher i refl _ (demand-3 .entered-leaves (for-enter i l) room e);
-          applies = λ i l. ap outcome (carried-out i l);
-          applied = λ i l. made nodes held k (getD texts (length (take d Zs) + i) []) (getD (drop d Zs) i finish) (disruption-read i l) read disruption i refl _ (applied-is held _ _ (carried-out i l));
-        }
-      where
-        carried-out : (i : ℕ) → i < length (drop d Zs) → askApply held (getD texts (length (take d Zs) + i) []) ≡ passed (getD (drop d Zs) i finish)
-        carried-out i l = applies held _ _ (k .sound) (edit-read nodes held k _ _ (disruption-read i l))
+    by-calls-read = record {
+      made-when = can-make;
+      made-if = made-if;
+      entered = λ i l room e. made nodes held k (getD texts i []) (getD (take d Zs) i finish) (dispatcher-read i l) read dispatcher i refl _ (demand-3 .entered-leaves (for-enter i l) room e);
+      applies = λ i l. ap outcome (carried-out i l);
+      applied = λ i l. made nodes held k (getD texts (length (take d Zs) + i) []) (getD (drop d Zs) i finish) (disruption-read i l) read disruption i refl _ (applied-is held _ _ (carried-out i l));
+    } where
+      carried-out : (i : ℕ) → i < length (drop d Zs) → askApply held (getD texts (length (take d Zs) + i) []) ≡ passed (getD (drop d Zs) i finish)
+      carried-out i l = applies held _ _ (k .sound) (edit-read nodes held k _ _ (disruption-read i l))
 
     pub by-calls : ByCalls nodes book texts G held
     by-calls = subst (λ H. ByCalls nodes book texts H held) (p .is) by-calls-read
@@ -185,8 +177,7 @@ lists-split sheet book goal edits lengths d moves G p =
     (d-of, omega (arith, length-cut edits lengths, many, d-of, length-drop d Zs, as-many sheet book goal edits lengths d moves G p))
 
 pub played-by-calls : PlayedByCalls
-played-by-calls =
-    record {
-      given = λ sheet book goal edits lengths d moves G e bytes. record { are-bytes = bytes; sound = all-passed sheet book goal edits lengths d moves G e .sound; as-many = refl };
-      each = λ sheet book goal edits lengths d moves G e held k. by-calls sheet book goal edits lengths d moves G (all-passed sheet book goal edits lengths d moves G e) held k;
-    }
+played-by-calls = record {
+  given = λ sheet book goal edits lengths d moves G e bytes. record { are-bytes = bytes; sound = all-passed sheet book goal edits lengths d moves G e .sound; as-many = refl };
+  each = λ sheet book goal edits lengths d moves G e held k. by-calls sheet book goal edits lengths d moves G (all-passed sheet book goal edits lengths d moves G e) held k;
+}

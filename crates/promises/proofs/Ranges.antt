@@ -7,7 +7,7 @@ use Rattle.logic.specs.Syntax.{Sort, rule, Expr, all, none, label, nominal, com
 use Rattle.logic.specs.Limits.{ranges, InRange}
 use Rattle.text.specs.Reading.{textLimits}
 use Rattle.text.specs.Questions.{askBook}
-use Rattle.text.proofs.Books.{EachAllowed, book-is-spelled, spelled-book-passes}
+use Rattle.text.proofs.TextSpelling.{EachAllowed, book-is-spelled, spelled-book-passes}
 use Rattle.join_sheets.specs.Joinable.{Joinable, JoinableBook}
 
 module _ (n m : ℕ) where

@@ -7,20 +7,20 @@ use Rattle.answer.specs.Asked.{Asked, passed, refused, _>>=_}
 use Rattle.logic.specs.Syntax.{Expr, rule}
 use Rattle.sheet.specs.Sheet.{present, graphOf}
 use Rattle.sheet.specs.Questions.{askSheet}
-use Rattle.sheet.proofs.Opening as sheets
+use Rattle.sheet.proofs.SoundSheets as sheets
 use Rattle.text.specs.Reading.{textLimits}
 use Rattle.text.specs.Questions.{askBook}
 use Rattle.judge.specs.Questions.{askRules}
 use Rattle.plan_store.specs.Store.{placeIn}
 use Rattle.plan_store.specs.Questions.{askKept, askReturn}
 use Rattle.plan_store.specs.Calls.{returnedSheet}
-use Rattle.plan_store.proofs.Laws.{place-small, place-sound}
+use Rattle.plan_store.proofs.StoreLaws.{place-small, place-sound}
 use Rattle.runs.specs.Run.{Keeps, Call, Bytes}
 use Rattle.runs.specs.Demand3.{RunRight}
 use Rattle.judge.proofs.QuestionLaws.{asked-hold}
-use Rattle.promises.proofs.Steps.{Stores}
+use Rattle.promises.proofs.HistorySteps.{Stores}
 use Rattle.promises.proofs.History.{keeps-stored, right-stored}
-use Rattle.promises.proofs.Back.{return-told, is-returned}
+use Rattle.promises.proofs.GivenBack.{return-told, is-returned}
 
 module _ (book : List ℕ) where
   -- A sheet that stores a graph which keeps the book, whatever it reads as.
@@ -36,13 +36,12 @@ module _ (book : List ℕ) where
 
   judged : (kept : List ℕ) → Bytes kept → askSheet kept ≡ passed tt → askKept kept book ≡ passed tt → Good kept
   unfolding askKept _>>=_
-  judged kept b sound e = go (askBook (textLimits (graphOf kept .n)) book) refl e
-    where
-      go : (q : Asked (List (Expr rule))) → askBook (textLimits (graphOf kept .n)) book ≡ q → (q >>= (λ rules. askRules (graphOf kept) rules 0)) ≡ passed tt → Good kept
-      go (passed rules) r h =
-          let o = sheets.opening present kept b sound in
-          record { rules = rules; stores = record { graph = graphOf kept; is = o .stored; kept = record { within = o .within; book-read = r; hold = asked-hold (graphOf kept) rules 0 h } } }
-      go (refused n p) r h = let z : _≡_ {A = ℕ} 0 1 = cc in absurd (omega arith)
+  judged kept b sound e = go (askBook (textLimits (graphOf kept .n)) book) refl e where
+    go : (q : Asked (List (Expr rule))) → askBook (textLimits (graphOf kept .n)) book ≡ q → (q >>= (λ rules. askRules (graphOf kept) rules 0)) ≡ passed tt → Good kept
+    go (passed rules) r h =
+        let o = sheets.sound-is-stored present kept b sound in
+        record { rules = rules; stores = record { graph = graphOf kept; is = o .stored; kept = record { within = o .within; book-read = r; hold = asked-hold (graphOf kept) rules 0 h } } }
+    go (refused n p) r h = let z : _≡_ {A = ℕ} 0 1 = cc in absurd (omega arith)
 
   -- "and a new run opens there"
   pub returned-good : (sheet t : List ℕ) (v : ℕ) → Bytes t → askReturn sheet t v book ≡ passed tt → Good (returnedSheet sheet t v book)

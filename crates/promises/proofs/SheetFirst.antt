@@ -20,63 +20,48 @@ pub check-first : AsksSheetFirst askSheet
 check-first = record { first = λ sheet q p e. e }
 
 pub label-bit-first : (k i : ℕ) → AsksSheetFirst (λ sheet. askLabelBit sheet k i)
-unfolding askLabelBit _>>_
-label-bit-first k i = record { first = λ sheet q p e. rw e }
+label-bit-first k i = unfold askLabelBit _>>_ in record { first = λ sheet q p e. rw e }
 
 pub arrow-bit-first : (a i j : ℕ) → AsksSheetFirst (λ sheet. askArrowBit sheet a i j)
-unfolding askArrowBit _>>_
-arrow-bit-first a i j = record { first = λ sheet q p e. rw e }
+arrow-bit-first a i j = unfold askArrowBit _>>_ in record { first = λ sheet q p e. rw e }
 
 pub print-arrow-first : (a room : ℕ) → AsksSheetFirst (λ sheet. askPrintArrow sheet a room)
-unfolding askPrintArrow _>>_
-print-arrow-first a room = record { first = λ sheet q p e. rw e }
+print-arrow-first a room = unfold askPrintArrow _>>_ in record { first = λ sheet q p e. rw e }
 
 pub print-labels-first : (room : ℕ) → AsksSheetFirst (λ sheet. askPrintLabels sheet room)
-unfolding askPrintLabels _>>_
-print-labels-first room = record { first = λ sheet q p e. rw e }
+print-labels-first room = unfold askPrintLabels _>>_ in record { first = λ sheet q p e. rw e }
 
 pub type-page-first : (page : List ℕ) → AsksSheetFirst (λ sheet. askType sheet page)
-unfolding askType _>>_
-type-page-first page = record { first = λ sheet q p e. rw e }
+type-page-first page = unfold askType _>>_ in record { first = λ sheet q p e. rw e }
 
 pub judge-first : (book : List ℕ) → AsksSheetFirst (λ sheet. askJudge sheet book)
-unfolding askJudge askSheetAndBook _>>_ _>>=_
-judge-first book = record { first = λ sheet q p e. rw e }
+judge-first book = unfold askJudge askSheetAndBook _>>_ _>>=_ in record { first = λ sheet q p e. rw e }
 
 pub apply-first : (edit : List ℕ) → AsksSheetFirst (λ sheet. askApply sheet edit)
-unfolding askApply _>>_ _>>=_
-apply-first edit = record { first = λ sheet q p e. rw e }
+apply-first edit = unfold askApply _>>_ _>>=_ in record { first = λ sheet q p e. rw e }
 
 pub close-first : (book : List ℕ) (node : ℕ) → AsksSheetFirst (λ sheet. askClose sheet book node)
-unfolding askClose askNode askSheetAndBook _>>_ _>>=_
-close-first book node = record { first = λ sheet q p e. rw e }
+close-first book node = unfold askClose askNode askSheetAndBook _>>_ _>>=_ in record { first = λ sheet q p e. rw e }
 
 pub open-first : (book : List ℕ) (node : ℕ) → AsksSheetFirst (λ sheet. askOpen sheet book node)
-unfolding askOpen askNode askSheetAndBook _>>_ _>>=_
-open-first book node = record { first = λ sheet q p e. rw e }
+open-first book node = unfold askOpen askNode askSheetAndBook _>>_ _>>=_ in record { first = λ sheet q p e. rw e }
 
 pub keep-first : (store : List ℕ) (name : ℕ) → AsksSheetFirst (λ sheet. askKeep sheet store name)
-unfolding askKeep _>>_
-keep-first store name = record { first = λ sheet q p e. rw e }
+keep-first store name = unfold askKeep _>>_ in record { first = λ sheet q p e. rw e }
 
 pub return-first : (store : List ℕ) (name : ℕ) (book : List ℕ) → AsksSheetFirst (λ sheet. askReturn sheet store name book)
-unfolding askReturn _>>_
-return-first store name book = record { first = λ sheet q p e. rw e }
+return-first store name book = unfold askReturn _>>_ in record { first = λ sheet q p e. rw e }
 
 pub enter-first : (book edit : List ℕ) (room : ℕ) → AsksSheetFirst (λ sheet. enterAnswer sheet book edit room)
-unfolding askEnter askBefore41 askSheetAndBook _>>_ _>>=_ outcome
-enter-first book edit room = record { first = λ sheet q p e. rw e }
+enter-first book edit room = unfold askEnter askBefore41 askSheetAndBook _>>_ _>>=_ outcome in record { first = λ sheet q p e. rw e }
 
 -- The first of two sheets; and the second, where the first is sound.
 pub join-first : (second : List ℕ) → AsksSheetFirst (λ sheet. askJoin sheet second)
-unfolding askJoin _>>_
-join-first second = record { first = λ sheet q p e. rw e }
+join-first second = unfold askJoin _>>_ in record { first = λ sheet q p e. rw e }
 
 pub join-second : (first : List ℕ) → Sound first → AsksSheetFirst (λ sheet. askJoin first sheet)
-unfolding askJoin _>>_
-join-second first sound = record { first = λ sheet q p e. rw (sound, e) }
+join-second first sound = unfold askJoin _>>_ in record { first = λ sheet q p e. rw (sound, e) }
 
 -- Play asks 62 first: it asks the sheet first where that has passed.
 pub play-first : (book goal edits lengths : List ℕ) (dispatchers moves : ℕ) → listsRight edits lengths dispatchers moves ≡ true → AsksSheetFirst (λ sheet. askPlay sheet book goal edits lengths dispatchers moves)
-unfolding askPlay askGame askAims askSheetAndBook is _>>_ _>>=_
-play-first book goal edits lengths dispatchers moves ok = record { first = λ sheet q p e. rw (ok, e) }
+play-first book goal edits lengths dispatchers moves ok = unfold askPlay askGame askAims askSheetAndBook is _>>_ _>>=_ in record { first = λ sheet q p e. rw (ok, e) }

@@ -4,6 +4,7 @@ use mathlib.Core.Path.{_≡_}
 use mathlib.Core.List.{List, [], _∷_, _++_}
 use Prim.Native.Nat.{ℕ}
 use lib.ListN.{length}
+use Rattle.logic.specs.Lists.{All}
 use Rattle.answer.specs.Asked.{Asked, passed, refused}
 use Rattle.close_node.specs.Questions.{askClose, askOpen, closedSheet, openedSheet}
 use Rattle.runs.specs.Enter.{enterSheet}
@@ -58,10 +59,6 @@ enterLines book sheet (opening node ∷ es) = enterLines book (leaves book sheet
 unfoldable pub logs : (book : List ℕ) → List Run → List Line
 logs book [] = []
 logs book (r ∷ rs) = log book (r .opens) (r .calls) ++ logs book rs
-
-unfoldable pub All : {A : Type 0} → (A → Type 0) → List A → Type 0
-All P [] = Unit {0}
-All P (x ∷ xs) = P x × All P xs
 
 pub record HistoryRight (book sheet : List ℕ) (events : List Event) : Type 0 where
   -- After each call the sheet keeps the book.

@@ -8,7 +8,7 @@ use Rattle.answer.specs.Asked.{passed, refused}
 use Rattle.logic.specs.Syntax.{Expr, rule}
 use Rattle.text.specs.Code.{code}
 use Rattle.text.specs.Reading.{longestCarried}
-use Rattle.single.specs.Scratch.{longestRule}
+use Rattle.runs.specs.Scratch.{longestRule}
 use Rattle.runs.specs.Enter.{StepsAndCarried, askBefore41, enterAnswer, enterSheet, enterScratch}
 use Rattle.runs.specs.Leaves.{Leaves}
 use Rattle.runs.specs.Unmoved.{Unmoved}

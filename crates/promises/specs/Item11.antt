@@ -10,7 +10,7 @@ use Rattle.sheet.specs.Questions.{Sound}
 use Rattle.text.specs.Reading.{textLimits, carriedLimits}
 use Rattle.text.specs.Questions.{askBook, askRule}
 use Rattle.judge.specs.Questions.{askJudge}
-use Rattle.shortening.specs.Asking.{askCheck, CheckPasses}
+use Rattle.shortening.specs.Questions.{askCheck, CheckPasses}
 use Rattle.runs.specs.Run.{Bytes}
 
 -- The check accepts the text sent for the carried one.

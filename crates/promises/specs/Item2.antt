@@ -8,7 +8,7 @@ use Rattle.answer.specs.Asked.{Asked, refused}
 use Rattle.seal.specs.Seal.{blockBytes, Form, modulo255, exchanged}
 use Rattle.sheet.specs.Sheet.{SheetForm, present, former, sheetBytes, graphIn, graphOf}
 use Rattle.sheet.specs.Questions.{blockOf, SoundIn, Sound}
-use Rattle.sheet.specs.Converted.{askConvert, converted}
+use Rattle.store.specs.Converted.{askConvert, converted}
 use Rattle.sheet.specs.Noticed.{AsksSheetFirst}
 use Rattle.runs.specs.Run.{Bytes}
 

@@ -7,7 +7,7 @@ use lib.Dec.{leb}
 use lib.ListN.{length, take}
 use Rattle.answer.specs.Asked.{passed, refused}
 use Rattle.seal.specs.Seal.{blockBytes}
-use Rattle.line.specs.Line.{answerLine, earlyLine}
+use Rattle.printed.specs.AnswerLine.{answerLine, earlyLine}
 use Rattle.printed.specs.Printed.{printedLine, printedSheet}
 use Rattle.log.specs.Log.{lastNumber, blocksOf, readLog}
 use Rattle.log.specs.Logs.{Logs}

@@ -17,7 +17,7 @@ use Rattle.logic.specs.Closing.{canClose}
 use Rattle.seal.specs.Seal.{Form, sealRight}
 use Rattle.sheet.specs.Sheet.{present, former, sheetBytes, bitIn, store, blank, graphOf}
 use Rattle.sheet.specs.Questions.{blockOf, headRight, askBlock, askSheet, SoundIn, Sound}
-use Rattle.sheet.specs.Converted.{converted}
+use Rattle.store.specs.Converted.{converted}
 use Rattle.apply.specs.Apply.{appliedSheet}
 use Rattle.runs.specs.Enter.{enterSheet}
 use Rattle.runs.specs.Run.{Bytes, Keeps}

@@ -7,8 +7,8 @@ use Rattle.plan_store.specs.Questions.{askReturn}
 use Rattle.plan_store.specs.Calls.{returnedSheet}
 use Rattle.runs.specs.Run.{Bytes, Keeps, Call}
 use Rattle.runs.specs.Demand3.{RunRight}
-use Rattle.promises.specs.History.{All}
-use Rattle.promises.specs.Store.{StoreCall, blank, KeepsBytes, nothing, heldIn, GivesBack}
+use Rattle.logic.specs.Lists.{All}
+use Rattle.promises.specs.StoreCalls.{StoreCall, blank, KeepsBytes, nothing, heldIn, GivesBack}
 
 pub record Item7 : Type 0 where
   -- "While only these calls write the store, a return that is done gives back, byte for byte, the sheet last kept under that name, whatever was entered

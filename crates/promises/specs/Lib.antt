@@ -22,4 +22,4 @@ pub mod OnlyJoined
 pub mod Plans
 pub mod Played
 pub mod Promises
-pub mod Store
+pub mod StoreCalls

@@ -7,7 +7,7 @@ use Rattle.answer.specs.Asked.{Asked, askedNumber, askedPlace}
 use Rattle.sheet.specs.Sheet.{store}
 use Rattle.text.specs.Marked.{sheetT, B}
 use Rattle.runs.specs.Enter.{enterAnswer}
-use Rattle.line.specs.Line.{earlyLine, numberOn, placeOn}
+use Rattle.printed.specs.AnswerLine.{earlyLine, numberOn, placeOn}
 use Rattle.printed.specs.Printed.{scratchBytes, printedLine}
 use Rattle.log.specs.Log.{readLog}
 use Rattle.log.specs.Replay.{stopLine}

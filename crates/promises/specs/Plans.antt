@@ -9,7 +9,8 @@ use Rattle.plan_store.specs.Calls.{keptStore, returnedSheet, droppedStore}
 use Rattle.runs.specs.Clerk.{Line}
 use Rattle.runs.specs.Run.{Keeps, enterLine}
 use Rattle.runs.specs.Demand3.{RunRight}
-use Rattle.promises.specs.History.{Event, entering, closing, opening, leaves, Run, onto, ends, logs, All}
+use Rattle.logic.specs.Lists.{All}
+use Rattle.promises.specs.History.{Event, entering, closing, opening, leaves, Run, onto, ends, logs}
 
 -- A call: enter, close or open; keep the sheet under a name, return to the one kept there, drop it.
 pub data Step : Type 0 where

@@ -11,7 +11,7 @@ use Rattle.logic.specs.Syntax.{finish}
 use Rattle.logic.specs.Carry.{carriedBook}
 use Rattle.sheet.specs.Sheet.{graphOf}
 use Rattle.sheet.specs.Questions.{Sound}
-use Rattle.single.specs.Scratch.{longestRule}
+use Rattle.runs.specs.Scratch.{longestRule}
 use Rattle.apply.specs.Apply.{askApply, appliedSheet}
 use Rattle.runs.specs.Enter.{enterAnswer, enterSheet}
 use Rattle.runs.specs.Run.{Bytes}

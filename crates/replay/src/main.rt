@@ -33,7 +33,7 @@ fn main() {
     let mut sheet = [0u8; Sheet::BYTES];
     let mut book = [0u8; input::TEXT_BYTES];
     let Got::Length(b) = input::read_sheet_and_book(&mut sheet, &mut book) else {
-        let early = line::early();
+        let early = printed::line::early();
         io::write_all(STDOUT_FILENO, &early);
         return;
     };

@@ -12,7 +12,7 @@ use Rattle.logic.specs.Limits.{maxNodes, ranges, InRange}
 use Rattle.text.specs.Code.{bookCode}
 use Rattle.text.specs.Reading.{textLimits}
 use Rattle.text.specs.Questions.{askBook}
-use Rattle.text.proofs.Books.{EachAllowed, book-is-spelled}
+use Rattle.text.proofs.TextSpelling.{EachAllowed, book-is-spelled}
 use Rattle.rewrite_counts.specs.Rewritten.{leastRewritten, mostRewritten, rewritten, rewrittenBook, askRewritten}
 use Rattle.rewrite_counts.proofs.Wider.{both-so, former-of-now, former-below, book-wider}
 
@@ -24,8 +24,7 @@ least-kept m R R′ E E′ h r e =
     rw (ne-eqb m 0 (λ z. omega arith), le-leb m 60 (leb→le m 60 (b .1))) (ap₂ (atLeast m) r e)
 
 most-kept : (m : ℕ) (R R′ : Expr arrow) (E E′ : Expr node) → T (leb m 59) → R′ ≡ R → E′ ≡ E → mostRewritten m R′ E′ ≡ atMost m R E
-unfolding mostRewritten
-most-kept m R R′ E E′ h r e = let to : m ≤ 59 = leb→le m 59 h in rw (lt-ltb m 60 (omega arith)) (ap₂ (atMost m) r e)
+most-kept m R R′ E E′ h r e = unfold mostRewritten in let to : m ≤ 59 = leb→le m 59 h in rw (lt-ltb m 60 (omega arith)) (ap₂ (atMost m) r e)
 
 module _ (n : ℕ) where
   -- A term whose counts are in the ranges of now is not changed.

@@ -1,10 +1,10 @@
 pub mod Trees
-pub mod Turns
+pub mod RewriterTurns
 pub mod ToCome
 pub mod Rewriting
 pub mod NoLonger
 pub mod Wider
-pub mod Passes
+pub mod RewrittenPasses
 pub mod LeftAlone
-pub mod Twice
-pub mod SameTruth
+pub mod RewrittenTwice
+pub mod RewrittenTruth

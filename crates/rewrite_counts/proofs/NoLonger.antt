@@ -11,9 +11,9 @@ use Rattle.logic.specs.Syntax.{Sort, rule, Expr}
 use Rattle.logic.specs.Limits.{maxNodes}
 use Rattle.text.specs.Code.{code, levels, bookCode, bookLevels}
 use Rattle.text.specs.Reading.{longestText, formerLimits}
-use Rattle.text.proofs.Books.{book-is-spelled}
+use Rattle.text.proofs.TextSpelling.{book-is-spelled}
 use Rattle.tree.specs.Tree.{Tree, name, leaf, one, two, size, height, tree}
-use Rattle.tree.proofs.Trees.{height-tree}
+use Rattle.tree.proofs.TreeLaws.{height-tree}
 use Rattle.ends.proofs.Behind.{size-code}
 use Rattle.rewrite_counts.specs.Rewritten.{rewritten, rewrittenBook, askRewritten}
 use Rattle.rewrite_counts.specs.Trees.{headInPlace, rewrittenTree}
@@ -26,22 +26,20 @@ no-larger (name c k) = omega arith
 no-larger (leaf h) = omega arith
 no-larger (one h x) = omega (arith, no-larger x)
 no-larger (two [] x y) = omega (arith, no-larger x, no-larger y)
-no-larger (two (c ∷ h) x y) = go (eqb (headInPlace (c ∷ h)) 0) (no-larger x) (no-larger y)
-  where
-    go : (b : Bool) → size (rewrittenTree x) ≤ size x → size (rewrittenTree y) ≤ size y → size (cond b (two (c ∷ h) (rewrittenTree x) (rewrittenTree y)) (leaf (headInPlace (c ∷ h) ∷ []))) ≤ size (two (c ∷ h) x y)
-    go true a b = omega arith
-    go false a b = omega arith
+no-larger (two (c ∷ h) x y) = go (eqb (headInPlace (c ∷ h)) 0) (no-larger x) (no-larger y) where
+  go : (b : Bool) → size (rewrittenTree x) ≤ size x → size (rewrittenTree y) ≤ size y → size (cond b (two (c ∷ h) (rewrittenTree x) (rewrittenTree y)) (leaf (headInPlace (c ∷ h) ∷ []))) ≤ size (two (c ∷ h) x y)
+  go true a b = omega arith
+  go false a b = omega arith
 
 no-higher : (t : Tree) → height (rewrittenTree t) ≤ height t
 unfolding height rewrittenTree
 no-higher (name c k) = omega arith
 no-higher (leaf h) = omega arith
 no-higher (one h x) = omega (arith, no-higher x)
-no-higher (two h x y) = go (eqb (headInPlace h) 0) (no-higher x) (no-higher y)
-  where
-    go : (b : Bool) → height (rewrittenTree x) ≤ height x → height (rewrittenTree y) ≤ height y → height (cond b (two h (rewrittenTree x) (rewrittenTree y)) (leaf (headInPlace h ∷ []))) ≤ height (two h x y)
-    go true a b = omega arith
-    go false a b = omega arith
+no-higher (two h x y) = go (eqb (headInPlace h) 0) (no-higher x) (no-higher y) where
+  go : (b : Bool) → height (rewrittenTree x) ≤ height x → height (rewrittenTree y) ≤ height y → height (cond b (two h (rewrittenTree x) (rewrittenTree y)) (leaf (headInPlace h ∷ []))) ≤ height (two h x y)
+  go true a b = omega arith
+  go false a b = omega arith
 
 pub no-longer : {s : Sort} (e : Expr s) → length (code (rewritten e)) ≤ length (code e)
 no-longer e = omega (arith, no-larger (tree e), ap size (tree-rewritten e), size-code e, size-code (rewritten e))

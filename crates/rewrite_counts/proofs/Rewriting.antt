@@ -1,14 +1,14 @@
 -- The rewriter, by its questions.
-use mathlib.Core.Path.{_≡_, refl, sym, _∙_, ap}
+use mathlib.Core.Path.{_≡_, sym, _∙_, ap}
 use mathlib.Core.List.{List}
 use Prim.Native.Nat.{ℕ, _≤_, _<_}
-use native.Mathlib.Omega.{arith}
 use lib.ListN.{length}
 use Rattle.answer.specs.declared.Answer.{Answer}
 use Rattle.answer.specs.declared.Answer.the-variants.{Done, Refused}
 use Rattle.answer.specs.declared.Refusal.{Refusal}
 use Rattle.answer.specs.Answers.{refusalNumber, refusalPlace, asked}
-use Rattle.answer.specs.Asked.{Asked, passed, refused, _>>=_, outcome}
+use Rattle.answer.specs.Asked.{passed, refused, _>>=_, outcome}
+use Rattle.answer.proofs.AskedLaws.{passed-same, bind-passed}
 use Rattle.answer.specs.Outputs.{askRoom}
 use Rattle.answer.proofs.AnswerLaws.{Learned, learned, not-learned}
 use Rattle.answer.proofs.OutputLaws.{room-short, room-enough}
@@ -17,8 +17,8 @@ use Rattle.logic.specs.Limits.{maxNodes}
 use Rattle.text.specs.Code.{bookCode}
 use Rattle.text.specs.Reading.{formerLimits}
 use Rattle.text.specs.Questions.{askBook}
-use Rattle.ends.specs.Books.{BookIs, SomeBook}
-use Rattle.ends.proofs.Rules.{book-passed}
+use Rattle.ends.specs.Books.{BookIs}
+use Rattle.ends.proofs.RulePlaces.{book-passed}
 use Rattle.rewrite_counts.specs.Rewritten.{rewrittenBook, askRewritten, askRewrite}
 
 -- what was rewritten was read
@@ -28,44 +28,30 @@ pub record RewrittenFrom (t bytes : List ℕ) : Type 0 where
   pub bytes-are : bytes ≡ bookCode (rewrittenBook rules)
 
 pub rewritten-from : (t bytes : List ℕ) → askRewritten t ≡ passed bytes → RewrittenFrom t bytes
-unfolding askRewritten _>>=_
-rewritten-from t bytes h = go (askBook (formerLimits maxNodes) t) refl h
-  where
-    go : (q : Asked (List (Expr rule))) → askBook (formerLimits maxNodes) t ≡ q → (q >>= (λ rules. passed (bookCode (rewrittenBook rules)))) ≡ passed bytes → RewrittenFrom t bytes
-    go (passed rules) e h = record { rules = rules; read = e; bytes-are = cc }
-    go (refused n p) e h = let z : _≡_ {A = ℕ} 0 1 = cc in absurd (omega arith)
+rewritten-from t bytes h = unfold askRewritten in let (rules, e, f) = bind-passed _ _ _ h in record { rules = rules; read = e; bytes-are = sym (passed-same f) }
 
-module _ (book : List ℕ) (a : Answer) (check : asked a ≡ outcome (askBook (formerLimits maxNodes) book)) where
-  -- 11 to 16
-  pub book-refused : (r : Refusal) → a ≡ Refused r → (room : ℕ) → askRewrite book room ≡ refused (refusalNumber r) (refusalPlace r)
-  unfolding askRewrite askRewritten _>>=_
-  book-refused r e room = rw (not-learned _ _ _ (sym (ap asked e) ∙ check))
+-- 11 to 16
+pub book-refused : (book : List ℕ) (a : Answer) → asked a ≡ outcome (askBook (formerLimits maxNodes) book) → (r : Refusal) → a ≡ Refused r → (room : ℕ) → askRewrite book room ≡ refused (refusalNumber r) (refusalPlace r)
+book-refused book a check r e room = unfold askRewrite askRewritten _>>=_ in rw (not-learned _ _ _ (sym (ap asked e) ∙ check))
 
-  module _ (sound : a ≡ Done) where
-    pub read : Learned (askBook (formerLimits maxNodes) book)
-    read = learned _ (sym (ap asked sound) ∙ check)
+-- a book that has passed
+abbrev pub Read : List ℕ → Type 0
+Read book = Learned (askBook (formerLimits maxNodes) book)
 
-    abbrev pub rulesOf : List (Expr rule)
-    rulesOf = read .what
+pub book-read : (book : List ℕ) (a : Answer) → asked a ≡ outcome (askBook (formerLimits maxNodes) book) → a ≡ Done → Read book
+book-read book a check sound = learned _ (sym (ap asked sound) ∙ check)
 
-    pub book-is : BookIs book rulesOf
-    book-is = book-passed (formerLimits maxNodes) (read .is)
+module _ {book : List ℕ} (r : Read book) where
+  pub book-is : BookIs book (r .what)
+  book-is = book-passed (formerLimits maxNodes) (r .is)
 
-    pub some-book : SomeBook book
-    some-book = record { what = rulesOf; is = book-is }
+  module _ {size : ℕ} (long : (rules : List (Expr rule)) → BookIs book rules → size ≡ length (bookCode (rewrittenBook rules))) (room : ℕ) where
+    to-room : askRewrite book room ≡ askRoom (bookCode (rewrittenBook (r .what))) room
+    to-room = unfold askRewrite askRewritten _>>=_ in rw (r .is)
 
-    module _ (size : ℕ) (long : (rules : List (Expr rule)) → BookIs book rules → size ≡ length (bookCode (rewrittenBook rules))) where
-      pub size-is : size ≡ length (bookCode (rewrittenBook rulesOf))
-      size-is = long rulesOf book-is
+    -- 33
+    pub short : room < size → askRewrite book room ≡ refused 33 size
+    short h = to-room ∙ room-short _ room size (long (r .what) book-is) h
 
-      module _ (room : ℕ) where
-        to-room : askRewrite book room ≡ askRoom (bookCode (rewrittenBook rulesOf)) room
-        unfolding askRewrite askRewritten _>>=_
-        to-room = rw (read .is)
-
-        -- 33
-        pub short : room < size → askRewrite book room ≡ refused 33 size
-        short h = to-room ∙ room-short _ room size size-is h
-
-        pub enough : size ≤ room → askRewrite book room ≡ passed (bookCode (rewrittenBook rulesOf))
-        enough h = to-room ∙ room-enough _ room size size-is h
+    pub enough : size ≤ room → askRewrite book room ≡ passed (bookCode (rewrittenBook (r .what)))
+    enough h = to-room ∙ room-enough _ room size (long (r .what) book-is) h

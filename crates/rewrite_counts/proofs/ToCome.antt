@@ -4,7 +4,6 @@ use mathlib.Core.Bool.{cond}
 use mathlib.Core.List.{List, [], _∷_, _++_, append-assoc, append-nil}
 use Prim.Native.Nat.{ℕ, _+_, _-_, _≤_, _<_}
 use native.Mathlib.Decide.{decLt}
-use native.Mathlib.Nat.{zero-add}
 use native.Mathlib.Omega.{arith}
 use lib.ListN.{length, take, drop, length-append}
 use lib.Seq.{take-at}
@@ -12,15 +11,16 @@ use borrow.Author.Tests.{eq-eqb, ne-eqb}
 use Rattle.answer.specs.Outputs.{writtenAtStart}
 use Rattle.logic.specs.Syntax.{rule, Expr}
 use Rattle.text.specs.Code.{bookCode}
-use Rattle.text.proofs.Standing.{behind}
+use Rattle.text.proofs.StandingLaws.{behind}
 use Rattle.tree.specs.Tree.{Tree, name, leaf, one, two, treeCode}
-use Rattle.tree.proofs.Trees.{size-is}
+use Rattle.tree.proofs.TreeLaws.{size-is}
 use Rattle.ends.specs.Shapes.{At, Some}
 use Rattle.ends.specs.Books.{BookIs}
-use Rattle.ends.proofs.Places.{size-pos}
+use Rattle.ends.proofs.TreePlaces.{size-pos}
 use Rattle.ends.proofs.Pending.{headOf, partsOf, texts, texts-append, AllFormed, Pending, First, first, turn}
-use Rattle.write.specs.Laid.{laid, Wrote}
-use Rattle.write.proofs.Laying.{length-laid, laid-fits, wrote-none, wrote-more}
+use Rattle.write.specs.Laid.{Wrote}
+use Rattle.write.proofs.Laying.{length-laid, wrote-none, wrote-more, wrote-as}
+use Rattle.write.proofs.Rules.{at-start}
 use Rattle.rewrite_counts.specs.Rewritten.{rewrittenBook}
 use Rattle.rewrite_counts.specs.Trees.{headInPlace, inPlace, rewrittenTree, Turned}
 use Rattle.rewrite_counts.proofs.Trees.{anew, trees, trees-formed, book-trees, book-anew}
@@ -62,19 +62,17 @@ to-come-first text rules b =
 -- nothing to come at the end, something before it
 pub to-come-end : {text whole done : List ℕ} {p : ℕ} → ToCome text whole done p → length text ≤ p → done ≡ whole
 unfolding texts AllFormed
-to-come-end {text} {whole} {done} {p} l h = go (l .parts) (l .pending .formed) (l .ends) (l .is)
-  where
-    go : (parts : List Tree) → AllFormed parts → p + length (texts treeCode parts) ≡ length text → done ++ texts anew parts ≡ whole → done ≡ whole
-    go [] f e i = sym (append-nil done) ∙ i
-    go (t ∷ more) f e i = absurd (omega (arith, size-pos t (f .0), size-is t, length-append (treeCode t) (texts treeCode more)))
+to-come-end {text} {whole} {done} {p} l h = go (l .parts) (l .pending .formed) (l .ends) (l .is) where
+  go : (parts : List Tree) → AllFormed parts → p + length (texts treeCode parts) ≡ length text → done ++ texts anew parts ≡ whole → done ≡ whole
+  go [] f e i = sym (append-nil done) ∙ i
+  go (t ∷ more) f e i = absurd (omega (arith, size-pos t (f .0), size-is t, length-append (treeCode t) (texts treeCode more)))
 
 pub here : {text whole done : List ℕ} {p : ℕ} (l : ToCome text whole done p) → p < length text → First text p (l .parts)
 unfolding texts
-here {text} {whole} {done} {p} l h = first (l .pending) (go (l .parts) (l .ends))
-  where
-    go : (parts : List Tree) → p + length (texts treeCode parts) ≡ length text → 0 < length parts
-    go [] e = absurd (omega arith)
-    go (t ∷ more) e = omega arith
+here {text} {whole} {done} {p} l h = first (l .pending) (go (l .parts) (l .ends)) where
+  go : (parts : List Tree) → p + length (texts treeCode parts) ≡ length text → 0 < length parts
+  go [] e = absurd (omega arith)
+  go (t ∷ more) e = omega arith
 
 -- One turn: the bytes that it writes, and what is then to come.
 pub record Next (text whole done : List ℕ) (p : ℕ) (byte next : ℕ) : Type 0 where
@@ -95,8 +93,7 @@ module _ {text whole done : List ℕ} {p : ℕ} (l : ToCome text whole done p) (
 
   -- the parts are the tree that stands there and more
   split-is : (g : Tree → List ℕ) → texts g (l .parts) ≡ g (f .t) ++ texts g (f .more)
-  unfolding texts
-  split-is g = ap (texts g) (f .is)
+  split-is g = unfold texts in ap (texts g) (f .is)
 
   stays : (byte next : ℕ) → Turned text p (f .t) byte next → byte ≡ 0 → Next text whole done p byte next
   unfolding texts
@@ -113,7 +110,12 @@ module _ {text whole done : List ℕ} {p : ℕ} (l : ToCome text whole done p) (
       l .pending .here ∙ ap (_++ l .pending .rest) (split-is treeCode ∙ g .bytes-are) ∙ append-assoc (headOf t) _ _ in
       record {
         bytes = headOf t;
-        left = record { parts = later; pending = record { rest = g .next .rest; here = ap (λ k. drop k text) n ∙ g .next .here; formed = g .next .formed; count = refl }; ends = omega (arith, n, g .head, l .ends, ap length (split-is treeCode ∙ g .bytes-are), length-append (headOf t) (texts treeCode later)); is = whole-is };
+        left = record {
+          parts = later;
+          pending = record { rest = g .next .rest; here = ap (λ k. drop k text) n ∙ g .next .here; formed = g .next .formed; count = refl };
+          ends = omega (arith, n, g .head, l .ends, ap length (split-is treeCode ∙ g .bytes-are), length-append (headOf t) (texts treeCode later));
+          is = whole-is;
+        };
         on = omega (arith, n, g .on);
         in-text = omega (arith, n, g .in-text);
         fits = fits-whole done (headOf t) _ whole whole-is;
@@ -154,11 +156,10 @@ module _ {text whole done : List ℕ} {p : ℕ} (l : ToCome text whole done p) (
       }
 
   turned : (byte next : ℕ) → Turned text p (f .t) byte next → Next text whole done p byte next
-  turned byte next u = go (decLt 0 byte)
-    where
-      go : Dec (0 < byte) → Next text whole done p byte next
-      go (yes k) = drops byte next u (λ z. omega arith)
-      go (no k) = stays byte next u (omega arith)
+  turned byte next u = go (decLt 0 byte) where
+    go : Dec (0 < byte) → Next text whole done p byte next
+    go (yes k) = drops byte next u (λ z. omega arith)
+    go (no k) = stays byte next u (omega arith)
 
   pub tree-here : Some text p
   tree-here = record { what = f .t; stands = f .at }
@@ -180,21 +181,14 @@ pub counted-end : {text whole : List ℕ} {p q : ℕ} → Counted text whole p q
 counted-end w h = w .long ∙ ap length (to-come-end (w .left) h)
 
 module _ {text whole : List ℕ} {p q byte next : ℕ} (w : Counted text whole p q) (n : Next text whole (w .done) p byte next) where
+  counted-more : (x : ℕ) → length (n .bytes) ≡ x → x ≤ next - p → Counted text whole next (q + x)
+  counted-more x e l = record { done = w .done ++ n .bytes; long = omega (arith, w .long, length-append (w .done) (n .bytes)); low = omega (arith, w .low, n .on); left = n .left }
+
   pub counted-copied : byte ≡ 0 → Counted text whole next (q + (next - p))
-  counted-copied z = record {
-    done = w .done ++ n .bytes;
-    long = omega (arith, w .long, n .copied z .1, length-append (w .done) (n .bytes));
-    low = omega (arith, w .low, n .on);
-    left = n .left;
-  }
+  counted-copied z = counted-more (next - p) (n .copied z .1) (omega arith)
 
   pub counted-put : (byte ≡ 0 → ⊥) → Counted text whole next (q + 1)
-  counted-put z = record {
-    done = w .done ++ n .bytes;
-    long = omega (arith, w .long, ap length (n .put z), length-append (w .done) (n .bytes));
-    low = omega (arith, w .low, n .on);
-    left = n .left;
-  }
+  counted-put z = counted-more 1 (ap length (n .put z)) (omega (arith, n .on))
 
 -- So many bytes of `whole` are written over the start of an output.
 pub record Stored (text whole output : List ℕ) (p q : ℕ) (out : List ℕ) : Type 0 where
@@ -220,6 +214,4 @@ module _ {text whole output out : List ℕ} {p q : ℕ} (w : Stored text whole o
   stored-size = omega (arith, w .wrote .counted, ap length (to-come-end (w .left) h))
 
   pub stored-end : q ≤ length output → out ≡ writtenAtStart whole output
-  stored-end r =
-      w .wrote .stored ∙ ap (laid output 0) (to-come-end (w .left) h) ∙ laid-fits output 0 whole (omega (arith, stored-size))
-      ∙ ap (λ n. whole ++ drop n output) (zero-add (length whole))
+  stored-end r = at-start (wrote-as (to-come-end (w .left) h) (w .wrote)) (omega (arith, stored-size))

@@ -6,34 +6,34 @@ use Prim.Native.Nat.{ℕ}
 use lib.Dec.{leb, ltb, eqb}
 use Rattle.logic.specs.Syntax.{Sort, node, arrow, rule, Expr, all, none, label, nominal, complement, and, or, some, every, atLeast, atMost, arrowKind, reversed, union, common, minus, endingIn, pair, subNodes, subArrows, nodeIn, pairIn, both, either, notRule}
 use Rattle.logic.specs.Limits.{Ranges}
+use Rattle.logic.specs.Arity.{byArity}
 use Rattle.text.specs.Code.{bookCode}
 use Rattle.text.specs.Stands.{RulesInRange}
-use Rattle.tree.specs.Tree.{Tree, leaf, one, two, treeCode, tree}
-use Rattle.tree.proofs.Trees.{code-tree}
+use Rattle.text.specs.Heads.{head1, head2}
+use Rattle.tree.specs.Tree.{Tree, leaf, one, two, treeCode, tree, bare}
+use Rattle.tree.proofs.TreeLaws.{code-tree}
 use Rattle.ends.proofs.Formed.{formed-tree}
 use Rattle.ends.proofs.Pending.{texts, AllFormed}
 use Rattle.rewrite_counts.specs.Rewritten.{leastRewritten, mostRewritten, rewritten, rewrittenBook}
 use Rattle.rewrite_counts.specs.Trees.{leastInPlace, mostInPlace, headInPlace, rewrittenTree}
 
 least-tree : (m : ℕ) (R R′ : Expr arrow) (E E′ : Expr node) → tree R′ ≡ rewrittenTree (tree R) → tree E′ ≡ rewrittenTree (tree E) → tree (leastRewritten m R′ E′) ≡ rewrittenTree (tree (atLeast m R E))
-unfolding tree leastRewritten rewrittenTree headInPlace leastInPlace
-least-tree m R R′ E E′ r e = go (eqb m 0) (leb m 60)
-  where
-    go : (z l : Bool) → tree (cond z all (cond l (atLeast m R′ E′) none)) ≡ cond (eqb (cond z 0x01 (cond l 0 0x02)) 0) (two (0x0A ∷ m ∷ []) (rewrittenTree (tree R)) (rewrittenTree (tree E))) (leaf (cond z 0x01 (cond l 0 0x02) ∷ []))
-    go true l = refl
-    go false true = ap₂ (two (0x0A ∷ m ∷ [])) r e
-    go false false = refl
+unfolding tree byArity bare head1 head2 leastRewritten rewrittenTree headInPlace leastInPlace
+least-tree m R R′ E E′ r e = go (eqb m 0) (leb m 60) where
+  go : (z l : Bool) → tree (cond z all (cond l (atLeast m R′ E′) none)) ≡ cond (eqb (cond z 0x01 (cond l 0 0x02)) 0) (two (0x0A ∷ m ∷ []) (rewrittenTree (tree R)) (rewrittenTree (tree E))) (leaf (cond z 0x01 (cond l 0 0x02) ∷ []))
+  go true l = refl
+  go false true = ap₂ (two (0x0A ∷ m ∷ [])) r e
+  go false false = refl
 
 most-tree : (m : ℕ) (R R′ : Expr arrow) (E E′ : Expr node) → tree R′ ≡ rewrittenTree (tree R) → tree E′ ≡ rewrittenTree (tree E) → tree (mostRewritten m R′ E′) ≡ rewrittenTree (tree (atMost m R E))
-unfolding tree mostRewritten rewrittenTree headInPlace mostInPlace
-most-tree m R R′ E E′ r e = go (ltb m 60)
-  where
-    go : (l : Bool) → tree (cond l (atMost m R′ E′) all) ≡ cond (eqb (cond l 0 0x01) 0) (two (0x0B ∷ m ∷ []) (rewrittenTree (tree R)) (rewrittenTree (tree E))) (leaf (cond l 0 0x01 ∷ []))
-    go true = ap₂ (two (0x0B ∷ m ∷ [])) r e
-    go false = refl
+unfolding tree byArity bare head1 head2 mostRewritten rewrittenTree headInPlace mostInPlace
+most-tree m R R′ E E′ r e = go (ltb m 60) where
+  go : (l : Bool) → tree (cond l (atMost m R′ E′) all) ≡ cond (eqb (cond l 0 0x01) 0) (two (0x0B ∷ m ∷ []) (rewrittenTree (tree R)) (rewrittenTree (tree E))) (leaf (cond l 0 0x01 ∷ []))
+  go true = ap₂ (two (0x0B ∷ m ∷ [])) r e
+  go false = refl
 
 pub tree-rewritten : {s : Sort} (e : Expr s) → tree (rewritten e) ≡ rewrittenTree (tree e)
-unfolding tree rewritten rewrittenTree headInPlace
+unfolding tree byArity bare head1 head2 rewritten rewrittenTree headInPlace
 tree-rewritten all = refl
 tree-rewritten none = refl
 tree-rewritten (label k) = refl

@@ -10,7 +10,7 @@ use Rattle.logic.specs.Syntax.{Sort, rule, Expr, all, none, label, nominal, com
 use Rattle.logic.specs.Limits.{maxNodes, Kind, labelNumber, arrowNumber, nodeNumber, leastCount, mostCount, Ranges, ranges, formerRanges, fits, InRange, EditInRange}
 use Rattle.text.specs.Reading.{limitsBy}
 use Rattle.text.specs.Questions.{askBook, askEdit}
-use Rattle.text.proofs.Books.{EachAllowed, book-is-spelled, spelled-book-passes, edit-is-spelled, spelled-edit-passes}
+use Rattle.text.proofs.TextSpelling.{EachAllowed, book-is-spelled, spelled-book-passes, edit-is-spelled, spelled-edit-passes}
 
 abbrev pub Wider : Ranges → Ranges → Type 0
 Wider r r′ = (k : Kind) (x : ℕ) → T (fits r k x) → T (fits r′ k x)

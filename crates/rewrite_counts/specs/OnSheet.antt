@@ -1,4 +1,4 @@
--- What a stored book that passed on a sheet, by the former ranges, is there when rewritten (proofs/SameTruth).
+-- What a stored book that passed on a sheet, by the former ranges, is there when rewritten (proofs/RewrittenTruth).
 use mathlib.Core.Path.{_≡_}
 use mathlib.Core.List.{List, map}
 use Prim.Native.Nat.{ℕ}

@@ -1,3 +1,3 @@
-pub mod Laws
-pub mod Walks
+pub mod OperationLaws
+pub mod MemberWalks
 pub mod Quantifiers

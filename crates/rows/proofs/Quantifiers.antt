@@ -15,28 +15,26 @@ use Rattle.rows.specs.Operations.{quantified, enough, least, looked, ans
 -- An end is a node.
 pub quantified-is : (c m n : ℕ) (nodes v w : Nodes) → ((j : ℕ) → nodes j ≡ false → v j ≡ false) → quantified c m n v w ≡ answered c (enough (least c m) n v (λ j. looked c (nodes j) (w j)))
 unfolding quantified
-quantified-is c m n nodes v w ends = go (eqb c 0x08) (eqb c 0x09) (eqb c 0x0A)
-  where
-    there : (x y z : Bool) → (y ≡ false → x ≡ false) → (x && not z) ≡ (x && (y && not z))
-    there x true z h = refl
-    there x false z h = rw (h refl)
+quantified-is c m n nodes v w ends = go (eqb c 0x08) (eqb c 0x09) (eqb c 0x0A) where
+  there : (x y z : Bool) → (y ≡ false → x ≡ false) → (x && not z) ≡ (x && (y && not z))
+  there x true z h = refl
+  there x false z h = rw (h refl)
 
-    most : (k : ℕ) → leb k m ≡ not (leb (m + 1) k)
-    most k = by (leb k m) refl
-      where
-        by : (b : Bool) → leb k m ≡ b → b ≡ not (leb (m + 1) k)
-        by true e = ap not (sym (lt-leb (m + 1) k (omega (arith, leb-true k m e))))
-        by false e = ap not (sym (le-leb (m + 1) k (omega (arith, leb-false k m e))))
+  most : (k : ℕ) → leb k m ≡ not (leb (m + 1) k)
+  most k = by (leb k m) refl where
+    by : (b : Bool) → leb k m ≡ b → b ≡ not (leb (m + 1) k)
+    by true e = ap not (sym (lt-leb (m + 1) k (omega (arith, leb-true k m e))))
+    by false e = ap not (sym (le-leb (m + 1) k (omega (arith, leb-false k m e))))
 
-    go : (a b d : Bool)
-        → cond a (anyBelow n (λ j. v j && w j)) (cond b (allBelow n (λ j. implies (v j) (w j))) (cond d (leb m (countBelow n (λ j. v j && w j))) (leb (countBelow n (λ j. v j && w j)) m)))
-        ≡ (let x = leb (cond a 1 (cond b 1 (cond d m (m + 1)))) (countBelow n (λ j. v j && cond a (w j) (cond b (nodes j && not (w j)) (w j)))) in cond a x (cond b (not x) (cond d x (not x))))
-    go true b d = sym (one-or-more n (λ j. v j && w j))
-    go false true d =
-        sym (none-outside n v w) ∙ ap not (sym (one-or-more n (λ j. v j && not (w j))))
-        ∙ ap (λ (k : ℕ). not (leb 1 k)) (count-cong n _ _ (λ j l. there (v j) (nodes j) (w j) (ends j)))
-    go false false true = refl
-    go false false false = most (countBelow n (λ j. v j && w j))
+  go : (a b d : Bool)
+      → cond a (anyBelow n (λ j. v j && w j)) (cond b (allBelow n (λ j. implies (v j) (w j))) (cond d (leb m (countBelow n (λ j. v j && w j))) (leb (countBelow n (λ j. v j && w j)) m)))
+      ≡ (let x = leb (cond a 1 (cond b 1 (cond d m (m + 1)))) (countBelow n (λ j. v j && cond a (w j) (cond b (nodes j && not (w j)) (w j)))) in cond a x (cond b (not x) (cond d x (not x))))
+  go true b d = sym (one-or-more n (λ j. v j && w j))
+  go false true d =
+      sym (none-outside n v w) ∙ ap not (sym (one-or-more n (λ j. v j && not (w j))))
+      ∙ ap (λ (k : ℕ). not (leb 1 k)) (count-cong n _ _ (λ j l. there (v j) (nodes j) (w j) (ends j)))
+  go false false true = refl
+  go false false false = most (countBelow n (λ j. v j && w j))
 
 -- of the nodes within
 pub answered-sets : (c n within r : ℕ) (f : Bool → Bool → Bool) (p : Nodes) → n ≤ 64 → within < 2 ^ n → r ≡ setOf n p → f false false ≡ false → ((a b : Bool) → f a b ≡ (a && answered c b)) → combined f within r ≡ setOf n (λ i. member within i && answered c (p i))
@@ -48,8 +46,7 @@ set-small n {x} p e = subst (λ (y : ℕ). y < 2 ^ n) (sym e) (setOf-lt n p)
 
 -- the ends of all rows, row by row
 pub any-none : (n : ℕ) (v : Pairs) → 0 ≡ setOf n (λ j. anyBelow 0 (λ k. v k j))
-unfolding anyBelow
-any-none n v = sym (setOf-none n)
+any-none n v = unfold anyBelow in sym (setOf-none n)
 
 pub any-more : (n i : ℕ) (v : Pairs) (r row z : ℕ) → n ≤ 64 → r ≡ setOf n (λ j. anyBelow i (λ k. v k j)) → row ≡ setOf n (v i) → z ≡ combined _||_ r row → z ≡ setOf n (λ j. anyBelow (i + 1) (λ k. v k j))
 unfolding anyBelow
@@ -64,19 +61,17 @@ pub any-wanted : (n e all : ℕ) (v : Pairs) → e ≡ all → Among all v → s
 any-wanted n e all v f a =
     setOf-cong n _ _ (λ j l. sym (
     ap (leb 1) (count-cong n _ (λ i. v i j) (λ i m. ap (λ (x : ℕ). v i j && member x i) f ∙ both (v i j) (member all i) (a .starts i j)))
-    ∙ one-or-more n (λ i. v i j)))
-  where
-    both : (x y : Bool) → (y ≡ false → x ≡ false) → (x && y) ≡ x
-    both x true h = and-true x
-    both x false h = rw (h refl)
+    ∙ one-or-more n (λ i. v i j))) where
+      both : (x y : Bool) → (y ≡ false → x ≡ false) → (x && y) ≡ x
+      both x true h = and-true x
+      both x false h = rw (h refl)
 
 -- 08 and 09 look for one.
 pub one-wanted : (c m : ℕ) → 0x08 ≤ c → c ≤ 0x09 → 1 ≡ least c m
-one-wanted c m l h = go (eqb c 0x08) refl
-  where
-    go : (b : Bool) → eqb c 0x08 ≡ b → 1 ≡ cond b 1 (cond (eqb c 0x09) 1 (cond (eqb c 0x0A) m (m + 1)))
-    go true e = refl
-    go false e = rw (eq-eqb c 0x09 (omega (arith, eqb-false c 0x08 e)))
+one-wanted c m l h = go (eqb c 0x08) refl where
+  go : (b : Bool) → eqb c 0x08 ≡ b → 1 ≡ cond b 1 (cond (eqb c 0x09) 1 (cond (eqb c 0x0A) m (m + 1)))
+  go true e = refl
+  go false e = rw (eq-eqb c 0x09 (omega (arith, eqb-false c 0x08 e)))
 
 -- What the code looks at and answers is what it means, of the nodes within.
 module _ (c m n all within e : ℕ) (p : Pairs) (ends : (i j : ℕ) → member all j ≡ false → p i j ≡ false) where
@@ -100,8 +95,7 @@ module _ (c m n all within e : ℕ) (p : Pairs) (ends : (i j : ℕ) → member a
         a (λ i. member within i && enough (least c m) n (p i) looked-at)
         (d ∙ ap (λ (y : ℕ). setOf n (λ i. member within i && enough y n (p i) looked-at)) q)
         ∙ setOf-cong n _ _ (λ i l. go (member within i) (enough (least c m) n (p i) looked-at))
-        ∙ answer-is
-      where
-        go : (b y : Bool) → (b && answered c (b && y)) ≡ (b && answered c y)
-        go true y = refl
-        go false y = refl
+        ∙ answer-is where
+          go : (b y : Bool) → (b && answered c (b && y)) ≡ (b && answered c y)
+          go true y = refl
+          go false y = refl

@@ -10,9 +10,9 @@ use Rattle.logic.specs.Limits.{Within}
 use Rattle.logic.proofs.Inside.{run-n}
 use Rattle.sheet.specs.Sheet.{present, graphOf}
 use Rattle.sheet.specs.Questions.{askSheet, Sound}
-use Rattle.sheet.proofs.Opening.{opening}
-use Rattle.sheet.proofs.Passes.{stored-passes}
-use Rattle.sheet.proofs.ReadBack.{read-back}
+use Rattle.sheet.proofs.SoundSheets.{sound-is-stored}
+use Rattle.store.proofs.StoredPasses.{stored-passes}
+use Rattle.store.proofs.StoredReads.{read-back}
 use Rattle.text.specs.Reading.{textLimits}
 use Rattle.text.specs.Questions.{askEdit}
 use Rattle.apply.specs.Apply.{afterSteps, askApply, appliedSheet}
@@ -22,16 +22,13 @@ use Rattle.runs.proofs.Runs.{steps-within}
 
 -- An edit that is carried out: its questions, and what it leaves.
 pub applied-is : (sheet edit : List ℕ) (Z : Edit) → askApply sheet edit ≡ passed Z → appliedSheet sheet edit ≡ afterSteps Z sheet
-unfolding appliedSheet after
-applied-is sheet edit Z e = ap (λ x. after x (λ Y. afterSteps Y sheet) sheet) e
+applied-is sheet edit Z e = unfold appliedSheet after in ap (λ x. after x (λ Y. afterSteps Y sheet) sheet) e
 
 pub applies : (sheet edit : List ℕ) (Z : Edit) → Sound sheet → askEdit (textLimits (graphOf sheet .n)) edit ≡ passed Z → askApply sheet edit ≡ passed Z
-unfolding askApply _>>_
-applies sheet edit Z s e = rw (s, e)
+applies sheet edit Z s e = unfold askApply _>>_ in rw (s, e)
 
 pub applied-read : (sheet edit : List ℕ) (Z : Edit) → askApply sheet edit ≡ passed Z → Sound sheet × (askEdit (textLimits (graphOf sheet .n)) edit ≡ passed Z)
-unfolding askApply
-applied-read sheet edit Z e = let (u, s, f) = then-passed (askSheet sheet) (askEdit (textLimits (graphOf sheet .n)) edit) Z e in (s, f)
+applied-read sheet edit Z e = unfold askApply in let (u, s, f) = then-passed (askSheet sheet) (askEdit (textLimits (graphOf sheet .n)) edit) Z e in (s, f)
 
 -- A sound sheet, and an edit P read for its n: the sheet that P leaves is sound, stores the graph that P's steps leave, and has the same n.
 module _ (sheet : List ℕ) (bytes : Bytes sheet) (sound : Sound sheet) (p : List ℕ) (P : Edit) (p-read : askEdit (textLimits (graphOf sheet .n)) p ≡ passed P) where
@@ -39,7 +36,7 @@ module _ (sheet : List ℕ) (bytes : Bytes sheet) (sound : Sound sheet) (p : Lis
   graphAfter = run P (graphOf sheet)
 
   pub after-within : Within graphAfter
-  after-within = steps-within (graphOf sheet) p P (opening present sheet bytes sound .within) p-read
+  after-within = steps-within (graphOf sheet) p P (sound-is-stored present sheet bytes sound .within) p-read
 
   pub after-sound : Sound (afterSteps P sheet)
   after-sound = stored-passes graphAfter after-within

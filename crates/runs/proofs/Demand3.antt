@@ -14,12 +14,12 @@ use Rattle.logic.specs.Limits.{Within}
 use Rattle.logic.proofs.Theorem.{carried, hold-carried}
 use Rattle.logic.proofs.Inside.{run-n}
 use Rattle.sheet.specs.Sheet.{present, store, graphOf}
-use Rattle.sheet.proofs.ReadBack.{read-back}
-use Rattle.sheet.proofs.Opening.{Opened, opening}
+use Rattle.store.proofs.StoredReads.{read-back}
+use Rattle.sheet.proofs.SoundSheets.{Stored, sound-is-stored}
 use Rattle.text.specs.Reading.{textLimits}
 use Rattle.text.specs.Questions.{askBook}
 use Rattle.judge.specs.Questions.{askSheetAndBook, askRules}
-use Rattle.single.specs.Scratch.{askScratch}
+use Rattle.runs.specs.Scratch.{askScratch}
 use Rattle.apply.specs.Apply.{afterSteps}
 use Rattle.runs.specs.Enter.{askEnter, enterAnswer, enterSheet}
 use Rattle.runs.specs.Clerk.{Fed, rulesOf, clerkLog, clerk}
@@ -32,7 +32,7 @@ use Rattle.runs.proofs.Runs.{steps-within, Kept, keeps, kept-each, log-
 module _ {book edit sheet : List ℕ} (i : Given book edit sheet) where
   -- The sheet that the steps leave stores the graph that they leave.
   within : Within (run (i .steps) (graphOf sheet))
-  within = steps-within (graphOf sheet) edit (i .steps) (opening present sheet (i .are-bytes) (i .sound) .within) (i .edit-read)
+  within = steps-within (graphOf sheet) edit (i .steps) (sound-is-stored present sheet (i .are-bytes) (i .sound) .within) (i .edit-read)
 
   left : graphOf (afterSteps (i .steps) sheet) ≡ run (i .steps) (graphOf sheet)
   left = read-back (run (i .steps) (graphOf sheet)) within
@@ -54,8 +54,7 @@ module _ {book edit sheet : List ℕ} (i : Given book edit sheet) where
       (record { within = within; book-read = rw (run-n (i .steps) (graphOf sheet)) (i .book-read); hold = subst T (hold-carried (i .steps) (i .rules) (graphOf sheet)) h })
 
   sheet-and-book : askSheetAndBook sheet book ≡ passed (i .rules)
-  unfolding askSheetAndBook _>>_
-  sheet-and-book = ap (_>> askBook (textLimits (graphOf sheet .n)) book) (i .sound) ∙ i .book-read
+  sheet-and-book = unfold askSheetAndBook _>>_ in ap (_>> askBook (textLimits (graphOf sheet .n)) book) (i .sound) ∙ i .book-read
 
   abbrev call : ℕ → Fed
   call room = record { edit = edit; room = room }
@@ -70,20 +69,18 @@ module _ {book edit sheet : List ℕ} (i : Given book edit sheet) where
       ap outcome (asks room)
       ∙ ap (λ (q : Asked Edit). outcome (q >>= (λ Z. askScratch (carriedBook Z (i .rules)) room >> (askRules (run Z (graphOf sheet)) (i .rules) 0 >> passed Z)))) (i .edit-read)
       ∙ go (askScratch (carriedBook (i .steps) (i .rules)) room) (askRules (run (i .steps) (graphOf sheet)) (i .rules) 0)
-      ∙ ap (λ g. askScratch (carriedBook (i .steps) (i .rules)) room >> askRules g (i .rules) 0) (sym left)
-    where
-      go : (q r : Asked (Unit {0})) → outcome (q >> (r >> passed (i .steps))) ≡ (q >> r)
-      go (passed u) (passed v) = refl
-      go (passed u) (refused n p) = refl
-      go (refused n p) r = refl
+      ∙ ap (λ g. askScratch (carriedBook (i .steps) (i .rules)) room >> askRules g (i .rules) 0) (sym left) where
+        go : (q r : Asked (Unit {0})) → outcome (q >> (r >> passed (i .steps))) ≡ (q >> r)
+        go (passed u) (passed v) = refl
+        go (passed u) (refused n p) = refl
+        go (refused n p) r = refl
 
   -- done is answered of this edit, and all else has passed
   done-with : (room : ℕ) → enterAnswer sheet book edit room ≡ passed tt → Entered (i .rules) (graphOf sheet) (call room) (i .steps)
   done-with room e =
       let (Z, a) = outcome-passed (askEnter sheet book edit room) e in
       let w : Entered (i .rules) (graphOf sheet) (call room) Z = when-passed (i .rules) (graphOf sheet) (call room) Z (sym (asks room) ∙ a) in
-      let same : Z ≡ i .steps = cc in
-      subst (Entered (i .rules) (graphOf sheet) (call room)) same w
+      let same : Z ≡ i .steps = cc in subst (Entered (i .rules) (graphOf sheet) (call room)) same w
 
   entered-iff : (room : ℕ) → askScratch (carriedBook (i .steps) (i .rules)) room ≡ passed tt → (enterAnswer sheet book edit room ≡ passed tt) ↔ T (holdAll (graphOf sheet) (carriedBook (i .steps) (i .rules)))
   unfolding outcome
@@ -111,7 +108,7 @@ stored-right book rules g calls kept =
 
 run-right : (sheet book : List ℕ) (calls : List Call) → Bytes sheet → Keeps book sheet → RunRight sheet book calls
 run-right sheet book calls bytes k =
-    let o : Opened present sheet = opening present sheet bytes (k .sound) in
+    let o : Stored present sheet = sound-is-stored present sheet bytes (k .sound) in
     let kept : Kept book (k .rules) (graphOf sheet) = record { within = o .within; book-read = k .book-read; hold = k .hold } in
     subst (λ s. RunRight s book calls) (sym (o .stored)) (stored-right book (k .rules) (graphOf sheet) calls kept)
 

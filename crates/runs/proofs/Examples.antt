@@ -15,24 +15,24 @@ use Rattle.logic.specs.Steps.{update, run}
 use Rattle.logic.specs.Carry.{replace, putLabel, putArrow, carry, carriedBook}
 use Rattle.logic.specs.Limits.{Within}
 use Rattle.bitset.specs.Words.{setOf, bytes}
+use Rattle.logic.specs.Arity.{byArity}
 use Rattle.seal.specs.Seal.{sealed, stored, sumsFrom}
 use Rattle.sheet.specs.Sheet.{storeIn, store, graphOf, block, labelBlock, arrowBlock, chunks}
-use Rattle.sheet.proofs.ReadBack.{read-back}
+use Rattle.store.proofs.StoredReads.{read-back}
 use Rattle.text.specs.Code.{code, levels, bookCode, bookLevels}
 use Rattle.text.specs.Reading.{textLimits, codes, choice, follow}
 use Rattle.text.specs.Reading as reading
-use Rattle.text.specs.Questions.{whole, readRules, askBook, askEdit}
+use Rattle.text.specs.Questions.{whole, readRules, askBook, askEdit, askOne}
 use Rattle.text.specs.Marked.{sheetT, B}
 use Rattle.judge.specs.Questions.{askRules}
 use Rattle.carry.specs.Carrying.{askCarried}
-use Rattle.single.specs.Scratch.{longest, askScratch, upToBroken, overwritten, writings}
+use Rattle.runs.specs.Scratch.{longest, askScratch, upToBroken, overwritten, writings}
 use Rattle.runs.specs.Enter.{StepsAndCarried, askBefore41, askEnter, enterAnswer, enterSheet, enterScratch}
 use Rattle.runs.specs.Examples.{Result, scratchOf, two, enteredOnT, calls, results}
 use Rattle.runs.proofs.OneCall.{asked-of-stored}
 
 not-node : (i : ℕ) → isNode sheetT i ≡ false → 3 ≤ i
-unfolding sheetT isNode
-not-node i h = ltb-false i 3 (sym (and-self (ltb i 3)) ∙ h)
+not-node i h = unfold sheetT isNode in ltb-false i 3 (sym (and-self (ltb i 3)) ∙ h)
 
 T-within : Within sheetT
 unfolding sheetT anyBelow
@@ -60,10 +60,9 @@ askOf g book edit room = do
 
 carried-of : (g : Graph) (book edit : List ℕ) (room : ℕ) → Within g → askBefore41 (store g) book edit room ≡ askOf g book edit room
 unfolding askBefore41 askOf
-carried-of g book edit room w = ap (_>>= size (graphOf (store g))) (asked-of-stored g book w) ∙ ap (λ h. askBook (textLimits (g .n)) book >>= size h) (read-back g w)
-  where
-    size : Graph → List (Expr rule) → Asked StepsAndCarried
-    size h rules = askEdit (textLimits (h .n)) edit >>= (λ Z. askScratch (carriedBook Z rules) room >> passed (record { steps = Z; carried = carriedBook Z rules }))
+carried-of g book edit room w = ap (_>>= size (graphOf (store g))) (asked-of-stored g book w) ∙ ap (λ h. askBook (textLimits (g .n)) book >>= size h) (read-back g w) where
+  size : Graph → List (Expr rule) → Asked StepsAndCarried
+  size h rules = askEdit (textLimits (h .n)) edit >>= (λ Z. askScratch (carriedBook Z rules) room >> passed (record { steps = Z; carried = carriedBook Z rules }))
 
 -- What is shown, from what is asked of T.
 resultOf : Graph → Asked StepsAndCarried → Asked StepsAndCarried → ℕ → Result
@@ -80,7 +79,7 @@ unfolding enteredOnT enterSheet enterScratch askEnter resultOf
 on-graph book edit room = λ t. resultOf (read-back sheetT T-within t) (carried-of sheetT book edit room T-within t) (carried-of sheetT book edit (length (scratchOf room)) T-within t) room
 
 pub examples : calls enteredOnT ≡ results
-unfolding calls results two resultOf askOf sheetT storeIn block labelBlock arrowBlock chunks setOf bytes sealed stored sumsFrom value isNode anyBelow allBelow countBelow update run replace putLabel putArrow carry code bookCode levels bookLevels longest askCarried askScratch upToBroken overwritten whole readRules askBook askEdit askRules after outcome _>>=_ _>>_ is codes choice follow reading._>>=_
+unfolding calls results two resultOf askOf sheetT storeIn block labelBlock arrowBlock chunks setOf bytes sealed stored sumsFrom value isNode anyBelow allBelow countBelow update run replace putLabel putArrow carry code bookCode levels byArity bookLevels longest askCarried askScratch upToBroken overwritten whole readRules askBook askOne askRules after outcome _>>=_ _>>_ is codes choice follow reading._>>=_
 examples = (λ t. calls (λ book edit room. on-graph book edit room t)) ∙ refl
 
 -- Example 8 with any scratch that holds its carried rule, of 12 bytes.
@@ -91,9 +90,8 @@ judged-of : Graph → Asked StepsAndCarried → Asked (Unit {0})
 judged-of g a = outcome (a >>= (λ c. askRules g (c .carried) 0 >> passed (c .steps)))
 
 judged-8 : (room : ℕ) → 12 ≤ room → judged-of sheetT (askOf sheetT B edit-8 room) ≡ refused 41 0
-unfolding judged-of askOf sheetT value isNode anyBelow allBelow countBelow update replace putLabel putArrow carry code bookCode levels bookLevels longest askCarried askScratch whole readRules askBook askEdit askRules outcome _>>=_ _>>_ is codes choice follow reading._>>=_
+unfolding judged-of askOf sheetT value isNode anyBelow allBelow countBelow update replace putLabel putArrow carry code bookCode levels byArity bookLevels longest askCarried askScratch whole readRules askBook askOne askRules outcome _>>=_ _>>_ is codes choice follow reading._>>=_
 judged-8 room h = rw (le-leb 12 room h)
 
 pub example-8 : (room : ℕ) → 12 ≤ room → enterAnswer (store sheetT) B edit-8 room ≡ refused 41 0
-unfolding askEnter judged-of
-example-8 room h = (λ t. judged-of (read-back sheetT T-within t) (carried-of sheetT B edit-8 room T-within t)) ∙ judged-8 room h
+example-8 room h = unfold askEnter judged-of in (λ t. judged-of (read-back sheetT T-within t) (carried-of sheetT B edit-8 room T-within t)) ∙ judged-8 room h

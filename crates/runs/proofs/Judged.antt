@@ -15,13 +15,12 @@ use Rattle.judge.proofs.QuestionLaws.{hold-asked, asked-hold}
 
 pub judge-says-kept : (sheet book : List ℕ) → (askJudge sheet book ≡ passed tt) ↔ Keeps book sheet
 unfolding askJudge askSheetAndBook _>>=_ _>>_
-judge-says-kept sheet book = (keeps, judged)
-  where
-    keeps : askJudge sheet book ≡ passed tt → Keeps book sheet
-    keeps e =
-        let (rules, asked, hold) = bind-passed (askSheetAndBook sheet book) (λ rules. askRules (graphOf sheet) rules 0) tt e in
-        let (u, sound, read) = then-passed (askSheet sheet) (askBook (textLimits (graphOf sheet .n)) book) rules asked in
-        record { sound = sound; rules = rules; book-read = read; hold = asked-hold (graphOf sheet) rules 0 hold }
+judge-says-kept sheet book = (keeps, judged) where
+  keeps : askJudge sheet book ≡ passed tt → Keeps book sheet
+  keeps e =
+      let (rules, asked, hold) = bind-passed (askSheetAndBook sheet book) (λ rules. askRules (graphOf sheet) rules 0) tt e in
+      let (u, sound, read) = then-passed (askSheet sheet) (askBook (textLimits (graphOf sheet .n)) book) rules asked in
+      record { sound = sound; rules = rules; book-read = read; hold = asked-hold (graphOf sheet) rules 0 hold }
 
-    judged : Keeps book sheet → askJudge sheet book ≡ passed tt
-    judged k = rw (k .sound, k .book-read) (hold-asked (graphOf sheet) (k .rules) 0 (k .hold))
+  judged : Keeps book sheet → askJudge sheet book ≡ passed tt
+  judged k = rw (k .sound, k .book-read) (hold-asked (graphOf sheet) (k .rules) 0 (k .hold))

@@ -13,23 +13,22 @@ use Rattle.sheet.specs.Sheet.{graphOf}
 use Rattle.text.specs.Reading.{longestCarried, textLimits}
 use Rattle.text.specs.Questions.{askEdit}
 use Rattle.judge.specs.Questions.{askSheetAndBook, askRules}
-use Rattle.judge.proofs.Refusals.{rules-refuse}
-use Rattle.single.specs.Scratch.{askScratch, writings}
+use Rattle.judge.proofs.RuleRefusals.{rules-refuse}
+use Rattle.runs.specs.Scratch.{askScratch, writings}
 use Rattle.apply.specs.Apply.{afterSteps}
 use Rattle.runs.specs.Enter.{StepsAndCarried, askBefore41, askEnter, enterAnswer, enterSheet, enterScratch}
 use Rattle.runs.specs.Run.{Call, log}
 use Rattle.runs.specs.Demand3.{Each}
 use Rattle.runs.specs.Leaves.{ScratchWritten, Leaves}
 use Rattle.answer.proofs.AskedLaws.{passed-same, bind-passed, then-passed}
-use Rattle.runs.proofs.Numbers.{before-41-refuses}
+use Rattle.runs.proofs.EnterRefusals.{before-41-refuses}
 
 stays : (sheet book edit : List ℕ) (room q p : ℕ) → enterAnswer sheet book edit room ≡ refused q p → enterSheet sheet book edit room ≡ sheet
 unfolding enterSheet after outcome
-stays sheet book edit room q p e = go (askEnter sheet book edit room) e
-  where
-    go : (a : Asked Edit) → outcome a ≡ refused q p → after a (λ Z. afterSteps Z sheet) sheet ≡ sheet
-    go (passed Z) e = let z : _≡_ {A = ℕ} 0 1 = cc in absurd (omega arith)
-    go (refused n m) e = refl
+stays sheet book edit room q p e = go (askEnter sheet book edit room) e where
+  go : (a : Asked Edit) → outcome a ≡ refused q p → after a (λ Z. afterSteps Z sheet) sheet ≡ sheet
+  go (passed Z) e = let z : _≡_ {A = ℕ} 0 1 = cc in absurd (omega arith)
+  go (refused n m) e = refl
 
 module _ (sheet book edit scratch : List ℕ) where
   abbrev askedHere : Asked StepsAndCarried
@@ -41,24 +40,22 @@ module _ (sheet book edit scratch : List ℕ) where
 
   scratch-same : (q p : ℕ) → enterAnswer sheet book edit (length scratch) ≡ refused q p → q ≢ 41 → enterScratch sheet book edit scratch ≡ scratch
   unfolding askEnter enterScratch after outcome _>>=_ _>>_
-  scratch-same q p e other = go askedHere e
-    where
-      by-rules : (c : StepsAndCarried) {most : ℕ} (r : Asked (Unit {0})) → Refuses 41 41 most r → outcome (r >> passed (c .steps)) ≡ refused q p → q ≡ 41
-      by-rules c (passed u) h e = let z : _≡_ {A = ℕ} 0 1 = cc in absurd (omega arith)
-      by-rules c (refused n m) (refuses _ _ i j k) e = let z : n ≡ q = cc in omega arith
+  scratch-same q p e other = go askedHere e where
+    by-rules : (c : StepsAndCarried) {most : ℕ} (r : Asked (Unit {0})) → Refuses 41 41 most r → outcome (r >> passed (c .steps)) ≡ refused q p → q ≡ 41
+    by-rules c (passed u) h e = let z : _≡_ {A = ℕ} 0 1 = cc in absurd (omega arith)
+    by-rules c (refused n m) (refuses _ _ i j k) e = let z : n ≡ q = cc in omega arith
 
-      go : (a : Asked StepsAndCarried) → judged a ≡ refused q p → after a (λ c. writings (graphOf sheet) (c .carried) scratch) scratch ≡ scratch
-      go (passed c) e = absurd (other (by-rules c (askRules (graphOf sheet) (c .carried) 0) (rules-refuse (graphOf sheet) (c .carried) 0) e))
-      go (refused n m) e = refl
+    go : (a : Asked StepsAndCarried) → judged a ≡ refused q p → after a (λ c. writings (graphOf sheet) (c .carried) scratch) scratch ≡ scratch
+    go (passed c) e = absurd (other (by-rules c (askRules (graphOf sheet) (c .carried) 0) (rules-refuse (graphOf sheet) (c .carried) 0) e))
+    go (refused n m) e = refl
 
   done-or-41 : (p : ℕ) → (enterAnswer sheet book edit (length scratch) ≡ passed tt) ⊎ (enterAnswer sheet book edit (length scratch) ≡ refused 41 p) → ScratchWritten sheet book edit scratch
   unfolding askEnter enterScratch after outcome _>>=_ _>>_
-  done-or-41 p e = go askedHere refl (before-41-refuses sheet book edit (length scratch)) e
-    where
-      go : (a : Asked StepsAndCarried) → askedHere ≡ a → Refuses 1 33 longestCarried a → (judged a ≡ passed tt) ⊎ (judged a ≡ refused 41 p) → ScratchWritten sheet book edit scratch
-      go (passed c) f b e = record { what = c; passes = f; written = ap (λ a. after a (λ c. writings (graphOf sheet) (c .carried) scratch) scratch) f }
-      go (refused n m) f b (inl e) = let z : _≡_ {A = ℕ} 0 1 = cc in absurd (omega arith)
-      go (refused n m) f (refuses _ _ i j k) (inr e) = let z : n ≡ 41 = cc in absurd (omega arith)
+  done-or-41 p e = go askedHere refl (before-41-refuses sheet book edit (length scratch)) e where
+    go : (a : Asked StepsAndCarried) → askedHere ≡ a → Refuses 1 33 longestCarried a → (judged a ≡ passed tt) ⊎ (judged a ≡ refused 41 p) → ScratchWritten sheet book edit scratch
+    go (passed c) f b e = record { what = c; passes = f; written = ap (λ a. after a (λ c. writings (graphOf sheet) (c .carried) scratch) scratch) f }
+    go (refused n m) f b (inl e) = let z : _≡_ {A = ℕ} 0 1 = cc in absurd (omega arith)
+    go (refused n m) f (refuses _ _ i j k) (inr e) = let z : n ≡ 41 = cc in absurd (omega arith)
 
 -- What is known when 1 to 33 have passed.
 pub record Passed33 (sheet book edit : List ℕ) (room : ℕ) (c : StepsAndCarried) : Type 0 where
@@ -81,19 +78,17 @@ passed-33 sheet book edit room c e =
       carried-are = subst (λ (k : StepsAndCarried). k .carried ≡ carriedBook (k .steps) rules) same refl;
       fits = subst (λ (k : StepsAndCarried). askScratch (k .carried) room ≡ passed tt) same fits;
       answer = ap (λ (a : Asked StepsAndCarried). outcome (a >>= judge)) e ∙ go (askRules (graphOf sheet) (c .carried) 0);
-    }
-  where
-    judge : StepsAndCarried → Asked Edit
-    judge k = askRules (graphOf sheet) (k .carried) 0 >> passed (k .steps)
+    } where
+      judge : StepsAndCarried → Asked Edit
+      judge k = askRules (graphOf sheet) (k .carried) 0 >> passed (k .steps)
 
-    go : (r : Asked (Unit {0})) → outcome (r >> passed (c .steps)) ≡ r
-    go (passed u) = refl
-    go (refused n p) = refl
+      go : (r : Asked (Unit {0})) → outcome (r >> passed (c .steps)) ≡ r
+      go (passed u) = refl
+      go (refused n p) = refl
 
 -- A sheet or book that is refused, through all calls.
 answers : (sheet book edit : List ℕ) (room q p : ℕ) → askSheetAndBook sheet book ≡ refused q p → enterAnswer sheet book edit room ≡ refused q p
-unfolding askEnter askBefore41 outcome _>>=_
-answers sheet book edit room q p e = rw e
+answers sheet book edit room q p e = unfold askEnter askBefore41 outcome _>>=_ in rw e
 
 others : (opening book : List ℕ) (calls : List Call) (q p : ℕ) → askSheetAndBook opening book ≡ refused q p → Each (λ l. (l .answer ≡ refused q p) × (l .sheet ≡ opening)) (log book opening calls)
 unfolding Each log

@@ -1,9 +1,10 @@
+pub mod ScratchLaws
 pub mod OneCall
 pub mod Runs
 pub mod After
 pub mod Demand3
 pub mod Judged
-pub mod Numbers
+pub mod EnterRefusals
 pub mod Leaves
 pub mod Examples
 pub mod Unmoved

@@ -10,12 +10,12 @@ use Rattle.logic.specs.Steps.{run}
 use Rattle.logic.specs.Carry.{carriedBook}
 use Rattle.logic.specs.Limits.{Within}
 use Rattle.sheet.specs.Sheet.{store, graphOf}
-use Rattle.sheet.proofs.Passes.{stored-passes}
-use Rattle.sheet.proofs.ReadBack.{read-back}
+use Rattle.store.proofs.StoredPasses.{stored-passes}
+use Rattle.store.proofs.StoredReads.{read-back}
 use Rattle.text.specs.Reading.{textLimits}
 use Rattle.text.specs.Questions.{askBook, askEdit}
 use Rattle.judge.specs.Questions.{askSheetAndBook, askRules}
-use Rattle.single.specs.Scratch.{askScratch}
+use Rattle.runs.specs.Scratch.{askScratch}
 use Rattle.runs.specs.Enter.{StepsAndCarried, askBefore41, askEnter, enterSheet}
 use Rattle.runs.specs.Clerk.{Fed, Line, clerkCopy, clerkAsks, clerkGraph, clerkLine}
 use Rattle.logic.specs.Meaning.{holdAll}
@@ -33,37 +33,35 @@ askSteps rules g c = do
 
 pub enter-asks : (sheet book : List ℕ) (rules : List (Expr rule)) (c : Fed) → askSheetAndBook sheet book ≡ passed rules → askEnter sheet book (c .edit) (c .room) ≡ askSteps rules (graphOf sheet) c
 unfolding askEnter askBefore41 askSteps _>>=_ _>>_
-enter-asks sheet book rules c e = ap (λ q. (q >>= size) >>= judged) e ∙ go (askEdit (textLimits (graphOf sheet .n)) (c .edit))
-  where
-    size : List (Expr rule) → Asked StepsAndCarried
-    size rules = askEdit (textLimits (graphOf sheet .n)) (c .edit) >>= (λ Z. askScratch (carriedBook Z rules) (c .room) >> passed (record { steps = Z; carried = carriedBook Z rules }))
+enter-asks sheet book rules c e = ap (λ q. (q >>= size) >>= judged) e ∙ go (askEdit (textLimits (graphOf sheet .n)) (c .edit)) where
+  size : List (Expr rule) → Asked StepsAndCarried
+  size rules = askEdit (textLimits (graphOf sheet .n)) (c .edit) >>= (λ Z. askScratch (carriedBook Z rules) (c .room) >> passed (record { steps = Z; carried = carriedBook Z rules }))
 
-    judged : StepsAndCarried → Asked Edit
-    judged k = askRules (graphOf sheet) (k .carried) 0 >> passed (k .steps)
+  judged : StepsAndCarried → Asked Edit
+  judged k = askRules (graphOf sheet) (k .carried) 0 >> passed (k .steps)
 
-    sized : (Z : Edit) (q : Asked (Unit {0})) → ((q >> passed (record { steps = Z; carried = carriedBook Z rules })) >>= judged) ≡ (q >> (askRules (run Z (graphOf sheet)) rules 0 >> passed Z))
-    sized Z (passed u) = ap (_>> passed Z) (ask-carried Z rules (graphOf sheet) 0)
-    sized Z (refused n p) = refl
+  sized : (Z : Edit) (q : Asked (Unit {0})) → ((q >> passed (record { steps = Z; carried = carriedBook Z rules })) >>= judged) ≡ (q >> (askRules (run Z (graphOf sheet)) rules 0 >> passed Z))
+  sized Z (passed u) = ap (_>> passed Z) (ask-carried Z rules (graphOf sheet) 0)
+  sized Z (refused n p) = refl
 
-    go : (q : Asked Edit) → ((q >>= (λ Z. askScratch (carriedBook Z rules) (c .room) >> passed (record { steps = Z; carried = carriedBook Z rules }))) >>= judged) ≡ (q >>= (λ Z. askScratch (carriedBook Z rules) (c .room) >> (askRules (run Z (graphOf sheet)) rules 0 >> passed Z)))
-    go (passed Z) = sized Z (askScratch (carriedBook Z rules) (c .room))
-    go (refused n p) = refl
+  go : (q : Asked Edit) → ((q >>= (λ Z. askScratch (carriedBook Z rules) (c .room) >> passed (record { steps = Z; carried = carriedBook Z rules }))) >>= judged) ≡ (q >>= (λ Z. askScratch (carriedBook Z rules) (c .room) >> (askRules (run Z (graphOf sheet)) rules 0 >> passed Z)))
+  go (passed Z) = sized Z (askScratch (carriedBook Z rules) (c .room))
+  go (refused n p) = refl
 
 pub clerk-asks : (rules : List (Expr rule)) (g : Graph) (c : Fed) → clerkAsks rules g c ≡ (askSteps rules g c >>= (λ Z. passed (run Z g)))
 unfolding clerkAsks clerkCopy askSteps _>>=_ _>>_
-clerk-asks rules g c = go (askEdit (textLimits (g .n)) (c .edit))
-  where
-    judged : (Z : Edit) (q : Asked (Unit {0})) → (q >> passed (run Z g)) ≡ ((q >> passed Z) >>= (λ Z. passed (run Z g)))
-    judged Z (passed u) = refl
-    judged Z (refused n p) = refl
+clerk-asks rules g c = go (askEdit (textLimits (g .n)) (c .edit)) where
+  judged : (Z : Edit) (q : Asked (Unit {0})) → (q >> passed (run Z g)) ≡ ((q >> passed Z) >>= (λ Z. passed (run Z g)))
+  judged Z (passed u) = refl
+  judged Z (refused n p) = refl
 
-    sized : (Z : Edit) (q : Asked (Unit {0})) → ((q >> passed (run Z g)) >>= (λ copy. askRules copy rules 0 >> passed copy)) ≡ ((q >> (askRules (run Z g) rules 0 >> passed Z)) >>= (λ Z. passed (run Z g)))
-    sized Z (passed u) = judged Z (askRules (run Z g) rules 0)
-    sized Z (refused n p) = refl
+  sized : (Z : Edit) (q : Asked (Unit {0})) → ((q >> passed (run Z g)) >>= (λ copy. askRules copy rules 0 >> passed copy)) ≡ ((q >> (askRules (run Z g) rules 0 >> passed Z)) >>= (λ Z. passed (run Z g)))
+  sized Z (passed u) = judged Z (askRules (run Z g) rules 0)
+  sized Z (refused n p) = refl
 
-    go : (q : Asked Edit) → ((q >>= (λ Z. askScratch (carriedBook Z rules) (c .room) >> passed (run Z g))) >>= (λ copy. askRules copy rules 0 >> passed copy)) ≡ ((q >>= (λ Z. askScratch (carriedBook Z rules) (c .room) >> (askRules (run Z g) rules 0 >> passed Z))) >>= (λ Z. passed (run Z g)))
-    go (passed Z) = sized Z (askScratch (carriedBook Z rules) (c .room))
-    go (refused n p) = refl
+  go : (q : Asked Edit) → ((q >>= (λ Z. askScratch (carriedBook Z rules) (c .room) >> passed (run Z g))) >>= (λ copy. askRules copy rules 0 >> passed copy)) ≡ ((q >>= (λ Z. askScratch (carriedBook Z rules) (c .room) >> (askRules (run Z g) rules 0 >> passed Z))) >>= (λ Z. passed (run Z g)))
+  go (passed Z) = sized Z (askScratch (carriedBook Z rules) (c .room))
+  go (refused n p) = refl
 
 -- What is known of an edit that has passed them all.
 pub record Entered (rules : List (Expr rule)) (g : Graph) (c : Fed) (Z : Edit) : Type 0 where
@@ -76,22 +74,19 @@ unfolding askSteps
 when-passed rules g c Z e =
     let (Y, read, e₁) = bind-passed (askEdit (textLimits (g .n)) (c .edit)) _ Z e in
     let (u, fits, e₂) = then-passed (askScratch (carriedBook Y rules) (c .room)) _ Z e₁ in
-    let (v, hold, e₃) = then-passed (askRules (run Y g) rules 0) (passed Y) Z e₂ in
-    let same : Y ≡ Z = cc in
+    let (v, hold, e₃) = then-passed (askRules (run Y g) rules 0) (passed Y) Z e₂ in let same : Y ≡ Z = cc in
     subst (Entered rules g c) same (record { edit-read = read; fits = fits; hold = asked-hold (run Y g) rules 0 hold })
 
 pub so-passed : (rules : List (Expr rule)) (g : Graph) (c : Fed) (Z : Edit) → Entered rules g c Z → askSteps rules g c ≡ passed Z
-unfolding askSteps _>>=_ _>>_
-so-passed rules g c Z k = rw (k .edit-read, k .fits, hold-asked (run Z g) rules 0 (k .hold))
+so-passed rules g c Z k = unfold askSteps _>>=_ _>>_ in rw (k .edit-read, k .fits, hold-asked (run Z g) rules 0 (k .hold))
 
 -- What the clerk's log then says, by what was asked.
 pub clerk-line : (rules : List (Expr rule)) (g : Graph) (c : Fed) → clerkLine rules g c ≡ record { edit = c .edit; answer = outcome (askSteps rules g c); sheet = store (after (askSteps rules g c) (λ Z. run Z g) g) }
 unfolding clerkGraph _>>=_ after outcome
-clerk-line rules g c = ap (λ q. record { edit = c .edit; answer = outcome q; sheet = store (after q (λ h. h) g) }) (clerk-asks rules g c) ∙ go (askSteps rules g c)
-  where
-    go : (q : Asked Edit) → _≡_ {A = Line} (record { edit = c .edit; answer = outcome (q >>= (λ Z. passed (run Z g))); sheet = store (after (q >>= (λ Z. passed (run Z g))) (λ h. h) g) }) (record { edit = c .edit; answer = outcome q; sheet = store (after q (λ Z. run Z g) g) })
-    go (passed Z) = refl
-    go (refused n p) = refl
+clerk-line rules g c = ap (λ q. record { edit = c .edit; answer = outcome q; sheet = store (after q (λ h. h) g) }) (clerk-asks rules g c) ∙ go (askSteps rules g c) where
+  go : (q : Asked Edit) → _≡_ {A = Line} (record { edit = c .edit; answer = outcome (q >>= (λ Z. passed (run Z g))); sheet = store (after (q >>= (λ Z. passed (run Z g))) (λ h. h) g) }) (record { edit = c .edit; answer = outcome q; sheet = store (after q (λ Z. run Z g) g) })
+  go (passed Z) = refl
+  go (refused n p) = refl
 
 -- A sheet that stores a graph passes, and its book is read for the graph's n.
 pub asked-of-stored : (g : Graph) (book : List ℕ) → Within g → askSheetAndBook (store g) book ≡ askBook (textLimits (g .n)) book

@@ -10,11 +10,11 @@ use Rattle.logic.specs.Steps.{run}
 use Rattle.logic.specs.Limits.{Within, ranges}
 use Rattle.logic.proofs.Inside.{run-n, run-within}
 use Rattle.sheet.specs.Sheet.{store, graphOf}
-use Rattle.sheet.proofs.Passes.{stored-passes}
-use Rattle.sheet.proofs.ReadBack.{read-back}
+use Rattle.store.proofs.StoredPasses.{stored-passes}
+use Rattle.store.proofs.StoredReads.{read-back}
 use Rattle.text.specs.Reading.{textLimits}
 use Rattle.text.specs.Questions.{askBook, askEdit}
-use Rattle.text.proofs.Books.{edit-is-spelled}
+use Rattle.text.proofs.TextSpelling.{edit-is-spelled}
 use Rattle.apply.specs.Apply.{afterSteps, askApply, appliedSheet}
 use Rattle.runs.specs.Clerk.{Fed, clerkGraph, clerkLine, clerkLog}
 use Rattle.logic.specs.Meaning.{holdAll}
@@ -58,25 +58,23 @@ module _ (book : List ℕ) (rules : List (Expr rule)) where
   -- The clerk's graph after a call.
   graph-after : (g : Graph) (c : Fed) → clerkGraph rules g c ≡ after (askSteps rules g c) (λ Z. run Z g) g
   unfolding clerkGraph _>>=_ after
-  graph-after g c = ap (λ q. after q (λ copy. copy) g) (clerk-asks rules g c) ∙ go (askSteps rules g c)
-    where
-      go : (q : Asked Edit) → after (q >>= (λ Z. passed (run Z g))) (λ copy. copy) g ≡ after q (λ Z. run Z g) g
-      go (passed Z) = refl
-      go (refused n p) = refl
+  graph-after g c = ap (λ q. after q (λ copy. copy) g) (clerk-asks rules g c) ∙ go (askSteps rules g c) where
+    go : (q : Asked Edit) → after (q >>= (λ Z. passed (run Z g))) (λ copy. copy) g ≡ after q (λ Z. run Z g) g
+    go (passed Z) = refl
+    go (refused n p) = refl
 
   pub still-kept : (g : Graph) (c : Fed) → Kept g → Kept (clerkGraph rules g c)
   unfolding after
-  still-kept g c k = subst Kept (sym (graph-after g c)) (go (askSteps rules g c) refl)
-    where
-      go : (q : Asked Edit) → askSteps rules g c ≡ q → Kept (after q (λ Z. run Z g) g)
-      go (passed Z) e =
-          let i : Entered rules g c Z = when-passed rules g c Z e in
-          record {
-            within = steps-within g (c .edit) Z (k .within) (i .edit-read);
-            book-read = rw (run-n Z g) (k .book-read);
-            hold = i .hold;
-          }
-      go (refused n p) e = k
+  still-kept g c k = subst Kept (sym (graph-after g c)) (go (askSteps rules g c) refl) where
+    go : (q : Asked Edit) → askSteps rules g c ≡ q → Kept (after q (λ Z. run Z g) g)
+    go (passed Z) e =
+        let i : Entered rules g c Z = when-passed rules g c Z e in
+        record {
+          within = steps-within g (c .edit) Z (k .within) (i .edit-read);
+          book-read = rw (run-n Z g) (k .book-read);
+          hold = i .hold;
+        }
+    go (refused n p) e = k
 
   -- After each call of the clerk his sheet keeps the book.
   pub kept-each : (g : Graph) (calls : List Fed) → Kept g → Each (λ l. Keeps book (l .sheet)) (clerkLog rules g calls)
@@ -95,14 +93,13 @@ module _ (book : List ℕ) (rules : List (Expr rule)) where
   entered-one : (opening : List ℕ) (edits : List (List ℕ)) (g : Graph) (c : Fed) → Kept g → madeInOrder opening edits ≡ store g → madeInOrder opening (entered edits (clerkLine rules g c)) ≡ store (clerkGraph rules g c)
   unfolding after outcome
   entered-one opening edits g c k e =
-      ap (λ l. madeInOrder opening (entered edits l)) (clerk-line rules g c) ∙ go (askSteps rules g c) refl ∙ ap store (sym (graph-after g c))
-    where
-      go : (q : Asked Edit) → askSteps rules g c ≡ q → madeInOrder opening (after (outcome q) (λ u. edits ++ (c .edit ∷ [])) edits) ≡ store (after q (λ Z. run Z g) g)
-      go (passed Z) f =
-          made-last opening edits (c .edit)
-          ∙ ap (λ s. appliedSheet s (c .edit)) e
-          ∙ applied-stored g (c .edit) Z (k .within) (when-passed rules g c Z f .edit-read)
-      go (refused n p) f = e
+      ap (λ l. madeInOrder opening (entered edits l)) (clerk-line rules g c) ∙ go (askSteps rules g c) refl ∙ ap store (sym (graph-after g c)) where
+        go : (q : Asked Edit) → askSteps rules g c ≡ q → madeInOrder opening (after (outcome q) (λ u. edits ++ (c .edit ∷ [])) edits) ≡ store (after q (λ Z. run Z g) g)
+        go (passed Z) f =
+            made-last opening edits (c .edit)
+            ∙ ap (λ s. appliedSheet s (c .edit)) e
+            ∙ applied-stored g (c .edit) Z (k .within) (when-passed rules g c Z f .edit-read)
+        go (refused n p) f = e
 
   pub alone-each : (opening : List ℕ) (edits : List (List ℕ)) (g : Graph) (calls : List Fed) → Kept g → madeInOrder opening edits ≡ store g → map (λ l. l .sheet) (clerkLog rules g calls) ≡ map (madeInOrder opening) (enteredAfterEach edits (clerkLog rules g calls))
   unfolding clerkLog enteredAfterEach

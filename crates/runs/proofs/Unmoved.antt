@@ -14,19 +14,18 @@ use Rattle.sheet.specs.Sheet.{graphOf}
 use Rattle.text.specs.Code.{bookCode, bookLevels}
 use Rattle.text.specs.Reading.{longestText, longestCarried, deepestCarried, textLimits}
 use Rattle.text.specs.Questions.{askEdit}
-use Rattle.text.proofs.Refusals.{edit-refuses}
+use Rattle.text.proofs.TextRefusals.{edit-refuses}
 use Rattle.judge.specs.Questions.{askSheetAndBook, askRules}
-use Rattle.judge.proofs.Refusals.{rules-refuse}
+use Rattle.judge.proofs.RuleRefusals.{rules-refuse}
 use Rattle.carry.specs.Carrying.{askCarried, askSize}
-use Rattle.carry.proofs.Asking.{sized, no-31, no-32, no-33, all-so}
-use Rattle.single.specs.Scratch.{longestRule, askScratch}
-use Rattle.single.proofs.Longest.{longest-short}
-use Rattle.single.proofs.Rooms.{split, scratch-is, any-room}
+use Rattle.carry.proofs.CarriedSizes.{sized, no-31, no-32, no-33, all-so}
+use Rattle.runs.specs.Scratch.{longestRule, askScratch}
+use Rattle.runs.proofs.ScratchLaws.{longest-short, split, scratch-is, any-room}
 use Rattle.apply.specs.Apply.{afterSteps}
 use Rattle.runs.specs.Enter.{StepsAndCarried, askBefore41, askEnter, enterAnswer, enterSheet}
 use Rattle.runs.specs.Former.{formerEnter, formerAnswer, formerSheet}
 use Rattle.runs.specs.Unmoved.{AsBefore, StillShort, Unmoved}
-use Rattle.runs.proofs.Numbers.{sheet-and-book-refuse}
+use Rattle.runs.proofs.EnterRefusals.{sheet-and-book-refuse}
 
 -- 31 to 33 of a carried book, by the longest rule and by the whole of it.
 module _ (carried : List (Expr rule)) (room : ℕ) where
@@ -34,8 +33,7 @@ module _ (carried : List (Expr rule)) (room : ℕ) where
   whole = length (bookCode carried)
 
   size-is : (r : ℕ) → askSize carried r ≡ sized whole (bookLevels carried) whole r
-  unfolding askCarried askSize sized _>>_
-  size-is r = refl
+  size-is r = unfold askCarried askSize sized _>>_ in refl
 
   -- both refuse with a number that is not 33, both pass, or the whole alone is too long
   pub record Alike : Type 0 where
@@ -68,11 +66,10 @@ module _ (carried : List (Expr rule)) (room : ℕ) where
 -- What follows 31 to 33 is not refused with 33.
 then-not-33 : (g : Graph) (carried : List (Expr rule)) (Z : Edit) (p : ℕ) (x : Asked (Unit {0})) → x ≢ refused 33 p → outcome (x >> (askRules g carried 0 >> passed Z)) ≢ refused 33 p
 unfolding outcome _>>_
-then-not-33 g carried Z p (passed u) n e = by-rules (askRules g carried 0) (rules-refuse g carried 0) e
-  where
-    by-rules : {most : ℕ} (x : Asked (Unit {0})) → Refuses 41 41 most x → outcome (x >> passed Z) ≢ refused 33 p
-    by-rules (passed u) o e = let z : _≡_ {A = ℕ} 0 1 = cc in absurd (omega arith)
-    by-rules (refused m o) (refuses _ _ i j k) e = let z : m ≡ 33 = cc in absurd (omega arith)
+then-not-33 g carried Z p (passed u) n e = by-rules (askRules g carried 0) (rules-refuse g carried 0) e where
+  by-rules : {most : ℕ} (x : Asked (Unit {0})) → Refuses 41 41 most x → outcome (x >> passed Z) ≢ refused 33 p
+  by-rules (passed u) o e = let z : _≡_ {A = ℕ} 0 1 = cc in absurd (omega arith)
+  by-rules (refused m o) (refuses _ _ i j k) e = let z : m ≡ 33 = cc in absurd (omega arith)
 then-not-33 g carried Z p (refused m o) n e = n cc
 
 module _ (sheet book edit : List ℕ) where
@@ -88,26 +85,24 @@ module _ (sheet book edit : List ℕ) where
 
   now-asks : (room : ℕ) → askEnter sheet book edit room ≡ asksHere (λ c. askScratch c room)
   unfolding askEnter askBefore41 asksBy _>>=_ _>>_
-  now-asks room = go (askSheetAndBook sheet book) (askEdit (textLimits (graphOf sheet .n)) edit)
-    where
-      judged : StepsAndCarried → Asked Edit
-      judged c = askRules (graphOf sheet) (c .carried) 0 >> passed (c .steps)
+  now-asks room = go (askSheetAndBook sheet book) (askEdit (textLimits (graphOf sheet .n)) edit) where
+    judged : StepsAndCarried → Asked Edit
+    judged c = askRules (graphOf sheet) (c .carried) 0 >> passed (c .steps)
 
-      size : List (Expr rule) → Edit → Asked StepsAndCarried
-      size rules Z = askScratch (carriedBook Z rules) room >> passed (record { steps = Z; carried = carriedBook Z rules })
+    size : List (Expr rule) → Edit → Asked StepsAndCarried
+    size rules Z = askScratch (carriedBook Z rules) room >> passed (record { steps = Z; carried = carriedBook Z rules })
 
-      last : (rules : List (Expr rule)) (Z : Edit) (x : Asked (Unit {0})) → ((x >> passed (record { steps = Z; carried = carriedBook Z rules })) >>= judged) ≡ (x >> (askRules (graphOf sheet) (carriedBook Z rules) 0 >> passed Z))
-      last rules Z (passed u) = refl
-      last rules Z (refused n p) = refl
+    last : (rules : List (Expr rule)) (Z : Edit) (x : Asked (Unit {0})) → ((x >> passed (record { steps = Z; carried = carriedBook Z rules })) >>= judged) ≡ (x >> (askRules (graphOf sheet) (carriedBook Z rules) 0 >> passed Z))
+    last rules Z (passed u) = refl
+    last rules Z (refused n p) = refl
 
-      go : (q : Asked (List (Expr rule))) (r : Asked Edit) → ((q >>= (λ rules. r >>= size rules)) >>= judged) ≡ asksBy (λ c. askScratch c room) q r
-      go (passed rules) (passed Z) = last rules Z (askScratch (carriedBook Z rules) room)
-      go (passed rules) (refused n p) = refl
-      go (refused n p) r = refl
+    go : (q : Asked (List (Expr rule))) (r : Asked Edit) → ((q >>= (λ rules. r >>= size rules)) >>= judged) ≡ asksBy (λ c. askScratch c room) q r
+    go (passed rules) (passed Z) = last rules Z (askScratch (carriedBook Z rules) room)
+    go (passed rules) (refused n p) = refl
+    go (refused n p) r = refl
 
   former-asks : (room : ℕ) → formerEnter sheet book edit room ≡ asksHere (λ c. askSize c room)
-  unfolding formerEnter asksBy _>>=_ _>>_
-  former-asks room = refl
+  former-asks room = unfold formerEnter asksBy _>>=_ _>>_ in refl
 
   as-before : (room former : ℕ) → asksHere (λ c. askScratch c room) ≡ asksHere (λ c. askSize c former) → AsBefore sheet book edit room former
   unfolding enterSheet formerSheet
@@ -117,48 +112,46 @@ module _ (sheet book edit : List ℕ) where
 
   same-else : (room : ℕ) → ((p : ℕ) → formerAnswer sheet book edit room ≢ refused 33 p) → AsBefore sheet book edit room room
   unfolding asksBy outcome _>>=_ _>>_
-  same-else room h = as-before room room (go (askSheetAndBook sheet book) (askEdit (textLimits (graphOf sheet .n)) edit) (λ p e. h p (ap outcome (former-asks room) ∙ e)))
-    where
-      one : (rules : List (Expr rule)) (Z : Edit) → Alike (carriedBook Z rules) room ⊎ Longer (carriedBook Z rules) room → ((p : ℕ) → outcome (then-size (λ c. askSize c room) rules Z) ≢ refused 33 p)
-          → then-size (λ c. askScratch c room) rules Z ≡ then-size (λ c. askSize c room) rules Z
-      one rules Z (inl a) n = ap (_>> (askRules (graphOf sheet) (carriedBook Z rules) 0 >> passed Z)) (a .same)
-      one rules Z (inr l) n = absurd (n _ (ap (λ (x : Asked (Unit {0})). outcome (x >> (askRules (graphOf sheet) (carriedBook Z rules) 0 >> passed Z))) (l .size)))
+  same-else room h = as-before room room (go (askSheetAndBook sheet book) (askEdit (textLimits (graphOf sheet .n)) edit) (λ p e. h p (ap outcome (former-asks room) ∙ e))) where
+    one : (rules : List (Expr rule)) (Z : Edit) → Alike (carriedBook Z rules) room ⊎ Longer (carriedBook Z rules) room → ((p : ℕ) → outcome (then-size (λ c. askSize c room) rules Z) ≢ refused 33 p)
+        → then-size (λ c. askScratch c room) rules Z ≡ then-size (λ c. askSize c room) rules Z
+    one rules Z (inl a) n = ap (_>> (askRules (graphOf sheet) (carriedBook Z rules) 0 >> passed Z)) (a .same)
+    one rules Z (inr l) n = absurd (n _ (ap (λ (x : Asked (Unit {0})). outcome (x >> (askRules (graphOf sheet) (carriedBook Z rules) 0 >> passed Z))) (l .size)))
 
-      go : (q : Asked (List (Expr rule))) (r : Asked Edit) → ((p : ℕ) → outcome (asksBy (λ c. askSize c room) q r) ≢ refused 33 p) → asksBy (λ c. askScratch c room) q r ≡ asksBy (λ c. askSize c room) q r
-      go (passed rules) (passed Z) n = one rules Z (compared (carriedBook Z rules) room) n
-      go (passed rules) (refused m p) n = refl
-      go (refused m p) r n = refl
+    go : (q : Asked (List (Expr rule))) (r : Asked Edit) → ((p : ℕ) → outcome (asksBy (λ c. askSize c room) q r) ≢ refused 33 p) → asksBy (λ c. askScratch c room) q r ≡ asksBy (λ c. askSize c room) q r
+    go (passed rules) (passed Z) n = one rules Z (compared (carriedBook Z rules) room) n
+    go (passed rules) (refused m p) n = refl
+    go (refused m p) r n = refl
 
   given-33 : (room p : ℕ) → formerAnswer sheet book edit room ≡ refused 33 p → StillShort sheet book edit room p ⊎ AsBefore sheet book edit room p
   unfolding asksBy outcome _>>=_ _>>_
-  given-33 room p h = so (go (askSheetAndBook sheet book) (askEdit (textLimits (graphOf sheet .n)) edit) (sym (ap outcome (former-asks room)) ∙ h))
-    where
-      Found : Asked (List (Expr rule)) → Asked Edit → Type 0
-      Found q r = ((n : ℕ) × (outcome (asksBy (λ c. askScratch c room) q r) ≡ refused 33 n) × (room < n) × (n ≤ p)) ⊎ (asksBy (λ c. askScratch c room) q r ≡ asksBy (λ c. askSize c p) q r)
+  given-33 room p h = so (go (askSheetAndBook sheet book) (askEdit (textLimits (graphOf sheet .n)) edit) (sym (ap outcome (former-asks room)) ∙ h)) where
+    Found : Asked (List (Expr rule)) → Asked Edit → Type 0
+    Found q r = ((n : ℕ) × (outcome (asksBy (λ c. askScratch c room) q r) ≡ refused 33 n) × (room < n) × (n ≤ p)) ⊎ (asksBy (λ c. askScratch c room) q r ≡ asksBy (λ c. askSize c p) q r)
 
-      so : Found (askSheetAndBook sheet book) (askEdit (textLimits (graphOf sheet .n)) edit) → StillShort sheet book edit room p ⊎ AsBefore sheet book edit room p
-      so (inl (n, e, l, m)) = inl (record { needed = n; answer = ap outcome (now-asks room) ∙ e; more = l; most = m })
-      so (inr e) = inr (as-before room p e)
+    so : Found (askSheetAndBook sheet book) (askEdit (textLimits (graphOf sheet .n)) edit) → StillShort sheet book edit room p ⊎ AsBefore sheet book edit room p
+    so (inl (n, e, l, m)) = inl (record { needed = n; answer = ap outcome (now-asks room) ∙ e; more = l; most = m })
+    so (inr e) = inr (as-before room p e)
 
-      one : (rules : List (Expr rule)) (Z : Edit) → Alike (carriedBook Z rules) room ⊎ Longer (carriedBook Z rules) room → outcome (then-size (λ c. askSize c room) rules Z) ≡ refused 33 p
-          → Found (passed rules) (passed Z)
-      one rules Z (inl a) e = absurd (then-not-33 (graphOf sheet) (carriedBook Z rules) Z p (askSize (carriedBook Z rules) room) (a .other p) e)
-      one rules Z (inr l) e = two (l .now)
-        where
-          is-whole : _≡_ {A = Asked (Unit {0})} (refused 33 (length (bookCode (carriedBook Z rules)))) (refused 33 p)
-          is-whole = sym (ap (λ (x : Asked (Unit {0})). outcome (x >> (askRules (graphOf sheet) (carriedBook Z rules) 0 >> passed Z))) (l .size)) ∙ e
+    one : (rules : List (Expr rule)) (Z : Edit) → Alike (carriedBook Z rules) room ⊎ Longer (carriedBook Z rules) room → outcome (then-size (λ c. askSize c room) rules Z) ≡ refused 33 p
+        → Found (passed rules) (passed Z)
+    one rules Z (inl a) e = absurd (then-not-33 (graphOf sheet) (carriedBook Z rules) Z p (askSize (carriedBook Z rules) room) (a .other p) e)
+    one rules Z (inr l) e = two (l .now) where
+      is-whole : _≡_ {A = Asked (Unit {0})} (refused 33 (length (bookCode (carriedBook Z rules)))) (refused 33 p)
+      is-whole = sym (ap (λ (x : Asked (Unit {0})). outcome (x >> (askRules (graphOf sheet) (carriedBook Z rules) 0 >> passed Z))) (l .size)) ∙ e
 
-          whole-p : length (bookCode (carriedBook Z rules)) ≡ p
-          whole-p = cc
+      whole-p : length (bookCode (carriedBook Z rules)) ≡ p
+      whole-p = cc
 
-          two : ((askScratch (carriedBook Z rules) room ≡ passed tt) × (askSize (carriedBook Z rules) (length (bookCode (carriedBook Z rules))) ≡ passed tt)) ⊎ ((askScratch (carriedBook Z rules) room ≡ refused 33 (longestRule (carriedBook Z rules))) × (room < longestRule (carriedBook Z rules))) → Found (passed rules) (passed Z)
-          two (inl (s, w)) = inr (ap (_>> (askRules (graphOf sheet) (carriedBook Z rules) 0 >> passed Z)) (s ∙ sym w ∙ ap (askSize (carriedBook Z rules)) whole-p))
-          two (inr (s, m)) = inl (longestRule (carriedBook Z rules), ap (λ (x : Asked (Unit {0})). outcome (x >> (askRules (graphOf sheet) (carriedBook Z rules) 0 >> passed Z))) s, m, omega (arith, longest-short (carriedBook Z rules), whole-p))
+      two : ((askScratch (carriedBook Z rules) room ≡ passed tt) × (askSize (carriedBook Z rules) (length (bookCode (carriedBook Z rules))) ≡ passed tt))
+          ⊎ ((askScratch (carriedBook Z rules) room ≡ refused 33 (longestRule (carriedBook Z rules))) × (room < longestRule (carriedBook Z rules))) → Found (passed rules) (passed Z)
+      two (inl (s, w)) = inr (ap (_>> (askRules (graphOf sheet) (carriedBook Z rules) 0 >> passed Z)) (s ∙ sym w ∙ ap (askSize (carriedBook Z rules)) whole-p))
+      two (inr (s, m)) = inl (longestRule (carriedBook Z rules), ap (λ (x : Asked (Unit {0})). outcome (x >> (askRules (graphOf sheet) (carriedBook Z rules) 0 >> passed Z))) s, m, omega (arith, longest-short (carriedBook Z rules), whole-p))
 
-      go : (q : Asked (List (Expr rule))) (r : Asked Edit) → outcome (asksBy (λ c. askSize c room) q r) ≡ refused 33 p → Found q r
-      go (passed rules) (passed Z) e = one rules Z (compared (carriedBook Z rules) room) e
-      go (passed rules) (refused m o) e = inr refl
-      go (refused m o) r e = inr refl
+    go : (q : Asked (List (Expr rule))) (r : Asked Edit) → outcome (asksBy (λ c. askSize c room) q r) ≡ refused 33 p → Found q r
+    go (passed rules) (passed Z) e = one rules Z (compared (carriedBook Z rules) room) e
+    go (passed rules) (refused m o) e = inr refl
+    go (refused m o) r e = inr refl
 
   enough : (room p : ℕ) → longestCarried ≤ room → enterAnswer sheet book edit room ≢ refused 33 p
   unfolding asksBy outcome _>>=_ _>>_
@@ -181,15 +174,14 @@ module _ (sheet book edit : List ℕ) where
   pub any-room-asks : (room : ℕ) → ((p : ℕ) → enterAnswer sheet book edit room ≢ refused 33 p) → askEnter sheet book edit room ≡ askEnter sheet book edit longestCarried
   unfolding asksBy outcome _>>=_ _>>_
   any-room-asks room h =
-      now-asks room ∙ go (askSheetAndBook sheet book) (askEdit (textLimits (graphOf sheet .n)) edit) (λ p e. h p (ap outcome (now-asks room) ∙ e)) ∙ sym (now-asks longestCarried)
-    where
-      judged : List (Expr rule) → Edit → Asked (Unit {0}) → Asked Edit
-      judged rules Z x = x >> (askRules (graphOf sheet) (carriedBook Z rules) 0 >> passed Z)
+      now-asks room ∙ go (askSheetAndBook sheet book) (askEdit (textLimits (graphOf sheet .n)) edit) (λ p e. h p (ap outcome (now-asks room) ∙ e)) ∙ sym (now-asks longestCarried) where
+        judged : List (Expr rule) → Edit → Asked (Unit {0}) → Asked Edit
+        judged rules Z x = x >> (askRules (graphOf sheet) (carriedBook Z rules) 0 >> passed Z)
 
-      go : (q : Asked (List (Expr rule))) (r : Asked Edit) → ((p : ℕ) → outcome (asksBy (λ c. askScratch c room) q r) ≢ refused 33 p) → asksBy (λ c. askScratch c room) q r ≡ asksBy (λ c. askScratch c longestCarried) q r
-      go (passed rules) (passed Z) n = ap (judged rules Z) (any-room (carriedBook Z rules) room (λ p e. n p (ap (λ x. outcome (judged rules Z x)) e)))
-      go (passed rules) (refused m p) n = refl
-      go (refused m p) r n = refl
+        go : (q : Asked (List (Expr rule))) (r : Asked Edit) → ((p : ℕ) → outcome (asksBy (λ c. askScratch c room) q r) ≢ refused 33 p) → asksBy (λ c. askScratch c room) q r ≡ asksBy (λ c. askScratch c longestCarried) q r
+        go (passed rules) (passed Z) n = ap (judged rules Z) (any-room (carriedBook Z rules) room (λ p e. n p (ap (λ x. outcome (judged rules Z x)) e)))
+        go (passed rules) (refused m p) n = refl
+        go (refused m p) r n = refl
 
 pub unmoved : Unmoved
 unmoved = record { same = same-else; where-33 = given-33; suffices = enough }

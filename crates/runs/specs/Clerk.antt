@@ -11,7 +11,7 @@ use Rattle.sheet.specs.Sheet.{store, graphOf}
 use Rattle.text.specs.Reading.{textLimits}
 use Rattle.text.specs.Questions.{askBook, askEdit}
 use Rattle.judge.specs.Questions.{askRules}
-use Rattle.single.specs.Scratch.{askScratch}
+use Rattle.runs.specs.Scratch.{askScratch}
 
 -- What he is fed for a call.
 pub record Fed : Type 0 where

@@ -10,7 +10,7 @@ use Rattle.logic.specs.Meaning.{value, holdAll}
 use Rattle.logic.specs.Carry.{carry, carriedBook}
 use Rattle.sheet.specs.Sheet.{graphOf}
 use Rattle.judge.specs.Questions.{askRules}
-use Rattle.single.specs.Scratch.{askScratch}
+use Rattle.runs.specs.Scratch.{askScratch}
 use Rattle.apply.specs.Apply.{afterSteps}
 use Rattle.runs.specs.Enter.{enterAnswer, enterSheet}
 use Rattle.runs.specs.Clerk.{Line, clerk}

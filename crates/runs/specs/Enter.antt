@@ -10,7 +10,7 @@ use Rattle.sheet.specs.Sheet.{graphOf}
 use Rattle.text.specs.Reading.{textLimits}
 use Rattle.text.specs.Questions.{askEdit}
 use Rattle.judge.specs.Questions.{askSheetAndBook, askRules}
-use Rattle.single.specs.Scratch.{askScratch, writings}
+use Rattle.runs.specs.Scratch.{askScratch, writings}
 use Rattle.apply.specs.Apply.{afterSteps}
 
 -- What is learned before 41: the steps of the edit, and the rules of the book carried back through them.

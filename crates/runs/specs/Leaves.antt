@@ -9,7 +9,7 @@ use lib.ListN.{length}
 use Rattle.answer.specs.Asked.{passed, refused}
 use Rattle.judge.specs.Questions.{askSheetAndBook}
 use Rattle.sheet.specs.Sheet.{graphOf}
-use Rattle.single.specs.Scratch.{writings}
+use Rattle.runs.specs.Scratch.{writings}
 use Rattle.runs.specs.Enter.{StepsAndCarried, askBefore41, enterAnswer, enterSheet, enterScratch}
 use Rattle.runs.specs.Run.{Call, log}
 use Rattle.runs.specs.Demand3.{Each}

@@ -1,3 +1,4 @@
+pub mod Scratch
 pub mod Enter
 pub mod Clerk
 pub mod Run

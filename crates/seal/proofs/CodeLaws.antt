@@ -1,6 +1,6 @@
 -- The check bytes as the code tests and stores them.
 use mathlib.Core.Path.{_≡_, refl, sym, ap, ap₂, _∙_}
-use mathlib.Core.Bool.{Bool, true, false, _&&_, and-true, and-eq-true-iff}
+use mathlib.Core.Bool.{Bool, true, false, _&&_, and-true, and-assoc, and-eq-true-iff}
 use mathlib.Core.List.{List, [], _∷_, _++_, append-nil}
 use Prim.Native.Nat.{ℕ, zero, suc, _+_, _-_, _*_, _/_, _%_, _≤_, _<_}
 use native.Mathlib.Nat.{mod-eq-of-lt, add-mul-mod-self-right}
@@ -16,14 +16,19 @@ use Rattle.seal.specs.Lanes.{total, weighed}
 use Rattle.seal.proofs.TotalLaws.{sums-total, sums-weighed}
 use Rattle.seal.proofs.SealLaws.{s-low, t-low}
 
+-- two tests that are one
+both-eqb : (x y s t a b : ℕ) → (x ≡ s → y ≡ t → a ≡ b) → (a ≡ b → (x ≡ s) × (y ≡ t)) → eqb a b ≡ (eqb x s && eqb y t)
+both-eqb x y s t a b to from = go (eqb x s) (eqb y t) refl refl where
+  go : (u v : Bool) → eqb x s ≡ u → eqb y t ≡ v → eqb a b ≡ (u && v)
+  go true true e f = eq-eqb a b (to (eqb-true x s e) (eqb-true y t f))
+  go true false e f = ne-eqb a b (λ g. eqb-false y t f (from g .1))
+  go false v e f = ne-eqb a b (λ g. eqb-false x s e (from g .0))
+
 -- a number in two bytes
 two-bytes : (a b s : ℕ) (r : Bool) → a < 256 → b < 256 → s < 65536 → (eqb a (s % 256) && (eqb b (s / 256 % 256) && r)) ≡ (eqb (a + b * 256) s && r)
-two-bytes a b s r h k l = go (eqb a (s % 256)) (eqb b (s / 256 % 256)) refl refl
-  where
-    go : (x y : Bool) → eqb a (s % 256) ≡ x → eqb b (s / 256 % 256) ≡ y → (x && (y && r)) ≡ (eqb (a + b * 256) s && r)
-    go true true e f = ap (_&& r) (sym (eq-eqb (a + b * 256) s (omega (arith, eqb-true a (s % 256) e, eqb-true b (s / 256 % 256) f))))
-    go true false e f = ap (_&& r) (sym (ne-eqb (a + b * 256) s (λ g. eqb-false b (s / 256 % 256) f (omega arith))))
-    go false y e f = ap (_&& r) (sym (ne-eqb (a + b * 256) s (λ g. eqb-false a (s % 256) e (omega arith))))
+two-bytes a b s r h k l =
+    sym (and-assoc (eqb a (s % 256)) (eqb b (s / 256 % 256)) r)
+    ∙ ap (_&& r) (sym (both-eqb a b (s % 256) (s / 256 % 256) (a + b * 256) s (λ e f. omega arith) (λ e. (omega arith, omega arith))))
 
 last-four : (k : List ℕ) → length k ≡ blockBytes → drop 508 k ≡ getD k 508 0 ∷ getD k 509 0 ∷ getD k 510 0 ∷ getD k 511 0 ∷ []
 last-four k h =
@@ -43,8 +48,7 @@ module _ (k : List ℕ) (h : length k ≡ blockBytes) where
 
   pub right-257 : ((p : ℕ) → getD k p 0 < 256) → (s t : ℕ) → s < 257 → t < 257 → s ≡ sums modulo257 (take 508 k) .s → t ≡ sums modulo257 (take 508 k) .t
       → sealRight modulo257 k ≡ (eqb (getD k 508 0 + getD k 509 0 * 256) s && eqb (getD k 510 0 + getD k 511 0 * 256) t)
-  unfolding sealRight
-  right-257 = seal-of (take 508 k)
+  right-257 = unfold sealRight in seal-of (take 508 k)
 
   pub right-255 : (s t : ℕ) → s < modulo255 .modulus → t < modulo255 .modulus → s ≡ sums modulo255 (take 510 k) .s → t ≡ sums modulo255 (take 510 k) .t → sealRight modulo255 k ≡ (eqb (getD k 510 0) s && eqb (getD k 511 0) t)
   unfolding sealRight sealOf sameBytes stored bytes
@@ -76,16 +80,10 @@ module _ (k : List ℕ) (h : length k ≡ blockBytes) where
 
 -- the four check bytes as one number, and two numbers below 65,536 in one
 check-number : (k : List ℕ) → length k ≡ blockBytes → ((p : ℕ) → getD k p 0 < 256) → (r : ℕ) → r ≡ wordAt k 504 → r / 0x100000000 ≡ getD k 508 0 + getD k 509 0 * 256 + 0x10000 * (getD k 510 0 + getD k 511 0 * 256)
-unfolding sumOfBytes
-check-number k h small r e = omega (arith, e, loaded k 504 (sumOfBytes k 504) (omega (arith, h)) refl, small 504, small 505, small 506, small 507)
+check-number k h small r e = unfold sumOfBytes in omega (arith, e, loaded k 504 (sumOfBytes k 504) (omega (arith, h)) refl, small 504, small 505, small 506, small 507)
 
 both-halves : (x y s t : ℕ) → x < 0x10000 → s < 0x10000 → eqb (x + 0x10000 * y) (s + 0x10000 * t) ≡ (eqb x s && eqb y t)
-both-halves x y s t h l = go (eqb x s) (eqb y t) refl refl
-  where
-    go : (a b : Bool) → eqb x s ≡ a → eqb y t ≡ b → eqb (x + 0x10000 * y) (s + 0x10000 * t) ≡ (a && b)
-    go true true e f = eq-eqb (x + 0x10000 * y) (s + 0x10000 * t) (omega (arith, eqb-true x s e, eqb-true y t f))
-    go true false e f = ne-eqb (x + 0x10000 * y) (s + 0x10000 * t) (λ g. eqb-false y t f (omega arith))
-    go false b e f = ne-eqb (x + 0x10000 * y) (s + 0x10000 * t) (λ g. eqb-false x s e (omega arith))
+both-halves x y s t h l = both-eqb x y s t (x + 0x10000 * y) (s + 0x10000 * t) (λ e f. omega arith) (λ e. (omega arith, omega arith))
 
 -- the sums of 2, the number of an arrow's block and zeros
 total-zeros : (n : ℕ) → (total (replicate n 0) ≡ 0) × (weighed (replicate n 0) ≡ 0)

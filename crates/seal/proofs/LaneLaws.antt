@@ -31,29 +31,22 @@ module _ (b0 b1 b2 b3 b4 b5 b6 b7 : ℕ) (h0 : b0 < 256) (h1 : b1 < 256) (h2 : b
   unfolding pack
   even-lanes =
       let e : word b0 b1 b2 b3 b4 b5 b6 b7 ≡ (((b6 + b7 * 256) * 65536 + (b4 + b5 * 256)) * 65536 + (b2 + b3 * 256)) * 65536 + (b0 + b1 * 256) = omega arith in
-      let e0 : (b0 + b1 * 256) % 256 ≡ b0 = omega arith in
-      let e2 : (b2 + b3 * 256) % 256 ≡ b2 = omega arith in
-      let e4 : (b4 + b5 * 256) % 256 ≡ b4 = omega arith in
-      let e6 : (b6 + b7 * 256) % 256 ≡ b6 = omega arith in
+      let low : ((b0 + b1 * 256) % 256 ≡ b0) × ((b2 + b3 * 256) % 256 ≡ b2) × ((b4 + b5 * 256) % 256 ≡ b4) × ((b6 + b7 * 256) % 256 ≡ b6) = omega arith in
       ap (λ (y : ℕ). bitAnd y 0x00FF00FF00FF00FF) e ∙ masked (b0 + b1 * 256) (b2 + b3 * 256) (b4 + b5 * 256) (b6 + b7 * 256) (omega arith) (omega arith) (omega arith)
-      ∙ omega (arith, e0, e2, e4, e6)
+      ∙ omega (arith, low)
 
   odd-lanes : bitAnd (word b0 b1 b2 b3 b4 b5 b6 b7 / 0x100) 0x00FF00FF00FF00FF ≡ pack b1 b3 b5 b7
   unfolding pack
   odd-lanes =
       let e : word b0 b1 b2 b3 b4 b5 b6 b7 / 0x100 ≡ ((b7 * 65536 + (b5 + b6 * 256)) * 65536 + (b3 + b4 * 256)) * 65536 + (b1 + b2 * 256) = omega arith in
-      let e1 : (b1 + b2 * 256) % 256 ≡ b1 = omega arith in
-      let e3 : (b3 + b4 * 256) % 256 ≡ b3 = omega arith in
-      let e5 : (b5 + b6 * 256) % 256 ≡ b5 = omega arith in
-      let e7 : b7 % 256 ≡ b7 = omega arith in
+      let low : ((b1 + b2 * 256) % 256 ≡ b1) × ((b3 + b4 * 256) % 256 ≡ b3) × ((b5 + b6 * 256) % 256 ≡ b5) × (b7 % 256 ≡ b7) = omega arith in
       ap (λ (y : ℕ). bitAnd y 0x00FF00FF00FF00FF) e ∙ masked (b1 + b2 * 256) (b3 + b4 * 256) (b5 + b6 * 256) b7 (omega arith) (omega arith) (omega arith)
-      ∙ omega (arith, e1, e3, e5, e7)
+      ∙ omega (arith, low)
 
 -- the word at a place of a list
 module _ (l : List ℕ) (small : (p : ℕ) → getD l p 0 < 256) (at : ℕ) (h : at + 8 ≤ length l) where
   word-is : wordAt l at ≡ word (getD l at 0) (getD l (at + 1) 0) (getD l (at + 2) 0) (getD l (at + 3) 0) (getD l (at + 4) 0) (getD l (at + 5) 0) (getD l (at + 6) 0) (getD l (at + 7) 0)
-  unfolding sumOfBytes
-  word-is = sym (loaded l at _ h refl) ∙ omega arith
+  word-is = unfold sumOfBytes in sym (loaded l at _ h refl) ∙ omega arith
 
   pub odds-are : bitAnd (wordAt l at / 0x100) 0x00FF00FF00FF00FF ≡ oddsAt l at
   unfolding oddsAt
@@ -64,8 +57,7 @@ module _ (l : List ℕ) (small : (p : ℕ) → getD l p 0 < 256) (at : ℕ) (h :
   pairs-are = omega (arith, ap (λ (y : ℕ). bitAnd y 0x00FF00FF00FF00FF) word-is, even-lanes _ _ _ _ _ _ _ _ (small at) (small (at + 1)) (small (at + 2)) (small (at + 3)) (small (at + 4)) (small (at + 5)) (small (at + 6)) (small (at + 7)))
 
   pub odds-low : oddsAt l at ≤ 0x00FF00FF00FF00FF
-  unfolding oddsAt pack
-  odds-low = omega (arith, small (at + 1), small (at + 3), small (at + 5), small (at + 7))
+  odds-low = unfold oddsAt pack in omega (arith, small (at + 1), small (at + 3), small (at + 5), small (at + 7))
 
   pub pairs-low : pairsAt l at ≤ 0x01FE01FE01FE01FE
   unfolding pairsAt pack

@@ -1,8 +1,8 @@
 pub mod LaneLaws
 pub mod WordSums
-pub mod Parts
+pub mod LaneTotals
 pub mod TotalLaws
 pub mod SealLaws
-pub mod Noticed
+pub mod SealNoticed
 pub mod CodeLaws
 pub mod PutLaws

@@ -12,8 +12,8 @@ use Rattle.bitset.proofs.WordLaws.{length-putWord, putWord-other}
 use Rattle.seal.specs.Seal.{blockBytes, modulo257, Form, sums, stored, sealed, reseal}
 use Rattle.seal.specs.Lanes.{pack, oddsAt, pairsAt, laneSum, lanePlaces, total, weighed}
 use Rattle.seal.proofs.TotalLaws.{sums-total, sums-weighed, alike}
-use Rattle.seal.proofs.WordSums.{S, T, eight, placed, S-next, T-next, eight-more}
-use Rattle.seal.proofs.Parts.{lane-sum, lane-places}
+use Rattle.seal.proofs.WordSums.{S, T, eight, placed, next-byte, eight-more}
+use Rattle.seal.proofs.LaneTotals.{lane-sum, lane-places}
 
 -- Two lists that differ only in the eight bytes from `at` on: the totals of all bytes up to those eight and j behind them.
 module _ (k r : List ℕ) (at : ℕ) (before : take at r ≡ take at k) (behind : (i : ℕ) → at + 8 ≤ i → getD r i 0 ≡ getD k i 0) (same : length r ≡ length k) where
@@ -30,11 +30,9 @@ module _ (k r : List ℕ) (at : ℕ) (before : take at r ≡ take at k) (behind 
       let e : at + (8 + suc j) ≡ suc n = omega arith in
       let ih = word-moves j (omega arith) in
       let c = behind n (omega arith) in
-      let sk = S-next k n (at + (8 + suc j)) e (omega arith) in
-      let sr = S-next r n (at + (8 + suc j)) e (omega arith) in
-      let tk = T-next k n (at + (8 + suc j)) e (omega arith) in
-      let tr = T-next r n (at + (8 + suc j)) e (omega arith) in
-      (omega (arith, ih .0, c, sk, sr), omega (arith, ih .0, ih .1, c, tk, tr))
+      let nk = next-byte k n (at + (8 + suc j)) e (omega arith) in
+      let nr = next-byte r n (at + (8 + suc j)) e (omega arith) in
+      (omega (arith, ih .0, c, nk .0, nr .0), omega (arith, ih .0, ih .1, c, nk .1, nr .1))
 
 -- x is y and a multiple of m more
 record Over (m x y : ℕ) : Type 0 where
@@ -58,8 +56,7 @@ moved-t m a b w e e′ p p′ t d q f o v g l =
 -- four lanes less four others, with n added to each
 differ : (n a0 a1 a2 a3 b0 b1 b2 b3 e0 e1 e2 e3 : ℕ) → e0 + a0 ≡ b0 + n → e1 + a1 ≡ b1 + n → e2 + a2 ≡ b2 + n → e3 + a3 ≡ b3 + n
     → pack b0 b1 b2 b3 + n * 0x0001000100010001 - pack a0 a1 a2 a3 ≡ pack e0 e1 e2 e3
-unfolding pack
-differ n a0 a1 a2 a3 b0 b1 b2 b3 e0 e1 e2 e3 f0 f1 f2 f3 = omega arith
+differ n a0 a1 a2 a3 b0 b1 b2 b3 e0 e1 e2 e3 f0 f1 f2 f3 = unfold pack in omega arith
 
 -- The lanes of the eight bytes from `at` on, of r less those of k, with 514 and 257 added to each: what they fold to, and what they say of the places.
 module _ (k r : List ℕ) where
@@ -90,12 +87,10 @@ module _ (k r : List ℕ) (at : ℕ) (small : (p : ℕ) → getD k p 0 < 256) (s
   one-low p = omega (arith, small′ p)
 
   pairs-lanes : pairs k r at ≡ pack (two k r at (at + 1)) (two k r (at + 2) (at + 3)) (two k r (at + 4) (at + 5)) (two k r (at + 6) (at + 7))
-  unfolding pairsAt
-  pairs-lanes = differ 514 _ _ _ _ _ _ _ _ _ _ _ _ (two-is at (at + 1)) (two-is (at + 2) (at + 3)) (two-is (at + 4) (at + 5)) (two-is (at + 6) (at + 7))
+  pairs-lanes = unfold pairsAt in differ 514 _ _ _ _ _ _ _ _ _ _ _ _ (two-is at (at + 1)) (two-is (at + 2) (at + 3)) (two-is (at + 4) (at + 5)) (two-is (at + 6) (at + 7))
 
   odds-lanes : odds k r at ≡ pack (one k r (at + 1)) (one k r (at + 3)) (one k r (at + 5)) (one k r (at + 7))
-  unfolding oddsAt
-  odds-lanes = differ 257 _ _ _ _ _ _ _ _ _ _ _ _ (one-is (at + 1)) (one-is (at + 3)) (one-is (at + 5)) (one-is (at + 7))
+  odds-lanes = unfold oddsAt in differ 257 _ _ _ _ _ _ _ _ _ _ _ _ (one-is (at + 1)) (one-is (at + 3)) (one-is (at + 5)) (one-is (at + 7))
 
   d-is : laneSum (pairs k r at) ≡ two k r at (at + 1) + two k r (at + 2) (at + 3) + two k r (at + 4) (at + 5) + two k r (at + 6) (at + 7)
   d-is = ap laneSum pairs-lanes ∙ lane-sum _ _ _ (two k r (at + 6) (at + 7)) (two-low at (at + 1)) (two-low (at + 2) (at + 3)) (two-low (at + 4) (at + 5))
@@ -123,10 +118,9 @@ module _ (k r : List ℕ) (at : ℕ) (small : (p : ℕ) → getD k p 0 < 256) (s
   pub places-low : lanePlaces (pairs k r at) (odds k r at) ≤ 8 * laneSum (pairs k r at)
   places-low =
       lanes-enough (one k r (at + 1)) (one k r (at + 3)) (one k r (at + 5)) (one k r (at + 7)) (two k r at (at + 1)) (two k r (at + 2) (at + 3)) (two k r (at + 4) (at + 5)) (two k r (at + 6) (at + 7)) _ _
-      (one-two at (at + 1)) (one-two (at + 2) (at + 3)) (one-two (at + 4) (at + 5)) (one-two (at + 6) (at + 7)) q-is d-is
-    where
-      lanes-enough : (a b c d x y z w q e : ℕ) → a ≤ x → b ≤ y → c ≤ z → d ≤ w → q ≡ a + b + c + d + 2 * (y + 2 * z + 3 * w) → e ≡ x + y + z + w → q ≤ 8 * e
-      lanes-enough a b c d x y z w q e f g h i j k = omega arith
+      (one-two at (at + 1)) (one-two (at + 2) (at + 3)) (one-two (at + 4) (at + 5)) (one-two (at + 6) (at + 7)) q-is d-is where
+        lanes-enough : (a b c d x y z w q e : ℕ) → a ≤ x → b ≤ y → c ≤ z → d ≤ w → q ≡ a + b + c + d + 2 * (y + 2 * z + 3 * w) → e ≡ x + y + z + w → q ≤ 8 * e
+        lanes-enough a b c d x y z w q e f g h i j k = omega arith
 
 -- Numbers that leave the sums of a block's body.
 pub record Leaves (f : Form) (k : List ℕ) (s t : ℕ) : Type 0 where
@@ -135,8 +129,7 @@ pub record Leaves (f : Form) (k : List ℕ) (s t : ℕ) : Type 0 where
 
 -- the block with the sums that they leave behind it
 pub leaves-sealed : (f : Form) (k : List ℕ) (s t : ℕ) → Leaves f k s t → take (f .bodyBytes) k ++ stored f (record { s = s % f .modulus; t = t % f .modulus }) ≡ reseal f k
-unfolding reseal sealed
-leaves-sealed f k s t v = ap₂ (λ y z. take (f .bodyBytes) k ++ stored f (record { s = y; t = z })) (v .s-is) (v .t-is)
+leaves-sealed f k s t v = unfold reseal sealed in ap₂ (λ y z. take (f .bodyBytes) k ++ stored f (record { s = y; t = z })) (v .s-is) (v .t-is)
 
 -- A block k of which x is put into the body's eight bytes from `at` on, which makes it r: numbers that leave the sums of r, from the sums of k.
 module _ (k r : List ℕ) (at x : ℕ) (h : length k ≡ blockBytes) (i : at + 8 ≤ 508) (put : r ≡ putWord k at x) where
@@ -156,15 +149,15 @@ module _ (k r : List ℕ) (at x : ℕ) (h : length k ≡ blockBytes) (i : at + 8
       rw (e, f) at (word-moves k r at begins ends (ap length put ∙ length-putWord k at x (omega arith)) (500 - at) (omega arith))
 
   module _ (small : (p : ℕ) → getD k p 0 < 256) (small′ : (p : ℕ) → getD r p 0 < 256) where
-    pub places-there : lanePlaces (pairs k r at) (odds k r at) ≤ (508 - at) * laneSum (pairs k r at)
-    places-there = le-trans (places-low k r at small small′) (mul-le-mul-right {m = 8} {n = 508 - at} (laneSum (pairs k r at)) (omega arith))
+    pub places-there : (d q : ℕ) → d ≡ laneSum (pairs k r at) → q ≡ lanePlaces (pairs k r at) (odds k r at) → q ≤ (508 - at) * d
+    places-there d q ed eq = rw (eq, ed) (le-trans (places-low k r at small small′) (mul-le-mul-right {m = 8} {n = 508 - at} (laneSum (pairs k r at)) (omega arith)))
 
     pub leaves-put : (s t d q : ℕ) → s ≡ sums modulo257 (take 508 k) .s → t ≡ sums modulo257 (take 508 k) .t → d ≡ laneSum (pairs k r at) → q ≡ lanePlaces (pairs k r at) (odds k r at)
         → Leaves modulo257 r (s + d) (t + (508 - at) * d - q)
     leaves-put s t d q es et ed eq =
         let o : Over 257 (d + eight k at) (eight r at) = rw ed (weight-over k r at small small′) in
         let v : Over 257 (q + placed k at) (placed r at) = rw eq (places-over k r at small small′) in
-        let l : q ≤ (508 - at) * d = rw (eq, ed) places-there in
+        let l : q ≤ (508 - at) * d = places-there d q ed eq in
         record {
           s-is = moved-s 257 (S k 508) (S r 508) (eight k at) (eight r at) s d (body-moves .0) o (es ∙ sums-total modulo257 (take 508 k)) ∙ sym (sums-total modulo257 (take 508 r));
           t-is = moved-t 257 (T k 508) (T r 508) (508 - at) (eight k at) (eight r at) (placed k at) (placed r at) t d q (body-moves .1) o v (et ∙ sums-weighed modulo257 (take 508 k)) l ∙ sym (sums-weighed modulo257 (take 508 r));

@@ -36,17 +36,14 @@ module _ (f : Form) where
 
   -- A block that is right is its body with the body's check bytes, and no other bytes behind that body are right.
   pub right-check : (k : List ℕ) → sealRight f k ≡ true → drop (f .bodyBytes) k ≡ seal f (take (f .bodyBytes) k)
-  unfolding sealRight sealOf
-  right-check k e = same-is (drop (f .bodyBytes) k) (seal f (take (f .bodyBytes) k)) e
+  right-check k e = unfold sealRight sealOf in same-is (drop (f .bodyBytes) k) (seal f (take (f .bodyBytes) k)) e
 
   pub right-sealed : (k : List ℕ) → sealRight f k ≡ true → k ≡ sealed f (take (f .bodyBytes) k)
-  unfolding sealed
-  right-sealed k e = sym (take-append-drop (f .bodyBytes) k) ∙ ap (take (f .bodyBytes) k ++_) (right-check k e)
+  right-sealed k e = unfold sealed in sym (take-append-drop (f .bodyBytes) k) ∙ ap (take (f .bodyBytes) k ++_) (right-check k e)
 
   -- A body with its check bytes begins with the body and passes its question.
   pub getD-sealed : (body : List ℕ) (p : ℕ) → p < length body → getD (sealed f body) p 0 ≡ getD body p 0
-  unfolding sealed
-  getD-sealed body p h = List·getD-append body (seal f body) 0 p h
+  getD-sealed body p h = unfold sealed in List·getD-append body (seal f body) 0 p h
 
   pub sealed-right : (body : List ℕ) → length body ≡ f .bodyBytes → sealRight f (sealed f body) ≡ true
   unfolding sealRight sealOf sealed
@@ -54,8 +51,7 @@ module _ (f : Form) where
 
 module _ (f : Form) where
   pub length-sealed : (body : List ℕ) → length body ≡ f .bodyBytes → length (sealed f body) ≡ blockBytes
-  unfolding sealed
-  length-sealed body h = length-append body (seal f body) ∙ omega (arith, f .whole, length-stored f (sums f body))
+  length-sealed body h = unfold sealed in length-append body (seal f body) ∙ omega (arith, f .whole, length-stored f (sums f body))
 
   module _ (k : List ℕ) (h : length k ≡ blockBytes) where
     pub length-body : length (take (f .bodyBytes) k) ≡ f .bodyBytes
@@ -70,11 +66,10 @@ module _ (f : Form) where
       sym (take-at (bytes n (u .s)) (bytes n (u .t)) n (length-bytes n (u .s))) ∙ ap (take n) e ∙ take-at (bytes n (v .s)) (bytes n (v .t)) n (length-bytes n (v .s)) in
       let b : bytes n (u .t) ≡ bytes n (v .t) =
       sym (drop-at (bytes n (u .s)) (bytes n (u .t)) n (length-bytes n (u .s))) ∙ ap (drop n) e ∙ drop-at (bytes n (v .s)) (bytes n (v .t)) n (length-bytes n (v .s)) in
-      (told (u .s) (v .s) hs ks a, told (u .t) (v .t) ht kt b)
-    where
-      told : (x y : ℕ) → x < f .modulus → y < f .modulus → bytes (f .sumBytes) x ≡ bytes (f .sumBytes) y → x ≡ y
-      told x y h k e =
-          sym (numberOf-bytes (f .sumBytes) x ∙ mod-eq-of-lt (lt-of-lt-of-le h (f .stores))) ∙ ap numberOf e ∙ numberOf-bytes (f .sumBytes) y ∙ mod-eq-of-lt (lt-of-lt-of-le k (f .stores))
+      (told (u .s) (v .s) hs ks a, told (u .t) (v .t) ht kt b) where
+        told : (x y : ℕ) → x < f .modulus → y < f .modulus → bytes (f .sumBytes) x ≡ bytes (f .sumBytes) y → x ≡ y
+        told x y h k e =
+            sym (numberOf-bytes (f .sumBytes) x ∙ mod-eq-of-lt (lt-of-lt-of-le h (f .stores))) ∙ ap numberOf e ∙ numberOf-bytes (f .sumBytes) y ∙ mod-eq-of-lt (lt-of-lt-of-le k (f .stores))
 
   pub s-low : (l : List ℕ) → sums f l .s < f .modulus
   s-low l = rw (sums-total f l) (mod-lt (total l) (f .nonzero))

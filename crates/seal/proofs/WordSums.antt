@@ -25,11 +25,10 @@ module _ (l : List ℕ) where
   abbrev pub T : ℕ → ℕ
   T n = weighed (take n l)
 
-  pub S-next : (n m : ℕ) → m ≡ suc n → n < length l → S m ≡ S n + getD l n 0
-  S-next n m e h = ap S e ∙ ap total (take-suc l n 0 h) ∙ total-more (take n l) (getD l n 0)
-
-  pub T-next : (n m : ℕ) → m ≡ suc n → n < length l → T m ≡ T n + (S n + getD l n 0)
-  T-next n m e h = ap T e ∙ ap weighed (take-suc l n 0 h) ∙ weighed-more (take n l) (getD l n 0)
+  pub next-byte : (n m : ℕ) → m ≡ suc n → n < length l → (S m ≡ S n + getD l n 0) × (T m ≡ T n + (S n + getD l n 0))
+  next-byte n m e h =
+      let one = ap (λ k. take k l) e ∙ take-suc l n 0 h in
+      (ap total one ∙ total-more (take n l) (getD l n 0), ap weighed one ∙ weighed-more (take n l) (getD l n 0))
 
   -- the eight bytes from p on: their total, and the total of their places
   abbrev pub eight : ℕ → ℕ
@@ -40,22 +39,14 @@ module _ (l : List ℕ) where
 
   pub eight-more : (p : ℕ) → p + 8 ≤ length l → (S (p + 8) ≡ S p + eight p) × (T (p + 8) + placed p ≡ T p + 8 * S p + 8 * eight p)
   eight-more p h =
-      let s1 = S-next p (p + 1) (omega arith) (omega arith) in
-      let s2 = S-next (p + 1) (p + 2) (omega arith) (omega arith) in
-      let s3 = S-next (p + 2) (p + 3) (omega arith) (omega arith) in
-      let s4 = S-next (p + 3) (p + 4) (omega arith) (omega arith) in
-      let s5 = S-next (p + 4) (p + 5) (omega arith) (omega arith) in
-      let s6 = S-next (p + 5) (p + 6) (omega arith) (omega arith) in
-      let s7 = S-next (p + 6) (p + 7) (omega arith) (omega arith) in
-      let s8 = S-next (p + 7) (p + 8) (omega arith) (omega arith) in
-      let t1 = T-next p (p + 1) (omega arith) (omega arith) in
-      let t2 = T-next (p + 1) (p + 2) (omega arith) (omega arith) in
-      let t3 = T-next (p + 2) (p + 3) (omega arith) (omega arith) in
-      let t4 = T-next (p + 3) (p + 4) (omega arith) (omega arith) in
-      let t5 = T-next (p + 4) (p + 5) (omega arith) (omega arith) in
-      let t6 = T-next (p + 5) (p + 6) (omega arith) (omega arith) in
-      let t7 = T-next (p + 6) (p + 7) (omega arith) (omega arith) in
-      let t8 = T-next (p + 7) (p + 8) (omega arith) (omega arith) in
+      let n1 = next-byte p (p + 1) (omega arith) (omega arith) in
+      let n2 = next-byte (p + 1) (p + 2) (omega arith) (omega arith) in
+      let n3 = next-byte (p + 2) (p + 3) (omega arith) (omega arith) in
+      let n4 = next-byte (p + 3) (p + 4) (omega arith) (omega arith) in
+      let n5 = next-byte (p + 4) (p + 5) (omega arith) (omega arith) in
+      let n6 = next-byte (p + 5) (p + 6) (omega arith) (omega arith) in
+      let n7 = next-byte (p + 6) (p + 7) (omega arith) (omega arith) in
+      let n8 = next-byte (p + 7) (p + 8) (omega arith) (omega arith) in
       (omega arith, omega arith)
 
 weigh : (t t′ pl p w x s s0 t0 v n c : ℕ) → t′ + p ≡ t + 8 * s + 8 * x → s ≡ s0 + w → t + pl + 8 * (suc v * w) ≡ t0 + 8 * (n * s0) + 8 * c

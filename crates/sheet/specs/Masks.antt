@@ -42,25 +42,26 @@ lineMask φ n all j = cond (ltb j labelCount) all (cond (ltb j (lineCount φ)) (
 abbrev pub rowMask : ℕ → ℕ → ℕ
 rowMask all j = cond (member all j) all 0
 
--- r is 0 exactly when the words `from` to `to` have only members of `mask`.
-pub record Outside (k : List ℕ) (from to mask r : ℕ) : Type 0 where
-  pub none : r ≡ 0 → (j : ℕ) → from ≤ j → j < to → within k mask j ≡ true
-  pub some : ((j : ℕ) → from ≤ j → j < to → within k mask j ≡ true) → r ≡ 0
+-- r is 0 exactly when P holds: what must be zero is put together, and tested once.
+pub record ZeroWhen (r : ℕ) (P : Type 0) : Type 0 where
+  pub none : r ≡ 0 → P
+  pub some : P → r ≡ 0
 
--- r is 0 exactly when the bytes before the words and those behind them are zero.
-pub record Edges (φ : Form) (k : List ℕ) (r : ℕ) : Type 0 where
-  pub none : r ≡ 0 → (zerosAt k 3 13 ≡ true) × (zerosAt k (16 + 8 * wordCount) (padding φ wordCount) ≡ true)
-  pub some : zerosAt k 3 13 ≡ true → zerosAt k (16 + 8 * wordCount) (padding φ wordCount) ≡ true → r ≡ 0
+-- The words `from` to `to` have only members of `mask`.
+abbrev pub Outside : List ℕ → (from to mask r : ℕ) → Type 0
+Outside k from to mask r = ZeroWhen r ((j : ℕ) → from ≤ j → j < to → within k mask j ≡ true)
 
--- r is 0 exactly when the words of a set have no members at all.
-pub record Bare (k : List ℕ) (words r : ℕ) : Type 0 where
-  pub none : r ≡ 0 → (j : ℕ) → j < wordCount → member words j ≡ true → within k 0 j ≡ true
-  pub some : ((j : ℕ) → j < wordCount → member words j ≡ true → within k 0 j ≡ true) → r ≡ 0
+-- The bytes before the words and those behind them are zero.
+abbrev pub Edges : Form → List ℕ → ℕ → Type 0
+Edges φ k r = ZeroWhen r ((zerosAt k 3 13 ≡ true) × (zerosAt k (16 + 8 * wordCount) (padding φ wordCount) ≡ true))
 
--- r is 0 exactly when each word j has only members of mask j.
-pub record Over (k : List ℕ) (mask : ℕ → ℕ) (r : ℕ) : Type 0 where
-  pub none : r ≡ 0 → (j : ℕ) → j < wordCount → within k (mask j) j ≡ true
-  pub some : ((j : ℕ) → j < wordCount → within k (mask j) j ≡ true) → r ≡ 0
+-- The words of a set have no members at all.
+abbrev pub Bare : List ℕ → (words r : ℕ) → Type 0
+Bare k words r = ZeroWhen r ((j : ℕ) → j < wordCount → member words j ≡ true → within k 0 j ≡ true)
+
+-- Each word j has only members of mask j.
+abbrev pub Over : List ℕ → (ℕ → ℕ) → ℕ → Type 0
+Over k mask r = ZeroWhen r ((j : ℕ) → j < wordCount → within k (mask j) j ≡ true)
 
 -- Of inner functions: n is the sheet's, and `all` the word of its nodes in use, once n is in range; block 0 tells both.
 pub record Told (φ : SheetForm) (k : List ℕ) (b n all : ℕ) (nodes : Nodes) : Type 0 where

@@ -1,4 +1,4 @@
-// One block of a sheet: its questions, and the writing of its words. Inner: each function is lent a whole block.
+// The questions of one block of a sheet, and a blank block. Inner: each function is lent a whole block.
 ghost use mathlib.Core.Path.{_≡_};
 ghost use mathlib.Core.Bool.{true, false, cond};
 ghost use Prim.Native.Nat.{ℕ, _%_, _^_, _<_, _≤_};
@@ -10,11 +10,11 @@ ghost use Rattle.answer.specs.Answers.{asked};
 ghost use Rattle.bitset.specs.Words.{setOf, member};
 ghost use Rattle.seal.specs.Seal.{blockBytes, reseal};
 ghost use Rattle.seal.specs.Forms.{formOf};
-ghost use Rattle.sheet.specs.Sheet.{blockCount, present, padding, SheetForm};
-ghost use Rattle.sheet.specs.Forms.{formIn};
+ghost use Rattle.sheet.specs.Sheet.{blockCount, padding, SheetForm, present};
+ghost use Rattle.sheet.specs.SheetForms.{formIn};
 ghost use Rattle.sheet.specs.Questions.{headRight, zeroRight, askBlock};
+ghost use Rattle.sheet.specs.Writes.{blankBlock};
 ghost use Rattle.sheet.specs.Masks.{wordCount, blankIn, Outside, Edges, Bare, Over, Told, SomeTold, lineMask, rowMask};
-ghost use Rattle.sheet.specs.Writes.{putRows, blankBlock};
 use super::Sheet;
 use answer::Answer;
 use answer::Refusal;
@@ -22,13 +22,6 @@ use seal::Modulo;
 
 // The words that fill a body from byte 16 on.
 const WORDS: usize = 61;
-
-// A byte as a number.
-pub fn index(x: u8) -> usize
-    ensures { λ r. ⌜ r ≡ x ⌝ }
-{
-    x as usize
-}
 
 // Question 3: are bytes 0 to 2 of block b right, n from 1 to 60, and is some node below n in use? They are looked at as one number.
 // Inner: it is a block of a sheet, and `all` is what is told of the nodes.
@@ -178,19 +171,6 @@ pub fn ask_block(sums: Modulo, held: bool, block: &[u8], b: usize, n: usize, all
         return Answer::Refused(Refusal::NotZero { place: b });
     }
     Answer::Done
-}
-
-// Puts the first n of the rows into the block's words, and seals it. Inner: the block has that many.
-pub fn put_words(block: &mut [u8], n: usize, rows: [u64; 64])
-    requires { ⌜ (length (now block) ≡ blockBytes) × (n ≤ maxNodes) ⌝ }
-    ensures { λ _. ⌜ now (block .exit) ≡ reseal (present .sums) (putRows n rows (now (block .entry))) ⌝ }
-{
-    let mut i = 0;
-    while i < n {
-        bitset::store(block, 16 + 8 * i, rows[i]);
-        i += 1;
-    }
-    seal::seal(block);
 }
 
 // Makes the block one of three bytes, the word of line 48 and zeros, and seals it.

@@ -1,18 +1,15 @@
 // The sheet: 17 blocks of 512 bytes that store a graph ("The sheet" of document 01).
 ghost use mathlib.Core.Path.{_≡_};
-ghost use Prim.Native.Nat.{ℕ, _<_, _≤_};
+ghost use Prim.Native.Nat.{_<_, _≤_};
 ghost use lib.ListN.{length, getD};
 ghost use Rattle.answer.specs.Answers.{asked};
 ghost use Rattle.answer.specs.Asked.{after};
-ghost use Rattle.logic.specs.Graph.{Nodes, Pairs, isNode};
-ghost use Rattle.logic.specs.Limits.{maxNodes, labelCount, arrowCount, PairsIn};
-ghost use Rattle.logic.specs.Steps.{relabel, rejoin};
+ghost use Rattle.logic.specs.Graph.{isNode};
+ghost use Rattle.logic.specs.Limits.{maxNodes, labelCount, arrowCount};
 ghost use Rattle.bitset.specs.Words.{setOf};
-ghost use Rattle.sheet.specs.Sheet.{SheetForm, sheetBytes, store, graphIn, graphOf, blank, relabelAll, Rows};
-ghost use Rattle.sheet.specs.Forms.{formIn};
-ghost use Rattle.seal.specs.Forms.{formOf};
+ghost use Rattle.sheet.specs.Sheet.{SheetForm, sheetBytes, graphIn, graphOf, store, blank};
+ghost use Rattle.sheet.specs.SheetForms.{formIn};
 ghost use Rattle.sheet.specs.Questions.{askSheetIn, askSheet, Sound, askBlank, askLabelBit, askArrowBit};
-ghost use Rattle.sheet.specs.Converted.{askConvert, converted};
 ghost use Rattle.sheet.specs.BitReads.{bitAsked};
 use answer::Answer;
 use answer::Refusal;
@@ -22,8 +19,6 @@ use logic::Node;
 use seal::Modulo;
 
 mod block;
-
-use block::index;
 
 // The bit that was asked for, or why it was not read.
 pub enum BitRead {
@@ -70,13 +65,13 @@ impl Sheet {
     }
 
     // The same in one form of sheets or another.
-    fn check_in(sums: Modulo, held: bool, sheet: &[u8]) -> Answer
+    pub fn check_in(sums: Modulo, held: bool, sheet: &[u8]) -> Answer
         ensures { λ r. ⌜ asked r ≡ askSheetIn (formIn sums held) (now (sheet .entry)) ⌝ }
     {
         if sheet.len() != Sheet::BYTES {
             return Answer::Refused(Refusal::SheetLength { place: 0 });
         }
-        let n = index(sheet[2]);
+        let n = sheet[2] as usize;
         let all = Sheet::nodes_told(held, sheet, n);
         let mut b = 0;
         while b < Sheet::BLOCKS {
@@ -116,31 +111,6 @@ impl Sheet {
         Answer::Done
     }
 
-    // Makes an old card with these sums today's sheet of the same graph, in the card's own buffer, or leaves it as it is: questions 1 to 4 of its form.
-    pub fn convert(sums: Modulo, card: &mut [u8]) -> Answer
-        ensures { λ r. ⌜ asked r ≡ askConvert (formOf sums) (now (card .entry)) ⌝ }
-        ensures { λ _. ⌜ now (card .exit) ≡ converted (formOf sums) (now (card .entry)) ⌝ }
-    {
-        let answer = Sheet::check_in(sums, false, card);
-        let Answer::Done = answer else {
-            return answer;
-        };
-        let n = index(card[2]);
-        bitset::store(
-            &mut card[0..Sheet::BLOCK],
-            16 + 8 * Sheet::LABELS,
-            bitset::lowest(n),
-        );
-        let mut b = 0;
-        while b < Sheet::BLOCKS {
-            let from = Sheet::BLOCK * b;
-            let to = from + Sheet::BLOCK;
-            seal::seal(&mut card[from..to]);
-            b += 1;
-        }
-        Answer::Done
-    }
-
     // Whether node i has label k: questions 1 to 4 of the sheet, then 7.
     pub fn label_bit(sheet: &[u8], k: Label, i: Node) -> BitRead
         ensures { λ r. ⌜ bitAsked r ≡ askLabelBit (now (sheet .entry)) (k .0) (i .0) ⌝ }
@@ -149,9 +119,9 @@ impl Sheet {
         if let Answer::Refused(r) = answer {
             return BitRead::Refused(r);
         }
-        if index(k.0) < Sheet::LABELS {
-            if index(i.0) < Sheet::node_count(sheet) {
-                return BitRead::Bit(bitset::member(Sheet::label_word(sheet, k), index(i.0)));
+        if (k.0 as usize) < Sheet::LABELS {
+            if (i.0 as usize) < Sheet::node_count(sheet) {
+                return BitRead::Bit(bitset::member(Sheet::label_word(sheet, k), i.0 as usize));
             }
         }
         BitRead::Refused(Refusal::BitRange { place: 0 })
@@ -165,11 +135,11 @@ impl Sheet {
         if let Answer::Refused(r) = answer {
             return BitRead::Refused(r);
         }
-        if index(a.0) < Sheet::ARROWS {
+        if (a.0 as usize) < Sheet::ARROWS {
             let n = Sheet::node_count(sheet);
-            if index(i.0) < n {
-                if index(j.0) < n {
-                    return BitRead::Bit(bitset::member(Sheet::row_word(sheet, a, i), index(j.0)));
+            if (i.0 as usize) < n {
+                if (j.0 as usize) < n {
+                    return BitRead::Bit(bitset::member(Sheet::row_word(sheet, a, i), j.0 as usize));
                 }
             }
         }
@@ -181,7 +151,7 @@ impl Sheet {
         requires { ⌜ Sound (now sheet) ⌝ }
         ensures { λ r. ⌜ (r ≡ graphOf (now (sheet .entry)) .n) × (1 ≤ r) × (r ≤ maxNodes) ⌝ }
     {
-        index(sheet[2])
+        sheet[2] as usize
     }
 
     // The set of its nodes in use. Inner: the sheet is sound.
@@ -197,7 +167,7 @@ impl Sheet {
         requires { ⌜ Sound (now sheet) × (k .0 < labelCount) ⌝ }
         ensures { λ r. ⌜ r ≡ setOf (graphOf (now (sheet .entry)) .n) (graphOf (now (sheet .entry)) .labelled (k .0)) ⌝ }
     {
-        bitset::load(sheet, 16 + 8 * index(k.0))
+        bitset::load(sheet, 16 + 8 * k.0 as usize)
     }
 
     // The set of the nodes to which arrow a goes from node i. Inner: the sheet is sound and has that arrow and node.
@@ -207,34 +177,7 @@ impl Sheet {
     {
         bitset::load(
             sheet,
-            Sheet::BLOCK * (index(a.0) + 1) + (16 + 8 * index(i.0)),
+            Sheet::BLOCK * (a.0 as usize + 1) + (16 + 8 * i.0 as usize),
         )
-    }
-
-    // Gives label k the nodes of the set x. Inner: the sheet is sound and has that label.
-    pub fn put_label(sheet: &mut [u8], k: Label, x: u64)
-        requires { ⌜ Sound (now sheet) × (k .0 < labelCount) ⌝ }
-        ensures { λ _. ⌜ ((v : Nodes) → x ≡ setOf (graphOf (now (sheet .entry)) .n) v → now (sheet .exit) ≡ store (relabel (graphOf (now (sheet .entry))) (k .0) v)) ⌝ }
-    {
-        seal::put_word(&mut sheet[0..Sheet::BLOCK], 16 + 8 * index(k.0), x);
-    }
-
-    // Gives each label the nodes of its word. Inner: the sheet is sound.
-    pub fn put_labels(sheet: &mut [u8], sets: [u64; 64])
-        requires { ⌜ Sound (now sheet) ⌝ }
-        ensures { λ _. ⌜ ((v : ℕ → Nodes) → ((k : ℕ) → k < labelCount → getD sets k 0 ≡ setOf (graphOf (now (sheet .entry)) .n) (v k)) → now (sheet .exit) ≡ store (relabelAll (graphOf (now (sheet .entry))) v)) ⌝ }
-    {
-        block::put_words(&mut sheet[0..Sheet::BLOCK], Sheet::LABELS, sets);
-    }
-
-    // Gives arrow a the pairs whose rows are given; only the rows of nodes are read. Inner: the sheet is sound and has that arrow.
-    pub fn put_rows(sheet: &mut [u8], a: Arrow, rows: [u64; 64])
-        requires { ⌜ Sound (now sheet) × (a .0 < arrowCount) ⌝ }
-        ensures { λ _. ⌜ ((v : Pairs) → PairsIn (graphOf (now (sheet .entry))) v → Rows (graphOf (now (sheet .entry)) .n) v rows → now (sheet .exit) ≡ store (rejoin (graphOf (now (sheet .entry))) (a .0) v)) ⌝ }
-    {
-        let n = Sheet::node_count(sheet);
-        let from = Sheet::BLOCK * index(a.0) + Sheet::BLOCK;
-        let to = from + Sheet::BLOCK;
-        block::put_words(&mut sheet[from..to], n, rows);
     }
 }

@@ -12,13 +12,13 @@ use Rattle.logic.specs.Limits.{maxNodes, Within}
 use Rattle.text.specs.Code.{code}
 use Rattle.text.specs.Reading.{Limits, carriedLimits}
 use Rattle.text.specs.Questions.{askRule}
-use Rattle.text.proofs.Books.{rule-is-spelled, spelled-rule-passes}
+use Rattle.text.proofs.TextSpelling.{rule-is-spelled, spelled-rule-passes}
 use Rattle.shortening.specs.Laws.{Step, Fits, Chain}
-use Rattle.shortening.specs.Asking.{askChain, askCheck, CheckPasses}
+use Rattle.shortening.specs.Questions.{askChain, askCheck, CheckPasses}
 use Rattle.shortening.specs.SameTruth.{SameTruth}
 use Rattle.shortening.proofs.Sound.{chain-sound}
-use Rattle.shortening.proofs.Limits.{step-shorter, step-no-deeper, step-in-range}
-use Rattle.shortening.proofs.Accepted.{WhenPassed, accepted}
+use Rattle.shortening.proofs.StepLimits.{step-shorter, step-no-deeper, step-in-range}
+use Rattle.shortening.proofs.StepsAccepted.{WhenPassed, accepted}
 use Rattle.shortening.proofs.OneReading.{one-rule}
 
 module _ (l : Limits) where
@@ -40,17 +40,16 @@ module _ (l : Limits) where
 -- Accepted exactly when the carried rule is one, and the steps are a chain of fitting steps from it to the text sent.
 pub check-passes : (carried steps sent : List ℕ) → (askCheck carried steps sent ≡ passed tt) ↔ CheckPasses carried steps sent
 unfolding askCheck _>>=_
-check-passes carried steps sent = (there, back)
-  where
-    asked : (q : Asked (Expr rule)) → askRule (carriedLimits maxNodes) carried ≡ q → (q >>= (λ K. askChain K steps sent)) ≡ passed tt → CheckPasses carried steps sent
-    asked (passed K) e h = record { first = K; read = e; accepted = accepted K steps sent .0 h }
-    asked (refused n p) e h = absurd (subst (WhenPassed {A = Unit {0}} (λ u. ⊥)) h tt)
+check-passes carried steps sent = (there, back) where
+  asked : (q : Asked (Expr rule)) → askRule (carriedLimits maxNodes) carried ≡ q → (q >>= (λ K. askChain K steps sent)) ≡ passed tt → CheckPasses carried steps sent
+  asked (passed K) e h = record { first = K; read = e; accepted = accepted K steps sent .0 h }
+  asked (refused n p) e h = absurd (subst (WhenPassed {A = Unit {0}} (λ u. ⊥)) h tt)
 
-    there : askCheck carried steps sent ≡ passed tt → CheckPasses carried steps sent
-    there h = asked (askRule (carriedLimits maxNodes) carried) refl h
+  there : askCheck carried steps sent ≡ passed tt → CheckPasses carried steps sent
+  there h = asked (askRule (carriedLimits maxNodes) carried) refl h
 
-    back : CheckPasses carried steps sent → askCheck carried steps sent ≡ passed tt
-    back c = ap (_>>= (λ K. askChain K steps sent)) (c .read) ∙ accepted (c .first) steps sent .1 (c .accepted)
+  back : CheckPasses carried steps sent → askCheck carried steps sent ≡ passed tt
+  back c = ap (_>>= (λ K. askChain K steps sent)) (c .read) ∙ accepted (c .first) steps sent .1 (c .accepted)
 
 -- "Accepted means that both texts have the same truth on every sheet whose node numbers fit"
 module _ (carried steps sent : List ℕ) (c : CheckPasses carried steps sent) (l : Limits) (K : Expr rule) (read : askRule l carried ≡ passed K) where

@@ -29,12 +29,10 @@ Each P (l ∷ ls) = P l × Each P ls
 -- What holds of each law and its number holds of the law with a number.
 pub by-number : {s : Sort} (P : ℕ → Law s → Type 0) → Each (λ l. P (l .number) l) (laws s) → {n : ℕ} {l : Law s} → numbered n (laws s) ≡ made l → P n l
 unfolding Each numbered
-by-number {s} P each {n} e = subst (OfMade (P n)) e (among (laws s) each)
-  where
-    among : (ls : List (Law s)) → Each (λ l. P (l .number) l) ls → OfMade (P n) (numbered n ls)
-    among [] each = tt
-    among (l ∷ ls) each = go (eqb n (l .number)) refl (among ls (each .1))
-      where
-        go : (b : Bool) → eqb n (l .number) ≡ b → OfMade (P n) (numbered n ls) → OfMade (P n) (elim b [ true ↦ made l | false ↦ numbered n ls ])
-        go true q r = subst (λ k. P k l) (sym (eqb-true n (l .number) q)) (each .0)
-        go false q r = r
+by-number {s} P each {n} e = subst (OfMade (P n)) e (among (laws s) each) where
+  among : (ls : List (Law s)) → Each (λ l. P (l .number) l) ls → OfMade (P n) (numbered n ls)
+  among [] each = tt
+  among (l ∷ ls) each = go (eqb n (l .number)) refl (among ls (each .1)) where
+    go : (b : Bool) → eqb n (l .number) ≡ b → OfMade (P n) (numbered n ls) → OfMade (P n) (elim b [ true ↦ made l | false ↦ numbered n ls ])
+    go true q r = subst (λ k. P k l) (sym (eqb-true n (l .number) q)) (each .0)
+    go false q r = r

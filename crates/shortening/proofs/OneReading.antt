@@ -12,8 +12,8 @@ use Rattle.logic.specs.Limits.{fits}
 use Rattle.text.specs.Code.{code, bookCode}
 use Rattle.text.specs.Reading.{Limits, expr, Plan, done, number, operand, _>>=_, Entry, Fault, Read, got, fault, wrongSort, tooDeep, outOfRange, codes, choice, follow, readAs}
 use Rattle.text.specs.Questions.{askBook, askRule}
-use Rattle.text.proofs.ReadBack.{reads}
-use Rattle.text.proofs.Books.{EachAllowed, rule-is-spelled, book-is-spelled}
+use Rattle.text.proofs.TextReadBack.{reads}
+use Rattle.text.proofs.TextSpelling.{EachAllowed, rule-is-spelled, book-is-spelled}
 
 -- Nothing is read where no byte is, so that a rule has some.
 none-there : (l : Limits) (t : List ℕ) (K : Expr rule) (r : List ℕ) (p : ℕ) → t ≡ [] → readAs l (expr rule) t 0 ≡ got K r p → ⊥
@@ -48,11 +48,10 @@ agree-both false c x y why p h = tt
 agree-choice : {A B : Type 0} (c : ℕ) (es : List (Entry A)) (f g : Plan A → Read B) (why : Fault) (p : ℕ) → ((e : Plan A) → Agree (f e) (g e)) → Agree (choice c es f (fault why p)) (choice c es g (fault why p))
 unfolding choice
 agree-choice c [] f g why p h = tt
-agree-choice {A} {B} c (e ∷ es) f g why p h = go (eqb c (e .byte)) (agree-choice c es f g why p h)
-  where
-    go : (b : Bool) → Agree (choice c es f (fault why p)) (choice c es g (fault why p)) → Agree {A = B} (elim b [ true ↦ f (e .plan) | false ↦ choice c es f (fault why p) ]) (elim b [ true ↦ g (e .plan) | false ↦ choice c es g (fault why p) ])
-    go true k = h (e .plan)
-    go false k = k
+agree-choice {A} {B} c (e ∷ es) f g why p h = go (eqb c (e .byte)) (agree-choice c es f g why p h) where
+  go : (b : Bool) → Agree (choice c es f (fault why p)) (choice c es g (fault why p)) → Agree {A = B} (elim b [ true ↦ f (e .plan) | false ↦ choice c es f (fault why p) ]) (elim b [ true ↦ g (e .plan) | false ↦ choice c es g (fault why p) ])
+  go true k = h (e .plan)
+  go false k = k
 
 module _ (l l′ : Limits) where
   -- So do those of a plan along a text by two limits.
@@ -76,13 +75,12 @@ module _ (l l′ : Limits) where
   -- read as a book, it is that rule alone.
   pub one-rule-book : (t : List ℕ) (K : Expr rule) (rules : List (Expr rule)) → askRule l t ≡ passed K → askBook l′ t ≡ passed rules → rules ≡ K ∷ []
   unfolding bookCode
-  one-rule-book t K rules h b = go rules (book-is-spelled l′ t rules b .spells .text-is) (book-is-spelled l′ t rules b .spells .rules)
-    where
-      go : (rules : List (Expr rule)) → t ≡ bookCode rules → EachAllowed l′ rules → rules ≡ K ∷ []
-      go [] e a = absurd (none-there l t K [] _ e (alone-read l t K h))
-      go (R ∷ rs) e a =
-          let read : readAs l′ (expr rule) t 0 ≡ got R (bookCode rs) (0 + length (code R)) = ap (λ u. readAs l′ (expr rule) u 0) e ∙ reads l′ (expr rule) 1 R (a .0) (bookCode rs) 0 in
-          let same : got K [] (0 + length (code K)) ≡ got R (bookCode rs) (0 + length (code R)) = got-same t (operand (expr rule) 1 done) 0 K R [] (bookCode rs) _ _ (alone-read l t K h) read in
-          let first : R ≡ K = cc in
-          let rest : bookCode rs ≡ [] = cc in
-          ap₂ _∷_ first (no-rules l′ rs (a .1) rest)
+  one-rule-book t K rules h b = go rules (book-is-spelled l′ t rules b .spells .text-is) (book-is-spelled l′ t rules b .spells .rules) where
+    go : (rules : List (Expr rule)) → t ≡ bookCode rules → EachAllowed l′ rules → rules ≡ K ∷ []
+    go [] e a = absurd (none-there l t K [] _ e (alone-read l t K h))
+    go (R ∷ rs) e a =
+        let read : readAs l′ (expr rule) t 0 ≡ got R (bookCode rs) (0 + length (code R)) = ap (λ u. readAs l′ (expr rule) u 0) e ∙ reads l′ (expr rule) 1 R (a .0) (bookCode rs) 0 in
+        let same : got K [] (0 + length (code K)) ≡ got R (bookCode rs) (0 + length (code R)) = got-same t (operand (expr rule) 1 done) 0 K R [] (bookCode rs) _ _ (alone-read l t K h) read in
+        let first : R ≡ K = cc in
+        let rest : bookCode rs ≡ [] = cc in
+        ap₂ _∷_ first (no-rules l′ rs (a .1) rest)

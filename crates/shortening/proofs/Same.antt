@@ -83,16 +83,14 @@ recalled (notRule K) = ap notRule (recalled K)
 
 pub same-equal : {s : Sort} (e f : Expr s) → sameTerm e f ≡ true → e ≡ f
 unfolding sameTerm
-same-equal {s} e f h = go (Raw-discrete ℕ-discrete (forget e) (forget f)) h
-  where
-    go : (d : Dec (forget e ≡ forget f)) → holds d ≡ true → e ≡ f
-    go (yes p) h = sym (recalled e) ∙ ap (λ x. at s (recall x)) p ∙ recalled f
-    go (no p) h = absurd (subst T (sym h) tt)
+same-equal {s} e f h = go (Raw-discrete ℕ-discrete (forget e) (forget f)) h where
+  go : (d : Dec (forget e ≡ forget f)) → holds d ≡ true → e ≡ f
+  go (yes p) h = sym (recalled e) ∙ ap (λ x. at s (recall x)) p ∙ recalled f
+  go (no p) h = absurd (subst T (sym h) tt)
 
 pub equal-same : {s : Sort} (e f : Expr s) → e ≡ f → sameTerm e f ≡ true
 unfolding sameTerm
-equal-same e f p = go (Raw-discrete ℕ-discrete (forget e) (forget f))
-  where
-    go : (d : Dec (forget e ≡ forget f)) → holds d ≡ true
-    go (yes q) = refl
-    go (no q) = absurd (q (ap forget p))
+equal-same e f p = go (Raw-discrete ℕ-discrete (forget e) (forget f)) where
+  go : (d : Dec (forget e ≡ forget f)) → holds d ≡ true
+  go (yes q) = refl
+  go (no q) = absurd (q (ap forget p))

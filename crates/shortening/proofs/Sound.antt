@@ -8,43 +8,19 @@ use Rattle.logic.specs.Graph.{Graph, isNode, anyBelow, allBelow, countBelow, im
 use Rattle.logic.specs.Meaning.{value}
 use Rattle.logic.specs.Limits.{Within}
 use Rattle.logic.proofs.Inside.{value-in}
-use Rattle.shortening.specs.Place.{Unary, complement·, reversed·, nodeIn·, pairIn·, notRule·, Binary, and·, or·, some·, every·, atLeast·, atMost·, union·, common·, minus·, endingIn·, subNodes·, subArrows·, both·, either·, build1, build2, Context, here, only, first, second, put}
+use Rattle.logic.proofs.ArityLaws.{value-1, value-2}
+use Rattle.shortening.specs.Place.{Context, here, only, first, second, put}
 use Rattle.shortening.specs.Laws.{Law, laws, Step, Fits, Chain}
 use Rattle.shortening.proofs.Numbered.{_&_, Each, by-number}
 
 -- A term's value goes by its operands' values.
 module _ (g : Graph) where
-  value-build1 : {u t : Sort} (b : Unary u t) (x y : Expr u) → value g x ≡ value g y → value g (build1 b x) ≡ value g (build1 b y)
-  unfolding value build1
-  value-build1 complement· x y p = λ t i. isNode g i && not (p t i)
-  value-build1 reversed· x y p = λ t i j. p t j i
-  value-build1 (nodeIn· m) x y p = λ t. p t m
-  value-build1 (pairIn· i j) x y p = λ t. p t i j
-  value-build1 notRule· x y p = λ t. not (p t)
-
-  value-build2 : {u v t : Sort} (b : Binary u v t) (x y : Expr u) (z w : Expr v) → value g x ≡ value g y → value g z ≡ value g w → value g (build2 b x z) ≡ value g (build2 b y w)
-  unfolding value build2
-  value-build2 and· x y z w p q = λ t i. p t i && q t i
-  value-build2 or· x y z w p q = λ t i. p t i || q t i
-  value-build2 some· x y z w p q = λ t i. anyBelow (g .n) (λ j. p t i j && q t j)
-  value-build2 every· x y z w p q = λ t i. isNode g i && allBelow (g .n) (λ j. implies (p t i j) (q t j))
-  value-build2 (atLeast· m) x y z w p q = λ t i. isNode g i && leb m (countBelow (g .n) (λ j. p t i j && q t j))
-  value-build2 (atMost· m) x y z w p q = λ t i. isNode g i && leb (countBelow (g .n) (λ j. p t i j && q t j)) m
-  value-build2 union· x y z w p q = λ t i j. p t i j || q t i j
-  value-build2 common· x y z w p q = λ t i j. p t i j && q t i j
-  value-build2 minus· x y z w p q = λ t i j. p t i j && not (q t i j)
-  value-build2 endingIn· x y z w p q = λ t i j. p t i j && q t j
-  value-build2 subNodes· x y z w p q = λ t. allBelow (g .n) (λ i. implies (p t i) (q t i))
-  value-build2 subArrows· x y z w p q = λ t. allBelow (g .n) (λ i. allBelow (g .n) (λ j. implies (p t i j) (q t i j)))
-  value-build2 both· x y z w p q = λ t. p t && q t
-  value-build2 either· x y z w p q = λ t. p t || q t
-
   value-put : {s t : Sort} (c : Context s t) (x y : Expr s) → value g x ≡ value g y → value g (put c x) ≡ value g (put c y)
   unfolding put
   value-put here x y p = p
-  value-put (only u c) x y p = value-build1 u (put c x) (put c y) (value-put c x y p)
-  value-put (first b c z) x y p = value-build2 b (put c x) (put c y) z z (value-put c x y p) refl
-  value-put (second b z c) x y p = value-build2 b z z (put c x) (put c y) refl (value-put c x y p)
+  value-put (only u c) x y p = value-1 g _ _ u (put c x) (put c y) (value-put c x y p)
+  value-put (first b c z) x y p = value-2 g _ _ b (put c x) (put c y) z z (value-put c x y p) refl
+  value-put (second b z c) x y p = value-2 g _ _ b z z (put c x) (put c y) refl (value-put c x y p)
 
 -- Each law, on every graph within the limits.
 abbrev pub LawSound : (g : Graph) {s : Sort} → Law s → Type 0
@@ -59,25 +35,24 @@ laws-sound g w node =
     & (λ E. fun-ext (λ i. contrary (isNode g i) (value g E i)))
     & (λ E. fun-ext (λ i. all-or (isNode g i) (value g E i) (value-in g w E i)))
     & (λ E. fun-ext (λ i. all-and (isNode g i) (value g E i) (value-in g w E i)))
-    & tt
-  where
-    twice : (b v : Bool) → (b ≡ false → v ≡ false) → (b && not (b && not v)) ≡ v
-    twice true true h = refl
-    twice true false h = refl
-    twice false v h = sym (h refl)
+    & tt where
+      twice : (b v : Bool) → (b ≡ false → v ≡ false) → (b && not (b && not v)) ≡ v
+      twice true true h = refl
+      twice true false h = refl
+      twice false v h = sym (h refl)
 
-    contrary : (b v : Bool) → (v && (b && not v)) ≡ false
-    contrary true true = refl
-    contrary false true = refl
-    contrary b false = refl
+      contrary : (b v : Bool) → (v && (b && not v)) ≡ false
+      contrary true true = refl
+      contrary false true = refl
+      contrary b false = refl
 
-    all-or : (b v : Bool) → (b ≡ false → v ≡ false) → (b || v) ≡ b
-    all-or true v h = refl
-    all-or false v h = h refl
+      all-or : (b v : Bool) → (b ≡ false → v ≡ false) → (b || v) ≡ b
+      all-or true v h = refl
+      all-or false v h = h refl
 
-    all-and : (b v : Bool) → (b ≡ false → v ≡ false) → (b && v) ≡ v
-    all-and true v h = refl
-    all-and false v h = sym (h refl)
+      all-and : (b v : Bool) → (b ≡ false → v ≡ false) → (b && v) ≡ v
+      all-and true v h = refl
+      all-and false v h = sym (h refl)
 laws-sound g w arrow = tt
 laws-sound g w rule = (λ K. Bool·not-not (value g K)) & (λ K. or-self (value g K)) & tt
 

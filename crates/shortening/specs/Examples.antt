@@ -5,7 +5,7 @@ use Rattle.logic.specs.Syntax.{Expr, node, rule, all, label, complement, and, a
 use Rattle.shortening.specs.Laws.{Made, made, unfit, Step}
 use Rattle.answer.specs.Asked.{Asked, passed, refused}
 use Rattle.shortening.specs.Checking.{makeSteps}
-use Rattle.shortening.specs.Asking.{askChain}
+use Rattle.shortening.specs.Questions.{askChain}
 
 abbrev pub three : Expr node
 three = atLeast 3 (arrowKind 0) all

@@ -63,7 +63,7 @@ operand2 (both K L) = L
 operand2 (either K L) = L
 operand2 (notRule K) = notRule K
 
--- A law: its number, its two sides, with one variable, and what stands for the variable in a left side (proofs/Exact, `laws-found`).
+-- A law: its number, its two sides, with one variable, and what stands for the variable in a left side (proofs/ExactSteps, `laws-found`).
 pub record Law (s : Sort) : Type 0 where
   pub number : ℕ
   pub left : Expr s → Expr s

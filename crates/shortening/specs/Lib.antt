@@ -3,5 +3,5 @@ pub mod Place
 pub mod Laws
 pub mod Checking
 pub mod Examples
-pub mod Asking
+pub mod Questions
 pub mod SameTruth

@@ -15,11 +15,10 @@ use Rattle.sheet.specs.Questions.{askSheet, askLabelBit, askArrowBit}
 
 -- Below m, which no byte passes, a number is found exactly when its byte is,
 below : (x m : ℕ) → m ≤ 255 → ltb (min x 255) m ≡ ltb x m
-below x m h = go (decLt x m)
-  where
-    go : Dec (x < m) → ltb (min x 255) m ≡ ltb x m
-    go (yes l) = lt-ltb (min x 255) m (omega arith) ∙ sym (lt-ltb x m l)
-    go (no l) = le-ltb (min x 255) m (omega arith) ∙ sym (le-ltb x m (omega arith))
+below x m h = go (decLt x m) where
+  go : Dec (x < m) → ltb (min x 255) m ≡ ltb x m
+  go (yes l) = lt-ltb (min x 255) m (omega arith) ∙ sym (lt-ltb x m l)
+  go (no l) = le-ltb (min x 255) m (omega arith) ∙ sym (le-ltb x m (omega arith))
 
 -- and is then that byte.
 itself : (x m : ℕ) → m ≤ 255 → ltb x m ≡ true → min x 255 ≡ x
@@ -33,8 +32,7 @@ alike p false x y e f = ap (λ b. is b 7 0 >> passed x) e
 
 module _ (t : List ℕ) (bytes : (p : ℕ) → getD t p 0 < 256) where
   few : graphOf t .n ≤ 255
-  unfolding graphIn
-  few = omega (arith, bytes 2)
+  few = unfold graphIn in omega (arith, bytes 2)
 
   pub label-bit-byte : (k i : ℕ) → askLabelBit t (min k 255) (min i 255) ≡ askLabelBit t k i
   unfolding askLabelBit

@@ -20,9 +20,8 @@ outcome-numbers (refused n p) = refl
 pub rule-end-numbers : (t : List ℕ) {n p l : ℕ} → n ≡ askedNumber (askRuleEnd t) → p ≡ askedPlace (askRuleEnd t) → l ≡ length (firstRule t)
     → _≡_ {A = LengthNumbers} (record { number = n; place = p; length = l }) (lengthNumbers (ruleEnd t))
 unfolding askedNumber askedPlace firstRule ruleEnd after _>>=_
-rule-end-numbers t = of (askRuleEnd t)
-  where
-    of : (q : Asked (Expr rule)) {n p l : ℕ} → n ≡ askedNumber q → p ≡ askedPlace q → l ≡ length (after q code [])
-        → _≡_ {A = LengthNumbers} (record { number = n; place = p; length = l }) (lengthNumbers (q >>= (λ K. passed (length (code K)))))
-    of (passed K) en ep el = cc
-    of (refused n p) en ep el = cc
+rule-end-numbers t = of (askRuleEnd t) where
+  of : (q : Asked (Expr rule)) {n p l : ℕ} → n ≡ askedNumber q → p ≡ askedPlace q → l ≡ length (after q code [])
+      → _≡_ {A = LengthNumbers} (record { number = n; place = p; length = l }) (lengthNumbers (q >>= (λ K. passed (length (code K)))))
+  of (passed K) en ep el = cc
+  of (refused n p) en ep el = cc

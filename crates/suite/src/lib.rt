@@ -10,10 +10,10 @@ mod edits;
 mod games;
 mod nodes;
 mod paper;
+mod plans;
 mod rules;
 mod sheets;
 mod small;
-mod store;
 
 // Number and place of an answer, 0 and 0 for done.
 #[repr(C)]

@@ -7,7 +7,7 @@ ghost use Rattle.text.specs.Questions.{ruleStart};
 ghost use Rattle.judge.specs.Judging.{judgedPart};
 ghost use Rattle.judge.specs.Questions.{askJudge};
 ghost use Rattle.rewrite_counts.specs.Rewritten.{askRewrite};
-ghost use Rattle.shortening.specs.Asking.{askCheck};
+ghost use Rattle.shortening.specs.Questions.{askCheck};
 ghost use Rattle.suite.specs.Numbers.{numbers, lengthNumbers, partNumbers, ruleEnd};
 use crate::LengthNumbers;
 use crate::Numbers;

@@ -6,7 +6,7 @@ ghost use Rattle.answer.specs.Asked.{after};
 ghost use Rattle.seal.specs.Seal.{modulo257, modulo255};
 ghost use Rattle.sheet.specs.Sheet.{store, blank};
 ghost use Rattle.sheet.specs.Questions.{askSheet, askBlank, askLabelBit, askArrowBit};
-ghost use Rattle.sheet.specs.Converted.{askConvert, converted};
+ghost use Rattle.store.specs.Converted.{askConvert, converted};
 ghost use Rattle.sheet.specs.BitReads.{bitAsked};
 ghost use Rattle.bitset.specs.Words.{digit};
 ghost use Rattle.join_sheets.specs.Joined.{askJoin, joinedSheet};
@@ -19,6 +19,7 @@ use logic::Node;
 use seal::Modulo;
 use sheet::BitRead;
 use sheet::Sheet;
+use store::Store;
 
 #[no_mangle]
 pub extern "C" fn zamiathen_blank(sheet: &mut [u8], n: usize) -> Numbers
@@ -40,7 +41,7 @@ pub extern "C" fn zamiathen_convert_255(card: &mut [u8]) -> Numbers
     ensures { λ r. ⌜ r ≡ numbers (askConvert modulo255 (now (card .entry))) ⌝ }
     ensures { λ _. ⌜ now (card .exit) ≡ converted modulo255 (now (card .entry)) ⌝ }
 {
-    crate::answer_numbers(Sheet::convert(Modulo::M255, card))
+    crate::answer_numbers(Store::convert(Modulo::M255, card))
 }
 
 #[no_mangle]
@@ -48,7 +49,7 @@ pub extern "C" fn zamiathen_convert_257(card: &mut [u8]) -> Numbers
     ensures { λ r. ⌜ r ≡ numbers (askConvert modulo257 (now (card .entry))) ⌝ }
     ensures { λ _. ⌜ now (card .exit) ≡ converted modulo257 (now (card .entry)) ⌝ }
 {
-    crate::answer_numbers(Sheet::convert(Modulo::M257, card))
+    crate::answer_numbers(Store::convert(Modulo::M257, card))
 }
 
 #[no_mangle]

@@ -18,16 +18,13 @@ over lo hi x h k = simp (le-leb _ _ h, lt-leb _ _ k)
 
 module _ (c : ℕ) where
   pub of-nodes : 0x01 ≤ c → c ≤ 0x0B → codeSort c ≡ nodes
-  unfolding codeSort
-  of-nodes h k = simp (within 0x01 0x0B c h k)
+  of-nodes h k = unfold codeSort in simp (within 0x01 0x0B c h k)
 
   pub of-arrows : 0x11 ≤ c → c ≤ 0x17 → codeSort c ≡ arrows
-  unfolding codeSort
-  of-arrows h k = simp (over 0x01 0x0B c (omega arith) (omega arith), within 0x11 0x17 c h k)
+  of-arrows h k = unfold codeSort in simp (over 0x01 0x0B c (omega arith) (omega arith), within 0x11 0x17 c h k)
 
   pub of-rules : 0x21 ≤ c → c ≤ 0x27 → codeSort c ≡ rules
-  unfolding codeSort
-  of-rules h k = simp (over 0x01 0x0B c (omega arith) (omega arith), over 0x11 0x17 c (omega arith) (omega arith), within 0x21 0x27 c h k)
+  of-rules h k = unfold codeSort in simp (over 0x01 0x0B c (omega arith) (omega arith), over 0x11 0x17 c (omega arith) (omega arith), within 0x21 0x27 c h k)
 
   pub of-edits : 0x30 ≤ c → c ≤ 0x35 → codeSort c ≡ edits
   unfolding codeSort
@@ -37,12 +34,10 @@ module _ (c : ℕ) where
 
   -- no code: before the nodes' codes, between two sorts, behind the edits'
   pub before-nodes : c < 0x01 → codeSort c ≡ noCode
-  unfolding codeSort
-  before-nodes h = simp (under 0x01 0x0B c h, under 0x11 0x17 c (omega arith), under 0x21 0x27 c (omega arith), under 0x30 0x35 c (omega arith))
+  before-nodes h = unfold codeSort in simp (under 0x01 0x0B c h, under 0x11 0x17 c (omega arith), under 0x21 0x27 c (omega arith), under 0x30 0x35 c (omega arith))
 
   pub before-arrows : 0x0B < c → c < 0x11 → codeSort c ≡ noCode
-  unfolding codeSort
-  before-arrows h k = simp (over 0x01 0x0B c (omega arith) h, under 0x11 0x17 c k, under 0x21 0x27 c (omega arith), under 0x30 0x35 c (omega arith))
+  before-arrows h k = unfold codeSort in simp (over 0x01 0x0B c (omega arith) h, under 0x11 0x17 c k, under 0x21 0x27 c (omega arith), under 0x30 0x35 c (omega arith))
 
   pub before-rules : 0x17 < c → c < 0x21 → codeSort c ≡ noCode
   unfolding codeSort

@@ -11,8 +11,8 @@ use Rattle.text.specs.declared.Step.{Step}
 use Rattle.text.specs.declared.Step.the-variants.{Next, Stopped}
 use Rattle.text.specs.Reading.{Limits, Want, Thing, Plan, done, number, operand, _>>=_, Entry, Read, got, fault, Fault, tooDeep, wrongSort, outOfRange, codes, choice, follow}
 use Rattle.text.specs.Rows.{stepOf, stepAt}
-use Rattle.text.proofs.Places.{placeBehind-is}
-use Rattle.text.proofs.Standing.{behind}
+use Rattle.text.proofs.TextPlaces.{placeBehind-is}
+use Rattle.text.proofs.StandingLaws.{behind}
 use Rattle.text.proofs.Converse.{spelling, Fine, Outcome, outcome}
 
 bind-assoc : {A B C : Type 0} (p : Plan A) (f : A → Plan B) (h : B → Plan C) → (p >>= f) >>= h ≡ p >>= (λ a. f a >>= h)
@@ -50,8 +50,7 @@ module _ (l : Limits) where
       (λ q. continue-if f (leb d (l .deepest)) (follow l t (q >>= p) (suc at)) (fault tooDeep at) (follow l t (q >>= (λ e. p e >>= f)) (suc at)) (fault tooDeep at) (ap (λ z. follow l t z (suc at)) (sym (bind-assoc q p f)) ∙ follow-bind t (q >>= p) f (suc at)) refl)
 
   follow-operand : {A : Type 0} (w : Want) (d : ℕ) (f : Thing w → Plan A) (t : List ℕ) (at : ℕ) → follow l t (operand w d f) at ≡ continue (follow l t (operand w d done) at) f
-  unfolding _>>=_
-  follow-operand w d f t at = follow-bind t (operand w d done) f at
+  follow-operand w d f t at = unfold _>>=_ in follow-bind t (operand w d done) f at
 
 -- Two plans that want the same of the bytes, whatever they make of them.
 pub data Alike {A B : Type 0} : Plan A → Plan B → Type 0 where
@@ -100,17 +99,16 @@ ReachedBy text at (got a rest p) = Reached text at rest p
 ReachedBy text at (fault why p) = Unit {0}
 
 pub reached : {A : Type 0} (l : Limits) (text : List ℕ) (p : Plan A) (at : ℕ) → ReachedBy text at (follow l (drop at text) p at)
-reached {A} l text p at = go (follow l (drop at text) p at) (outcome l (λ a bs. Unit {0}) (drop at text) p [] at (fine-any l p []))
-  where
-    go : (r : Read A) → Outcome l (λ a bs. Unit {0}) [] (drop at text) at r → ReachedBy text at r
-    go (got a rest q) h =
-        let e : q ≡ at + length (h .0) = h .3 ∙ placeBehind-is (h .0) at in
-        record {
-          rest-is = sym (ap (λ z. drop z text) e ∙ behind text at (h .0) rest (h .1));
-          on = omega arith;
-          inside = λ i. omega (arith, sym (length-drop at text) ∙ ap length (h .1) ∙ length-append (h .0) rest);
-        }
-    go (fault why q) h = tt
+reached {A} l text p at = go (follow l (drop at text) p at) (outcome l (λ a bs. Unit {0}) (drop at text) p [] at (fine-any l p [])) where
+  go : (r : Read A) → Outcome l (λ a bs. Unit {0}) [] (drop at text) at r → ReachedBy text at r
+  go (got a rest q) h =
+      let e : q ≡ at + length (h .0) = h .3 ∙ placeBehind-is (h .0) at in
+      record {
+        rest-is = sym (ap (λ z. drop z text) e ∙ behind text at (h .0) rest (h .1));
+        on = omega arith;
+        inside = λ i. omega (arith, sym (length-drop at text) ∙ ap length (h .1) ∙ length-append (h .0) rest);
+      }
+  go (fault why q) h = tt
 
 -- A step, and then one from where it has come to.
 abbrev pub andThen : Step → (ℕ → Step) → Step
@@ -132,8 +130,7 @@ then-same (Stopped s) k h e = refl
 module _ (text : List ℕ) (ρ : Limits) where
   pub step-then : {A B : Type 0} (p : Plan A) (q : Plan B) (at : ℕ) → stepAt text ρ (p >>= (λ a. q)) at ≡ andThen (stepAt text ρ p at) (λ m. stepAt text ρ q m)
   unfolding stepAt stepOf continue
-  step-then {A} p q at = ap stepOf (follow-bind ρ (drop at text) p (λ a. q) at) ∙ go (follow ρ (drop at text) p at) (reached ρ text p at)
-    where
-      go : (r : Read A) → ReachedBy text at r → stepOf (continue ρ r (λ a. q)) ≡ andThen (stepOf r) (λ m. stepOf (follow ρ (drop m text) q m))
-      go (got a rest m) h = ap (λ z. stepOf (follow ρ z q m)) (h .rest-is)
-      go (fault why m) h = refl
+  step-then {A} p q at = ap stepOf (follow-bind ρ (drop at text) p (λ a. q) at) ∙ go (follow ρ (drop at text) p at) (reached ρ text p at) where
+    go : (r : Read A) → ReachedBy text at r → stepOf (continue ρ r (λ a. q)) ≡ andThen (stepOf r) (λ m. stepOf (follow ρ (drop m text) q m))
+    go (got a rest m) h = ap (λ z. stepOf (follow ρ z q m)) (h .rest-is)
+    go (fault why m) h = refl

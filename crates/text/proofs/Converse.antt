@@ -7,10 +7,11 @@ use native.Mathlib.Omega.{arith}
 use lib.ListN.{length}
 use lib.Dec.{T, leb, eqb, leb→le, eqb→eq}
 use Rattle.logic.specs.Syntax.{node, arrow, rule}
+use Rattle.logic.specs.Arity.{byArity}
 use Rattle.logic.specs.Limits.{fits, InRange, EditInRange}
 use Rattle.text.specs.Code.{code, editCode, levels, editLevels}
 use Rattle.text.specs.Reading.{Limits, Want, expr, edit, Thing, Plan, done, number, operand, _>>=_, Entry, Read, got, fault, codes, choice, follow}
-use Rattle.text.proofs.Places.{placeBehind, placeBehind-is}
+use Rattle.text.proofs.TextPlaces.{placeBehind, placeBehind-is}
 
 -- the bytes of a thing, and its levels
 abbrev pub spelling : (w : Want) → Thing w → List ℕ
@@ -55,7 +56,7 @@ a & b = (a, b)
 -- each entry of the table has the code that its constructor has
 module _ (l : Limits) (d : ℕ) (h : d ≤ l .deepest) where
   codes-fine : (w : Want) → FineAll l w d (codes d w)
-  unfolding codes code editCode levels editLevels InRange EditInRange _>>=_
+  unfolding codes code editCode levels byArity editLevels InRange EditInRange _>>=_
   codes-fine (expr node) =
       spelled (expr node) _ refl tt (omega arith)
       & spelled (expr node) _ refl tt (omega arith)
@@ -118,7 +119,8 @@ module _ (l : Limits) {A : Type 0} (P : A → List ℕ → Type 0) where
   outcome-if pre t at false r q h i = i
 
   -- the table is fine where the level is within the limit, which is asked once the code is found
-  outcome-choice : (X : Type 0) (pre t : List ℕ) (at : ℕ) (w : Want) (d c : ℕ) (es : List (Entry (Thing w))) (found : Plan (Thing w) → Read A) (other : Read A) → (X → FineAll l w d es) → ((q : Plan (Thing w)) → (X → Fine l (Spelled l w d) q (c ∷ [])) → Outcome pre t at (found q)) → Outcome pre t at other → Outcome pre t at (choice c es found other)
+  outcome-choice : (X : Type 0) (pre t : List ℕ) (at : ℕ) (w : Want) (d c : ℕ) (es : List (Entry (Thing w))) (found : Plan (Thing w) → Read A) (other : Read A) → (X → FineAll l w d es)
+      → ((q : Plan (Thing w)) → (X → Fine l (Spelled l w d) q (c ∷ [])) → Outcome pre t at (found q)) → Outcome pre t at other → Outcome pre t at (choice c es found other)
   unfolding choice
   outcome-choice X pre t at w d c [] found other h k o = o
   outcome-choice X pre t at w d c (e ∷ es) found other h k o =
@@ -152,16 +154,15 @@ Wrote l w d t at (got e rest p) = Written l w d t at e rest p
 Wrote l w d t at (fault why p) = Unit {0}
 
 pub wrote : (l : Limits) (w : Want) (d : ℕ) (t : List ℕ) (at : ℕ) → Wrote l w d t at (follow l t (operand w d done) at)
-wrote l w d t at = go (follow l t (operand w d done) at) (outcome l (Spelled l w d) t (operand w d done) [] at (λ e h. record { same = refl; allowed = h }))
-  where
-    go : (r : Read (Thing w)) → Outcome l (Spelled l w d) [] t at r → Wrote l w d t at r
-    go (got e rest p) h =
-        record {
-          text-is = h .1 ∙ ap (_++ rest) (sym (h .2 .same));
-          place-is = h .3 ∙ placeBehind-is (h .0) at ∙ ap (λ z. at + length z) (sym (h .2 .same));
-          within = h .2 .allowed;
-        }
-    go (fault why p) h = tt
+wrote l w d t at = go (follow l t (operand w d done) at) (outcome l (Spelled l w d) t (operand w d done) [] at (λ e h. record { same = refl; allowed = h })) where
+  go : (r : Read (Thing w)) → Outcome l (Spelled l w d) [] t at r → Wrote l w d t at r
+  go (got e rest p) h =
+      record {
+        text-is = h .1 ∙ ap (_++ rest) (sym (h .2 .same));
+        place-is = h .3 ∙ placeBehind-is (h .0) at ∙ ap (λ z. at + length z) (sym (h .2 .same));
+        within = h .2 .allowed;
+      }
+  go (fault why p) h = tt
 
 -- THE CONVERSE: what is read is spelled by exactly the bytes taken, with its numbers in range and its levels within the limit.
 pub read-is-written : (l : Limits) (w : Want) (d : ℕ) (t : List ℕ) (at : ℕ) {e : Thing w} {rest : List ℕ} {p : ℕ} → follow l t (operand w d done) at ≡ got e rest p → Written l w d t at e rest p

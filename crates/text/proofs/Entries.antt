@@ -73,20 +73,18 @@ module _ (w : Want) (d c : ℕ) {B : Type 0} (found : Plan (Thing w) → Read B)
   pub no-entry : (es : List (Entry (Thing w))) → EachRow w d es → (sortOf c ≡ digit w → ⊥) → choice c es found other ≡ other
   unfolding choice
   no-entry [] h k = refl
-  no-entry (e ∷ es) h k = go (eqb c (e .byte)) (eqb→eq c (e .byte)) (no-entry es (h .1) k)
-    where
-      go : (b : Bool) → (T b → c ≡ e .byte) → choice c es found other ≡ other → elim b as (λ z. Read B) [ true ↦ found (e .plan) | false ↦ choice c es found other ] ≡ other
-      go true f r = absurd (k (ap sortOf (f tt) ∙ h .0 .0))
-      go false f r = r
+  no-entry (e ∷ es) h k = go (eqb c (e .byte)) (eqb→eq c (e .byte)) (no-entry es (h .1) k) where
+    go : (b : Bool) → (T b → c ≡ e .byte) → choice c es found other ≡ other → elim b as (λ z. Read B) [ true ↦ found (e .plan) | false ↦ choice c es found other ] ≡ other
+    go true f r = absurd (k (ap sortOf (f tt) ∙ h .0 .0))
+    go false f r = r
 
   pub an-entry : (step : Step) → ((p : Plan (Thing w)) → Alike p (rowPlan (rowOf c) d) → stepOf (found p) ≡ step) → (es : List (Entry (Thing w))) → EachRow w d es → (Differ c es → ⊥) → stepOf (choice c es found other) ≡ step
   unfolding choice
   an-entry step k [] h n = absurd (n tt)
-  an-entry step k (e ∷ es) h n = go (eqb c (e .byte)) (eqb-true c (e .byte)) (eqb-false c (e .byte)) (an-entry step k es (h .1))
-    where
-      go : (b : Bool) → (b ≡ true → c ≡ e .byte) → (b ≡ false → c ≡ e .byte → ⊥) → ((Differ c es → ⊥) → stepOf (choice c es found other) ≡ step) → stepOf {A = B} (elim b as (λ z. Read B) [ true ↦ found (e .plan) | false ↦ choice c es found other ]) ≡ step
-      go true f g r = k (e .plan) (subst (λ x. Alike (e .plan) (rowPlan (rowOf x) d)) (sym (f refl)) (h .0 .1))
-      go false f g r = r (λ m. n (g refl, m))
+  an-entry step k (e ∷ es) h n = go (eqb c (e .byte)) (eqb-true c (e .byte)) (eqb-false c (e .byte)) (an-entry step k es (h .1)) where
+    go : (b : Bool) → (b ≡ true → c ≡ e .byte) → (b ≡ false → c ≡ e .byte → ⊥) → ((Differ c es → ⊥) → stepOf (choice c es found other) ≡ step) → stepOf {A = B} (elim b as (λ z. Read B) [ true ↦ found (e .plan) | false ↦ choice c es found other ]) ≡ step
+    go true f g r = k (e .plan) (subst (λ x. Alike (e .plan) (rowPlan (rowOf x) d)) (sym (f refl)) (h .0 .1))
+    go false f g r = r (λ m. n (g refl, m))
 
 -- the range of a code of each sort
 in-range : (lo hi c : ℕ) → (leb lo c && leb c hi) ≡ true → (lo ≤ c) × (c ≤ hi)
@@ -104,8 +102,7 @@ chosen false false false true = ((λ h. absurd (omega arith), λ h. absurd (omeg
 chosen false false false false = ((λ h. absurd (omega arith), λ h. absurd (omega arith)), (λ h. absurd (omega arith), λ h. absurd (omega arith)))
 
 sorts : (c : ℕ) → Chosen (sortOf c) (leb 0x01 c && leb c 0x0B) (leb 0x11 c && leb c 0x17) (leb 0x21 c && leb c 0x27) (leb 0x30 c && leb c 0x35)
-unfolding codeSort sortDigit
-sorts c = chosen (leb 0x01 c && leb c 0x0B) (leb 0x11 c && leb c 0x17) (leb 0x21 c && leb c 0x27) (leb 0x30 c && leb c 0x35)
+sorts c = unfold codeSort sortDigit in chosen (leb 0x01 c && leb c 0x0B) (leb 0x11 c && leb c 0x17) (leb 0x21 c && leb c 0x27) (leb 0x30 c && leb c 0x35)
 
 -- a number in a range of six, or of seven, is one of them
 six : (lo c : ℕ) → lo ≤ c → c < lo + 6 → (c ≡ lo → ⊥) → (c ≡ lo + 1 → ⊥) → (c ≡ lo + 2 → ⊥) → (c ≡ lo + 3 → ⊥) → (c ≡ lo + 4 → ⊥) → (c ≡ lo + 5 → ⊥) → ⊥
@@ -125,10 +122,9 @@ has-entry (expr node) d c h n =
     elim (decLt c 7) [
       | yes k ↦ six 1 c (q .0) k (n .0) (n .1 .0) (n .1 .1 .0) (n .1 .1 .1 .0) (m .0) (m .1 .0)
       | no k ↦ seven 5 c (above c k) (q .1) (m .0) (m .1 .0) (m .1 .1 .0) (m .1 .1 .1 .0) (m .1 .1 .1 .1 .0) (m .1 .1 .1 .1 .1 .0) (m .1 .1 .1 .1 .1 .1 .0)
-    ]
-  where
-    above : (c : ℕ) → (c < 7 → ⊥) → 5 ≤ c
-    above c k = omega arith
+    ] where
+      above : (c : ℕ) → (c < 7 → ⊥) → 5 ≤ c
+      above c k = omega arith
 has-entry (expr arrow) d c h n =
     let q : (0x11 ≤ c) × (c ≤ 0x17) = in-range 0x11 0x17 c (sorts c .0 .1 h) in
     seven 0x11 c (q .0) (q .1) (n .0) (n .1 .0) (n .1 .1 .0) (n .1 .1 .1 .0) (n .1 .1 .1 .1 .0) (n .1 .1 .1 .1 .1 .0) (n .1 .1 .1 .1 .1 .1 .0)
@@ -137,22 +133,20 @@ has-entry (expr rule) d c h n =
     seven 0x21 c (q .0) (q .1) (n .0) (n .1 .0) (n .1 .1 .0) (n .1 .1 .1 .0) (n .1 .1 .1 .1 .0) (n .1 .1 .1 .1 .1 .0) (n .1 .1 .1 .1 .1 .1 .0)
 has-entry edit d c h n =
     let q : (0x30 ≤ c) × (c ≤ 0x35) = in-range 0x30 0x35 c (sorts c .1 .1 h) in
-    six 0x30 c (q .0) (below c (q .1)) (n .0) (n .1 .0) (n .1 .1 .0) (n .1 .1 .1 .0) (n .1 .1 .1 .1 .0) (n .1 .1 .1 .1 .1 .0)
-  where
-    below : (c : ℕ) → c ≤ 0x35 → c < 0x36
-    below c k = omega arith
+    six 0x30 c (q .0) (below c (q .1)) (n .0) (n .1 .0) (n .1 .1 .0) (n .1 .1 .1 .0) (n .1 .1 .1 .1 .0) (n .1 .1 .1 .1 .1 .0) where
+      below : (c : ℕ) → c ≤ 0x35 → c < 0x36
+      below c k = omega arith
 
 -- A byte that is none of the codes.
 pub no-code : (c : ℕ) → ((w : Want) → Differ c (codes 0 w)) → 0 ≡ rowOf c
 unfolding sortDigit rowIn
-no-code c n = go (codeSort c) refl
-  where
-    go : (s : CodeSort) → codeSort c ≡ s → 0 ≡ rowIn (codeSort c) c
-    go nodes e = absurd (has-entry (expr node) 0 c (ap sortDigit e) (n (expr node)))
-    go arrows e = absurd (has-entry (expr arrow) 0 c (ap sortDigit e) (n (expr arrow)))
-    go rules e = absurd (has-entry (expr rule) 0 c (ap sortDigit e) (n (expr rule)))
-    go edits e = absurd (has-entry edit 0 c (ap sortDigit e) (n edit))
-    go noCode e = sym (ap (λ s. rowIn s c) e)
+no-code c n = go (codeSort c) refl where
+  go : (s : CodeSort) → codeSort c ≡ s → 0 ≡ rowIn (codeSort c) c
+  go nodes e = absurd (has-entry (expr node) 0 c (ap sortDigit e) (n (expr node)))
+  go arrows e = absurd (has-entry (expr arrow) 0 c (ap sortDigit e) (n (expr arrow)))
+  go rules e = absurd (has-entry (expr rule) 0 c (ap sortDigit e) (n (expr rule)))
+  go edits e = absurd (has-entry edit 0 c (ap sortDigit e) (n edit))
+  go noCode e = sym (ap (λ s. rowIn s c) e)
 
 -- Rows have four digits at most.
 unfoldable small : List ℕ → Bool
@@ -167,11 +161,10 @@ small-at (x ∷ xs) (suc i) h = small-at xs i (and-eq-true-iff (ltb x 65536) (sm
 
 pub row-small : (c : ℕ) → rowOf c < 65536
 unfolding rowIn small nodeRows arrowRows ruleRows editRows
-row-small c = go (codeSort c)
-  where
-    go : (s : CodeSort) → rowIn s c < 65536
-    go nodes = small-at nodeRows (c - 0x01) refl
-    go arrows = small-at arrowRows (c - 0x11) refl
-    go rules = small-at ruleRows (c - 0x21) refl
-    go edits = small-at editRows (c - 0x30) refl
-    go noCode = omega arith
+row-small c = go (codeSort c) where
+  go : (s : CodeSort) → rowIn s c < 65536
+  go nodes = small-at nodeRows (c - 0x01) refl
+  go arrows = small-at arrowRows (c - 0x11) refl
+  go rules = small-at ruleRows (c - 0x21) refl
+  go edits = small-at editRows (c - 0x30) refl
+  go noCode = omega arith

@@ -19,8 +19,7 @@ each-below P (suc m) h x l = elim (decLt x m) [ yes k ↦ each-below P m (h .0) 
 
 -- The items by their digits: below 3 nothing, then numbers to 7, things one level deeper to B, things on the code's own level to F.
 nothing-at : (x : ℕ) → x < 3 → itemOf x ≡ nothing
-unfolding itemOf items
-nothing-at = each-below (λ x. itemOf x ≡ nothing) 3 (((tt, refl), refl), refl)
+nothing-at = unfold itemOf items in each-below (λ x. itemOf x ≡ nothing) 3 (((tt, refl), refl), refl)
 
 pub record IsNumber (x : ℕ) : Type 0 where
   pub kind : Kind
@@ -28,7 +27,9 @@ pub record IsNumber (x : ℕ) : Type 0 where
 
 number-at : (x : ℕ) → x < 5 → IsNumber (3 + x)
 unfolding itemOf items
-number-at = each-below (λ x. IsNumber (3 + x)) 5 (((((tt, record { kind = labelNumber; item-is = refl }), record { kind = arrowNumber; item-is = refl }), record { kind = nodeNumber; item-is = refl }), record { kind = leastCount; item-is = refl }), record { kind = mostCount; item-is = refl })
+number-at = each-below (λ x. IsNumber (3 + x)) 5 (((((tt, of labelNumber refl), of arrowNumber refl), of nodeNumber refl), of leastCount refl), of mostCount refl) where
+  of : {x : ℕ} (k : Kind) → itemOf x ≡ takes k → IsNumber x
+  of k e = record { kind = k; item-is = e }
 
 pub record IsDeeper (x : ℕ) : Type 0 where
   pub want : Want
@@ -37,7 +38,9 @@ pub record IsDeeper (x : ℕ) : Type 0 where
 
 deeper-at : (x : ℕ) → x < 4 → IsDeeper (8 + x)
 unfolding itemOf items
-deeper-at = each-below (λ x. IsDeeper (8 + x)) 4 ((((tt, record { want = expr node; item-is = refl; then-here = refl }), record { want = expr arrow; item-is = refl; then-here = refl }), record { want = expr rule; item-is = refl; then-here = refl }), record { want = edit; item-is = refl; then-here = refl })
+deeper-at = each-below (λ x. IsDeeper (8 + x)) 4 ((((tt, of (expr node) refl refl), of (expr arrow) refl refl), of (expr rule) refl refl), of edit refl refl) where
+  of : {x : ℕ} (w : Want) → itemOf x ≡ deeper w → itemOf (x + 4) ≡ here w → IsDeeper x
+  of w e h = record { want = w; item-is = e; then-here = h }
 
 -- the digit of a thing on the code's own level
 abbrev pub digit : Want → ℕ
@@ -60,7 +63,9 @@ pub record IsHere (x : ℕ) : Type 0 where
 
 here-at : (x : ℕ) → x < 4 → IsHere (12 + x)
 unfolding itemOf items
-here-at = each-below (λ x. IsHere (12 + x)) 4 ((((tt, record { want = expr node; digit-is = refl; item-is = refl }), record { want = expr arrow; digit-is = refl; item-is = refl }), record { want = expr rule; digit-is = refl; item-is = refl }), record { want = edit; digit-is = refl; item-is = refl })
+here-at = each-below (λ x. IsHere (12 + x)) 4 ((((tt, of (expr node) refl refl), of (expr arrow) refl refl), of (expr rule) refl refl), of edit refl refl) where
+  of : {x : ℕ} (w : Want) → x ≡ digit w → itemOf x ≡ here w → IsHere x
+  of w d e = record { want = w; digit-is = d; item-is = e }
 
 pub is-number : (x : ℕ) → 3 ≤ x → x < 8 → IsNumber x
 is-number x h k = let e : 3 + (x - 3) ≡ x = omega arith in subst IsNumber e (number-at (x - 3) (omega arith))
@@ -73,21 +78,17 @@ is-here x h k = let e : 12 + (x - 12) ≡ x = omega arith in subst IsHere e (her
 
 -- a row that begins with a thing on the code's own level ends with it
 here-item : (i : Item) (d : ℕ) (w : Want) (rest : Plan (Unit {0})) → i ≡ here w → itemPlan i d rest ≡ operand w d (λ e. finished)
-unfolding itemPlan
-here-item i d w rest e = ap (λ j. itemPlan j d rest) e
+here-item i d w rest e = unfold itemPlan in ap (λ j. itemPlan j d rest) e
 
 pub here-row : (row d : ℕ) (w : Want) → itemOf (row % 16) ≡ here w → rowPlan row d ≡ operand w d (λ e. finished)
-unfolding rowPlan
-here-row row d w e = here-item (itemOf (row % 16)) d w _ e
+here-row row d w e = unfold rowPlan in here-item (itemOf (row % 16)) d w _ e
 
 -- a row that begins with nothing ends there
 end-item : (i : Item) (d : ℕ) (rest : Plan (Unit {0})) → i ≡ nothing → itemPlan i d rest ≡ finished
-unfolding itemPlan
-end-item i d rest e = ap (λ j. itemPlan j d rest) e
+end-item i d rest e = unfold itemPlan in ap (λ j. itemPlan j d rest) e
 
 pub end-row : (row d : ℕ) → row % 16 < 3 → rowPlan row d ≡ finished
-unfolding rowPlan
-end-row row d h = end-item (itemOf (row % 16)) d _ (nothing-at (row % 16) h)
+end-row row d h = unfold rowPlan in end-item (itemOf (row % 16)) d _ (nothing-at (row % 16) h)
 
 -- a row opened at its first item
 tail : (d b b′ c c′ z : ℕ) → b ≡ b′ → c ≡ c′ → z ≡ 0 → itemPlan (itemOf b) d (itemPlan (itemOf c) d finished) ≡ itemPlan (itemOf b′) d (itemPlan (itemOf c′) d (itemPlan (itemOf z) d finished))
@@ -106,8 +107,7 @@ GoesOn (deeper w) = Unit {0}
 GoesOn (here w) = ⊥
 
 goes-on-at : (x : ℕ) → x < 9 → GoesOn (itemOf (3 + x))
-unfolding itemOf items
-goes-on-at = each-below (λ x. GoesOn (itemOf (3 + x))) 9 (((((((((tt, tt), tt), tt), tt), tt), tt), tt), tt), tt)
+goes-on-at = unfold itemOf items in each-below (λ x. GoesOn (itemOf (3 + x))) 9 (((((((((tt, tt), tt), tt), tt), tt), tt), tt), tt), tt)
 
 pub goes-on : (x : ℕ) → 3 ≤ x → x < 12 → GoesOn (itemOf x)
 goes-on x h k = let e : 3 + (x - 3) ≡ x = omega arith in subst (λ y. GoesOn (itemOf y)) e (goes-on-at (x - 3) (omega arith))

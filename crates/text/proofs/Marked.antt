@@ -8,15 +8,14 @@ use Rattle.logic.specs.Carry.{replace, putLabel, putArrow, carry}
 use Rattle.text.specs.Code.{code}
 use Rattle.text.specs.Reading.{codes, choice, follow}
 use Rattle.text.specs.Reading as reading
-use Rattle.text.specs.Questions.{first, whole, readRules, askBook, askFirst, askEdit}
+use Rattle.text.specs.Questions.{first, whole, readRules, askBook, askFirst, askOne}
 use Rattle.text.specs.Marked.{sheetT, members, readOnT, judgedOnT, throughOnT, Right, examples, times, found, texts}
 
 -- Examples 1 to 10: from the printed bytes to what is printed.
 pub marked : Right examples
-unfolding examples readOnT judgedOnT throughOnT sheetT members value isNode anyBelow allBelow countBelow update run replace putLabel putArrow carry code first whole askFirst askEdit _>>=_ _>>_ is codes choice follow reading._>>=_
+unfolding examples readOnT judgedOnT throughOnT sheetT members value isNode anyBelow allBelow countBelow update run replace putLabel putArrow carry code first whole askFirst askOne _>>=_ _>>_ is codes choice follow reading._>>=_
 marked = refl
 
 -- The faults and their places.
 pub faults : Right texts
-unfolding texts times found first whole readRules askBook askFirst askEdit _>>=_ _>>_ is codes choice follow reading._>>=_
-faults = refl
+faults = unfold texts times found first whole readRules askBook askFirst askOne _>>=_ _>>_ is codes choice follow reading._>>=_ in refl

@@ -14,9 +14,9 @@ use Rattle.text.specs.declared.Step.the-variants.{Next, Stopped}
 use Rattle.text.specs.Reading.{Limits}
 use Rattle.text.specs.Rows.{itemOf, rowOf, sortOf, itemPlan, finished, rowPlan, numberFits, stepAt, headAt}
 use Rattle.text.proofs.Compose.{andThen, then-next, then-then, then-same}
-use Rattle.text.proofs.Turns.{at-item, at-here, at-end, at-deeper}
-use Rattle.text.proofs.Numbers.{number-ends, number-is}
-use Rattle.text.proofs.Heads.{head-ends, head-wrong, head-deep, head-good}
+use Rattle.text.proofs.RowTurns.{at-item, at-here, at-end, at-deeper}
+use Rattle.text.proofs.NumberBytes.{number-ends, number-is}
+use Rattle.text.proofs.HeadAt.{head-ends, head-wrong, head-deep, head-good}
 
 -- The rows of the levels above: 256 of them, of four digits at most.
 pub record Rows (rows : List ℕ) : Type 0 where
@@ -24,22 +24,20 @@ pub record Rows (rows : List ℕ) : Type 0 where
   pub small : (k : ℕ) → getD rows k 0 < 65536
 
 pub no-rows : Rows (replicate 256 0)
-no-rows = record { all = refl; small = λ k. zeros-small 256 k }
-  where
-    zeros-small : (n k : ℕ) → getD (replicate n 0) k 0 < 65536
-    zeros-small zero k = omega arith
-    zeros-small (suc n) zero = omega arith
-    zeros-small (suc n) (suc k) = zeros-small n k
+no-rows = record { all = refl; small = λ k. zeros-small 256 k } where
+  zeros-small : (n k : ℕ) → getD (replicate n 0) k 0 < 65536
+  zeros-small zero k = omega arith
+  zeros-small (suc n) zero = omega arith
+  zeros-small (suc n) (suc k) = zeros-small n k
 
 pub rows-set : (rows : List ℕ) (i x : ℕ) → Rows rows → x < 65536 → Rows (set rows i x)
-rows-set rows i x r h = record { all = length-set rows i x ∙ r .all; small = go rows i (r .small) }
-  where
-    go : (l : List ℕ) (i : ℕ) → ((k : ℕ) → getD l k 0 < 65536) → (k : ℕ) → getD (set l i x) k 0 < 65536
-    go [] i f k = f k
-    go (y ∷ l) zero f zero = h
-    go (y ∷ l) zero f (suc k) = f (suc k)
-    go (y ∷ l) (suc i) f zero = f 0
-    go (y ∷ l) (suc i) f (suc k) = go l i (λ j. f (suc j)) k
+rows-set rows i x r h = record { all = length-set rows i x ∙ r .all; small = go rows i (r .small) } where
+  go : (l : List ℕ) (i : ℕ) → ((k : ℕ) → getD l k 0 < 65536) → (k : ℕ) → getD (set l i x) k 0 < 65536
+  go [] i f k = f k
+  go (y ∷ l) zero f zero = h
+  go (y ∷ l) zero f (suc k) = f (suc k)
+  go (y ∷ l) (suc i) f zero = f 0
+  go (y ∷ l) (suc i) f (suc k) = go l i (λ j. f (suc j)) k
 
 module _ (text : List ℕ) (ρ : Limits) where
   unfoldable pub above : (rows : List ℕ) (level at : ℕ) → Step
@@ -74,18 +72,16 @@ module _ (text : List ℕ) (ρ : Limits) where
   module _ (rows : List ℕ) (row level at : ℕ) where
     -- The row has ended: there is nothing above it, or the row above it goes on.
     pub ended : row % 16 < 3 → level ≡ 0 → Next at ≡ remaining rows row level at
-    unfolding above remaining
-    ended h e = sym (ap (λ d. remaining rows row d at) e ∙ ap (λ s. andThen s (above rows 0)) (at-end text ρ row 0 at h))
+    ended h e = unfold above remaining in sym (ap (λ d. remaining rows row d at) e ∙ ap (λ s. andThen s (above rows 0)) (at-end text ρ row 0 at h))
 
     pub row-above : row % 16 < 3 → (level ≡ 0 → ⊥) → remaining rows (getD rows (level - 1) 0) (level - 1) at ≡ remaining rows row level at
     unfolding above remaining
-    row-above h n = go level n
-      where
-        go : (l : ℕ) → (l ≡ 0 → ⊥) → remaining rows (getD rows (l - 1) 0) (l - 1) at ≡ remaining rows row l at
-        go zero k = absurd (k refl)
-        go (suc d) k =
-            let e : suc d - 1 ≡ d = omega arith in
-            ap (λ z. remaining rows (getD rows z 0) z at) e ∙ sym (ap (λ s. andThen s (above rows (suc d))) (at-end text ρ row (suc d) at h))
+    row-above h n = go level n where
+      go : (l : ℕ) → (l ≡ 0 → ⊥) → remaining rows (getD rows (l - 1) 0) (l - 1) at ≡ remaining rows row l at
+      go zero k = absurd (k refl)
+      go (suc d) k =
+          let e : suc d - 1 ≡ d = omega arith in
+          ap (λ z. remaining rows (getD rows z 0) z at) e ∙ sym (ap (λ s. andThen s (above rows (suc d))) (at-end text ρ row (suc d) at h))
 
     module _ (small : row < 65536) (more : 3 ≤ row % 16) where
       opened : row % 16 < 12 → remaining rows row level at ≡ andThen (stepAt text ρ (itemPlan (itemOf (row % 16)) level finished) at) (λ p. remaining rows (row / 16) level p)

@@ -11,8 +11,8 @@ use Rattle.text.specs.Code.{code, bookCode}
 use Rattle.text.specs.Reading.{Limits, expr, Fault, got, fault, follow, readAs}
 use Rattle.text.specs.Questions.{rulesEnd, ruleStart, askBook}
 use Rattle.text.specs.Stands.{Stands}
-use Rattle.text.proofs.ReadBack.{reads}
-use Rattle.text.proofs.Books.{EachAllowed, book-is-spelled}
+use Rattle.text.proofs.TextReadBack.{reads}
+use Rattle.text.proofs.TextSpelling.{EachAllowed, book-is-spelled}
 
 -- Rule i of a book: its place is the length of the codes before it, and what is left of the text there is the codes of the rules from i on.
 -- So rule i stands there, if there is one.
@@ -29,12 +29,10 @@ book-append (K ∷ a) b = ap (code K ++_) (book-append a b) ∙ sym (append-asso
 module _ (l : Limits) where
   -- behind one rule, and where there is none
   pub end-step : (i : ℕ) (t : List ℕ) (at : ℕ) {K : Expr rule} {r : List ℕ} {p : ℕ} → readAs l (expr rule) t at ≡ got K r p → rulesEnd l (suc i) t at ≡ rulesEnd l i r p
-  unfolding rulesEnd
-  end-step i t at h = rw (h, rulesEnd)
+  end-step i t at h = unfold rulesEnd in rw (h, rulesEnd)
 
   pub end-fault : (i : ℕ) (t : List ℕ) (at : ℕ) {why : Fault} {p : ℕ} → readAs l (expr rule) t at ≡ fault why p → rulesEnd l (suc i) t at ≡ at + length t
-  unfolding rulesEnd
-  end-fault i t at h = rw (h, rulesEnd)
+  end-fault i t at h = unfold rulesEnd in rw (h, rulesEnd)
 
   end-is : (i : ℕ) (book : List (Expr rule)) (at : ℕ) → EachAllowed l book → rulesEnd l i (bookCode book) at ≡ at + length (bookCode (take i book))
   unfolding rulesEnd bookCode follow

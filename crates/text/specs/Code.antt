@@ -2,6 +2,7 @@
 use mathlib.Core.List.{List, [], _∷_, _++_}
 use Prim.Native.Nat.{ℕ, suc, max}
 use Rattle.logic.specs.Syntax.{Sort, rule, Expr, all, none, label, nominal, complement, and, or, some, every, atLeast, atMost, arrowKind, reversed, union, common, minus, endingIn, pair, subNodes, subArrows, nodeIn, pairIn, both, either, notRule, Edit, finish, addLabel, takeLabel, addArrow, takeArrow, choose}
+use Rattle.logic.specs.Arity.{byArity}
 
 unfoldable pub code : {s : Sort} → Expr s → List ℕ
 code all = 0x01 ∷ []
@@ -40,31 +41,7 @@ editCode (choose K P Q Z) = 0x35 ∷ code K ++ editCode P ++ editCode Q ++ editC
 
 -- The levels of an expression: its first code is level 1, an operand is one level deeper than its code.
 unfoldable pub levels : {s : Sort} → Expr s → ℕ
-levels all = 1
-levels none = 1
-levels (label k) = 1
-levels (nominal i) = 1
-levels (complement E) = suc (levels E)
-levels (and E F) = suc (max (levels E) (levels F))
-levels (or E F) = suc (max (levels E) (levels F))
-levels (some R E) = suc (max (levels R) (levels E))
-levels (every R E) = suc (max (levels R) (levels E))
-levels (atLeast m R E) = suc (max (levels R) (levels E))
-levels (atMost m R E) = suc (max (levels R) (levels E))
-levels (arrowKind a) = 1
-levels (reversed R) = suc (levels R)
-levels (union R S) = suc (max (levels R) (levels S))
-levels (common R S) = suc (max (levels R) (levels S))
-levels (minus R S) = suc (max (levels R) (levels S))
-levels (endingIn R E) = suc (max (levels R) (levels E))
-levels (pair i j) = 1
-levels (subNodes E F) = suc (max (levels E) (levels F))
-levels (subArrows R S) = suc (max (levels R) (levels S))
-levels (nodeIn i E) = suc (levels E)
-levels (pairIn i j R) = suc (levels R)
-levels (both K L) = suc (max (levels K) (levels L))
-levels (either K L) = suc (max (levels K) (levels L))
-levels (notRule K) = suc (levels K)
+levels e = byArity (λ s e. ℕ) (λ s b. 1) (λ u t b x l. suc l) (λ u v t b x y l m. suc (max l m)) e
 
 -- The levels of an edit: Z is at the level of its step.
 unfoldable pub editLevels : Edit → ℕ

@@ -1,4 +1,5 @@
 pub mod Code
+pub mod Heads
 pub mod Reading
 pub mod Part
 pub mod Questions

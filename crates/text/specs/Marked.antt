@@ -48,7 +48,7 @@ Right rows = map (λ r. r .given) rows ≡ map (λ r. r .printed) rows
 -- expression still means what it shows, though no book or edit may have it now.
 unfoldable pub readOnT : Limits → List ℕ → Asked Shown
 readOnT l t = do
-  E ← whole (readAs l (expr node) t 0)
+  E ← whole 20 (readAs l (expr node) t 0)
   passed (nodes (members 3 (value sheetT E)))
 
 abbrev pub onT : List ℕ → Asked Shown

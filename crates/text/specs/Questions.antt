@@ -9,7 +9,7 @@ use Rattle.logic.specs.Limits.{maxNodes}
 use Rattle.text.specs.Code.{code}
 use Rattle.text.specs.Part.{Part}
 pub use Rattle.text.specs.Reading.{mostRules}
-use Rattle.text.specs.Reading.{Limits, textLimits, expr, edit, Fault, missing, wrongSort, tooDeep, outOfRange, Read, got, fault, readAs}
+use Rattle.text.specs.Reading.{Limits, textLimits, Want, Thing, expr, edit, Fault, missing, wrongSort, tooDeep, outOfRange, Read, got, fault, readAs}
 
 -- The number of a fault: 12 to 15 in a book (base 10), 22 to 25 in an edit (base 20).
 abbrev pub faultNumber : ℕ → Fault → ℕ
@@ -23,17 +23,11 @@ unfoldable pub first : {A : Type 0} → Read A → Asked A
 first (got a rest p) = passed a
 first (fault why p) = refused (faultNumber 10 why) p
 
--- what is read, if the bytes have then ended: 26
-unfoldable pub whole : {A : Type 0} → Read A → Asked A
-whole (got a [] p) = passed a
-whole (got a (x ∷ t) p) = refused 26 p
-whole (fault why p) = refused (faultNumber 20 why) p
-
--- what is read, if the bytes have then ended: 16
-unfoldable pub alone : {A : Type 0} → Read A → Asked A
-alone (got a [] p) = passed a
-alone (got a (x ∷ t) p) = refused 16 p
-alone (fault why p) = refused (faultNumber 10 why) p
+-- what is read, if the bytes have then ended: 16 or 26
+unfoldable pub whole : {A : Type 0} (base : ℕ) → Read A → Asked A
+whole base (got a [] p) = passed a
+whole base (got a (x ∷ t) p) = refused (base + 6) p
+whole base (fault why p) = refused (faultNumber base why) p
 
 module _ (l : Limits) where
   -- The rules of a text, at most m of them: 12 to 15 of each, and 16 before one too many.
@@ -68,17 +62,19 @@ module _ (l : Limits) where
     is (leb (length t) (l .longest)) 11 0
     first (readAs l (expr rule) t 0)
 
-  -- One rule: 11 to 15, and 16 when bytes follow it, place the first of them. An empty text is 12.
-  unfoldable pub askRule : List ℕ → Asked (Expr rule)
-  askRule t = do
-    is (leb (length t) (l .longest)) 11 0
-    alone (readAs l (expr rule) t 0)
+  -- One thing and no more: its length, its bytes, and that none follow it, place the first of them.
+  unfoldable pub askOne : (base : ℕ) (w : Want) → List ℕ → Asked (Thing w)
+  askOne base w t = do
+    is (leb (length t) (l .longest)) (base + 1) 0
+    whole base (readAs l w t 0)
+
+  -- One rule: 11 to 16. An empty text is 12.
+  abbrev pub askRule : List ℕ → Asked (Expr rule)
+  askRule t = askOne 10 (expr rule) t
 
   -- An edit: 21 to 26.
-  unfoldable pub askEdit : List ℕ → Asked Edit
-  askEdit t = do
-    is (leb (length t) (l .longest)) 21 0
-    whole (readAs l edit t 0)
+  abbrev pub askEdit : List ℕ → Asked Edit
+  askEdit t = askOne 20 edit t
 
 -- Rule end: n as 60. The bytes of the first rule, none when refused; and the part of the text that holds them.
 abbrev pub askRuleEnd : List ℕ → Asked (Expr rule)

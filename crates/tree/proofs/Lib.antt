@@ -1,5 +1,5 @@
-pub mod Trees
+pub mod TreeLaws
 pub mod Measured
 pub mod Capped
-pub mod Books
+pub mod BookMeasures
 pub mod Written

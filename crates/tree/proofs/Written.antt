@@ -8,10 +8,12 @@ use borrow.Author.Tests.{eqb-true}
 use Rattle.tree.proofs.Measured.{same-eq}
 use Rattle.logic.specs.Syntax.{node, arrow, rule, Expr, label, complement, and, or, arrowKind, union, minus, Edit, finish, addLabel, takeLabel, addArrow, takeArrow, choose}
 use Rattle.logic.specs.Carry.{carry, followedBy}
+use Rattle.logic.specs.Arity.{byArity}
 use Rattle.logic.proofs.Theorem.{carry-choose}
 use Rattle.text.specs.Code.{code}
-use Rattle.tree.specs.Tree.{Tree, name, leaf, one, two, treeCode, graft, same, only, tree}
-use Rattle.tree.proofs.Trees.{code-tree, tree-putLabel, tree-putArrow}
+use Rattle.text.specs.Heads.{head1, head2}
+use Rattle.tree.specs.Tree.{Tree, name, leaf, one, two, treeCode, graft, same, only, bare, tree}
+use Rattle.tree.proofs.TreeLaws.{code-tree, tree-putLabel, tree-putArrow}
 use Rattle.tree.specs.Stack.{Step, touched, becomes, env, written, shown, lead, inner}
 
 pub graft-graft : (f g : ℕ → ℕ → Tree) (t : Tree) → graft g (graft f t) ≡ graft (λ c k. graft g (f c k)) t
@@ -31,11 +33,10 @@ graft-name (two h x y) = ap₂ (two h) (graft-name x) (graft-name y)
 -- one more step under a replacement
 graft-only : (g : ℕ → ℕ → Tree) (c k : ℕ) (F : Tree) → _≡_ {A = ℕ → ℕ → Tree} (λ c′ k′. graft g (only c k F c′ k′)) (λ c′ k′. cond (same c′ k′ c k) (graft g F) (g c′ k′))
 unfolding only graft
-graft-only g c k F = λ i c′ k′. go c′ k′ (same c′ k′ c k) i
-  where
-    go : (c′ k′ : ℕ) (b : Bool) → graft g (cond b F (name c′ k′)) ≡ cond b (graft g F) (g c′ k′)
-    go c′ k′ true = refl
-    go c′ k′ false = refl
+graft-only g c k F = λ i c′ k′. go c′ k′ (same c′ k′ c k) i where
+  go : (c′ k′ : ℕ) (b : Bool) → graft g (cond b F (name c′ k′)) ≡ cond b (graft g F) (g c′ k′)
+  go c′ k′ true = refl
+  go c′ k′ false = refl
 
 -- a step and then what follows, under a stack, is what follows under the stack with the step
 under-step : (σ : List Step) (s : Step) (F : Tree) → graft (env σ) F ≡ becomes (s .op) (env σ (touched (s .op)) (s .number)) (graft (env σ) (s .what)) → (t : Tree)
@@ -48,33 +49,31 @@ under-step σ s F e t =
 
 -- The text written under no steps is the code of the carried rule.
 pub written-code : (Z : Edit) (K : Expr rule) → written [] Z K ≡ code (carry Z K)
-unfolding written env
-written-code Z K = ap treeCode (graft-name (tree (carry Z K))) ∙ code-tree (carry Z K)
+written-code Z K = unfold written env in ap treeCode (graft-name (tree (carry Z K))) ∙ code-tree (carry Z K)
 
 -- .. and this is how it is written.
 pub written-finish : (σ : List Step) (K : Expr rule) → written σ finish K ≡ shown σ K
-unfolding written shown carry
-written-finish σ K = refl
+written-finish σ K = unfold written shown carry in refl
 
 pub written-addLabel : (σ : List Step) (k : ℕ) (E : Expr node) (Z : Edit) (K : Expr rule) → written σ (addLabel k E Z) K ≡ written (record { op = 0x31; number = k; what = tree E } ∷ σ) Z K
-unfolding written carry tree graft
+unfolding written carry tree byArity bare head1 head2 graft
 written-addLabel σ k E Z K = ap treeCode (ap (graft (env σ)) (tree-putLabel k (or (label k) E) (carry Z K)) ∙ under-step σ (record { op = 0x31; number = k; what = tree E }) (tree (or (label k) E)) refl (tree (carry Z K)))
 
 pub written-takeLabel : (σ : List Step) (k : ℕ) (E : Expr node) (Z : Edit) (K : Expr rule) → written σ (takeLabel k E Z) K ≡ written (record { op = 0x32; number = k; what = tree E } ∷ σ) Z K
-unfolding written carry tree graft
+unfolding written carry tree byArity bare head1 head2 graft
 written-takeLabel σ k E Z K = ap treeCode (ap (graft (env σ)) (tree-putLabel k (and (label k) (complement E)) (carry Z K)) ∙ under-step σ (record { op = 0x32; number = k; what = tree E }) (tree (and (label k) (complement E))) refl (tree (carry Z K)))
 
 pub written-addArrow : (σ : List Step) (a : ℕ) (R : Expr arrow) (Z : Edit) (K : Expr rule) → written σ (addArrow a R Z) K ≡ written (record { op = 0x33; number = a; what = tree R } ∷ σ) Z K
-unfolding written carry tree graft
+unfolding written carry tree byArity bare head1 head2 graft
 written-addArrow σ a R Z K = ap treeCode (ap (graft (env σ)) (tree-putArrow a (union (arrowKind a) R) (carry Z K)) ∙ under-step σ (record { op = 0x33; number = a; what = tree R }) (tree (union (arrowKind a) R)) refl (tree (carry Z K)))
 
 pub written-takeArrow : (σ : List Step) (a : ℕ) (R : Expr arrow) (Z : Edit) (K : Expr rule) → written σ (takeArrow a R Z) K ≡ written (record { op = 0x34; number = a; what = tree R } ∷ σ) Z K
-unfolding written carry tree graft
+unfolding written carry tree byArity bare head1 head2 graft
 written-takeArrow σ a R Z K = ap treeCode (ap (graft (env σ)) (tree-putArrow a (minus (arrowKind a) R) (carry Z K)) ∙ under-step σ (record { op = 0x34; number = a; what = tree R }) (tree (minus (arrowKind a) R)) refl (tree (carry Z K)))
 
 pub written-choose : (σ : List Step) (K₁ : Expr rule) (P Q Z : Edit) (K : Expr rule)
     → written σ (choose K₁ P Q Z) K ≡ 0x25 ∷ (0x26 ∷ (0x27 ∷ shown σ K₁) ++ written σ (followedBy P Z) K) ++ (0x26 ∷ shown σ K₁ ++ written σ (followedBy Q Z) K)
-unfolding written shown tree graft treeCode
+unfolding written shown tree byArity head1 head2 graft treeCode
 written-choose σ K₁ P Q Z K = ap (λ (L : Expr rule). treeCode (graft (env σ) (tree L))) (carry-choose K₁ P Q Z K)
 
 -- a name under a stack whose last step touches it, and under one whose last step does not
@@ -84,18 +83,16 @@ env-hit s σ c k e = let p = same-eq c k (touched (s .op)) (s .number) e in
     (λ t. cond (e t) (becomes (s .op) (env σ (touched (s .op)) (s .number)) (graft (env σ) (s .what))) (env σ c k)) ∙ ap₂ (λ (u v : ℕ). becomes (s .op) (env σ u v) (graft (env σ) (s .what))) (sym (p .0)) (sym (p .1))
 
 pub env-miss : (s : Step) (σ : List Step) (c k : ℕ) → same c k (touched (s .op)) (s .number) ≡ false → env (s ∷ σ) c k ≡ env σ c k
-unfolding env
-env-miss s σ c k e = λ t. cond (e t) (becomes (s .op) (env σ (touched (s .op)) (s .number)) (graft (env σ) (s .what))) (env σ c k)
+env-miss s σ c k e = unfold env in λ t. cond (e t) (becomes (s .op) (env σ (touched (s .op)) (s .number)) (graft (env σ) (s .what))) (env σ c k)
 
 pub code-becomes : (b : ℕ) (x E : Tree) → treeCode (becomes b x E) ≡ lead b ∷ treeCode x ++ inner b (treeCode E)
 unfolding treeCode
-code-becomes b x E = go (eqb b 0x31) (eqb b 0x32) (eqb b 0x33) (clash b)
-  where
-    clash : (b : ℕ) → eqb b 0x31 ≡ true → eqb b 0x32 ≡ false
-    clash b e = ap (λ (u : ℕ). eqb u 0x32) (eqb-true b 0x31 e)
+code-becomes b x E = go (eqb b 0x31) (eqb b 0x32) (eqb b 0x33) (clash b) where
+  clash : (b : ℕ) → eqb b 0x31 ≡ true → eqb b 0x32 ≡ false
+  clash b e = ap (λ (u : ℕ). eqb u 0x32) (eqb-true b 0x31 e)
 
-    go : (p q r : Bool) → (p ≡ true → q ≡ false) → treeCode (cond p (two (0x07 ∷ []) x E) (cond q (two (0x06 ∷ []) x (one (0x05 ∷ []) E)) (cond r (two (0x13 ∷ []) x E) (two (0x15 ∷ []) x E)))) ≡ cond p 0x07 (cond q 0x06 (cond r 0x13 0x15)) ∷ treeCode x ++ cond q (0x05 ∷ treeCode E) (treeCode E)
-    go true q r f = sym (ap (λ (u : Bool). 0x07 ∷ treeCode x ++ cond u (0x05 ∷ treeCode E) (treeCode E)) (f refl))
-    go false true r f = refl
-    go false false true f = refl
-    go false false false f = refl
+  go : (p q r : Bool) → (p ≡ true → q ≡ false) → treeCode (cond p (two (0x07 ∷ []) x E) (cond q (two (0x06 ∷ []) x (one (0x05 ∷ []) E)) (cond r (two (0x13 ∷ []) x E) (two (0x15 ∷ []) x E)))) ≡ cond p 0x07 (cond q 0x06 (cond r 0x13 0x15)) ∷ treeCode x ++ cond q (0x05 ∷ treeCode E) (treeCode E)
+  go true q r f = sym (ap (λ (u : Bool). 0x07 ∷ treeCode x ++ cond u (0x05 ∷ treeCode E) (treeCode E)) (f refl))
+  go false true r f = refl
+  go false false true f = refl
+  go false false false f = refl

@@ -4,7 +4,9 @@ use mathlib.Core.Bool.{Bool, cond, _&&_}
 use Prim.Native.Nat.{ℕ, zero, suc, _+_, max}
 use lib.Dec.{eqb}
 use lib.ListN.{length}
-use Rattle.logic.specs.Syntax.{Sort, Expr, all, none, label, nominal, complement, and, or, some, every, atLeast, atMost, arrowKind, reversed, union, common, minus, endingIn, pair, subNodes, subArrows, nodeIn, pairIn, both, either, notRule}
+use Rattle.logic.specs.Syntax.{Sort, Expr}
+use Rattle.logic.specs.Arity.{Nullary, all·, none·, label·, nominal·, arrowKind·, pair·, byArity}
+use Rattle.text.specs.Heads.{head1, head2}
 
 pub data Tree : Type 0 where
   name : (c k : ℕ) → Tree
@@ -63,29 +65,14 @@ deep (leaf h) c′ k′ = 0
 deep (one h x) c′ k′ = under 2 (deep x c′ k′)
 deep (two h x y) c′ k′ = under 2 (max (deep x c′ k′) (deep y c′ k′))
 
+-- The tree of a term: 03 k and 11 a are names, any other code is a head with its operands.
+unfoldable pub bare : {s : Sort} → Nullary s → Tree
+bare all· = leaf (0x01 ∷ [])
+bare none· = leaf (0x02 ∷ [])
+bare (label· k) = name 0x03 k
+bare (nominal· i) = leaf (0x04 ∷ i ∷ [])
+bare (arrowKind· a) = name 0x11 a
+bare (pair· i j) = leaf (0x17 ∷ i ∷ j ∷ [])
+
 unfoldable pub tree : {s : Sort} → Expr s → Tree
-tree (label k) = name 0x03 k
-tree (arrowKind a) = name 0x11 a
-tree all = leaf (0x01 ∷ [])
-tree none = leaf (0x02 ∷ [])
-tree (nominal i) = leaf (0x04 ∷ i ∷ [])
-tree (complement E) = one (0x05 ∷ []) (tree E)
-tree (and E F) = two (0x06 ∷ []) (tree E) (tree F)
-tree (or E F) = two (0x07 ∷ []) (tree E) (tree F)
-tree (some R E) = two (0x08 ∷ []) (tree R) (tree E)
-tree (every R E) = two (0x09 ∷ []) (tree R) (tree E)
-tree (atLeast m R E) = two (0x0A ∷ m ∷ []) (tree R) (tree E)
-tree (atMost m R E) = two (0x0B ∷ m ∷ []) (tree R) (tree E)
-tree (reversed R) = one (0x12 ∷ []) (tree R)
-tree (union R S) = two (0x13 ∷ []) (tree R) (tree S)
-tree (common R S) = two (0x14 ∷ []) (tree R) (tree S)
-tree (minus R S) = two (0x15 ∷ []) (tree R) (tree S)
-tree (endingIn R E) = two (0x16 ∷ []) (tree R) (tree E)
-tree (pair i j) = leaf (0x17 ∷ i ∷ j ∷ [])
-tree (subNodes E F) = two (0x21 ∷ []) (tree E) (tree F)
-tree (subArrows R S) = two (0x22 ∷ []) (tree R) (tree S)
-tree (nodeIn i E) = one (0x23 ∷ i ∷ []) (tree E)
-tree (pairIn i j R) = one (0x24 ∷ i ∷ j ∷ []) (tree R)
-tree (both K L) = two (0x25 ∷ []) (tree K) (tree L)
-tree (either K L) = two (0x26 ∷ []) (tree K) (tree L)
-tree (notRule K) = one (0x27 ∷ []) (tree K)
+tree e = byArity (λ s e. Tree) (λ s b. bare b) (λ u t b x tx. one (head1 b) tx) (λ u v t b x y tx ty. two (head2 b) tx ty) e

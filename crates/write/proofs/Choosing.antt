@@ -14,8 +14,8 @@ use Rattle.tree.proofs.Written.{written-finish, written-choose}
 use Rattle.ends.specs.Shapes.{At}
 use Rattle.ends.specs.Edits.{EditAt, behindStep}
 use Rattle.ends.specs.Kept.{Kept}
-use Rattle.ends.proofs.Places.{size-pos}
-use Rattle.ends.proofs.Steps.{as-choose, as-finish}
+use Rattle.ends.proofs.TreePlaces.{size-pos}
+use Rattle.ends.proofs.FirstSteps.{as-choose, as-finish}
 use Rattle.ends.proofs.Kept.{kept-set}
 use Rattle.write.specs.Ways.{followed, BehindIs, Way, SomeTwo, Chosen}
 use Rattle.write.proofs.Walking.{steps-kept, behind-kept, followed-through}
@@ -59,11 +59,10 @@ module _ (edit : List ℕ) (at : ℕ) (m : getD edit at 0 ≡ 0x35) where
 pub end-written : {edit stack behind : List ℕ} {at h d : ℕ} {σ : List Step} {Z : Edit} {Ws : List Edit} → Way edit stack behind at h d σ Z Ws → getD edit at 0 ≡ 0x30 → d ≡ 0 → (K : Expr rule)
     → treeCode (graft (env σ) (tree K)) ≡ written σ (followed Z Ws) K
 unfolding followed shown
-end-written {edit} {stack} {behind} {at} {h} {d} {σ} {Z} {Ws} y c z K = go Ws (y .around) ∙ sym (ap (λ (Y : Edit). written σ (followed Y Ws) K) (as-finish edit at Z (y .here) c))
-  where
-    go : (Ws : List Edit) → d ≡ length Ws → treeCode (graft (env σ) (tree K)) ≡ written σ (followed finish Ws) K
-    go [] e = sym (written-finish σ K)
-    go (W ∷ Ws) e = absurd (omega (arith, e, z))
+end-written {edit} {stack} {behind} {at} {h} {d} {σ} {Z} {Ws} y c z K = go Ws (y .around) ∙ sym (ap (λ (Y : Edit). written σ (followed Y Ws) K) (as-finish edit at Z (y .here) c)) where
+  go : (Ws : List Edit) → d ≡ length Ws → treeCode (graft (env σ) (tree K)) ≡ written σ (followed finish Ws) K
+  go [] e = sym (written-finish σ K)
+  go (W ∷ Ws) e = absurd (omega (arith, e, z))
 
 -- A 35: 25 26 27 K1 T 26 K1 U.
 module _ {edit stack behind : List ℕ} {at h d first second next : ℕ} {σ : List Step} {Z : Edit} {Ws : List Edit} (y : Way edit stack behind at h d σ Z Ws) (q : Chosen edit at first second next Z) where

@@ -11,7 +11,7 @@ use Rattle.tree.specs.Tree.{Tree, name, leaf, one, two, treeCode, graft, size}
 use Rattle.tree.specs.Stack.{Step, env, lead, inner}
 use Rattle.tree.proofs.Written.{code-becomes}
 use Rattle.ends.specs.Shapes.{At, Named, shapeOf}
-use Rattle.ends.proofs.Places.{IsName, as-name, tag, tag-at}
+use Rattle.ends.proofs.TreePlaces.{IsName, as-name, tag, tag-at}
 use Rattle.ends.proofs.Pending.{headOf, partsOf, texts, texts-append, code-opened, Pending, pending-one, First, first, Turn, turn, To, Passing, passing-first, passing-more, passing-end}
 use Rattle.write.specs.Laid.{Wrote}
 use Rattle.write.specs.Offsets.{StackIs}
@@ -23,18 +23,16 @@ use Rattle.write.proofs.Laying.{wrote-none, wrote-one, wrote-more, wrot
 
 -- A name that no step touches, and one that the step at index j touches last.
 pub untouched : {edit stack : List ℕ} {σ : List Step} {c k r : ℕ} → Found edit stack σ c k r → r ≡ 0 → c ∷ k ∷ [] ≡ treeCode (env σ c k)
-unfolding treeCode
-untouched f e = sym (ap treeCode (f .none e))
+untouched f e = unfold treeCode in sym (ap treeCode (f .none e))
 
 pub last-hit : {edit stack : List ℕ} {σ : List Step} {c k r : ℕ} → Found edit stack σ c k r → 0 < r → Hit edit stack σ c k (r - 1)
 last-hit {edit} {stack} {σ} {c} {k} {r} f n = f .some (r - 1) (omega arith)
 
 inner-first : (b : ℕ) (l : List ℕ) → inner b l ≡ inner b [] ++ l
-inner-first b l = go (eqb b 0x32)
-  where
-    go : (t : Bool) → cond t (0x05 ∷ l) l ≡ cond t (0x05 ∷ []) [] ++ l
-    go true = refl
-    go false = refl
+inner-first b l = go (eqb b 0x32) where
+  go : (t : Bool) → cond t (0x05 ∷ l) l ≡ cond t (0x05 ∷ []) [] ++ l
+  go true = refl
+  go false = refl
 
 module _ {edit stack : List ℕ} {σ : List Step} {c k j : ℕ} (H : Hit edit stack σ c k j) (op : ℕ) (e : op ≡ H .s .op) where
   hit-bytes : ((lead op ∷ []) ++ treeCode (env (H .below) c k)) ++ inner op [] ++ treeCode (graft (env (H .below)) (H .s .what)) ≡ treeCode (env σ c k)
@@ -138,6 +136,19 @@ showing-end {text} {edit} {stack} {o} {o′} {at} {h} {p} {wanted} {pos} {q} I l
     go w [] n e = wrote-as (sym (append-nil (w .done)) ∙ e) (w .wrote)
     go w (x ∷ more) n e = absurd (omega (arith, n, l))
 
+-- the next code is a name, or has so many bytes and operands
+pub record NameAt (text edit stack : List ℕ) (p h pos q room : ℕ) : Type 0 where
+  pub in-text : p + 2 ≤ length text
+  pub is-named : Named (getD text p 0) (getD text (p + 1) 0)
+  pub further : pos ≤ q
+  pub some : (j : ℕ) → j ≡ lastIn edit stack h (getD text p 0) (getD text (p + 1) 0) → SomeName edit stack j (getD text p 0) (getD text (p + 1) 0) q room
+
+pub record HeadAt (text : List ℕ) (p wanted s q room : ℕ) : Type 0 where
+  pub on : 0 < s % 4
+  pub in-text : p + s % 4 ≤ length text
+  pub in-count : wanted - 1 + s / 4 % 4 ≤ length text
+  pub fits : q + s % 4 ≤ room
+
 module _ {text edit stack o o′ : List ℕ} {at h p wanted pos q : ℕ} (I : Showing text at edit stack h p wanted o pos q o′) (l : 0 < wanted) where
   module _ {room : ℕ} (w : SomeShown text at edit stack h pos room) where
     pub some : Emitted text (w .steps) (w .what) p wanted o pos q o′
@@ -146,7 +157,7 @@ module _ {text edit stack o o′ : List ℕ} {at h p wanted pos q : ℕ} (I : Sh
     pub head-first : First text p (some .parts)
     head-first = first (some .pending) l
 
-    pub still : (q + length (texts (λ (t : Tree). treeCode (graft (env (w .steps)) t)) (some .parts)) ≤ room) × (pos ≤ q)
+    still : (q + length (texts (λ (t : Tree). treeCode (graft (env (w .steps)) t)) (some .parts)) ≤ room) × (pos ≤ q)
     still = (omega (arith, w .fits, some .wrote .counted, ap length (some .whole), length-append (some .done) (texts (shownBy (w .steps)) (some .parts))), omega (arith, some .wrote .counted))
 
   module _ (s : ℕ) (e : s ≡ shapeOf (getD text p 0)) where
@@ -171,15 +182,23 @@ module _ {text edit stack o o′ : List ℕ} {at h p wanted pos q : ℕ} (I : Sh
       name-next : {parts : List Tree} → Pending text p wanted parts → (f : First text p parts) → Pending text (p + 2) (wanted - 1) (f .more)
       name-next {parts} v f = name-moved (λ (x y : ℕ). Pending text x y (f .more)) (f .at) (subst (Pending text (p + s % 4) (wanted - 1 + s / 4 % 4)) (ap (λ (u : Tree). partsOf u ++ f .more) (named (f .at) .is)) (turn v f s e .next))
 
-      module _ {room : ℕ} (w : SomeShown text at edit stack h pos room) where
-        pub name-room : p + 2 ≤ length text
-        name-room = named (head-first w .at) .room
-
-        pub name-named : Named (getD text p 0) (getD text (p + 1) 0)
-        name-named = let q = named (head-first w .at) in subst (λ (c : ℕ). Named c (getD text (p + 1) 0)) (sym (q .reads-c)) (subst (Named (q .c)) (sym (q .reads-k)) (q .named))
-
-        pub name-some : {j : ℕ} → j ≡ lastIn edit stack h (getD text p 0) (getD text (p + 1) 0) → SomeName edit stack j (getD text p 0) (getD text (p + 1) 0) q room
-        name-some f = record { steps = w .steps; is = f ∙ ap (λ (x : ℕ). lastIn edit stack x (getD text p 0) (getD text (p + 1) 0)) (w .is); stands = w .stands; fits = omega (arith, still w .0, ap length (name-text (w .steps) (some w .parts) (head-first w)), length-append (treeCode (env (w .steps) (getD text p 0) (getD text (p + 1) 0))) (texts (shownBy (w .steps)) (head-first w .more))) }
+      pub name-at : {room : ℕ} → SomeShown text at edit stack h pos room → NameAt text edit stack p h pos q room
+      name-at {room} w =
+          let f = head-first w in
+          let n = named (f .at) in
+          let c : ℕ = getD text p 0 in
+          let k : ℕ = getD text (p + 1) 0 in
+          record {
+            in-text = n .room;
+            is-named = rw (n .reads-c, n .reads-k) (n .named);
+            further = still w .1;
+            some = λ j e. record {
+              steps = w .steps;
+              is = e ∙ ap (λ (x : ℕ). lastIn edit stack x c k) (w .is);
+              stands = w .stands;
+              fits = omega (arith, still w .0, ap length (name-text (w .steps) (some w .parts) f), length-append (treeCode (env (w .steps) c k)) (texts (shownBy (w .steps)) (f .more)));
+            };
+          }
 
       pub name-shown : {j q′ : ℕ} {o″ : List ℕ} → j ≡ lastIn edit stack h (getD text p 0) (getD text (p + 1) 0) → NameWrote edit stack j (getD text p 0) (getD text (p + 1) 0) o′ q q′ o″ → Showing text at edit stack h (p + 2) (wanted - 1) o pos q′ o″
       name-shown f u = record {
@@ -199,20 +218,13 @@ module _ {text edit stack o o′ : List ℕ} {at h p wanted pos q : ℕ} (I : Sh
           ∙ ap (λ (l : List ℕ). headOf t ++ l) (sym (texts-append (shownBy σ) (partsOf t) (f .more)))
           ∙ ap (λ (l : List ℕ). l ++ texts (shownBy σ) (partsOf t ++ f .more)) (sym (head-taken text p t (f .at) (s % 4) (g .head)))
 
-      module _ {room : ℕ} (w : SomeShown text at edit stack h pos room) where
-        pub head-turn : Turn text p wanted (head-first w .t) (head-first w .more) s
-        head-turn = turn (some w .pending) (head-first w) s e
-
-        pub head-room : q + s % 4 ≤ room
-        head-room =
-            omega (
-              arith,
-              still w .0,
-              head-turn .head,
-              ap length (head-taken text p (head-first w .t) (head-first w .at) (s % 4) (head-turn .head)),
-              ap length (head-text (w .steps) (some w .parts) (head-first w) head-turn),
-              length-append (take (s % 4) (drop p text)) (texts (shownBy (w .steps)) (partsOf (head-first w .t) ++ head-first w .more)),
-            )
+      pub head-at : {room : ℕ} → SomeShown text at edit stack h pos room → HeadAt text p wanted s q room
+      head-at w =
+          let f = head-first w in
+          let g = turn (some w .pending) f s e in
+          let o = ap length (head-text (w .steps) (some w .parts) f g) in
+          let r = length-append (take (s % 4) (drop p text)) (texts (shownBy (w .steps)) (partsOf (f .t) ++ f .more)) in
+          record { on = g .on; in-text = g .in-text; in-count = g .in-count; fits = omega (arith, still w .0, g .head, ap length (head-taken text p (f .t) (f .at) (s % 4) (g .head)), o, r) }
 
       pub head-shown : {q′ : ℕ} {o″ : List ℕ} → Wrote o′ q (take (s % 4) (drop p text)) q′ o″ → length o″ ≡ length o′ → Showing text at edit stack h (p + s % 4) (wanted - 1 + s / 4 % 4) o pos q′ o″
       head-shown u m = record { each = λ σ t g i a. let v = I .each σ t g i a in let f = first (v .pending) l in let n = turn (v .pending) f s e in shown-more v (n .next) (head-text σ (v .parts) f n) u; passed = passing-more (I .passed) l s e; long = m ∙ I .long }
@@ -220,10 +232,7 @@ module _ {text edit stack o o′ : List ℕ} {at h p wanted pos q : ℕ} (I : Sh
 -- A code without operands that is no name is written as it stands, whatever the steps.
 module _ (text edit stack : List ℕ) (at h pos s : ℕ) (e : s ≡ shapeOf (getD text at 0)) (l : s < 4) where
   pub leaf-room : {room : ℕ} → SomeShown text at edit stack h pos room → (0 < s) × (s < 4) × (at + s ≤ length text) × (pos + s ≤ room)
-  leaf-room w =
-      let I = showing-first text at edit stack h [] pos in
-      let g = head-turn I (omega arith) s e (omega arith) w in
-      (omega (arith, g .on), l, omega (arith, g .in-text), omega (arith, head-room I (omega arith) s e (omega arith) w))
+  leaf-room w = let g = head-at (showing-first text at edit stack h [] pos) (omega arith) s e (omega arith) w in (omega (arith, g), l, omega (arith, g), omega (arith, g))
 
   pub leaf-shown : {o o′ : List ℕ} {q : ℕ} → Wrote o pos (take s (drop at text)) q o′ → length o′ ≡ length o → (σ : List Step) (t : Tree) → h ≡ length σ → StackIs edit stack σ → At text at t → Wrote o pos (treeCode (graft (env σ) t)) q o′
   leaf-shown {o} u m σ t f i a =

@@ -14,8 +14,8 @@ use Rattle.tree.proofs.Measured.{same-eq}
 use Rattle.tree.proofs.Written.{env-hit, env-miss}
 use Rattle.ends.specs.Shapes.{Named, cell}
 use Rattle.ends.specs.Kept.{Kept}
-use Rattle.ends.proofs.Names.{named-lt, apart, alike}
-use Rattle.write.proofs.Parts.{part-at, part-length, part-in, part-before, part-behind}
+use Rattle.ends.proofs.NameCells.{named-lt, apart, alike}
+use Rattle.write.proofs.WorkParts.{part-at, part-length, part-in, part-before, part-behind}
 use Rattle.ends.proofs.Kept.{kept-set, kept-more}
 use Rattle.write.specs.Offsets.{StepAt, StackIs}
 use Rattle.write.specs.Work.{workLength, lastOf, stackOf, linksOf, behindOf}
@@ -28,33 +28,30 @@ module _ (edit stack : List ℕ) where
   last-low : (m c k : ℕ) → lastIn edit stack m c k ≤ m
   unfolding lastIn
   last-low zero c k = omega arith
-  last-low (suc m) c k = go (hits m c k) (last-low m c k)
-    where
-      go : (b : Bool) → lastIn edit stack m c k ≤ m → cond b (suc m) (lastIn edit stack m c k) ≤ suc m
-      go true l = omega arith
-      go false l = omega arith
+  last-low (suc m) c k = go (hits m c k) (last-low m c k) where
+    go : (b : Bool) → lastIn edit stack m c k ≤ m → cond b (suc m) (lastIn edit stack m c k) ≤ suc m
+    go true l = omega arith
+    go false l = omega arith
 
   -- the step that it is
   last-hits : (m c k i : ℕ) → lastIn edit stack m c k ≡ suc i → (i < m) × (hits i c k ≡ true)
   unfolding lastIn
   last-hits zero c k i e = absurd (omega (arith, e))
-  last-hits (suc m) c k i e = go (hits m c k) refl e (λ f. last-hits m c k i f)
-    where
-      go : (b : Bool) → hits m c k ≡ b → cond b (suc m) (lastIn edit stack m c k) ≡ suc i → (lastIn edit stack m c k ≡ suc i → (i < m) × (hits i c k ≡ true)) → (i < suc m) × (hits i c k ≡ true)
-      go true h e f = let q : i ≡ m = omega (arith, e) in (omega (arith, q), ap (λ (x : ℕ). hits x c k) q ∙ h)
-      go false h e f = let r = f e in (omega (arith, r .0), r .1)
+  last-hits (suc m) c k i e = go (hits m c k) refl e (λ f. last-hits m c k i f) where
+    go : (b : Bool) → hits m c k ≡ b → cond b (suc m) (lastIn edit stack m c k) ≡ suc i → (lastIn edit stack m c k ≡ suc i → (i < m) × (hits i c k ≡ true)) → (i < suc m) × (hits i c k ≡ true)
+    go true h e f = let q : i ≡ m = omega (arith, e) in (omega (arith, q), ap (λ (x : ℕ). hits x c k) q ∙ h)
+    go false h e f = let r = f e in (omega (arith, r .0), r .1)
 
   -- none between
   last-same : (m h c k : ℕ) → h ≤ m → lastIn edit stack m c k ≤ h → lastIn edit stack m c k ≡ lastIn edit stack h c k
   unfolding lastIn
   last-same zero h c k l e = ap (λ (x : ℕ). lastIn edit stack x c k) (let z : 0 ≡ h = omega arith in z)
-  last-same (suc m) h c k l e = go (decLt h (suc m)) (hits m c k) refl e (λ r f. last-same m h c k r f)
-    where
-      go : Dec (h < suc m) → (b : Bool) → hits m c k ≡ b → cond b (suc m) (lastIn edit stack m c k) ≤ h → (h ≤ m → lastIn edit stack m c k ≤ h → lastIn edit stack m c k ≡ lastIn edit stack h c k)
-          → cond b (suc m) (lastIn edit stack m c k) ≡ lastIn edit stack h c k
-      go (yes r) true q e f = absurd (omega (arith, e, r))
-      go (yes r) false q e f = f (omega (arith, r)) e
-      go (no r) b q e f = ap (λ (t : Bool). cond t (suc m) (lastIn edit stack m c k)) (sym q) ∙ ap (λ (x : ℕ). lastIn edit stack x c k) (let z : suc m ≡ h = omega (arith, r, l) in z)
+  last-same (suc m) h c k l e = go (decLt h (suc m)) (hits m c k) refl e (λ r f. last-same m h c k r f) where
+    go : Dec (h < suc m) → (b : Bool) → hits m c k ≡ b → cond b (suc m) (lastIn edit stack m c k) ≤ h → (h ≤ m → lastIn edit stack m c k ≤ h → lastIn edit stack m c k ≡ lastIn edit stack h c k)
+        → cond b (suc m) (lastIn edit stack m c k) ≡ lastIn edit stack h c k
+    go (yes r) true q e f = absurd (omega (arith, e, r))
+    go (yes r) false q e f = f (omega (arith, r)) e
+    go (no r) b q e f = ap (λ (t : Bool). cond t (suc m) (lastIn edit stack m c k)) (sym q) ∙ ap (λ (x : ℕ). lastIn edit stack x c k) (let z : suc m ≡ h = omega (arith, r, l) in z)
 
 -- the step at index j is the last that touches a name
 pub record Hit (edit stack : List ℕ) (σ : List Step) (c k j : ℕ) : Type 0 where
@@ -75,25 +72,24 @@ pub record Found (edit stack : List ℕ) (σ : List Step) (c k r : ℕ) : Type 0
 found : (edit stack : List ℕ) (σ : List Step) (c k : ℕ) → StackIs edit stack σ → Found edit stack σ c k (lastIn edit stack (length σ) c k)
 unfolding lastIn StackIs env
 found edit stack [] c k i = record { low = omega arith; none = λ z. refl; some = λ n z. absurd (omega (arith, z)) }
-found edit stack (s ∷ τ) c k i = go (hits edit stack (length τ) c k) refl (found edit stack τ c k (i .1))
-  where
-    so : (b : Bool) → hits edit stack (length τ) c k ≡ b → same c k (touched (s .op)) (s .number) ≡ b
-    so b h = sym (ap₂ (λ (u v : ℕ). same c k (touched u) v) (i .0 .op-is) (i .0 .number-is)) ∙ h
+found edit stack (s ∷ τ) c k i = go (hits edit stack (length τ) c k) refl (found edit stack τ c k (i .1)) where
+  so : (b : Bool) → hits edit stack (length τ) c k ≡ b → same c k (touched (s .op)) (s .number) ≡ b
+  so b h = sym (ap₂ (λ (u v : ℕ). same c k (touched u) v) (i .0 .op-is) (i .0 .number-is)) ∙ h
 
-    go : (b : Bool) → hits edit stack (length τ) c k ≡ b → Found edit stack τ c k (lastIn edit stack (length τ) c k) → Found edit stack (s ∷ τ) c k (cond b (suc (length τ)) (lastIn edit stack (length τ) c k))
-    go true h f = record {
-      low = omega arith;
-      none = λ z. absurd (omega (arith, z));
-      some = λ n z. let q : n ≡ length τ = omega (arith, z) in
-          record { s = s; below = τ; len = q; at = subst (λ (x : ℕ). StepAt edit (getD stack x 0) s) (sym q) (i .0); stands = i .1; is = env-hit s τ c k (so true h) };
-    }
-    go false h f =
-        let miss = env-miss s τ c k (so false h) in
-        record {
-          low = omega (arith, f .low);
-          none = λ z. miss ∙ f .none z;
-          some = λ n z. let H = f .some n z in record { s = H .s; below = H .below; len = H .len; at = H .at; stands = H .stands; is = miss ∙ H .is };
-        }
+  go : (b : Bool) → hits edit stack (length τ) c k ≡ b → Found edit stack τ c k (lastIn edit stack (length τ) c k) → Found edit stack (s ∷ τ) c k (cond b (suc (length τ)) (lastIn edit stack (length τ) c k))
+  go true h f = record {
+    low = omega arith;
+    none = λ z. absurd (omega (arith, z));
+    some = λ n z. let q : n ≡ length τ = omega (arith, z) in
+        record { s = s; below = τ; len = q; at = subst (λ (x : ℕ). StepAt edit (getD stack x 0) s) (sym q) (i .0); stands = i .1; is = env-hit s τ c k (so true h) };
+  }
+  go false h f =
+      let miss = env-miss s τ c k (so false h) in
+      record {
+        low = omega (arith, f .low);
+        none = λ z. miss ∙ f .none z;
+        some = λ n z. let H = f .some n z in record { s = H .s; below = H .below; len = H .len; at = H .at; stands = H .stands; is = miss ∙ H .is };
+      }
 
 pub found-as : {edit stack : List ℕ} {σ : List Step} {c k j : ℕ} → j ≡ lastIn edit stack (length σ) c k → StackIs edit stack σ → Found edit stack σ c k j
 found-as {edit} {stack} {σ} {c} {k} e i = subst (Found edit stack σ c k) (sym e) (found edit stack σ c k i)
@@ -172,45 +168,48 @@ linked-kept {edit} {stack} {stack′} {links} {links′} {last} {last′} {h} s 
   olders = λ j l. t .same j l ∙ w .olders j l ∙ sym (last-kept edit j (codeAt edit (getD stack j 0)) (numberAt edit (getD stack j 0)) (lower (omega (arith, l)) s)) ∙ ap (λ (o : ℕ). lastIn edit stack′ j (codeAt edit o) (numberAt edit o)) (sym (s .same j l));
 }
 
+-- the cell of the name that the step at a place touches
+abbrev cellAt : (edit : List ℕ) → ℕ → ℕ
+cellAt edit at = cell (codeAt edit at) (numberAt edit at)
+
 -- one step more
 module _ (edit : List ℕ) (at h : ℕ) {stack links last links′ last′ : List ℕ} (room : h < length stack) (wide : h < length links) (long : length last ≡ 64) (n : Named (codeAt edit at) (numberAt edit at)) (w : Linked edit stack links last h)
-    (links-are : links′ ≡ set links h (getD last (cell (codeAt edit at) (numberAt edit at)) 0)) (last-is : last′ ≡ set last (cell (codeAt edit at) (numberAt edit at)) (h + 1)) where
+    (links-are : links′ ≡ set links h (getD last (cellAt edit at) 0)) (last-is : last′ ≡ set last (cellAt edit at) (h + 1)) where
   linked-set : Linked edit (set stack h at) links′ last′ (h + 1) × Kept h links links′
   unfolding lastIn
-  linked-set = (record { lasts = lasts; olders = λ j l. older j l (decLt j h) }, kept)
-    where
-      kept : Kept h links links′
-      kept = subst (Kept h links) (sym links-are) (kept-set links h (getD last (cell (codeAt edit at) (numberAt edit at)) 0))
+  linked-set = (record { lasts = lasts; olders = λ j l. older j l (decLt j h) }, kept) where
+    kept : Kept h links links′
+    kept = subst (Kept h links) (sym links-are) (kept-set links h (getD last (cellAt edit at) 0))
 
-      below : Linked edit (set stack h at) links′ last h
-      below = linked-kept (kept-set stack h at) kept (record { same = λ i r. refl }) w
+    below : Linked edit (set stack h at) links′ last h
+    below = linked-kept (kept-set stack h at) kept (record { same = λ i r. refl }) w
 
-      here : getD (set stack h at) h 0 ≡ at
-      here = getD-set-same stack h at 0 room
+    here : getD (set stack h at) h 0 ≡ at
+    here = getD-set-same stack h at 0 room
 
-      lasts : (c k : ℕ) → Named c k → getD last′ (cell c k) 0 ≡ lastIn edit (set stack h at) (h + 1) c k
-      lasts c k m = ap (λ (l : List ℕ). getD l (cell c k) 0) last-is ∙ go (same c k (codeAt edit at) (numberAt edit at)) refl ∙ ap (λ (o : ℕ). cond (same c k (codeAt edit o) (numberAt edit o)) (suc h) (lastIn edit (set stack h at) h c k)) (sym here) ∙ ap (λ (x : ℕ). lastIn edit (set stack h at) x c k) (sym (add-one h))
-        where
-          go : (b : Bool) → same c k (codeAt edit at) (numberAt edit at) ≡ b → getD (set last (cell (codeAt edit at) (numberAt edit at)) (h + 1)) (cell c k) 0 ≡ cond (same c k (codeAt edit at) (numberAt edit at)) (suc h) (lastIn edit (set stack h at) h c k)
-          go true q =
-              ap (λ (x : ℕ). getD (set last (cell (codeAt edit at) (numberAt edit at)) (h + 1)) x 0) (sym (alike c k (codeAt edit at) (numberAt edit at) q)) ∙ getD-set-same last (cell (codeAt edit at) (numberAt edit at)) (h + 1) 0 (omega (arith, long, named-lt (codeAt edit at) (numberAt edit at) n))
-              ∙ add-one h ∙ sym (ap (λ (b : Bool). cond b (suc h) (lastIn edit (set stack h at) h c k)) q)
-          go false q =
-              getD-set-other last (cell (codeAt edit at) (numberAt edit at)) (cell c k) (h + 1) 0 (λ e. apart c k (codeAt edit at) (numberAt edit at) m n q (omega (arith, e)))
-              ∙ below .lasts c k m ∙ sym (ap (λ (b : Bool). cond b (suc h) (lastIn edit (set stack h at) h c k)) q)
+    lasts : (c k : ℕ) → Named c k → getD last′ (cell c k) 0 ≡ lastIn edit (set stack h at) (h + 1) c k
+    lasts c k m =
+        ap (λ (l : List ℕ). getD l (cell c k) 0) last-is ∙ go (same c k (codeAt edit at) (numberAt edit at)) refl
+        ∙ ap (λ (o : ℕ). cond (same c k (codeAt edit o) (numberAt edit o)) (suc h) (lastIn edit (set stack h at) h c k)) (sym here) ∙ ap (λ (x : ℕ). lastIn edit (set stack h at) x c k) (sym (add-one h))
+      where
+        go : (b : Bool) → same c k (codeAt edit at) (numberAt edit at) ≡ b → getD (set last (cellAt edit at) (h + 1)) (cell c k) 0 ≡ cond b (suc h) (lastIn edit (set stack h at) h c k)
+        go true q =
+            ap (λ (x : ℕ). getD (set last (cellAt edit at) (h + 1)) x 0) (sym (alike c k (codeAt edit at) (numberAt edit at) q))
+            ∙ getD-set-same last (cellAt edit at) (h + 1) 0 (omega (arith, long, named-lt (codeAt edit at) (numberAt edit at) n)) ∙ add-one h
+        go false q = getD-set-other last (cellAt edit at) (cell c k) (h + 1) 0 (λ e. apart c k (codeAt edit at) (numberAt edit at) m n q (omega (arith, e))) ∙ below .lasts c k m
 
-      older : (j : ℕ) → j < h + 1 → Dec (j < h) → getD links′ j 0 ≡ lastIn edit (set stack h at) j (codeAt edit (getD (set stack h at) j 0)) (numberAt edit (getD (set stack h at) j 0))
-      older j l (yes r) = below .olders j r
-      older j l (no r) =
-          let q : j ≡ h = omega (arith, l, r) in
-          subst (λ (x : ℕ). getD links′ x 0 ≡ lastIn edit (set stack h at) x (codeAt edit (getD (set stack h at) x 0)) (numberAt edit (getD (set stack h at) x 0))) (sym q)
-          (ap (λ (l : List ℕ). getD l h 0) links-are ∙ getD-set-same links h (getD last (cell (codeAt edit at) (numberAt edit at)) 0) 0 wide ∙ below .lasts (codeAt edit at) (numberAt edit at) n
-          ∙ ap (λ (o : ℕ). lastIn edit (set stack h at) h (codeAt edit o) (numberAt edit o)) (sym here))
+    older : (j : ℕ) → j < h + 1 → Dec (j < h) → getD links′ j 0 ≡ lastIn edit (set stack h at) j (codeAt edit (getD (set stack h at) j 0)) (numberAt edit (getD (set stack h at) j 0))
+    older j l (yes r) = below .olders j r
+    older j l (no r) =
+        let q : j ≡ h = omega (arith, l, r) in
+        subst (λ (x : ℕ). getD links′ x 0 ≡ lastIn edit (set stack h at) x (codeAt edit (getD (set stack h at) x 0)) (numberAt edit (getD (set stack h at) x 0))) (sym q)
+        (ap (λ (l : List ℕ). getD l h 0) links-are ∙ getD-set-same links h (getD last (cellAt edit at) 0) 0 wide ∙ below .lasts (codeAt edit at) (numberAt edit at) n
+        ∙ ap (λ (o : ℕ). lastIn edit (set stack h at) h (codeAt edit o) (numberAt edit o)) (sym here))
 
 -- the step at `at` put on the stack of the work array and linked
 module _ (edit : List ℕ) (at h : ℕ) (work : List ℕ) {work′ : List ℕ} (low : h < 1366) (long : length work ≡ workLength) (n : Named (codeAt edit at) (numberAt edit at)) (e : work′ ≡ linkStep edit at h (set work (64 + h) at)) where
   abbrev i : ℕ
-  i = cell (codeAt edit at) (numberAt edit at)
+  i = cellAt edit at
 
   abbrev one : List ℕ
   one = set work (64 + h) at

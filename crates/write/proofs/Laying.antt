@@ -5,30 +5,24 @@ use Prim.Native.Nat.{ℕ, suc, min, _+_, _-_, _≤_, _<_}
 use native.Mathlib.Omega.{arith}
 use native.Mathlib.Nat.{add-zero}
 use native.Mathlib.Numerals.{add-one}
-use lib.ListN.{length, getD, set, take, drop, length-set, length-append, length-take, length-drop}
-use lib.Seq.{sets, sets-eq, take-suc, take-at, drop-at, getD-drop, getD-set-other}
+use lib.ListN.{length, getD, set, take, drop, length-append, length-take, length-drop}
+use lib.Seq.{sets, sets-eq, length-sets, take-suc, take-at, drop-at, getD-drop, getD-set-other}
 use Rattle.write.specs.Work.{part}
 use Rattle.write.specs.Laid.{laid, Wrote}
-use Rattle.write.proofs.Parts.{part-behind}
+use Rattle.write.proofs.WorkParts.{part-behind}
 
 laid-append : (o : List ℕ) (p : ℕ) (xs ys : List ℕ) → laid o p (xs ++ ys) ≡ laid (laid o p xs) (p + length xs) ys
 unfolding laid
 laid-append o p [] ys = ap (λ (n : ℕ). laid o n ys) (sym (add-zero p))
 laid-append o p (b ∷ xs) ys = laid-append (set o p b) (suc p) xs ys ∙ ap (λ (n : ℕ). laid (laid (set o p b) (suc p) xs) n ys) (let e : suc p + length xs ≡ p + suc (length xs) = omega arith in e)
 
-pub laid-none : (o : List ℕ) (p : ℕ) → o ≡ laid o p []
-unfolding laid
-laid-none o p = refl
-
-pub length-laid : (o : List ℕ) (p : ℕ) (bs : List ℕ) → length (laid o p bs) ≡ length o
-unfolding laid
-length-laid o p [] = refl
-length-laid o p (b ∷ bs) = length-laid (set o p b) (suc p) bs ∙ length-set o p b
-
 laid-sets : (o : List ℕ) (p : ℕ) (bs : List ℕ) → laid o p bs ≡ sets o p bs
 unfolding laid
 laid-sets o p [] = refl
 laid-sets o p (b ∷ bs) = laid-sets (set o p b) (suc p) bs
+
+pub length-laid : (o : List ℕ) (p : ℕ) (bs : List ℕ) → length (laid o p bs) ≡ length o
+length-laid o p bs = ap length (laid-sets o p bs) ∙ length-sets o p bs
 
 -- below the place all is as it was
 laid-below : (o : List ℕ) (p : ℕ) (bs : List ℕ) (j : ℕ) → j < p → getD (laid o p bs) j 0 ≡ getD o j 0
@@ -41,16 +35,13 @@ pub laid-fits : (o : List ℕ) (p : ℕ) (bs : List ℕ) → p + length bs ≤ l
 laid-fits o p bs h = laid-sets o p bs ∙ sets-eq bs o p h
 
 pub wrote-none : (o : List ℕ) (p : ℕ) → Wrote o p [] p o
-unfolding laid
-wrote-none o p = record { counted = omega arith; stored = refl }
+wrote-none o p = unfold laid in record { counted = omega arith; stored = refl }
 
 pub wrote-one : (o : List ℕ) (p b : ℕ) → Wrote o p (b ∷ []) (p + 1) (set o p b)
-unfolding laid
-wrote-one o p b = record { counted = refl; stored = refl }
+wrote-one o p b = unfold laid in record { counted = refl; stored = refl }
 
 pub wrote-two : (o : List ℕ) (p a b : ℕ) → Wrote o p (a ∷ b ∷ []) (p + 2) (set (set o p a) (p + 1) b)
-unfolding laid
-wrote-two o p a b = record { counted = refl; stored = rw add-one }
+wrote-two o p a b = unfold laid in record { counted = refl; stored = rw add-one }
 
 pub wrote-more : {o o₁ o₂ xs ys : List ℕ} {p p₁ p₂ : ℕ} → Wrote o p xs p₁ o₁ → Wrote o₁ p₁ ys p₂ o₂ → Wrote o p (xs ++ ys) p₂ o₂
 wrote-more {o} {o₁} {o₂} {xs} {ys} {p} {p₁} {p₂} u v = record {
@@ -61,33 +52,25 @@ wrote-more {o} {o₁} {o₂} {xs} {ys} {p} {p₁} {p₂} u v = record {
 pub wrote-as : {o o′ xs ys : List ℕ} {p p′ : ℕ} → xs ≡ ys → Wrote o p xs p′ o′ → Wrote o p ys p′ o′
 wrote-as {o} {o′} {xs} {ys} {p} {p′} e u = record { counted = u .counted ∙ ap (λ (l : List ℕ). p + length l) e; stored = u .stored ∙ ap (laid o p) e }
 
--- one byte more of a part of a text
-module _ (text : List ℕ) (at i : ℕ) (h : at + i < length text) (o : List ℕ) (pos : ℕ) where
-  pub copied-more : set (laid o pos (take i (drop at text))) (pos + i) (getD text (at + i) 0) ≡ laid o pos (take (i + 1) (drop at text))
-  unfolding laid
-  copied-more =
-      let l : i < length (drop at text) = simp length-drop (omega arith) in
-      let n : length (take i (drop at text)) ≡ i = omega (arith, length-take i (drop at text), length-drop at text) in
-      sym (rw (add-one i, take-suc (drop at text) i 0, laid-append, n, getD-drop at text i 0))
-
 -- n bytes of a text written one by one: the first k are there, or all
 pub record Coded (text : List ℕ) (at n : ℕ) (o : List ℕ) (pos k : ℕ) (out : List ℕ) : Type 0 where
   pub inside : at + n ≤ length text
   pub is : out ≡ laid o pos (take (min k n) (drop at text))
 
-pub coded-first : (text : List ℕ) (at n : ℕ) (o : List ℕ) (pos : ℕ) → at + n ≤ length text → 0 < n → Coded text at n o pos 1 (set o pos (getD text at 0))
-unfolding laid
-coded-first text at n o pos h l =
-    let e = copied-more text at 0 (omega arith) o pos in
-    record { inside = h; is = simp add-zero at e ∙ ap (λ (x : ℕ). laid o pos (take x (drop at text))) (let a : 1 ≡ min 1 n = omega arith in a) }
+pub coded-none : (text : List ℕ) (at n : ℕ) (o : List ℕ) (pos : ℕ) → at + n ≤ length text → Coded text at n o pos 0 o
+coded-none text at n o pos h = unfold laid in record { inside = h; is = ap (λ (x : ℕ). laid o pos (take x (drop at text))) (let a : 0 ≡ min 0 n = omega arith in a) }
 
 module _ {text o out : List ℕ} {at n pos k : ℕ} (w : Coded text at n o pos k out) where
   coded-as : (x : ℕ) → min k n ≡ x → out ≡ laid o pos (take x (drop at text))
   coded-as x e = w .is ∙ ap (λ (y : ℕ). laid o pos (take y (drop at text))) e
 
   pub coded-more : k < n → Coded text at n o pos (k + 1) (set out (pos + k) (getD text (at + k) 0))
+  unfolding laid
   coded-more l =
-      record { inside = w .inside; is = ap (λ (y : List ℕ). set y (pos + k) (getD text (at + k) 0)) (coded-as k (omega arith)) ∙ copied-more text at k (omega (arith, w .inside)) o pos ∙ ap (λ (x : ℕ). laid o pos (take x (drop at text))) (let a : k + 1 ≡ min (k + 1) n = omega arith in a) }
+      let e : min (k + 1) n ≡ suc k = omega arith in
+      let m : length (take k (drop at text)) ≡ k = omega (arith, w .inside, length-take k (drop at text), length-drop at text) in
+      let r : k < length (drop at text) = omega (arith, w .inside, length-drop at text) in
+      record { inside = w .inside; is = rw (coded-as k (omega arith), e, take-suc (drop at text) k 0, laid-append, m, getD-drop at text k 0) }
 
   pub coded-stay : n ≤ k → Coded text at n o pos (k + 1) out
   coded-stay l = record { inside = w .inside; is = coded-as (min (k + 1) n) (omega arith) }
@@ -98,15 +81,15 @@ module _ {text o out : List ℕ} {at n pos k : ℕ} (w : Coded text at n o pos k
   pub coded-long : length out ≡ length o
   coded-long = ap length (w .is) ∙ length-laid o pos (take (min k n) (drop at text))
 
--- one byte more of the output itself, from below the place: writing leaves what stands there
-module _ (o : List ℕ) (from i pos : ℕ) (h : from + i < pos) (r : pos ≤ length o) where
-  pub again-more : set (laid o pos (take i (drop from o))) (pos + i) (getD (laid o pos (take i (drop from o))) (from + i) 0) ≡ laid o pos (take (i + 1) (drop from o))
-  again-more = ap (set (laid o pos (take i (drop from o))) (pos + i)) (laid-below o pos (take i (drop from o)) (from + i) h) ∙ copied-more o from i (omega arith) o pos
+-- so with bytes of the output itself, from below the place: writing leaves what stands there
+pub coded-again : {o out : List ℕ} {from n pos k : ℕ} → Coded o from n o pos k out → from + n ≤ pos → k < n → Coded o from n o pos (k + 1) (set out (pos + k) (getD out (from + k) 0))
+coded-again {o} {out} {from} {n} {pos} {k} w h l =
+    let e : getD out (from + k) 0 ≡ getD o (from + k) 0 = ap (λ (x : List ℕ). getD x (from + k) 0) (w .is) ∙ laid-below o pos (take (min k n) (drop from o)) (from + k) (omega arith) in
+    rw e (coded-more w l)
 
 -- a byte, and then bytes of the output from below it
 pub wrote-again : (o : List ℕ) (from n p b : ℕ) {o₂ : List ℕ} {p₂ : ℕ} → from + n ≤ p → Wrote (set o p b) (p + 1) (take n (drop from (set o p b))) p₂ o₂ → Wrote o p (b ∷ take n (drop from o)) p₂ o₂
-unfolding part
-wrote-again o from n p b h u = wrote-more (wrote-one o p b) (wrote-as (part-behind from n o p b h) u)
+wrote-again o from n p b h u = unfold part in wrote-more (wrote-one o p b) (wrote-as (part-behind from n o p b h) u)
 
 -- bytes written stand there still when more is written behind them
 module _ {o o₁ o₂ ys zs : List ℕ} {pos p p₂ : ℕ} (xs : List ℕ) (u : Wrote o pos (xs ++ ys) p o₁) (v : Wrote o₁ p zs p₂ o₂) (h : p₂ ≤ length o) where

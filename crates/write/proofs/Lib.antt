@@ -1,9 +1,9 @@
-pub mod Parts
+pub mod WorkParts
 pub mod Finding
 pub mod Laying
 pub mod Emitting
 pub mod Walking
 pub mod Choosing
-pub mod Carrying
+pub mod WrittenWays
 pub mod Storing
 pub mod Rules

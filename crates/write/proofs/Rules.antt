@@ -13,8 +13,8 @@ use Rattle.tree.specs.Stack.{written}
 use Rattle.tree.proofs.Written.{written-code}
 use Rattle.ends.specs.Edits.{EditAt, SomeEdit}
 use Rattle.ends.specs.Books.{RuleAt, BookIs}
-use Rattle.text.proofs.Standing.{behind}
-use Rattle.ends.proofs.Rules.{rule-fits}
+use Rattle.text.proofs.StandingLaws.{behind}
+use Rattle.ends.proofs.RulePlaces.{rule-fits}
 use Rattle.write.specs.Laid.{Wrote}
 use Rattle.write.specs.Offsets.{StackIs}
 use Rattle.write.specs.Work.{stackOf, behindOf}
@@ -26,12 +26,10 @@ use Rattle.write.proofs.Walking.{steps-kept}
 use Rattle.write.proofs.Storing.{Again}
 
 start : (edit stack behind : List ℕ) (from : ℕ) (Z : Edit) → EditAt edit from Z → Way edit stack behind from 0 0 [] Z []
-unfolding StackIs BehindIs
-start edit stack behind from Z h = record { steps-passed = refl; steps = tt; here = h; around = refl; rest = tt }
+start edit stack behind from Z h = unfold StackIs BehindIs in record { steps-passed = refl; steps = tt; here = h; around = refl; rest = tt }
 
 start-written : (Z : Edit) (K : Expr rule) → written [] (followed Z []) K ≡ code (carry Z K)
-unfolding followed
-start-written Z K = written-code Z K
+start-written Z K = unfold followed in written-code Z K
 
 -- from an edit's start
 pub start-way : {edit : List ℕ} {from : ℕ} (stack behind : List ℕ) → SomeEdit edit from → SomeWay edit stack behind from 0 0
@@ -62,10 +60,7 @@ module _ {text edit work work′ o o′ : List ℕ} {place at h d pos pos′ fro
   pub rule-written : {next : ℕ} → ((K : Expr rule) → RuleAt text place K → next ≡ place + length (code K)) → (K : Expr rule) (Z : Edit) → RuleAt text place K → EditAt edit from Z → RuleWritten Z K place o pos next pos′ o′
   rule-written f K Z r z =
       let m = s .each Z z in
-      record {
-        read = f K r;
-        wrote = wrote-as (sym (m .same K) ∙ start-written Z K) (a .written .wrote (m .steps) (m .what) (m .later) (m .way) K r);
-      }
+      record { read = f K r; wrote = wrote-as (sym (m .same K) ∙ start-written Z K) (a .written .wrote (m .steps) (m .what) (m .later) (m .way) K r) }
 
   pub still-started : Started edit from work′ at h d
   still-started = record {
@@ -109,27 +104,26 @@ pub record Next (book : List ℕ) (rules : List (Expr rule)) (Z : Edit) (o : Lis
 
 pub next-rule : {book : List ℕ} {rules : List (Expr rule)} {Z : Edit} {o : List ℕ} {at pos : ℕ} {out : List ℕ} → at < length book → Left book rules Z o at pos out → Next book rules Z o at pos out
 unfolding bookCode RulesInRange
-next-rule {book} {rules} {Z} {o} {at} {pos} {out} l h = go (h .left) (h .range) (h .here) (h .whole)
-  where
-    go : (left : List (Expr rule)) → RulesInRange (h .limits) left → drop at book ≡ bookCode left → h .done ++ bookCode (carriedBook Z left) ≡ bookCode (carriedBook Z rules) → Next book rules Z o at pos out
-    go [] r e w = absurd (omega (arith, ap length e, length-drop at book))
-    go (K ∷ Ks) r e w =
-        let x : List ℕ = code (carry Z K) in
-        let y : List ℕ = bookCode (carriedBook Z Ks) in
-        record {
-          K = K;
-          K-at = record { limits = h .limits; place = record { rest = bookCode Ks; here = e; range = r .0 } };
-          fits = omega (arith, h .wrote .counted, ap length w, length-append (h .done) (x ++ y), length-append x y);
-          more = λ at′ pos′ out′ a. record {
-            left = Ks;
-            limits = h .limits;
-            range = r .1;
-            here = ap (λ (n : ℕ). drop n book) (a .read) ∙ behind book at (code K) (bookCode Ks) e;
-            done = h .done ++ x;
-            wrote = wrote-more (h .wrote) (a .wrote);
-            whole = append-assoc (h .done) x y ∙ w;
-          };
-        }
+next-rule {book} {rules} {Z} {o} {at} {pos} {out} l h = go (h .left) (h .range) (h .here) (h .whole) where
+  go : (left : List (Expr rule)) → RulesInRange (h .limits) left → drop at book ≡ bookCode left → h .done ++ bookCode (carriedBook Z left) ≡ bookCode (carriedBook Z rules) → Next book rules Z o at pos out
+  go [] r e w = absurd (omega (arith, ap length e, length-drop at book))
+  go (K ∷ Ks) r e w =
+      let x : List ℕ = code (carry Z K) in
+      let y : List ℕ = bookCode (carriedBook Z Ks) in
+      record {
+        K = K;
+        K-at = record { limits = h .limits; place = record { rest = bookCode Ks; here = e; range = r .0 } };
+        fits = omega (arith, h .wrote .counted, ap length w, length-append (h .done) (x ++ y), length-append x y);
+        more = λ at′ pos′ out′ a. record {
+          left = Ks;
+          limits = h .limits;
+          range = r .1;
+          here = ap (λ (n : ℕ). drop n book) (a .read) ∙ behind book at (code K) (bookCode Ks) e;
+          done = h .done ++ x;
+          wrote = wrote-more (h .wrote) (a .wrote);
+          whole = append-assoc (h .done) x y ∙ w;
+        };
+      }
 
 pub record Writing (book edit : List ℕ) (from : ℕ) (o : List ℕ) (at pos : ℕ) (out : List ℕ) : Type 0 where
   pub long : length out ≡ length o
@@ -163,13 +157,12 @@ module _ {book edit : List ℕ} {from : ℕ} {o : List ℕ} {at pos : ℕ} {out 
 
   pub writing-end : length book ≤ at → (rules : List (Expr rule)) (Z : Edit) → BookIs book rules → EditAt edit from Z → BookWritten Z rules o pos out
   unfolding bookCode RulesInRange
-  writing-end l rules Z b h = let q = w .each rules Z b h in wrote-as (go (q .limits) (q .left) (q .range) (q .here) (q .done) (q .whole)) (q .wrote)
-    where
-      go : (r : Ranges) (left : List (Expr rule)) → RulesInRange r left → drop at book ≡ bookCode left → (done : List ℕ) → done ++ bookCode (carriedBook Z left) ≡ bookCode (carriedBook Z rules) → done ≡ bookCode (carriedBook Z rules)
-      go r [] i e done x = sym (append-nil done) ∙ x
-      go r (K ∷ Ks) i e done x =
-          let k : RuleAt book at K = record { limits = r; place = record { rest = bookCode Ks; here = e; range = i .0 } } in
-          absurd (omega (arith, rule-fits book at K k .0, rule-fits book at K k .1))
+  writing-end l rules Z b h = let q = w .each rules Z b h in wrote-as (go (q .limits) (q .left) (q .range) (q .here) (q .done) (q .whole)) (q .wrote) where
+    go : (r : Ranges) (left : List (Expr rule)) → RulesInRange r left → drop at book ≡ bookCode left → (done : List ℕ) → done ++ bookCode (carriedBook Z left) ≡ bookCode (carriedBook Z rules) → done ≡ bookCode (carriedBook Z rules)
+    go r [] i e done x = sym (append-nil done) ∙ x
+    go r (K ∷ Ks) i e done x =
+        let k : RuleAt book at K = record { limits = r; place = record { rest = bookCode Ks; here = e; range = i .0 } } in
+        absurd (omega (arith, rule-fits book at K k .0, rule-fits book at K k .1))
 
 -- Bytes laid at a buffer's start, where they fit: the rest of it is unchanged.
 pub at-start : {o bs o′ : List ℕ} {len : ℕ} → Wrote o 0 bs len o′ → length bs ≤ length o → o′ ≡ bs ++ drop (length bs) o

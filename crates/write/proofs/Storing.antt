@@ -17,12 +17,12 @@ use Rattle.write.specs.Offsets.{StackIs}
 use Rattle.write.specs.Work.{workLength, stackOf, linksOf, behindOf}
 use Rattle.write.specs.Links.{LinkedIn, Relinked, Fitting}
 use Rattle.write.specs.Ways.{Walked, Chosen, SomeCarried, WayWritten}
-use Rattle.write.proofs.Parts.{part-at, part-length, last-first, behind-stored, last-replaced}
+use Rattle.write.proofs.WorkParts.{part-at, part-length, last-first, behind-stored, last-replaced}
 use Rattle.ends.proofs.Kept.{kept-more}
 use Rattle.write.proofs.Walking.{way-low, at-choice}
 use Rattle.write.proofs.Finding.{linked-kept}
 use Rattle.write.proofs.Choosing.{chosen}
-use Rattle.write.proofs.Carrying.{rested}
+use Rattle.write.proofs.WrittenWays.{rested}
 
 -- where the stack or the offsets behind are given otherwise
 pub walked-on : {edit stack behind stack′ stack″ : List ℕ} {at h d at′ h′ d′ : ℕ} → stack″ ≡ stack′ → Walked edit stack behind at h d stack′ at′ h′ d′ → Walked edit stack behind at h d stack″ at′ h′ d′
@@ -89,12 +89,7 @@ again work₁ {text} {edit} {work} {o} {o′} {last} {last′} {from} {at} {h} {
     let r = last-replaced work₁ last′ (e ∙ length-take-le 64 work₁ (omega (arith, l, f .long))) in
     let k : LinkedIn edit (last′ ++ drop 64 work₁) h = linked-kept (kept-on (r .stack-same) (c .kept)) (kept-on (r .links-same) t) (kept-on (r .last-is) (kept-of (last-first work) (kept-more (omega arith) a b))) w in
     let n = length-front work₁ last′ 64 e ∙ l ∙ f .long in
-    record {
-      written = written-on (r .stack-same) (r .behind-same) c;
-      linked = k;
-      fits = record { short = f .short; long = n };
-      kept = kept-on (r .links-same) t;
-    }
+    record { written = written-on (r .stack-same) (r .behind-same) c; linked = k; fits = record { short = f .short; long = n }; kept = kept-on (r .links-same) t }
 
 -- after both, what stood behind is there again
 pub stored-back : (work₀ work₁ work : List ℕ) {text edit : List ℕ} {from at h d : ℕ} {o : List ℕ} {pos pos′ : ℕ} {o′ : List ℕ} {d′ : ℕ} → d′ < length (behindOf work₀) → length work₀ ≡ workLength → behindOf work₁ ≡ behindOf work₀

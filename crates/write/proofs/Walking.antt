@@ -17,8 +17,8 @@ use Rattle.tree.proofs.Written.{written-addLabel, written-takeLabel, written-ad
 use Rattle.ends.specs.Shapes.{shapeOf, At, Some, Named}
 use Rattle.ends.specs.Edits.{EditAt, behindStep}
 use Rattle.ends.specs.Kept.{Kept}
-use Rattle.ends.proofs.Steps.{editTag, editTree, stepOf, IsStep, as-step, as-finish, edit-inside}
-use Rattle.ends.proofs.Places.{size-pos}
+use Rattle.ends.proofs.FirstSteps.{editTag, editTree, stepOf, IsStep, as-step, as-finish, edit-inside}
+use Rattle.ends.proofs.TreePlaces.{size-pos}
 use Rattle.ends.proofs.Pending.{passing-first, passing-more, passing-end}
 use Rattle.ends.proofs.Kept.{kept-set, kept-more}
 use Rattle.write.specs.Offsets.{StepAt, StackIs}
@@ -82,25 +82,24 @@ module _ {edit stack behind : List ℕ} {at h d : ℕ} where
         up = omega arith;
         low = omega (arith, l, size-pos (editTree (w .what)) (p .what .formed), w .low);
         low-behind = omega (arith, l, w .low-behind);
-      }
-    where
-      go : (σ : List Step) (Z : Edit) (Ws : List Edit) → Way edit stack behind at h d σ Z Ws → (q : IsStep edit at Z) → next ≡ at + 2 + size (editTree Z) → SameWay edit (set stack h at) behind next (h + 1) d σ Z Ws
-      go σ Z Ws y q e =
-          let here : getD (set stack h at) (length σ) 0 ≡ at = ap (λ (i : ℕ). getD (set stack h at) i 0) (sym (y .steps-passed)) ∙ getD-set-same stack h at 0 room in
-          let from : at + length (editCode Z) ≡ next + length (editCode (behindStep Z)) = omega (arith, e, q .long) in
-          record {
-            steps = stepOf Z ∷ σ;
-            what = behindStep Z;
-            later = Ws;
-            same = written-step Z (q .no-end) (q .no-choice) σ Ws;
-            way = record {
-              steps-passed = omega (arith, y .steps-passed);
-              steps = (subst (λ (o : ℕ). StepAt edit o (stepOf Z)) (sym here) (step-holds Z q), steps-kept edit σ (omega (arith, y .steps-passed)) (kept-set stack h at) (y .steps));
-              here = q .next next e;
-              around = y .around;
-              rest = subst (λ (x : ℕ). BehindIs edit behind x Ws) from (y .rest);
-            };
-          }
+      } where
+        go : (σ : List Step) (Z : Edit) (Ws : List Edit) → Way edit stack behind at h d σ Z Ws → (q : IsStep edit at Z) → next ≡ at + 2 + size (editTree Z) → SameWay edit (set stack h at) behind next (h + 1) d σ Z Ws
+        go σ Z Ws y q e =
+            let here : getD (set stack h at) (length σ) 0 ≡ at = ap (λ (i : ℕ). getD (set stack h at) i 0) (sym (y .steps-passed)) ∙ getD-set-same stack h at 0 room in
+            let from : at + length (editCode Z) ≡ next + length (editCode (behindStep Z)) = omega (arith, e, q .long) in
+            record {
+              steps = stepOf Z ∷ σ;
+              what = behindStep Z;
+              later = Ws;
+              same = written-step Z (q .no-end) (q .no-choice) σ Ws;
+              way = record {
+                steps-passed = omega (arith, y .steps-passed);
+                steps = (subst (λ (o : ℕ). StepAt edit o (stepOf Z)) (sym here) (step-holds Z q), steps-kept edit σ (omega (arith, y .steps-passed)) (kept-set stack h at) (y .steps));
+                here = q .next next e;
+                around = y .around;
+                rest = subst (λ (x : ℕ). BehindIs edit behind x Ws) from (y .rest);
+              };
+            }
 
   -- past the end of what a 35 does
   pub way-low : SomeWay edit stack behind at h d → length edit ≤ 4096 → (h < 1366) × (d < 2048)
@@ -118,23 +117,22 @@ module _ {edit stack behind : List ℕ} {at h d : ℕ} where
         up = omega arith;
         low = omega (arith, w .low, b);
         low-behind = omega (arith, w .low-behind, b);
-      }
-    where
-      on : (Ws : List Edit) → d ≡ length Ws → BehindIs edit behind (at + 1) Ws → at + 1 ≤ getD behind (d - 1) 0
-      on [] e i = absurd (omega (arith, e, l))
-      on (W ∷ Ws) e i = let m : length Ws ≡ d - 1 = omega (arith, e) in subst (λ (x : ℕ). at + 1 ≤ getD behind x 0) m (i .0)
+      } where
+        on : (Ws : List Edit) → d ≡ length Ws → BehindIs edit behind (at + 1) Ws → at + 1 ≤ getD behind (d - 1) 0
+        on [] e i = absurd (omega (arith, e, l))
+        on (W ∷ Ws) e i = let m : length Ws ≡ d - 1 = omega (arith, e) in subst (λ (x : ℕ). at + 1 ≤ getD behind x 0) m (i .0)
 
-      go : (σ : List Step) (Ws : List Edit) {Z : Edit} → Way edit stack behind at h d σ Z Ws → d ≡ length Ws → BehindIs edit behind (at + 1) Ws → SameWay edit stack behind (getD behind (d - 1) 0) h (d - 1) σ finish Ws
-      go σ [] y e i = absurd (omega (arith, e, l))
-      go σ (W ∷ Ws) y e i =
-          let m : length Ws ≡ d - 1 = omega (arith, e) in
-          record {
-            steps = σ;
-            what = W;
-            later = Ws;
-            same = λ K. refl;
-            way = record { steps-passed = y .steps-passed; steps = y .steps; here = subst (λ (x : ℕ). EditAt edit (getD behind x 0) W) m (i .1); around = sym m; rest = subst (λ (x : ℕ). BehindIs edit behind (getD behind x 0 + length (editCode W)) Ws) m (i .2) };
-          }
+        go : (σ : List Step) (Ws : List Edit) {Z : Edit} → Way edit stack behind at h d σ Z Ws → d ≡ length Ws → BehindIs edit behind (at + 1) Ws → SameWay edit stack behind (getD behind (d - 1) 0) h (d - 1) σ finish Ws
+        go σ [] y e i = absurd (omega (arith, e, l))
+        go σ (W ∷ Ws) y e i =
+            let m : length Ws ≡ d - 1 = omega (arith, e) in
+            record {
+              steps = σ;
+              what = W;
+              later = Ws;
+              same = λ K. refl;
+              way = record { steps-passed = y .steps-passed; steps = y .steps; here = subst (λ (x : ℕ). EditAt edit (getD behind x 0) W) m (i .1); around = sym m; rest = subst (λ (x : ℕ). BehindIs edit behind (getD behind x 0 + length (editCode W)) Ws) m (i .2) };
+            }
 
 -- where the stack, the next place or the offsets behind are given otherwise
 pub passed-on : {edit stack behind stack′ stack″ : List ℕ} {at h d at′ h′ d′ : ℕ} → stack″ ≡ stack′ → Passed edit stack behind at h d stack′ at′ h′ d′ → Passed edit stack behind at h d stack″ at′ h′ d′
@@ -174,28 +172,21 @@ walked w r = record { each = w .each; kept = w .kept; up = w .up; low = w .some 
 
 -- what the test says
 pub not-choice : (c d : ℕ) → resting c d ≡ false → c ≡ 0x35 → ⊥
-unfolding resting
-not-choice c d e q = let z : true ≡ false = sym (simp (eq-eqb _ _ q)) ∙ e in absurd (differ z)
-  where
-    differ : true ≡ false → ⊥
-    differ z = let o : _≡_ {A = ℕ} 0 1 = cc in omega arith
+not-choice c d e q = unfold resting in let z : true ≡ false = sym (simp (eq-eqb _ _ q)) ∙ e in let o : _≡_ {A = ℕ} 0 1 = cc in absurd (omega arith)
 
 pub not-end : (c d : ℕ) → resting c d ≡ false → c ≡ 0x30 → 0 < d
 unfolding resting
-not-end c d e q = go (eqb d 0) refl
-  where
-    go : (b : Bool) → eqb d 0 ≡ b → 0 < d
-    go true z = let y : true ≡ false = sym (simp (q, z)) ∙ e in let o : _≡_ {A = ℕ} 0 1 = cc in absurd (omega arith)
-    go false z = let n = eqb-false d 0 z in omega arith
+not-end c d e q = go (eqb d 0) refl where
+  go : (b : Bool) → eqb d 0 ≡ b → 0 < d
+  go true z = let y : true ≡ false = sym (simp (q, z)) ∙ e in let o : _≡_ {A = ℕ} 0 1 = cc in absurd (omega arith)
+  go false z = let n = eqb-false d 0 z in omega arith
 
 pub at-end : (c d : ℕ) → resting c d ≡ true → c ≡ 0x30 → d ≡ 0
-unfolding resting
-at-end c d e q = eqb-true d 0 (sym (ap (λ (x : ℕ). resting x d) q) ∙ e)
+at-end c d e q = unfold resting in eqb-true d 0 (sym (ap (λ (x : ℕ). resting x d) q) ∙ e)
 
 pub at-choice : (c d : ℕ) → resting c d ≡ true → (c ≡ 0x30 → ⊥) → c ≡ 0x35
 unfolding resting
-at-choice c d e n = go (eqb c 0x35) refl
-  where
-    go : (b : Bool) → eqb c 0x35 ≡ b → c ≡ 0x35
-    go true z = eqb-true c 0x35 z
-    go false z = let y : false ≡ true = sym (simp (z, ne-eqb _ _ n)) ∙ e in let o : _≡_ {A = ℕ} 0 1 = cc in absurd (omega arith)
+at-choice c d e n = go (eqb c 0x35) refl where
+  go : (b : Bool) → eqb c 0x35 ≡ b → c ≡ 0x35
+  go true z = eqb-true c 0x35 z
+  go false z = let y : false ≡ true = sym (simp (z, ne-eqb _ _ n)) ∙ e in let o : _≡_ {A = ℕ} 0 1 = cc in absurd (omega arith)

@@ -7,7 +7,7 @@ use borrow.Fn.Kinds.{In}
 use borrow.Fn.PlainCycle.{Measures, is, falls, and}
 use Rattle.text.specs.Code.{editCode}
 use Rattle.apply.proofs.Cases.{starts-inside, as-choose}
-use Rattle.apply.proofs.Making.{ready-length, opened, first-made, second-made, Making, making-first, making-more, making-end}
+use Rattle.apply.proofs.StepsMade.{ready-length, opened, first-made, second-made, Making, making-first, making-more, making-end}
 use Rattle.apply.proofs.choose_step.Reads as choose-step
 use Rattle.apply.proofs.choose_step.Kinds as choose-step-kinds
 use Rattle.apply.proofs.+choose_step+make_steps+one_step.Lts-choose_step as choose-step-lts
@@ -35,27 +35,22 @@ abbrev μ-one-step : Measures 2 one-step-kinds.ps ℕ
 μ-one-step κs a = 3 * (length (a .1 .1 .1 .0 .now) - a .1 .1 .1 .1 .0) + 1
 
 abbrev choose-step-at : ℕ → In 2 choose-step-kinds.ps
-choose-step-at t =
-    and 2 choose-step-kinds.ps (is 2 choose-step-kinds.ps μ-choose-step t) choose-step.Pre
+choose-step-at t = and 2 choose-step-kinds.ps (is 2 choose-step-kinds.ps μ-choose-step t) choose-step.Pre
 
 abbrev choose-step-below : ℕ → In 2 choose-step-kinds.ps
-choose-step-below t =
-    and 2 choose-step-kinds.ps (falls 2 choose-step-kinds.ps _<_ μ-choose-step t) choose-step.Pre
+choose-step-below t = and 2 choose-step-kinds.ps (falls 2 choose-step-kinds.ps _<_ μ-choose-step t) choose-step.Pre
 
 abbrev make-steps-at : ℕ → In 2 make-steps-kinds.ps
-make-steps-at t =
-    and 2 make-steps-kinds.ps (is 2 make-steps-kinds.ps μ-make-steps t) make-steps.Pre
+make-steps-at t = and 2 make-steps-kinds.ps (is 2 make-steps-kinds.ps μ-make-steps t) make-steps.Pre
 
 abbrev make-steps-below : ℕ → In 2 make-steps-kinds.ps
-make-steps-below t =
-    and 2 make-steps-kinds.ps (falls 2 make-steps-kinds.ps _<_ μ-make-steps t) make-steps.Pre
+make-steps-below t = and 2 make-steps-kinds.ps (falls 2 make-steps-kinds.ps _<_ μ-make-steps t) make-steps.Pre
 
 abbrev one-step-at : ℕ → In 2 one-step-kinds.ps
 one-step-at t = and 2 one-step-kinds.ps (is 2 one-step-kinds.ps μ-one-step t) one-step.Pre
 
 abbrev one-step-below : ℕ → In 2 one-step-kinds.ps
-one-step-below t =
-    and 2 one-step-kinds.ps (falls 2 one-step-kinds.ps _<_ μ-one-step t) one-step.Pre
+one-step-below t = and 2 one-step-kinds.ps (falls 2 one-step-kinds.ps _<_ μ-one-step t) one-step.Pre
 
 abbrev make-steps-Inv-loop : make-steps-lts.InvT-loop
 make-steps-Inv-loop sheet₀ n all edit at p₀ sheet p = Making n all edit at p sheet₀ sheet

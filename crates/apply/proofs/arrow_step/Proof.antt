@@ -5,7 +5,7 @@ use denote.Ref.{now}
 use Rattle.logic.specs.Syntax.{arrow}
 use Rattle.logic.specs.Limits.{ranges, arrowCount}
 use Rattle.apply.proofs.Cases.{IsStep, arrowMade, as-arrow}
-use Rattle.apply.proofs.Making.{each-made, opened, arrow-made}
+use Rattle.apply.proofs.StepsMade.{each-made, opened, arrow-made}
 use Rattle.apply.proofs.arrow_step.Statement.{statement}
 use Rattle.apply.proofs.arrow_step.Tie as tie
 
@@ -13,9 +13,10 @@ abbrev step : (s : tie.Start) → IsStep (ranges (s .args .n)) (now (s .args .ed
 step s = as-arrow _ _ _ (s .pre .1 .what) (s .pre .1 .stands) (s .pre .2) (s .pre .3)
 
 pub arrow-step-spec : {M : Type 1} → statement M
-arrow-step-spec = tie.close (tie.spec
-    (λ c. omega (arith, step (c .before .before .before) .room))
-    (λ c. omega (arith, step (c .before .before .before) .room))
+arrow-step-spec =
+    tie.close
+    (tie.spec
+    (λ c. omega (arith, step (c .before .before .before) .room)) (λ c. omega (arith, step (c .before .before .before) .room))
     (λ c. omega (arith, step (c .before .before .before .before) .room))
     (λ c. omega (arith, step (c .before .before .before .before .before) .room))
     (λ c. search needs)
@@ -27,4 +28,6 @@ arrow-step-spec = tie.close (tie.spec
     (λ c κs. let s = c .before .before .before .before .before .before .before .before .before .before .before .before .before .before .before .before .before .before in (opened _ _ _ (s .pre .0) .sound, omega (arith, step s .range, step s .reads)))
     (λ c. search needs)
     (λ c. let s = c .before .before .before .before .before .before .before .before .before .before .before .before .before .before .before .before .before .before .before .before .before in
-    each-made _ _ _ _ _ _ _ (s .pre .1) (λ Z h. arrow-made _ _ _ (s .pre .0) _ _ Z (as-arrow _ _ _ Z h (s .pre .2) (s .pre .3)) _ _ _ _ _ _ (c .before .before .before .before .before .before .before .before .before .before .arrow-rows .ensures .0) (c .before .before .before .before .before .before .before .before .before .before .before .before .before .before .eval-arrow .ensures .0) (c .before .before .before .before .before .before .before .before .arrow-code .ensures) (c .before .before .before .before .before .combine-rows .ensures .0) (c .before .before .put-rows .ensures))))
+    each-made _ _ _ _ _ _ _ (s .pre .1) (λ Z h. arrow-made _ _ _ (s .pre .0) _ _ Z (as-arrow _ _ _ Z h (s .pre .2) (s .pre .3)) _ _ _ _ _ _
+    (c .before .before .before .before .before .before .before .before .before .before .arrow-rows .ensures .0) (c .before .before .before .before .before .before .before .before .before .before .before .before .before .before .eval-arrow .ensures .0)
+    (c .before .before .before .before .before .before .before .before .arrow-code .ensures) (c .before .before .before .before .before .combine-rows .ensures .0) (c .before .before .put-rows .ensures))))

@@ -1,9 +1,6 @@
-use Rattle.bitset.proofs.SetLaws.{words-and}
+use Rattle.bitset.proofs.BitLaws.{words-and}
 use Rattle.bitset.proofs.both.Statement.{statement}
 use Rattle.bitset.proofs.both.Tie as tie
 
-returns : tie.Need-returns
-returns c = words-and (c .args .x) (c .args .y) (c .fits .x .fits) (c .fits .y .fits)
-
 pub both-spec : {M : Type 1} → statement M
-both-spec = tie.close (tie.spec returns)
+both-spec = tie.close (tie.spec (λ c. words-and (c .args .x) (c .args .y) (c .fits .x .fits) (c .fits .y .fits)))

@@ -4,7 +4,7 @@ use Prim.Native.Nat.{_≤_, _-_, _+_}
 use native.Mathlib.Omega.{arith}
 use borrow.Author.Needs.{needs}
 use lib.ListN.{length, length-set}
-use Rattle.bitset.proofs.BlockLaws.{Moving, moving-none, moving-more, moving-end}
+use Rattle.bitset.proofs.ExchangedBlocks.{Moving, moving-none, moving-more, moving-end}
 use Rattle.bitset.proofs.exchange_rows.Statement.{statement}
 use Rattle.bitset.proofs.exchange_rows.Tie as tie
 
@@ -18,12 +18,10 @@ pub exchange-rows-spec : {M : Type 1} → statement M
 exchange-rows-spec =
     tie.close
     (tie.spec
-    Inv-loop
-    μ-loop
-    (λ c. search needs)
+    Inv-loop μ-loop (λ c. search needs)
     (λ c. (search needs, search needs, search needs, c .before .pre .3, moving-none))
-    (λ c. search needs) (λ c. search needs) (λ c. search needs) (λ c. search needs) (λ c. search needs) (λ c κs. search needs) (λ c. search needs) (λ c. search needs)
-    (λ c κs. search needs) (λ c. search needs) (λ c. search needs)
+    (λ c. search needs) (λ c. search needs) (λ c. search needs) (λ c. search needs) (λ c. search needs) (λ c κs. search needs)
+    (λ c. search needs) (λ c. search needs) (λ c κs. search needs) (λ c. search needs) (λ c. search needs)
     (λ c. simp length-set (omega (arith, c .before .before .before .before .before .before .before .pre)))
     (λ c. search needs) (λ c. search needs)
     (λ c. let s = c .before .before .before .before .before .before .before in let l = c .before .before .before .before .before .loop in (

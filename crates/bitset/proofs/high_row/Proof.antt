@@ -1,5 +1,5 @@
 use borrow.Author.Needs.{needs}
-use Rattle.bitset.proofs.BlockLaws.{high-word}
+use Rattle.bitset.proofs.ExchangedBlocks.{high-word}
 use Rattle.bitset.proofs.high_row.Statement.{statement}
 use Rattle.bitset.proofs.high_row.Tie as tie
 

@@ -7,13 +7,10 @@ use Rattle.bitset.proofs.SetLaws.{shl-one, setOf-all, setOf-lowest}
 use Rattle.bitset.proofs.lowest.Statement.{statement}
 use Rattle.bitset.proofs.lowest.Tie as tie
 
-sub-result : tie.Need-sub-result
-sub-result c = omega (arith, shl-one (c .args .n) (c .pre), pow-pos (c .args .n))
-
 returns : tie.Need-returns
 returns c =
     ap (λ (x : ℕ). x - 1) (shl-one (c .args .n) (c .pre))
     ∙ sym (setOf-lowest (c .args .n) 64 (omega arith) ∙ setOf-all (c .args .n))
 
 pub lowest-spec : {M : Type 1} → statement M
-lowest-spec = tie.close (tie.spec (λ c. search needs) sub-result returns)
+lowest-spec = tie.close (tie.spec (λ c. search needs) (λ c. omega (arith, shl-one (c .args .n) (c .pre), pow-pos (c .args .n))) returns)

@@ -3,8 +3,5 @@ use Rattle.bitset.proofs.SetLaws.{test-member}
 use Rattle.bitset.proofs.member.Statement.{statement}
 use Rattle.bitset.proofs.member.Tie as tie
 
-returns : tie.Need-returns
-returns c = test-member (c .args .x) (c .args .i)
-
 pub member-spec : {M : Type 1} → statement M
-member-spec = tie.close (tie.spec (λ c. search needs) returns)
+member-spec = tie.close (tie.spec (λ c. search needs) (λ c. test-member (c .args .x) (c .args .i)))

@@ -13,32 +13,16 @@ Inv-loop s₀ i₀ s i = (i ≤ length s) × (length s ≡ length s₀) × (take
 abbrev μ-loop : tie.MeasureT-loop
 μ-loop s₀ i₀ s i = length s - i
 
-loop-holds : tie.Need-loop-holds Inv-loop μ-loop
-loop-holds c = (search needs, refl, refl)
-
-loop-less : tie.Need-loop-less Inv-loop μ-loop
-loop-less c = omega (arith, length-set (c .before .loop .s) (c .before .loop .i) 0, c .loop-test .taken)
-
 loop-again : tie.Need-loop-again Inv-loop μ-loop
 loop-again c =
     let l = c .before .loop in
     (omega (arith, length-set (l .s) (l .i) 0, c .loop-test .taken), length-set (l .s) (l .i) 0 ∙ l .inv .1, wiped (l .s) (l .i) (c .loop-test .taken) (l .inv .2))
 
-same-length : tie.Need-same-length Inv-loop μ-loop
-same-length c = c .before .loop .inv .1
-
-returns : tie.Need-returns Inv-loop μ-loop
-returns c = let l = c .before .loop in wiped-all (l .s) (l .i) _ (c .loop-test .left) (l .inv .0) (l .inv .1) (l .inv .2)
-
 pub wipe-spec : {M : Type 1} → statement M
 wipe-spec =
     tie.close
     (tie.spec
-    Inv-loop
-    μ-loop
-    loop-holds
-    (λ c. search needs) (λ c. search needs)
-    loop-less
-    loop-again
-    same-length
-    returns)
+    Inv-loop μ-loop (λ c. (search needs, refl, refl)) (λ c. search needs) (λ c. search needs)
+    (λ c. omega (arith, length-set (c .before .loop .s) (c .before .loop .i) 0, c .loop-test .taken))
+    loop-again (λ c. c .before .loop .inv .1)
+    (λ c. let l = c .before .loop in wiped-all (l .s) (l .i) _ (c .loop-test .left) (l .inv .0) (l .inv .1) (l .inv .2)))

@@ -6,9 +6,10 @@ use Rattle.check_steps.proofs.contrary.Statement.{statement}
 use Rattle.check_steps.proofs.contrary.Tie as tie
 
 pub contrary-spec : {M : Type 1} → statement M
-contrary-spec = tie.close (tie.spec
-    (λ c. omega (arith, c .before .pre .0, c .before .pre .1))
-    (λ c κs. search needs)
+contrary-spec =
+    tie.close
+    (tie.spec
+    (λ c. omega (arith, c .before .pre .0, c .before .pre .1)) (λ c κs. search needs)
     (λ c. contrary-none _ _ _ (c .before .again .ensures) (c .if1 .taken))
     (λ c. omega (arith, c .if1 .left))
     (λ c. let f = again-in _ _ _ _ (c .before .before .again .ensures) (c .before .if1 .left) in omega (arith, f .low, f .room))

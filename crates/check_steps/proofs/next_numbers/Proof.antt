@@ -9,6 +9,5 @@ pub next-numbers-spec : {M : Type 1} → statement M
 next-numbers-spec =
     tie.close
     (tie.spec
-    (λ c. search needs) (λ c κs. search needs) (λ c. search needs)
-    (λ c. numbers-less _ _ (c .if1 .taken))
+    (λ c. search needs) (λ c κs. search needs) (λ c. search needs) (λ c. numbers-less _ _ (c .if1 .taken))
     (λ c. ap (λ s. (s % 4 + 3) % 4) (c .shape-of .ensures) ∙ numbers-new _ _ (c .before .if1 .left)))

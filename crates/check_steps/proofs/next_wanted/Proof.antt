@@ -9,6 +9,5 @@ pub next-wanted-spec : {M : Type 1} → statement M
 next-wanted-spec =
     tie.close
     (tie.spec
-    (λ c. search needs) (λ c κs. search needs) (λ c. search needs)
-    (λ c. wanted-same _ _ _ (c .if1 .taken))
+    (λ c. search needs) (λ c κs. search needs) (λ c. search needs) (λ c. wanted-same _ _ _ (c .if1 .taken))
     (λ c. ap (λ s. c .before .before .args .wanted - 1 + s / 4 % 4) (c .shape-of .ensures) ∙ wanted-new _ _ _ (c .before .if1 .left)))

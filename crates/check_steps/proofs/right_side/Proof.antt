@@ -7,12 +7,12 @@ use Rattle.check_steps.proofs.right_side.Tie as tie
 
 pub right-side-spec : {M : Type 1} → statement M
 unfolding firstBytes secondBytes
-right-side-spec = tie.close (tie.spec
-    (λ c. omega (arith, c .before .pre .0))
-    (λ c. side-short _ _ _ (c .if1 .taken))
+right-side-spec =
+    tie.close
+    (tie.spec
+    (λ c. omega (arith, c .before .pre .0)) (λ c. side-short _ _ _ (c .if1 .taken))
     (λ c. side-unknown _ _ _ (c .before .if1 .left) (c .if2 .taken))
-    (λ c. omega (arith, c .before .before .if1 .left))
-    (λ c. omega (arith, c .before .if2 .left))
+    (λ c. omega (arith, c .before .before .if1 .left)) (λ c. omega (arith, c .before .if2 .left))
     (λ c. side-first _ _ _ (c .before .before .before .if1 .left) (c .before .before .if2 .left) (c .if3 .taken))
     (λ c. omega (arith, c .before .before .if2 .left))
     (λ c κs. (c .before .before .before .before .if1 .left, c .before .before .before .before .before .before .pre .1, c .before .before .before .if2 .left))

@@ -2,13 +2,10 @@ use mathlib.Core.Path.{sym, _∙_}
 use native.Mathlib.Omega.{arith}
 use borrow.Author.Needs.{needs}
 use Rattle.sheet.specs.Sheet.{present, graphOf}
-use Rattle.sheet.proofs.Loads.{sound-n}
-use Rattle.close_node.proofs.Taken.{kept-label, kept-arrow, kept-only}
+use Rattle.sheet.proofs.SoundWords.{sound-n}
+use Rattle.close_node.proofs.NodeTaken.{kept-label, kept-arrow, kept-only}
 use Rattle.close_node.proofs.can_close.Statement.{statement}
 use Rattle.close_node.proofs.can_close.Tie as tie
-
-returns : tie.Need-returns
-returns c = kept-label _ _ (sym (c .before .has-label .ensures) ∙ c .if1 .taken)
 
 returns-2 : tie.Need-returns-2
 returns-2 c = kept-arrow _ _ (sym (c .before .before .before .has-label .ensures) ∙ c .before .before .if1 .left) (sym (c .before .has-arrow .ensures) ∙ c .if2 .taken)
@@ -26,4 +23,9 @@ returns-3 c =
     (c .with-use .ensures (graphOf (s .args .sheet .now)) (omega (arith, few)) (s .pre .1) (c .before .all-nodes .ensures))
 
 pub can-close-spec : {M : Type 1} → statement M
-can-close-spec = tie.close (tie.spec (λ c κs. search needs) returns (λ c κs. search needs) returns-2 (λ c κs. search needs) with-use-requires returns-3)
+can-close-spec =
+    tie.close
+    (tie.spec
+    (λ c κs. search needs)
+    (λ c. kept-label _ _ (sym (c .before .has-label .ensures) ∙ c .if1 .taken))
+    (λ c κs. search needs) returns-2 (λ c κs. search needs) with-use-requires returns-3)

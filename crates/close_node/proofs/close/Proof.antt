@@ -1,79 +1,62 @@
-use mathlib.Core.Path.{sym, _∙_}
+use mathlib.Core.Path.{_≡_, sym, _∙_}
+use mathlib.Core.Bool.{true, false}
 use native.Mathlib.Omega.{arith}
 use borrow.Author.Needs.{needs}
-use Rattle.sheet.specs.Sheet.{present, graphOf}
-use Rattle.sheet.proofs.Opening.{opening}
-use Rattle.rows.proofs.Laws.{not-is}
+use Rattle.logic.specs.Closing.{canClose}
+use Rattle.rows.proofs.OperationLaws.{not-is}
+use Rattle.sheet.specs.Sheet.{graphOf}
 use Rattle.close_node.proofs.Uses.{within-closed}
-use Rattle.close_node.proofs.Answers.{ready, close-stops, close-already, close-kept, close-judged}
+use Rattle.close_node.proofs.CloseStages.{AskPassed, ask-passed, close-stops, close-already, close-kept, close-judged}
 use Rattle.close_node.proofs.close.Statement.{statement}
 use Rattle.close_node.proofs.close.Tie as tie
 
-returns : tie.Need-returns
-returns c = close-stops _ _ _ _ _ (c .before .before .ask .ensures) (c .enum-told2 .given .1)
+-- The places on the way: sheet, book and range have passed (`tie.After-enum-told`); the node is in use (`tie.Else1`); it may be closed (`tie.Else2`).
+abbrev start : tie.After-enum-told → tie.Start
+start c = c .before .before .before .before .before .before
 
-cast-it : tie.Need-cast-t8
-cast-it t =
-    let q = ready _ _ _ _ (t .before .before .ask .ensures) (t .enum-told .given .1) in
-    omega (arith, q .below, opening present _ (λ p. omega (arith, t .before .before .before .before .before .slice-known .given p)) (q .sound) .within .few-nodes)
+known : (c : tie.After-enum-told) → AskPassed (start c .args .sheet .now) (start c .args .book .now) (start c .args .node)
+known c = ask-passed _ _ _ (λ p. omega (arith, c .before .before .before .before .before .slice-known .given p)) (c .before .before .ask .ensures) (c .enum-told .given .1)
 
-in-use-requires : tie.Need-in-use-requires
-in-use-requires c κs =
-    let t = c .before in
-    let q = ready _ _ _ _ (t .before .before .ask .ensures) (t .enum-told .given .1) in
-    (q .sound, q .below)
+abbrev passed : tie.After-in-use → tie.After-enum-told
+passed c = c .before .before
 
-returns-2 : tie.Need-returns-2
-returns-2 c =
+abbrev in-use : tie.Else2 → tie.Else1
+in-use c = c .before .before .before
+
+used : (c : tie.Else1) → graphOf (start (passed (c .before)) .args .sheet .now) .inUse (start (passed (c .before)) .args .node) ≡ true
+used c = sym (c .before .in-use .ensures) ∙ not-is _ _ (c .if1 .left)
+
+may : (c : tie.Else2) → canClose (graphOf (start (passed (in-use c .before)) .args .sheet .now)) (start (passed (in-use c .before)) .args .node) ≡ true
+may c = sym (c .before .can-close .ensures) ∙ not-is _ _ (c .if2 .left)
+
+closed-already : tie.Need-returns-2
+closed-already c =
+    let t = passed (c .before) in
+    close-already _ _ _ (known t .ready) (known t .bytes) (sym (c .before .in-use .ensures) ∙ not-is _ _ (c .if1 .taken))
+
+kept : tie.Need-returns-3
+kept c =
     let t = c .before .before .before in
-    let q = ready _ _ _ _ (t .before .before .ask .ensures) (t .enum-told .given .1) in
-    close-already _ _ _ q (λ p. omega (arith, t .before .before .before .before .before .slice-known .given p)) (sym (c .before .in-use .ensures) ∙ not-is _ _ (c .if1 .taken))
-
-can-close-requires : tie.Need-can-close-requires
-can-close-requires c κs =
-    let t = c .before .before .before .before in
-    let q = ready _ _ _ _ (t .before .before .ask .ensures) (t .enum-told .given .1) in
-    (q .sound, q .below)
-
-returns-3 : tie.Need-returns-3
-returns-3 c =
-    let t = c .before .before .before .before .before .before in
-    let q = ready _ _ _ _ (t .before .before .ask .ensures) (t .enum-told .given .1) in
-    close-kept _ _ _ q (sym (c .before .before .before .before .in-use .ensures) ∙ not-is _ _ (c .before .before .before .if1 .left)) (sym (c .before .can-close .ensures) ∙ not-is _ _ (c .if2 .taken))
+    close-kept _ _ _ (known (passed (t .before)) .ready) (used t) (sym (c .before .can-close .ensures) ∙ not-is _ _ (c .if2 .taken))
 
 judge-with-requires : tie.Need-judge-with-requires
 judge-with-requires c κs =
-    let t = c .before .before .before .before .before .before .before in
-    let q = ready _ _ _ _ (t .before .before .ask .ensures) (t .enum-told .given .1) in
-    let s = t .before .before .before .before .before .before in (
-      q .sound,
-      q .below,
-      sym (c .before .before .before .before .before .in-use .ensures) ∙ not-is _ _ (c .before .before .before .before .if1 .left),
-      within-closed (graphOf (s .args .sheet .now)) _ (opening present _ (λ p. omega (arith, t .before .before .before .before .before .slice-known .given p)) (q .sound) .within) (sym (c .before .before .can-close .ensures) ∙ not-is _ _ (c .before .if2 .left)),
-      record { what = q .rules; stand = q .stand },
-    )
+    let u = c .before in let t = passed (in-use u .before) in let k = known t in let q = k .ready in
+    (q .sound, q .below, used (in-use u), within-closed (graphOf (start t .args .sheet .now)) _ (k .within) (may u), record { what = q .rules; stand = q .stand })
 
-returns-4 : tie.Need-returns-4
-returns-4 c =
-    let e = c .before .before .before .before in
-    let t = e .before .before .before .before .before .before in
-    let q = ready _ _ _ _ (t .before .before .ask .ensures) (t .enum-told .given .1) in
-    close-judged _ _ _ q (sym (e .before .before .before .before .in-use .ensures) ∙ not-is _ _ (e .before .before .before .if1 .left)) (sym (e .before .can-close .ensures) ∙ not-is _ _ (e .if2 .left)) _ _
-    (c .before .before .judge-with .ensures (q .rules) (q .stand))
+judged : tie.Need-returns-4
+judged c =
+    let r = c .before .before in let u = r .before .before in
+    let q = known (passed (in-use u .before)) .ready in close-judged _ _ _ q (used (in-use u)) (may u) (r .judge-with .ensures (q .rules) (q .stand))
 
 pub close-spec : {M : Type 1} → statement M
 close-spec =
     tie.close
     (tie.spec
     (λ c κs. search needs) (λ c. search needs) (λ c. search needs) (λ c. search needs)
-    returns
-    cast-it
-    in-use-requires
-    (λ c. search needs)
-    returns-2
-    can-close-requires
-    (λ c. search needs)
-    returns-3
-    judge-with-requires
-    (λ c. search needs)
-    returns-4)
+    (λ c. close-stops _ _ _ (c .before .before .ask .ensures) (c .enum-told2 .given .1))
+    (λ c. omega (arith, known c .ready .below, known c .within .few-nodes))
+    (λ c κs. let q = known (c .before) .ready in (q .sound, q .below))
+    (λ c. search needs) closed-already
+    (λ c κs. let q = known (passed (c .before .before)) .ready in (q .sound, q .below))
+    (λ c. search needs) kept judge-with-requires (λ c. search needs) judged)

@@ -2,8 +2,8 @@ use mathlib.Core.Path.{_∙_}
 use native.Mathlib.Omega.{arith}
 use borrow.Author.Needs.{needs}
 use Rattle.sheet.specs.Sheet.{present, graphOf}
-use Rattle.sheet.proofs.Loads.{sound-n}
-use Rattle.close_node.proofs.Taken.{bit-in-use}
+use Rattle.sheet.proofs.SoundWords.{sound-n}
+use Rattle.close_node.proofs.NodeTaken.{bit-in-use}
 use Rattle.close_node.proofs.in_use.Statement.{statement}
 use Rattle.close_node.proofs.in_use.Tie as tie
 

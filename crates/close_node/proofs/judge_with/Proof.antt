@@ -6,8 +6,7 @@ use Rattle.close_node.proofs.judge_with.Tie as tie
 
 judge-rules-requires : tie.Need-judge-rules-requires
 judge-rules-requires c κs =
-    let s = c .before .before .before .before .before .before .before in
-    let t = c .before .before .before .put-use .ensures in
+    let s = c .before .before .before .before .before .before .before in let t = c .before .before .before .put-use .ensures in
     (changed-sound _ (s .args .book .now) _ _ (s .pre .3) _ t, record { what = s .pre .4 .what; stand = changed-stand _ _ _ _ (s .pre .3) _ t (s .pre .4 .what) (s .pre .4 .stand) })
 
 put-use-requires-2 : tie.Need-put-use-requires-2
@@ -31,4 +30,7 @@ returns-2 c rules stand =
 
 pub judge-with-spec : {M : Type 1} → statement M
 judge-with-spec =
-    tie.close (tie.spec (λ c κs. search needs) judge-rules-requires (λ c. search needs) (λ c. search needs) put-use-requires-2 (λ c. search needs) returns (λ c. search needs) returns-2)
+    tie.close
+    (tie.spec
+    (λ c κs. search needs) judge-rules-requires (λ c. search needs) (λ c. search needs) put-use-requires-2 (λ c. search needs) returns
+    (λ c. search needs) returns-2)

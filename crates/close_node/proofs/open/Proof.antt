@@ -1,61 +1,45 @@
-use mathlib.Core.Path.{sym, _∙_}
+use mathlib.Core.Path.{_≡_, sym, _∙_}
+use mathlib.Core.Bool.{true, false}
 use native.Mathlib.Omega.{arith}
 use borrow.Author.Needs.{needs}
-use Rattle.sheet.specs.Sheet.{present, graphOf}
-use Rattle.sheet.proofs.Opening.{opening}
+use Rattle.sheet.specs.Sheet.{graphOf}
 use Rattle.close_node.proofs.Uses.{within-opened}
-use Rattle.close_node.proofs.Answers.{ready, open-stops, open-already, open-judged}
+use Rattle.close_node.proofs.CloseStages.{AskPassed, ask-passed, open-stops, open-already, open-judged}
 use Rattle.close_node.proofs.open.Statement.{statement}
 use Rattle.close_node.proofs.open.Tie as tie
 
-returns : tie.Need-returns
-returns c = open-stops _ _ _ _ _ (c .before .before .ask .ensures) (c .enum-told2 .given .1)
+-- The places on the way: sheet, book and range have passed (`tie.After-enum-told`); the node is not in use (`tie.Else1`).
+abbrev start : tie.After-enum-told → tie.Start
+start c = c .before .before .before .before .before .before
 
-cast-it : tie.Need-cast-t8
-cast-it t =
-    let q = ready _ _ _ _ (t .before .before .ask .ensures) (t .enum-told .given .1) in
-    omega (arith, q .below, opening present _ (λ p. omega (arith, t .before .before .before .before .before .slice-known .given p)) (q .sound) .within .few-nodes)
+known : (c : tie.After-enum-told) → AskPassed (start c .args .sheet .now) (start c .args .book .now) (start c .args .node)
+known c = ask-passed _ _ _ (λ p. omega (arith, c .before .before .before .before .before .slice-known .given p)) (c .before .before .ask .ensures) (c .enum-told .given .1)
 
-in-use-requires : tie.Need-in-use-requires
-in-use-requires c κs =
-    let t = c .before in
-    let q = ready _ _ _ _ (t .before .before .ask .ensures) (t .enum-told .given .1) in
-    (q .sound, q .below)
+abbrev passed : tie.After-in-use → tie.After-enum-told
+passed c = c .before .before
 
-returns-2 : tie.Need-returns-2
-returns-2 c =
-    let t = c .before .before .before in
-    let q = ready _ _ _ _ (t .before .before .ask .ensures) (t .enum-told .given .1) in
-    open-already _ _ _ q (λ p. omega (arith, t .before .before .before .before .before .slice-known .given p)) (sym (c .before .in-use .ensures) ∙ c .if1 .taken)
+unused : (c : tie.Else1) → graphOf (start (passed (c .before)) .args .sheet .now) .inUse (start (passed (c .before)) .args .node) ≡ false
+unused c = sym (c .before .in-use .ensures) ∙ c .if1 .left
+
+opened-already : tie.Need-returns-2
+opened-already c = let t = passed (c .before) in open-already _ _ _ (known t .ready) (known t .bytes) (sym (c .before .in-use .ensures) ∙ c .if1 .taken)
 
 judge-with-requires : tie.Need-judge-with-requires
 judge-with-requires c κs =
-    let t = c .before .before .before .before in
-    let q = ready _ _ _ _ (t .before .before .ask .ensures) (t .enum-told .given .1) in
-    let s = t .before .before .before .before .before .before in (
-      q .sound,
-      q .below,
-      sym (c .before .before .in-use .ensures) ∙ c .before .if1 .left,
-      within-opened (graphOf (s .args .sheet .now)) _ (opening present _ (λ p. omega (arith, t .before .before .before .before .before .slice-known .given p)) (q .sound) .within) (q .below),
-      record { what = q .rules; stand = q .stand },
-    )
+    let t = passed (c .before .before) in let k = known t in let q = k .ready in
+    (q .sound, q .below, unused (c .before), within-opened (graphOf (start t .args .sheet .now)) _ (k .within) (q .below), record { what = q .rules; stand = q .stand })
 
-returns-3 : tie.Need-returns-3
-returns-3 c =
-    let t = c .before .before .before .before .before .before .before in
-    let q = ready _ _ _ _ (t .before .before .ask .ensures) (t .enum-told .given .1) in
-    open-judged _ _ _ q (sym (c .before .before .before .before .before .in-use .ensures) ∙ c .before .before .before .before .if1 .left) _ _ (c .before .before .judge-with .ensures (q .rules) (q .stand))
+judged : tie.Need-returns-3
+judged c =
+    let r = c .before .before in let u = r .before .before in
+    let q = known (passed (u .before)) .ready in open-judged _ _ _ q (unused u) (r .judge-with .ensures (q .rules) (q .stand))
 
 pub open-spec : {M : Type 1} → statement M
 open-spec =
     tie.close
     (tie.spec
     (λ c κs. search needs) (λ c. search needs) (λ c. search needs) (λ c. search needs)
-    returns
-    cast-it
-    in-use-requires
-    (λ c. search needs)
-    returns-2
-    judge-with-requires
-    (λ c. search needs)
-    returns-3)
+    (λ c. open-stops _ _ _ (c .before .before .ask .ensures) (c .enum-told2 .given .1))
+    (λ c. omega (arith, known c .ready .below, known c .within .few-nodes))
+    (λ c κs. let q = known (c .before) .ready in (q .sound, q .below))
+    (λ c. search needs) opened-already judge-with-requires (λ c. search needs) judged)

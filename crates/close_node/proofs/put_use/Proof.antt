@@ -6,9 +6,9 @@ use lib.ListN.{drop}
 use Rattle.logic.specs.Steps.{update}
 use Rattle.seal.specs.Seal.{blockBytes}
 use Rattle.sheet.specs.Sheet.{present, graphOf}
-use Rattle.sheet.proofs.Opening.{opening}
-use Rattle.sheet.proofs.Loads.{sound-length, sound-seal, sound-n}
-use Rattle.sheet.proofs.Writes.{reused}
+use Rattle.sheet.proofs.SoundSheets.{sound-is-stored}
+use Rattle.sheet.proofs.SoundWords.{sound-length, sound-seal, sound-n}
+use Rattle.sheet.proofs.WriteLaws.{reused}
 use Rattle.close_node.proofs.put_use.Statement.{statement}
 use Rattle.close_node.proofs.put_use.Tie as tie
 
@@ -25,12 +25,15 @@ put-word-requires c κs = let st = c .before .before .before .before .before in 
 
 returns : tie.Need-returns
 returns c =
-    let st = c .before .before .before .before .before .before .before .before in
-    let t = st .args .sheet .now in
-    let o = opening present t (λ p. omega (arith, c .before .before .before .before .before .before .before .slice-known .given p)) (st .pre .0) in
+    let st = c .before .before .before .before .before .before .before .before in let t = st .args .sheet .now in
+    let o = sound-is-stored present t (λ p. omega (arith, c .before .before .before .before .before .before .before .slice-known .given p)) (st .pre .0) in
     ap (_++ drop blockBytes t) (c .before .before .put-word .ensures)
     ∙ reused present (graphOf t) (update (graphOf t .inUse) (st .args .node .0) (st .args .used)) _ t refl (o .stored)
     (c .before .before .before .before .with-use .ensures (graphOf t) (omega (arith, o .within .few-nodes)) (st .pre .1) (c .before .before .before .before .before .all-nodes .ensures))
 
 pub put-use-spec : {M : Type 1} → statement M
-put-use-spec = tie.close (tie.spec (λ c κs. search needs) with-use-requires (λ c. search needs) (λ c. search needs) part-put-word-end (λ c. search needs) (λ c. search needs) put-word-requires (λ c. search needs) returns)
+put-use-spec =
+    tie.close
+    (tie.spec
+    (λ c κs. search needs) with-use-requires (λ c. search needs) (λ c. search needs) part-put-word-end (λ c. search needs)
+    (λ c. search needs) put-word-requires (λ c. search needs) returns)

@@ -4,7 +4,7 @@ use native.Mathlib.Omega.{arith}
 use Rattle.logic.specs.Graph.{Pairs, anyBelow}
 use Rattle.bitset.specs.Words.{setOf}
 use Rattle.sheet.specs.Sheet.{graphOf}
-use Rattle.close_node.proofs.Taken.{word-some, word-none, bit-of, any-first, any-second}
+use Rattle.close_node.proofs.NodeTaken.{word-some, word-none, bit-of, any-first, any-second}
 use Rattle.close_node.proofs.touched.Statement.{statement}
 use Rattle.close_node.proofs.touched.Tie as tie
 
@@ -29,8 +29,6 @@ touched-spec =
     tie.close
     (tie.spec
     (λ c κs. let s = c .before in (s .pre .0 .sound, s .pre .0 .kind, omega (arith, s .pre .0 .count, s .pre .1)))
-    returns
-    (λ c κs. c .before .before .before .pre .0)
-    (λ c. omega (arith, c .struct-known .given))
+    returns (λ c κs. c .before .before .before .pre .0) (λ c. omega (arith, c .struct-known .given))
     (λ c κs. let s = c .before .before .before .before .before in omega (arith, s .pre .0 .few, s .pre .1))
     returns-2)

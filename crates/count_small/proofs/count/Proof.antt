@@ -4,8 +4,8 @@ use borrow.Author.Needs.{needs}
 use lib.ListN.{replicate, length-replicate}
 use Rattle.answer.specs.Answers.{asked}
 use Rattle.sheet.specs.Sheet.{sheetBytes}
-use Rattle.count_small.proofs.Asking.{found, refused-none, counts-are}
-use Rattle.count_small.proofs.Sheets.{blank-loaded}
+use Rattle.count_small.proofs.CountStages.{found, refused-none, counts-are}
+use Rattle.count_small.proofs.SmallBuffer.{blank-loaded}
 use Rattle.count_small.proofs.count.Statement.{statement}
 use Rattle.count_small.proofs.count.Tie as tie
 
@@ -27,8 +27,5 @@ pub count-spec : {M : Type 1} → statement M
 count-spec =
     tie.close
     (tie.spec
-    (λ c κs. search needs) (λ c. search needs) (λ c. search needs) (λ c κs. search needs)
-    returns
-    (λ c. search needs) (λ c κs. search needs) (λ c. search needs)
-    count-all-requires
-    returns-2)
+    (λ c κs. search needs) (λ c. search needs) (λ c. search needs) (λ c κs. search needs) returns (λ c. search needs) (λ c κs. search needs)
+    (λ c. search needs) count-all-requires returns-2)

@@ -5,7 +5,7 @@ use Prim.Native.Nat.{ℕ, _<_, _-_, _+_, _*_}
 use native.Mathlib.Omega.{arith}
 use Rattle.text.specs.Code.{editCode}
 use Rattle.tree.specs.Tree.{tree}
-use Rattle.ends.proofs.Steps.{editTree, as-step, as-choose, edit-inside}
+use Rattle.ends.proofs.FirstSteps.{editTree, as-step, as-choose, edit-inside}
 use Rattle.ends.proofs.Ends.{Rest, rest-first, rest-more, rest-end, behind-step, behind-choose}
 use borrow.Fn.Kinds.{In}
 use borrow.Fn.PlainCycle.{Measures, is, falls, and}

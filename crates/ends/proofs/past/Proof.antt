@@ -14,8 +14,10 @@ abbrev μ-loop : tie.MeasureT-loop
 μ-loop text at p₀ wanted₀ p wanted = length text - p
 
 pub past-spec : {M : Type 1} → statement M
-past-spec = tie.close (tie.spec Inv-loop μ-loop
-    (λ c. passing-first _ _)
+past-spec =
+    tie.close
+    (tie.spec
+    Inv-loop μ-loop (λ c. passing-first _ _)
     (λ c. passing-at (c .before .before .loop .inv) (c .before .loop-test .taken) (c .before .before .before .before .pre) .inside-text)
     (λ c κs. passing-at (c .before .before .loop .inv) (c .before .loop-test .taken) (c .before .before .before .before .pre) .low)
     (λ c. omega (arith, passing-turn (c .before .before .before .loop .inv) (c .before .before .loop-test .taken) _ (c .shape .ensures) (c .before .before .before .before .before .pre) .in-text))
@@ -23,5 +25,4 @@ past-spec = tie.close (tie.spec Inv-loop μ-loop
     (λ c. omega (arith, passing-turn (c .before .before .before .loop .inv) (c .before .before .loop-test .taken) _ (c .shape .ensures) (c .before .before .before .before .before .pre) .in-count))
     (λ c. let g = passing-turn (c .before .before .before .loop .inv) (c .before .before .loop-test .taken) _ (c .shape .ensures) (c .before .before .before .before .before .pre) in omega (arith, g .on, g .in-text))
     (λ c. passing-more (c .before .before .before .loop .inv) (c .before .before .loop-test .taken) _ (c .shape .ensures))
-    (λ c. passing-end (c .before .loop .inv) (c .loop-test .left))
-    )
+    (λ c. passing-end (c .before .loop .inv) (c .loop-test .left)))

@@ -28,34 +28,29 @@ no-shape c d = no-entry c (λ i. i) shapes c refl d
 
 none : tie.Need-returns-26
 unfolding Elsewhere shapes
-none c = let n = c .match .rest in sym (no-shape _ (n .0 .0 .0 .0 .0 .0 .0 .0 .0 .0 .0 .0 .0 .0 .0 .0 .0 .0 .0 .0 .0 .0 .0 .0 .1 & n .0 .0 .0 .0 .0 .0 .0 .0 .0 .0 .0 .0 .0 .0 .0 .0 .0 .0 .0 .0 .0 .0 .0 .1 & n .0 .0 .0 .0 .0 .0 .0 .0 .0 .0 .0 .0 .0 .0 .0 .0 .0 .0 .0 .0 .0 .0 .1 & n .0 .0 .0 .0 .0 .0 .0 .0 .0 .0 .0 .0 .0 .0 .0 .0 .0 .0 .0 .0 .0 .1 & n .0 .0 .0 .0 .0 .0 .0 .0 .0 .0 .0 .0 .0 .0 .0 .0 .0 .0 .0 .0 .1 & n .0 .0 .0 .0 .0 .0 .0 .0 .0 .0 .0 .0 .0 .0 .0 .0 .0 .0 .0 .1 & n .0 .0 .0 .0 .0 .0 .0 .0 .0 .0 .0 .0 .0 .0 .0 .0 .0 .0 .1 & n .0 .0 .0 .0 .0 .0 .0 .0 .0 .0 .0 .0 .0 .0 .0 .0 .0 .1 & n .0 .0 .0 .0 .0 .0 .0 .0 .0 .0 .0 .0 .0 .0 .0 .0 .1 & n .0 .0 .0 .0 .0 .0 .0 .0 .0 .0 .0 .0 .0 .0 .0 .1 & n .0 .0 .0 .0 .0 .0 .0 .0 .0 .0 .0 .0 .0 .0 .1 & n .0 .0 .0 .0 .0 .0 .0 .0 .0 .0 .0 .0 .0 .1 & n .0 .0 .0 .0 .0 .0 .0 .0 .0 .0 .0 .0 .1 & n .0 .0 .0 .0 .0 .0 .0 .0 .0 .0 .0 .1 & n .0 .0 .0 .0 .0 .0 .0 .0 .0 .0 .1 & n .0 .0 .0 .0 .0 .0 .0 .0 .0 .1 & n .0 .0 .0 .0 .0 .0 .0 .0 .1 & n .0 .0 .0 .0 .0 .0 .0 .1 & n .0 .0 .0 .0 .0 .0 .1 & n .0 .0 .0 .0 .0 .1 & n .0 .0 .0 .0 .1 & n .0 .0 .0 .1 & n .0 .0 .1 & n .0 .1 & n .1 & tt))
+none c =
+    let n = c .match .rest in
+    sym (no-shape _ (n .0 .0 .0 .0 .0 .0 .0 .0 .0 .0 .0 .0 .0 .0 .0 .0 .0 .0 .0 .0 .0 .0 .0 .0 .1
+    & n .0 .0 .0 .0 .0 .0 .0 .0 .0 .0 .0 .0 .0 .0 .0 .0 .0 .0 .0 .0 .0 .0 .0 .1 & n .0 .0 .0 .0 .0 .0 .0 .0 .0 .0 .0 .0 .0 .0 .0 .0 .0 .0 .0 .0 .0 .0 .1
+    & n .0 .0 .0 .0 .0 .0 .0 .0 .0 .0 .0 .0 .0 .0 .0 .0 .0 .0 .0 .0 .0 .1 & n .0 .0 .0 .0 .0 .0 .0 .0 .0 .0 .0 .0 .0 .0 .0 .0 .0 .0 .0 .0 .1
+    & n .0 .0 .0 .0 .0 .0 .0 .0 .0 .0 .0 .0 .0 .0 .0 .0 .0 .0 .0 .1 & n .0 .0 .0 .0 .0 .0 .0 .0 .0 .0 .0 .0 .0 .0 .0 .0 .0 .0 .1
+    & n .0 .0 .0 .0 .0 .0 .0 .0 .0 .0 .0 .0 .0 .0 .0 .0 .0 .1 & n .0 .0 .0 .0 .0 .0 .0 .0 .0 .0 .0 .0 .0 .0 .0 .0 .1
+    & n .0 .0 .0 .0 .0 .0 .0 .0 .0 .0 .0 .0 .0 .0 .0 .1 & n .0 .0 .0 .0 .0 .0 .0 .0 .0 .0 .0 .0 .0 .0 .1 & n .0 .0 .0 .0 .0 .0 .0 .0 .0 .0 .0 .0 .0 .1
+    & n .0 .0 .0 .0 .0 .0 .0 .0 .0 .0 .0 .0 .1 & n .0 .0 .0 .0 .0 .0 .0 .0 .0 .0 .0 .1 & n .0 .0 .0 .0 .0 .0 .0 .0 .0 .0 .1 & n .0 .0 .0 .0 .0 .0 .0 .0 .0 .1
+    & n .0 .0 .0 .0 .0 .0 .0 .0 .1 & n .0 .0 .0 .0 .0 .0 .0 .1 & n .0 .0 .0 .0 .0 .0 .1 & n .0 .0 .0 .0 .0 .1 & n .0 .0 .0 .0 .1 & n .0 .0 .0 .1 & n .0 .0 .1
+    & n .0 .1 & n .1 & tt))
 
 pub shape-spec : {M : Type 1} → statement M
 unfolding shapes
-shape-spec = tie.close (tie.spec
-    (λ c. sym (ap shapeOf (c .match .keys1)))
-    (λ c. sym (ap shapeOf (c .match .keys2)))
-    (λ c. sym (ap shapeOf (c .match .keys3)))
-    (λ c. sym (ap shapeOf (c .match .keys4)))
-    (λ c. sym (ap shapeOf (c .match .keys5)))
-    (λ c. sym (ap shapeOf (c .match .keys6)))
-    (λ c. sym (ap shapeOf (c .match .keys7)))
-    (λ c. sym (ap shapeOf (c .match .keys8)))
-    (λ c. sym (ap shapeOf (c .match .keys9)))
-    (λ c. sym (ap shapeOf (c .match .keys10)))
-    (λ c. sym (ap shapeOf (c .match .keys11)))
-    (λ c. sym (ap shapeOf (c .match .keys12)))
-    (λ c. sym (ap shapeOf (c .match .keys13)))
-    (λ c. sym (ap shapeOf (c .match .keys14)))
-    (λ c. sym (ap shapeOf (c .match .keys15)))
-    (λ c. sym (ap shapeOf (c .match .keys16)))
-    (λ c. sym (ap shapeOf (c .match .keys17)))
-    (λ c. sym (ap shapeOf (c .match .keys18)))
-    (λ c. sym (ap shapeOf (c .match .keys19)))
-    (λ c. sym (ap shapeOf (c .match .keys20)))
-    (λ c. sym (ap shapeOf (c .match .keys21)))
-    (λ c. sym (ap shapeOf (c .match .keys22)))
-    (λ c. sym (ap shapeOf (c .match .keys23)))
-    (λ c. sym (ap shapeOf (c .match .keys24)))
-    (λ c. sym (ap shapeOf (c .match .keys25)))
-    none)
+shape-spec =
+    tie.close
+    (tie.spec
+    (λ c. sym (ap shapeOf (c .match .keys1))) (λ c. sym (ap shapeOf (c .match .keys2))) (λ c. sym (ap shapeOf (c .match .keys3)))
+    (λ c. sym (ap shapeOf (c .match .keys4))) (λ c. sym (ap shapeOf (c .match .keys5))) (λ c. sym (ap shapeOf (c .match .keys6)))
+    (λ c. sym (ap shapeOf (c .match .keys7))) (λ c. sym (ap shapeOf (c .match .keys8))) (λ c. sym (ap shapeOf (c .match .keys9)))
+    (λ c. sym (ap shapeOf (c .match .keys10))) (λ c. sym (ap shapeOf (c .match .keys11))) (λ c. sym (ap shapeOf (c .match .keys12)))
+    (λ c. sym (ap shapeOf (c .match .keys13))) (λ c. sym (ap shapeOf (c .match .keys14))) (λ c. sym (ap shapeOf (c .match .keys15)))
+    (λ c. sym (ap shapeOf (c .match .keys16))) (λ c. sym (ap shapeOf (c .match .keys17))) (λ c. sym (ap shapeOf (c .match .keys18)))
+    (λ c. sym (ap shapeOf (c .match .keys19))) (λ c. sym (ap shapeOf (c .match .keys20))) (λ c. sym (ap shapeOf (c .match .keys21)))
+    (λ c. sym (ap shapeOf (c .match .keys22))) (λ c. sym (ap shapeOf (c .match .keys23))) (λ c. sym (ap shapeOf (c .match .keys24)))
+    (λ c. sym (ap shapeOf (c .match .keys25))) none)

@@ -2,7 +2,7 @@ use Prim.Native.Nat.{ℕ, _<_, _-_}
 use lib.ListN.{length}
 use native.Mathlib.Omega.{arith}
 use borrow.Author.Needs.{needs}
-use Rattle.eval.proofs.Places.{starts-inside}
+use Rattle.eval.proofs.CodePlaces.{starts-inside}
 use Rattle.eval.proofs.RuleCases.{as-two, as-not, first-truth, second-truth, not-truth}
 use borrow.Fn.Kinds.{In}
 use borrow.Fn.PlainCycle.{Measures, is, falls, and}
@@ -23,8 +23,7 @@ abbrev eval-rule-at : ℕ → In 2 eval-rule-kinds.ps
 eval-rule-at t = and 2 eval-rule-kinds.ps (is 2 eval-rule-kinds.ps μ-eval-rule t) eval-rule.Pre
 
 abbrev eval-rule-below : ℕ → In 2 eval-rule-kinds.ps
-eval-rule-below t =
-    and 2 eval-rule-kinds.ps (falls 2 eval-rule-kinds.ps _<_ μ-eval-rule t) eval-rule.Pre
+eval-rule-below t = and 2 eval-rule-kinds.ps (falls 2 eval-rule-kinds.ps _<_ μ-eval-rule t) eval-rule.Pre
 
 pub +eval-rule-spec : {M : Type 1} → statement M
 +eval-rule-spec = close μ-eval-rule
@@ -34,11 +33,17 @@ pub +eval-rule-spec : {M : Type 1} → statement M
     (λ c. omega (arith, starts-inside _ _ _ (c .before .before .before .before .before .pre .1 .1 .what) (c .before .before .before .before .before .pre .1 .1 .stands)))
     (λ c κs. let s = c .before .before .before .before .before in let q = as-two _ _ _ (s .pre .1 .1 .what) (s .pre .1 .1 .stands) (c .before .if1 .left) (c .if2 .taken) in (omega (arith, s .pre .0, q .inside), (s .pre .1 .0, record { what = q .A; stands = q .first })))
     (λ c κs. search needs)
-    (λ c κs. let s = c .before .before .before .before .before .before .before .before in let q = as-two _ _ _ (s .pre .1 .1 .what) (s .pre .1 .1 .stands) (c .before .before .before .before .if1 .left) (c .before .before .before .if2 .taken) in let a = c .before .before .eval-rule .ensures (q .A) (q .first) in some-tree (record { what = q .B; stands = q .second _ (a .ends) }))
-    (λ c κs. let s = c .before .before .before .before .before .before .before .before in let q = as-two _ _ _ (s .pre .1 .1 .what) (s .pre .1 .1 .stands) (c .before .before .before .before .if1 .left) (c .before .before .before .if2 .taken) in let a = c .before .before .eval-rule .ensures (q .A) (q .first) in (omega (arith, s .pre .0, q .inside, a .ends), (s .pre .1 .0, record { what = q .B; stands = q .second _ (a .ends) })))
+    (λ c κs. let s = c .before .before .before .before .before .before .before .before in
+    let q = as-two _ _ _ (s .pre .1 .1 .what) (s .pre .1 .1 .stands) (c .before .before .before .before .if1 .left) (c .before .before .before .if2 .taken) in
+    let a = c .before .before .eval-rule .ensures (q .A) (q .first) in some-tree (record { what = q .B; stands = q .second _ (a .ends) }))
+    (λ c κs. let s = c .before .before .before .before .before .before .before .before in
+    let q = as-two _ _ _ (s .pre .1 .1 .what) (s .pre .1 .1 .stands) (c .before .before .before .before .if1 .left) (c .before .before .before .if2 .taken) in
+    let a = c .before .before .eval-rule .ensures (q .A) (q .first) in (omega (arith, s .pre .0, q .inside, a .ends), (s .pre .1 .0, record { what = q .B; stands = q .second _ (a .ends) })))
     (λ c. omega (arith, starts-inside _ _ _ (c .before .before .before .before .before .pre .1 .1 .what) (c .before .before .before .before .before .pre .1 .1 .stands)))
     (λ c κs. let s = c .before .before .before .before .before in let q = as-not _ _ _ (s .pre .1 .1 .what) (s .pre .1 .1 .stands) (c .if2 .left) in (omega (arith, s .pre .0, q .inside), (s .pre .1 .0, record { what = q .A; stands = q .first })))
     (λ c. c .leaf-rule .ensures)
-    (λ c k h. first-truth _ _ _ _ k (as-two _ _ _ k h (c .before .before .before .before .before .if1 .left) (c .before .before .before .before .if2 .taken)) _ _ _ _ (c .before .before .before .eval-rule .ensures) (λ f i. behind-stands _ (c .past .ensures) f i) (c .before .before .decided .ensures) (c .before .if3 .taken))
-    (λ c k h. second-truth _ _ _ _ k (as-two _ _ _ k h (c .before .before .before .before .before .if1 .left) (c .before .before .before .before .if2 .taken)) _ _ _ _ _ (c .before .before .before .eval-rule .ensures) (c .eval-rule2 .ensures) (c .before .before .decided .ensures) (c .before .if3 .left))
+    (λ c k h. first-truth _ _ _ _ k (as-two _ _ _ k h (c .before .before .before .before .before .if1 .left) (c .before .before .before .before .if2 .taken)) _ _ _ _
+    (c .before .before .before .eval-rule .ensures) (λ f i. behind-stands _ (c .past .ensures) f i) (c .before .before .decided .ensures) (c .before .if3 .taken))
+    (λ c k h. second-truth _ _ _ _ k (as-two _ _ _ k h (c .before .before .before .before .before .if1 .left) (c .before .before .before .before .if2 .taken)) _ _ _ _ _
+    (c .before .before .before .eval-rule .ensures) (c .eval-rule2 .ensures) (c .before .before .decided .ensures) (c .before .if3 .left))
     (λ c k h. not-truth _ _ _ _ k (as-not _ _ _ k h (c .before .before .if2 .left)) _ _ (c .before .eval-rule3 .ensures)))

@@ -5,8 +5,8 @@ use Rattle.logic.specs.Syntax.{Expr, arrow}
 use Rattle.logic.specs.Limits.{ranges}
 use Rattle.text.specs.Stands.{Stands}
 use Rattle.eval.specs.Evaluated.{IsTurned}
-use Rattle.eval.proofs.Places.{starts-inside}
-use Rattle.eval.proofs.Turns.{turned-none, turned-more}
+use Rattle.eval.proofs.CodePlaces.{starts-inside}
+use Rattle.eval.proofs.ReversedTurns.{turned-none, turned-more}
 use Rattle.eval.proofs.behind_turns.Statement.{statement}
 use Rattle.eval.proofs.behind_turns.Tie as tie
 
@@ -17,8 +17,10 @@ abbrev μ-loop : tie.MeasureT-loop
 μ-loop n text at next₀ turned₀ next turned = length text - next
 
 pub behind-turns-spec : {M : Type 1} → statement M
-behind-turns-spec = tie.close (tie.spec Inv-loop μ-loop
-    (λ c. turned-none _ _ _)
+behind-turns-spec =
+    tie.close
+    (tie.spec
+    Inv-loop μ-loop (λ c. turned-none _ _ _)
     (λ c. let t = c .before .loop .inv _ (c .before .before .pre .stands) in starts-inside _ _ _ _ (t .stands))
     (λ c. let t = c .before .before .loop .inv _ (c .before .before .before .pre .stands) in omega (arith, starts-inside _ _ _ _ (t .stands)))
     (λ c. let t = c .before .before .loop .inv _ (c .before .before .before .pre .stands) in omega (arith, starts-inside _ _ _ _ (t .stands)))

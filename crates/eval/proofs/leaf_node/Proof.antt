@@ -4,7 +4,7 @@ use native.Mathlib.Omega.{arith}
 use lib.ListN.{length}
 use borrow.Author.Needs.{needs}
 use Rattle.bitset.proofs.SetLaws.{setOf-member-lt}
-use Rattle.eval.proofs.Places.{starts-inside}
+use Rattle.eval.proofs.CodePlaces.{starts-inside}
 use Rattle.eval.proofs.NodeCases.{as-all, as-none, as-label, as-nominal, all-set, none-set, label-set, nominal-set}
 use Rattle.eval.proofs.leaf_node.Statement.{statement}
 use Rattle.eval.proofs.leaf_node.Tie as tie
@@ -35,14 +35,15 @@ returns-4 c e h =
     nominal-set _ _ _ _ _ _ (s .pre .3) (as-nominal _ _ _ e h (c .before .before .if3 .left) (s .pre .5)) (c .nominal .ensures _ _ (omega (arith, s .pre .2)) (sym (setOf-member-lt _ _ (s .pre .3 .small))))
 
 pub leaf-node-spec : {M : Type 1} → statement M
-leaf-node-spec = tie.close (tie.spec
+leaf-node-spec =
+    tie.close
+    (tie.spec
     (λ c. omega (arith, starts (c .before .before .before)))
     (λ c. omega (arith, starts (c .before .before .before .before)))
     (λ c. omega (arith, starts (c .before .before .before .before .before)))
     (λ c. omega (arith, starts (c .before .before .before .before .before .before)))
     (λ c. let s = c .before .before .before .before .before .before .before in omega (arith, as-label _ _ _ _ (s .pre .4 .stands) (c .before .before .if2 .left) (c .before .if3 .taken) .inside))
-    label-word-requires
-    (λ c κs. search needs)
+    label-word-requires (λ c κs. search needs)
     (λ c. let s = c .before .before .before .before .before .before .before .before .before in omega (arith, as-label _ _ _ _ (s .pre .4 .stands) (c .before .before .before .before .if2 .left) (c .before .before .before .if3 .taken) .inside))
     (λ c. omega (arith, starts (c .before .before .before .before .before .before)))
     (λ c. let s = c .before .before .before .before .before .before .before in omega (arith, as-nominal _ _ _ _ (s .pre .4 .stands) (c .before .if3 .left) (s .pre .5) .inside))

@@ -9,9 +9,10 @@ case : (s : tie.Start) → IsPairIn (s .args .n) (s .args .text .now) (s .args .
 case s = as-pair-in _ _ _ (s .pre .1 .what) (s .pre .1 .stands) (s .pre .2) (s .pre .3)
 
 pub pair-in-spec : {M : Type 1} → statement M
-pair-in-spec = tie.close (tie.spec
-    (λ c. omega (arith, case (c .before .before) .inside))
-    (λ c. search needs)
+pair-in-spec =
+    tie.close
+    (tie.spec
+    (λ c. omega (arith, case (c .before .before) .inside)) (λ c. search needs)
     (λ c κs. let s = c .before .before .before in (s .pre .0, record { what = case s .A; stands = case s .first }, refl))
     (λ c. search needs)
     (λ c. omega (arith, case (c .before .before .before .before .before .before) .inside))

@@ -9,7 +9,9 @@ case : (s : tie.Start) → IsSubNodes (s .args .n) (s .args .text .now) (s .args
 case s = as-sub-nodes _ _ _ (s .pre .1 .what) (s .pre .1 .stands) (s .pre .2)
 
 pub sub-nodes-spec : {M : Type 1} → statement M
-sub-nodes-spec = tie.close (tie.spec
+sub-nodes-spec =
+    tie.close
+    (tie.spec
     (λ c. omega (arith, case (c .before .before) .inside))
     (λ c κs. let s = c .before .before in (s .pre .0, all-used (s .pre .0), record { what = case s .A; stands = case s .first }))
     (λ c κs. let s = c .before .before .before in let a = c .node-within .ensures (case s .A) (case s .first) in (s .pre .0, part-used (all-used (s .pre .0)) a, record { what = case s .B; stands = case s .second _ (a .ends) }))

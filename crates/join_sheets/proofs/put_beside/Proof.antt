@@ -1,4 +1,4 @@
-use mathlib.Core.Path.{_≡_, refl, sym, ap, ap₂, _∙_}
+use mathlib.Core.Path.{_≡_, refl, ap, ap₂, _∙_}
 use mathlib.Core.Bool.{_||_}
 use mathlib.Core.Logic.{inr}
 use mathlib.Core.List.{List}
@@ -10,7 +10,7 @@ use lib.ListN.{length}
 use Rattle.bitset.specs.Words.{combined, wordAt, putWord}
 use Rattle.bitset.proofs.WordLaws.{length-putWord, wordAt-other}
 use Rattle.seal.specs.Seal.{blockBytes}
-use Rattle.join_sheets.specs.Writes.{raised, putBeside}
+use Rattle.join_sheets.specs.BesideWrites.{raised, beside, putBeside}
 use Rattle.join_sheets.proofs.put_beside.Statement.{statement}
 use Rattle.join_sheets.proofs.put_beside.Tie as tie
 
@@ -21,23 +21,41 @@ Inv-loop block₀ at other m n i₀ block i = (i ≤ m) × (length block ≡ blo
 abbrev μ-loop : tie.MeasureT-loop
 μ-loop block₀ at other m n i₀ block i = m - i
 
-loop-holds : tie.Need-loop-holds Inv-loop μ-loop
-unfolding putBeside
-loop-holds c = (search needs, search needs, refl, λ p l. refl)
+-- the word to put, and its place
+module _ (c : tie.After-either Inv-loop μ-loop) where
+  abbrev at-loop : tie.At-loop Inv-loop μ-loop
+  at-loop = c .before .before .before .before .before .before
+
+  abbrev start : tie.Start Inv-loop μ-loop
+  start = at-loop .before .before .before
+
+  abbrev i : ℕ
+  i = at-loop .loop .i
+
+  abbrev own : ℕ
+  own = 16 + 8 * (start .args .at + i)
+
+  room : own + 8 ≤ length (at-loop .loop .block)
+  room = omega (arith, at-loop .loop .inv .1, start .pre .2, c .before .before .before .before .before .loop-test .taken)
+
+  word : c .either .result ≡ beside (start .args .n) (wordAt (start .args .block .now) own) (wordAt (start .args .other .now) (16 + 8 * i))
+  word =
+      c .either .ensures
+      ∙ ap₂ (combined _||_) (c .before .before .load2 .ensures ∙ at-loop .loop .inv .3 own (omega arith)) (c .before .raised .ensures ∙ ap (raised (start .args .n)) (c .before .before .before .before .load .ensures))
+
+put-one : (at n : ℕ) (other : List ℕ) (i : ℕ) (block l : List ℕ) (x : ℕ) → l ≡ putBeside at n other i block → x ≡ beside n (wordAt block (16 + 8 * (at + i))) (wordAt other (16 + 8 * i))
+    → putWord l (16 + 8 * (at + i)) x ≡ putBeside at n other (i + 1) block
+put-one at n other i block l x e f = unfold putBeside in rw (add-one i, e, f)
 
 loop-again : tie.Need-loop-again Inv-loop μ-loop
-unfolding putBeside
 loop-again c =
-    let st = c .before .before .before .before .before .before .before .before .before .before .before .before .before in
-    let l = c .before .before .before .before .before .before .before .before .before .before .loop in
-    let s = c .before .before .store .ensures in
-    let own : ℕ = 16 + 8 * (st .args .at + l .i) in
-    let room : own + 8 ≤ length (l .block) = omega (arith, l .inv .1, st .pre .2, c .before .before .before .before .before .before .before .before .before .loop-test .taken) in
-    let word = c .before .before .before .before .either .ensures ∙ ap₂ (combined _||_) (c .before .before .before .before .before .before .load2 .ensures ∙ l .inv .3 own (omega arith)) (c .before .before .before .before .before .raised .ensures ∙ ap (raised (st .args .n)) (c .before .before .before .before .before .before .before .before .load .ensures)) in (
+    let d = c .before .before .before .before in
+    let l = at-loop d .loop in
+    let s = c .before .before .store .ensures in (
       search needs,
-      ap length s ∙ length-putWord (l .block) own _ room ∙ l .inv .1,
-      s ∙ ap₂ (λ (y : List ℕ) (x : ℕ). putWord y own x) (l .inv .2) word ∙ ap (λ (x : ℕ). putBeside (st .args .at) (st .args .n) (st .args .other .now) x (st .args .block .now)) (sym (add-one (l .i))),
-      λ p h. ap (λ (y : List ℕ). wordAt y p) s ∙ wordAt-other (l .block) own _ room p (inr (omega arith)) ∙ l .inv .3 p (omega arith),
+      ap length s ∙ length-putWord (l .block) (own d) _ (room d) ∙ l .inv .1,
+      s ∙ put-one (start d .args .at) (start d .args .n) (start d .args .other .now) (l .i) (start d .args .block .now) _ _ (l .inv .2) (word d),
+      λ p h. ap (λ (y : List ℕ). wordAt y p) s ∙ wordAt-other (l .block) (own d) _ (room d) p (inr (omega arith)) ∙ l .inv .3 p (omega arith),
     )
 
 returns : tie.Need-returns Inv-loop μ-loop
@@ -51,11 +69,8 @@ pub put-beside-spec : {M : Type 1} → statement M
 put-beside-spec =
     tie.close
     (tie.spec
-    Inv-loop
-    μ-loop
-    loop-holds
-    (λ c. search needs) (λ c. search needs) (λ c. search needs) (λ c. search needs) (λ c. search needs) (λ c κs. search needs) (λ c κs. search needs)
-    (λ c κs. search needs) (λ c κs. search needs) (λ c κs. search needs) (λ c. search needs) (λ c. search needs)
-    loop-again
-    (λ c. search needs)
-    returns)
+    Inv-loop μ-loop
+    (λ c. unfold putBeside in (search needs, search needs, refl, λ p l. refl))
+    (λ c. search needs) (λ c. search needs) (λ c. search needs) (λ c. search needs) (λ c. search needs) (λ c κs. search needs)
+    (λ c κs. search needs) (λ c κs. search needs) (λ c κs. search needs) (λ c κs. search needs) (λ c. search needs) (λ c. search needs)
+    loop-again (λ c. search needs) returns)

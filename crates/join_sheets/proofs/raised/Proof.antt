@@ -3,8 +3,5 @@ use Rattle.join_sheets.proofs.Shifts.{shifted}
 use Rattle.join_sheets.proofs.raised.Statement.{statement}
 use Rattle.join_sheets.proofs.raised.Tie as tie
 
-returns : tie.Need-returns
-returns c = shifted (c .args .x) (c .args .n)
-
 pub raised-spec : {M : Type 1} → statement M
-raised-spec = tie.close (tie.spec (λ c. search needs) returns)
+raised-spec = tie.close (tie.spec (λ c. search needs) (λ c. shifted (c .args .x) (c .args .n)))

@@ -1,48 +1,50 @@
 use mathlib.Core.Path.{sym, ap, _∙_}
+use mathlib.Core.List.{List}
+use Prim.Native.Nat.{ℕ}
 use borrow.Author.Needs.{needs}
 use Rattle.answer.specs.Answers.{asked}
-use Rattle.judge.proofs.Deciding.{sheet-refused, book-refused, rules-read, rules-stand, judged}
+use Rattle.answer.proofs.AnswerLaws.{Learned}
+use Rattle.sheet.specs.Questions.{Sound}
+use Rattle.judge.specs.Questions.{askSheetAndBook}
+use Rattle.judge.proofs.SheetAndBook.{sheet-refused, book-refused, book-learned, rules-stand}
+use Rattle.judge.proofs.Deciding.{judge-refused, judge-found}
 use Rattle.judge.proofs.decide.Statement.{statement}
 use Rattle.judge.proofs.decide.Tie as tie
 
+-- The places where the sheet has passed, and where the book has.
+abbrev start : tie.After-enum-told → tie.Start
+start c = c .before .before .before .before .before
+
+abbrev at-sheet : tie.After-check-book → tie.After-enum-told
+at-sheet c = c .before .before
+
+sound : (c : tie.After-enum-told) → Sound (start c .args .sheet .now)
+sound c = sym (c .before .before .check .ensures) ∙ ap asked (c .enum-told .given .1)
+
+rules : (c : tie.After-enum-told3) → let t = c .before .before in Learned (askSheetAndBook (start (at-sheet t) .args .sheet .now) (start (at-sheet t) .args .book .now))
+rules c =
+    let t = c .before .before in
+    book-learned _ _ (sound (at-sheet t)) (t .before .node-count .ensures .0) (t .check-book .ensures) (c .enum-told3 .given .1)
+
 -- the sheet is refused
 returns : tie.Need-returns
-returns c = let q = sheet-refused _ _ _ _ (c .before .before .check .ensures) (c .enum-told2 .given .1) in (q .answer, q .part)
-
-node-count-requires : tie.Need-node-count-requires
-node-count-requires c κs = sym (c .before .before .check .ensures) ∙ ap asked (c .enum-told .given .1)
+returns c = let no = c .enum-told2 .given .1 in rw no (judge-refused _ _ (sheet-refused _ _ (c .before .before .check .ensures) no))
 
 -- the book is refused
 returns-2 : tie.Need-returns-2
 returns-2 c =
-    let t = c .before .before .before .before in
-    let q = book-refused _ _ _ (c .before .before .before .node-count .ensures .0) _ (t .before .before .check .ensures) (t .enum-told .given .1) _ (c .before .before .check-book .ensures) _ (c .enum-told4 .given .1) in
-    (q .answer, q .part)
+    let no = c .enum-told4 .given .1 in let t = c .before .before in
+    rw no (judge-refused _ _ (book-refused _ _ (sound (at-sheet t)) (t .before .node-count .ensures .0) (t .check-book .ensures) no))
 
 judge-rules-requires : tie.Need-judge-rules-requires
-judge-rules-requires c κs =
-    let t = c .before .before .before .before in
-    let n = c .before .before .before .node-count .ensures .0 in
-    let a = t .before .before .check .ensures in
-    let b = c .before .before .check-book .ensures in (
-      sym a ∙ ap asked (t .enum-told .given .1),
-      record {
-        what = rules-read _ _ _ n _ a (t .enum-told .given .1) _ b (c .enum-told3 .given .1) .what;
-        stand = rules-stand _ _ _ n _ a (t .enum-told .given .1) _ b (c .enum-told3 .given .1);
-      },
-    )
+judge-rules-requires c κs = (sound (at-sheet (c .before .before)), record { what = rules c .what; stand = rules-stand _ _ (rules c .is) })
 
 returns-3 : tie.Need-returns-3
-returns-3 c =
-    let t = c .before .before .before .before .before in
-    let n = c .before .before .before .before .node-count .ensures .0 in
-    let a = t .before .before .check .ensures in
-    let b = c .before .before .before .check-book .ensures in
-    let e = c .before .enum-told3 .given .1 in
-    let r = c .judge-rules .ensures (rules-read _ _ _ n _ a (t .enum-told .given .1) _ b e .what) (rules-stand _ _ _ n _ a (t .enum-told .given .1) _ b e) in
-    let q = judged _ _ _ n _ a (t .enum-told .given .1) _ b e _ _ (r .0) (r .1) in
-    (q .answer, q .part)
+returns-3 c = let k = rules (c .before) in judge-found _ _ (k .is) (c .judge-rules .ensures (k .what) (rules-stand _ _ (k .is)))
 
 pub decide-spec : {M : Type 1} → statement M
 decide-spec =
-    tie.close (tie.spec (λ c κs. search needs) (λ c. search needs) (λ c. search needs) returns node-count-requires (λ c κs. search needs) (λ c. search needs) (λ c. search needs) returns-2 judge-rules-requires returns-3)
+    tie.close
+    (tie.spec
+    (λ c κs. search needs) (λ c. search needs) (λ c. search needs) returns (λ c κs. sound c) (λ c κs. search needs) (λ c. search needs)
+    (λ c. search needs) returns-2 judge-rules-requires returns-3)

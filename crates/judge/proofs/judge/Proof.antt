@@ -42,7 +42,7 @@ use Rattle.judge.specs.Questions.{askJudge}
 use Rattle.judge.specs.Judging.{judgedPart, partNamed}
 use Rattle.judge.specs.declared.Judged.{Judged}
 use Rattle.judge.specs.declared.Verdict.{Verdict}
-use Rattle.judge.proofs.Parts.{EndsBy, judged-inside}
+use Rattle.judge.proofs.PartLaws.{EndsBy, judged-inside}
 use Rattle.judge.proofs.Judged as T
 use Rattle.judge.proofs.Judged.Laws as T′
 use Rattle.judge.proofs.Verdict as Ver
@@ -209,7 +209,8 @@ module _ {M : Type 1} (𝓤 : URA M) (H : Heap 𝓤) (A : Atoms 𝓤) (W : Given
 meets : {M : Type 1} (𝓤 : URA M) (H : Heap 𝓤) (A : Atoms 𝓤) (W : Given 𝓤 H A) (mem : Memory → SProp 𝓤) (run : Routine → Fun 𝓤) (𝓣 : Tables 𝓤 H)
     → Triple 𝓤 (𝓣 .C #judge·decide) (Decide 𝓤 H A mem run) → Triple 𝓤 (𝓣 .C #judge·part-of) (RuleOf 𝓤 H A mem run) → Triple 𝓤 (𝓣 .C #judge·with-part) (WithPart 𝓤 H A mem run)
     → Meets 𝓤 H A judge.signature (WpFn 𝓤 H (𝓣 .C) (𝓣 .Λ) code.function) (judge.spec 𝓤 H A mem run)
-meets 𝓤 H A W mem run 𝓣 kd kr kj = walk-meets 𝓤 H A judge.ended stayed W (goes-none-slice 𝓤 H A W 2 (0 ∷ []) tt (plain (λ _. u8)) yes, (goes-none-slice 𝓤 H A W 2 (1 ∷ []) tt (plain (λ _. u8)) yes, tt)) (judge.clauses 𝓤 H A mem run) (WpFn 𝓤 H (𝓣 .C) (𝓣 .Λ) code.function) (WpFn-mono 𝓤 H (W .laws) 𝓣 code.function)
+meets 𝓤 H A W mem run 𝓣 kd kr kj = walk-meets 𝓤 H A judge.ended stayed W (goes-none-slice 𝓤 H A W 2 (0 ∷ []) tt (plain (λ _. u8)) yes, (goes-none-slice 𝓤 H A W 2 (1 ∷ []) tt (plain (λ _. u8)) yes, tt))
+    (judge.clauses 𝓤 H A mem run) (WpFn 𝓤 H (𝓣 .C) (𝓣 .Λ) code.function) (WpFn-mono 𝓤 H (W .laws) 𝓣 code.function)
     (walks 𝓤 H A W mem run (𝓣 .C) (𝓣 .Λ) (fmOf 𝓤 H (W .laws) 𝓣) kd kr kj)
 
 pub judge-spec : {M : Type 1} → stated.statement M

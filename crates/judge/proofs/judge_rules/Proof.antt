@@ -5,9 +5,9 @@ use native.Mathlib.Omega.{arith}
 use borrow.Author.Needs.{needs}
 use Rattle.logic.specs.Syntax.{Expr, rule}
 use Rattle.logic.specs.Limits.{ranges}
-use Rattle.rows.proofs.Laws.{not-is}
+use Rattle.rows.proofs.OperationLaws.{not-is}
 use Rattle.judge.specs.Judging.{RulesStand}
-use Rattle.judge.proofs.Rules.{opened, for-count, first-of, ends-inside, Reached, reached-start, reached-next, broken-answer, broken-part, all-hold, no-broken-part}
+use Rattle.judge.proofs.RulesJudged.{opened, for-count, first-of, ends-inside, Reached, reached-start, reached-next, broken-answer, broken-part, all-hold, no-broken-part}
 use Rattle.judge.proofs.judge_rules.Statement.{statement}
 use Rattle.judge.proofs.judge_rules.Tie as tie
 
@@ -17,21 +17,13 @@ Inv-loop sheet text end n all at₀ i₀ at i = (i ≤ at) × ((rules : List (Ex
 abbrev μ-loop : tie.MeasureT-loop
 μ-loop sheet text end n all at₀ i₀ at i = end - at
 
-node-count-requires : tie.Need-node-count-requires Inv-loop μ-loop
-node-count-requires c κs = search needs
-
-all-nodes-requires : tie.Need-all-nodes-requires Inv-loop μ-loop
-all-nodes-requires c κs = search needs
-
-loop-holds : tie.Need-loop-holds Inv-loop μ-loop
-loop-holds c = (search needs, λ rules s. reached-start _ _ _ _ rules s)
-
 eval-rule-requires : tie.Need-eval-rule-requires Inv-loop μ-loop
 eval-rule-requires c κs =
     let s = c .before .before .before .before .before .before in
     let d = c .before .loop .inv .1 (s .pre .1 .what) (for-count _ _ _ _ _ _ (c .before .before .before .node-count .ensures .0) (s .pre .1 .stand)) in
     let f = first-of _ _ _ _ (d .left) (d .stand) (c .loop-test .taken) in
-    (opened _ _ _ (λ p. omega (arith, c .before .before .before .before .before .shared-slice-known .given p)) (s .pre .0) (c .before .before .before .node-count .ensures .0) (c .before .before .before .node-count .ensures .2) (c .before .before .all-nodes .ensures), record { what = f .K; stands = f .stands })
+    let count = c .before .before .before .node-count .ensures in
+    (opened _ _ _ (λ p. omega (arith, c .before .before .before .before .before .shared-slice-known .given p)) (s .pre .0) (count .0) (count .2) (c .before .before .all-nodes .ensures), record { what = f .K; stands = f .stands })
 
 sub-t12 : tie.Need-sub-t12 Inv-loop μ-loop
 sub-t12 c =
@@ -71,9 +63,12 @@ loop-again c =
 returns-2 : tie.Need-returns-2 Inv-loop μ-loop
 returns-2 c rules s =
     let d = c .before .loop .inv .1 rules (for-count _ _ _ _ _ _ (c .before .before .before .node-count .ensures .0) s) in
-    let p = no-broken-part _ _ _ _ _ _ rules d (c .loop-test .left) in
-    (sym (all-hold _ _ _ _ _ _ rules d (c .loop-test .left)), sym p)
+    let p = no-broken-part _ _ _ _ _ _ rules d (c .loop-test .left) in (sym (all-hold _ _ _ _ _ _ rules d (c .loop-test .left)), sym p)
 
 pub judge-rules-spec : {M : Type 1} → statement M
 judge-rules-spec =
-    tie.close (tie.spec Inv-loop μ-loop node-count-requires all-nodes-requires loop-holds eval-rule-requires sub-t12 returns add-i loop-less loop-again returns-2)
+    tie.close
+    (tie.spec
+    Inv-loop μ-loop (λ c κs. search needs) (λ c κs. search needs)
+    (λ c. (search needs, λ rules s. reached-start _ _ _ _ rules s))
+    eval-rule-requires sub-t12 returns add-i loop-less loop-again returns-2)

@@ -9,8 +9,7 @@ use Rattle.judge.proofs.part_of.Tie as tie
 
 returns : tie.Need-returns
 returns c =
-    let a = c .before .before .args in
-    let e : a .v .start + a .v .size - a .v .start ≡ a .v .size = omega arith in
+    let a = c .before .before .args in let e : a .v .start + a .v .size - a .v .start ≡ a .v .size = omega arith in
     record { memory = search needs; starts = search needs; contents = ap (λ (k : ℕ). take k (drop (a .v .start) (now (a .book)))) e }
 
 pub part-of-spec : {M : Type 1} → statement M

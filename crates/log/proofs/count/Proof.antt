@@ -4,8 +4,7 @@ use Rattle.log.proofs.count.Statement.{statement}
 use Rattle.log.proofs.count.Tie as tie
 
 returns : tie.Need-returns
-unfolding count
-returns c = c .number-of .ensures
+returns c = unfold count in c .number-of .ensures
 
 pub count-spec : {M : Type 1} → statement M
 count-spec = tie.close (tie.spec (λ c. search needs) (λ c. search needs) (λ c κs. search needs) returns)

@@ -4,12 +4,6 @@ use Rattle.log.proofs.FieldLaws.{or-yes, or-no, none-counted, too-many-
 use Rattle.log.proofs.count_right.Statement.{statement}
 use Rattle.log.proofs.count_right.Tie as tie
 
-returns : tie.Need-returns
-returns c = sym (none-counted _ _ (c .if1 .taken))
-
-returns-2 : tie.Need-returns-2
-returns-2 c = sym (too-many-counted _ _ (c .if2 .taken))
-
 returns-3 : tie.Need-returns-3
 returns-3 c = or-yes _ _ (eq-eqb _ _ (c .if3 .taken)) ∙ sym (counted _ _ (c .before .before .if1 .left) (c .before .if2 .left))
 
@@ -17,4 +11,7 @@ returns-4 : tie.Need-returns-4
 returns-4 c = or-no _ _ (ne-eqb _ _ (c .if3 .left)) ∙ sym (counted _ _ (c .before .before .if1 .left) (c .before .if2 .left))
 
 pub count-right-spec : {M : Type 1} → statement M
-count-right-spec = tie.close (tie.spec returns returns-2 returns-3 returns-4)
+count-right-spec =
+    tie.close
+    (tie.spec
+    (λ c. sym (none-counted _ _ (c .if1 .taken))) (λ c. sym (too-many-counted _ _ (c .if2 .taken))) returns-3 returns-4)

@@ -45,12 +45,5 @@ pub fields-right-spec : {M : Type 1} → statement M
 fields-right-spec =
     tie.close
     (tie.spec
-    (λ c. search needs)
-    returns
-    (λ c. search needs) (λ c κs. search needs)
-    returns-2
-    (λ c κs. search needs) (λ c κs. search needs) (λ c κs. search needs)
-    returns-3
-    (λ c. search needs)
-    zeros-from-requires
-    returns-4)
+    (λ c. search needs) returns (λ c. search needs) (λ c κs. search needs) returns-2 (λ c κs. search needs) (λ c κs. search needs)
+    (λ c κs. search needs) returns-3 (λ c. search needs) zeros-from-requires returns-4)

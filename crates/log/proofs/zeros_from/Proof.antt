@@ -14,9 +14,6 @@ Inv-loop block from i₀ i = (i ≤ 508) × (allZero (drop from (take 508 block)
 abbrev μ-loop : tie.MeasureT-loop
 μ-loop block from i₀ i = 508 - i
 
-loop-holds : tie.Need-loop-holds Inv-loop μ-loop
-loop-holds c = (c .pre .1, refl)
-
 returns : tie.Need-returns Inv-loop μ-loop
 returns c =
     let s = c .before .before .before .before in
@@ -39,11 +36,4 @@ pub zeros-from-spec : {M : Type 1} → statement M
 zeros-from-spec =
     tie.close
     (tie.spec
-    Inv-loop
-    μ-loop
-    loop-holds
-    (λ c. search needs)
-    returns
-    (λ c. search needs) (λ c. search needs)
-    loop-again
-    returns-2)
+    Inv-loop μ-loop (λ c. (c .pre .1, refl)) (λ c. search needs) returns (λ c. search needs) (λ c. search needs) loop-again returns-2)

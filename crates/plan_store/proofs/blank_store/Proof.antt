@@ -1,46 +1,49 @@
 use mathlib.Core.Path.{_≡_, refl, sym, ap, _∙_}
+use mathlib.Core.List.{List, _++_}
 use Prim.Native.Nat.{ℕ}
 use native.Mathlib.Omega.{arith}
 use borrow.Author.Needs.{needs}
-use lib.ListN.{length, replicate, length-set}
+use borrow.Author.Tests.{eq-eqb, ne-eqb}
+use lib.ListN.{length, drop, replicate, set, length-set}
+use Rattle.answer.specs.Asked.{is}
 use Rattle.answer.specs.declared.Refusal.the-variants.{StoreBytes}
-use Rattle.plan_store.specs.Store.{storeBytes, noPlans}
-use Rattle.plan_store.proofs.Laws.{length-storeOf}
-use Rattle.plan_store.proofs.Writes.{blanked}
-use Rattle.plan_store.proofs.Answers.{blank-short, blank-done}
+use Rattle.seal.specs.Seal.{blockBytes}
+use Rattle.plan_store.specs.Store.{storeBytes, noPlans, storeOf}
+use Rattle.plan_store.specs.Questions.{askBlankStore}
+use Rattle.plan_store.specs.Calls.{blankStore}
+use Rattle.plan_store.proofs.StoreLaws.{length-storeOf}
+use Rattle.plan_store.proofs.StoreWrites.{blanked}
+use Rattle.plan_store.proofs.StoreStages.{stops, goes}
 use Rattle.plan_store.proofs.blank_store.Statement.{statement}
 use Rattle.plan_store.proofs.blank_store.Tie as tie
 
-returns : tie.Need-returns
-returns c = blank-short _ (StoreBytes 0) refl refl (c .if1 .taken)
+-- the store is wiped
+module _ (c : tie.After-wipe) where
+  abbrev wiped : List ℕ
+  wiped = c .wipe .last .0
 
-slice-write-store : tie.Need-slice-write-store
-slice-write-store c = let n : length (c .before .before .wipe .last .0) ≡ storeBytes = c .before .before .wipe .kept .0 ∙ c .before .before .before .before .if1 .left in omega (arith, n)
+  size : length wiped ≡ storeBytes
+  size = c .wipe .kept .0 ∙ c .before .before .if1 .left
 
-part-seal-end : tie.Need-part-seal-end
-part-seal-end c = let n : length (c .before .before .wipe .last .0) ≡ storeBytes = c .before .before .wipe .kept .0 ∙ c .before .before .before .before .if1 .left in omega (arith, n, length-set (c .before .before .wipe .last .0) 0 4)
+  first-size : length (set wiped 0 4) ≡ storeBytes
+  first-size = length-set wiped 0 4 ∙ size
+
+-- its head is sealed
+module _ (c : tie.After-seal) where
+  abbrev at-wipe : tie.After-wipe
+  at-wipe = c .before .before .before .before
+
+  made : c .seal .last .0 ++ drop blockBytes (set (wiped at-wipe) 0 4) ≡ storeOf noPlans
+  made = blanked (wiped at-wipe) (size at-wipe) (at-wipe .wipe .ensures ∙ ap (λ (m : ℕ). replicate m 0) (at-wipe .before .before .if1 .left)) _ (c .seal .ensures)
 
 same-length : tie.Need-same-length
-same-length c =
-    let t = c .before .before .before .before .before .before .wipe .last .0 in
-    let n : length t ≡ storeBytes = c .before .before .before .before .before .before .wipe .kept .0 ∙ c .before .before .before .before .before .before .before .before .if1 .left in
-    ap length (blanked t n (c .before .before .before .before .before .before .wipe .ensures ∙ ap (λ (m : ℕ). replicate m 0) (c .before .before .before .before .before .before .before .before .if1 .left)) (c .before .before .seal .last .0) (c .before .before .seal .ensures)) ∙ length-storeOf noPlans ∙ sym (c .before .before .before .before .before .before .before .before .if1 .left)
-
-returns-2 : tie.Need-returns-2
-returns-2 c =
-    let t = c .before .before .before .before .before .before .wipe .last .0 in
-    let n : length t ≡ storeBytes = c .before .before .before .before .before .before .wipe .kept .0 ∙ c .before .before .before .before .before .before .before .before .if1 .left in
-    blank-done _ _ (c .before .before .before .before .before .before .before .before .if1 .left) (blanked t n (c .before .before .before .before .before .before .wipe .ensures ∙ ap (λ (m : ℕ). replicate m 0) (c .before .before .before .before .before .before .before .before .if1 .left)) _ (c .before .before .seal .ensures))
+same-length c = ap length (made (c .before .before)) ∙ length-storeOf noPlans ∙ sym (at-wipe (c .before .before) .before .before .if1 .left)
 
 pub blank-store-spec : {M : Type 1} → statement M
 blank-store-spec =
     tie.close
     (tie.spec
-    returns
-    (λ c κs. search needs)
-    slice-write-store
-    (λ c. search needs) (λ c. search needs)
-    part-seal-end
-    (λ c κs. search needs)
-    same-length
-    returns-2)
+    (λ c. unfold blankStore askBlankStore is in stops _ _ _ {r = StoreBytes 0} refl (rw (ne-eqb _ storeBytes (c .if1 .taken))))
+    (λ c κs. search needs) (λ c. omega (arith, size (c .before .before))) (λ c. search needs) (λ c. search needs)
+    (λ c. omega (arith, first-size (c .before .before))) (λ c κs. search needs) same-length
+    (λ c. unfold blankStore askBlankStore is in goes _ _ _ (rw (eq-eqb _ storeBytes (at-wipe (c .before .before) .before .before .if1 .left))) (made (c .before .before))))

@@ -3,7 +3,7 @@ use Prim.Native.Nat.{_-_, _≤_}
 use native.Mathlib.Omega.{arith}
 use borrow.Author.Needs.{needs}
 use lib.ListN.{length, take, getD, length-set}
-use Rattle.plan_store.proofs.Bytes.{copied, passed-all}
+use Rattle.plan_store.proofs.ByteLoops.{copied, passed-all}
 use Rattle.plan_store.proofs.copy.Statement.{statement}
 use Rattle.plan_store.proofs.copy.Tie as tie
 
@@ -12,9 +12,6 @@ Inv-loop to₀ from i₀ to i = (i ≤ length to) × (length to ≡ length from)
 
 abbrev μ-loop : tie.MeasureT-loop
 μ-loop to₀ from i₀ to i = length to - i
-
-loop-holds : tie.Need-loop-holds Inv-loop μ-loop
-loop-holds c = (search needs, c .pre, refl)
 
 loop-less : tie.Need-loop-less Inv-loop μ-loop
 loop-less c =
@@ -28,11 +25,10 @@ loop-again c =
     let n = length-set (l .to) (l .i) (getD s (l .i) 0) in
     (omega (arith, n, c .before .loop-test .taken), n ∙ l .inv .1, copied (l .to) s (l .i) (c .before .loop-test .taken) (l .inv .1) (l .inv .2))
 
-same-length : tie.Need-same-length Inv-loop μ-loop
-same-length c = c .before .loop .inv .1 ∙ sym (c .before .before .pre)
-
-returns : tie.Need-returns Inv-loop μ-loop
-returns c = let l = c .before .loop in passed-all (l .to) _ (l .i) (c .loop-test .left) (l .inv .1) (l .inv .2)
-
 pub copy-spec : {M : Type 1} → statement M
-copy-spec = tie.close (tie.spec Inv-loop μ-loop loop-holds (λ c. search needs) (λ c. search needs) (λ c. search needs) loop-less loop-again same-length returns)
+copy-spec =
+    tie.close
+    (tie.spec
+    Inv-loop μ-loop (λ c. (search needs, c .pre, refl)) (λ c. search needs) (λ c. search needs) (λ c. search needs) loop-less loop-again
+    (λ c. c .before .loop .inv .1 ∙ sym (c .before .before .pre))
+    (λ c. let l = c .before .loop in passed-all (l .to) _ (l .i) (c .loop-test .left) (l .inv .1) (l .inv .2)))

@@ -1,5 +1,5 @@
 use borrow.Author.Needs.{needs}
-use Rattle.plan_store.proofs.Answers.{book-stops, rules-read, rules-stand, judged}
+use Rattle.plan_store.proofs.StoreStages.{book-stops, rules-read, rules-stand, judged}
 use Rattle.plan_store.proofs.judge_kept.Statement.{statement}
 use Rattle.plan_store.proofs.judge_kept.Tie as tie
 
@@ -20,4 +20,7 @@ returns-2 c =
     judged _ _ _ n _ b e _ (c .judge-rules .ensures (rules-read _ _ _ n _ b e .what) (rules-stand _ _ _ n _ b e) .0)
 
 pub judge-kept-spec : {M : Type 1} → statement M
-judge-kept-spec = tie.close (tie.spec (λ c κs. search needs) (λ c κs. search needs) (λ c. search needs) (λ c. search needs) returns judge-rules-requires returns-2)
+judge-kept-spec =
+    tie.close
+    (tie.spec
+    (λ c κs. search needs) (λ c κs. search needs) (λ c. search needs) (λ c. search needs) returns judge-rules-requires returns-2)

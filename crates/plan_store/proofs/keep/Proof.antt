@@ -1,111 +1,89 @@
 use mathlib.Core.Path.{_≡_, sym, ap, _∙_}
-use mathlib.Core.List.{_++_}
-use Prim.Native.Nat.{ℕ, _+_, _-_, _<_}
+use mathlib.Core.List.{List, _++_}
+use Prim.Native.Nat.{ℕ, _+_, _-_}
 use native.Mathlib.Omega.{arith}
 use borrow.Author.Needs.{needs}
-use lib.ListN.{length, getD, take, drop}
+use lib.ListN.{length, take, drop}
+use Rattle.answer.specs.Asked.{passed}
 use Rattle.answer.specs.Answers.{asked}
 use Rattle.sheet.specs.Sheet.{sheetBytes, present, graphOf}
-use Rattle.sheet.proofs.Loads.{sound-length}
-use Rattle.plan_store.specs.Store.{planCount, filled, placeStart}
-use Rattle.plan_store.proofs.Asks.{name-told, store-told, place-part}
-use Rattle.plan_store.proofs.Places.{length-place}
-use Rattle.plan_store.proofs.Writes.{sheet-plan, length-now, length-head-now, head-still, written}
-use Rattle.plan_store.proofs.Answers.{keep-stops, keep-unnamed, keep-done}
+use Rattle.sheet.specs.Questions.{Sound}
+use Rattle.sheet.proofs.SoundWords.{sound-length}
+use Rattle.plan_store.specs.Store.{filled, placeStart}
+use Rattle.plan_store.specs.Questions.{askName, askKeep}
+use Rattle.plan_store.specs.Calls.{keptStore}
+use Rattle.plan_store.proofs.Asks.{first-stops, first-passes, Named, name-told, place-part}
+use Rattle.plan_store.proofs.StorePlaces.{length-place}
+use Rattle.plan_store.proofs.StoreWrites.{Replaced, sheet-plan, place-written}
+use Rattle.plan_store.proofs.StoreStages.{stops, goes}
 use Rattle.plan_store.proofs.keep.Statement.{statement}
 use Rattle.plan_store.proofs.keep.Tie as tie
 
-returns : tie.Need-returns
-returns c = keep-stops _ _ _ _ _ (c .before .before .check .ensures) (c .enum-told2 .given .1)
+-- the sheet has passed
+module _ (c : tie.After-enum-told) where
+  abbrev start : tie.Start
+  start = c .before .before .before .before .before
 
-returns-2 : tie.Need-returns-2
-returns-2 c = keep-unnamed _ _ _ (sym (c .before .before .before .before .before .before .check .ensures) ∙ ap asked (c .before .before .before .before .enum-told .given .1)) _ _ (c .before .before .ask-name .ensures) (c .enum-told4 .given .1)
+  abbrev sheet : List ℕ
+  sheet = start .args .sheet .now
 
-sub-place : tie.Need-sub-place
-sub-place c = let q = name-told _ _ (sym (c .before .before .ask-name .ensures) ∙ ap asked (c .enum-told3 .given .1)) in omega (arith, q .some)
+  sound : Sound sheet
+  sound = sym (c .before .before .check .ensures) ∙ ap asked (c .enum-told .given .1)
 
-mul-from : tie.Need-mul-from
-mul-from c = let q = name-told _ _ (sym (c .before .before .ask-name .ensures) ∙ ap asked (c .enum-told3 .given .1)) in omega (arith, q .some, q .few)
+-- the name too
+module _ (c : tie.After-enum-told3) where
+  abbrev asked-sheet : tie.After-enum-told
+  asked-sheet = c .before .before .before .before
 
-add-from : tie.Need-add-from
-add-from c = let q = name-told _ _ (sym (c .before .before .ask-name .ensures) ∙ ap asked (c .enum-told3 .given .1)) in omega (arith, q .some, q .few)
+  abbrev store : List ℕ
+  store = start asked-sheet .args .store .now
 
-add-to : tie.Need-add-to
-add-to c = let q = name-told _ _ (sym (c .before .before .ask-name .ensures) ∙ ap asked (c .enum-told3 .given .1)) in omega (arith, q .some, q .few)
+  abbrev name : ℕ
+  name = start asked-sheet .args .name
 
-part-copy-end : tie.Need-part-copy-end
-part-copy-end c = let q = name-told _ _ (sym (c .before .before .ask-name .ensures) ∙ ap asked (c .enum-told3 .given .1)) in omega (arith, q .some, q .few, store-told _ (q .sound) .size)
+  passes : askName store name ≡ passed tt
+  passes = sym (c .before .before .ask-name .ensures) ∙ ap asked (c .enum-told3 .given .1)
+
+  named : Named store name
+  named = name-told store name passes
 
 copy-requires : tie.Need-copy-requires
 copy-requires c κs =
-    let s = c .before .before .before .before .before .before .before .before .before .before in
-    let t = s .args .store .now in
-    let i = s .args .name - 1 in
-    let q = name-told t (s .args .name) (sym (c .before .before .before .ask-name .ensures) ∙ ap asked (c .before .enum-told3 .given .1)) in
-    ap length (place-part t i) ∙ length-place t (store-told t (q .sound) .size) i (omega (arith, q .some, q .few))
-    ∙ sym (sound-length present (s .args .sheet .now) (sym (c .before .before .before .before .before .before .before .check .ensures) ∙ ap asked (c .before .before .before .before .before .enum-told .given .1)))
+    let q = c .before in
+    let k = named q in
+    ap length (place-part (store q) (name q - 1)) ∙ length-place (store q) (k .size) (name q - 1) (k .place) ∙ sym (sound-length present _ (sound (asked-sheet q)))
 
-part-put-name-end : tie.Need-part-put-name-end
-part-put-name-end c =
-    let s = c .before .before .before .before .before .before .before .before .before .before .before .before .before in
-    let t = s .args .store .now in
-    let k = s .args .sheet .now in
-    let i = s .args .name - 1 in
-    let q = name-told t (s .args .name) (sym (c .before .before .before .before .before .before .ask-name .ensures) ∙ ap asked (c .before .before .before .before .enum-told3 .given .1)) in
-    let l : i < planCount = omega (arith, q .some, q .few) in
-    let d : placeStart i + sheetBytes - placeStart i ≡ sheetBytes = omega arith in
-    let b = c .before .before .copy .last .0 in
-    let z = sheet-plan k b (λ p. omega (arith, c .before .before .before .before .before .before .before .before .before .before .before .before .shared-slice-known .given p)) (sym (c .before .before .before .before .before .before .before .before .before .before .check .ensures) ∙ ap asked (c .before .before .before .before .before .before .before .before .enum-told .given .1)) (c .before .before .copy .ensures) in
-    omega (arith, length-now t (λ p. omega (arith, c .before .before .before .before .before .before .before .before .before .before .before .slice-known .given p)) (q .sound) i l (filled (graphOf k)) b z _ (ap (λ (y : ℕ). take (placeStart i) t ++ (b ++ drop y (drop (placeStart i) t))) d))
+-- the sheet is copied to its place
+module _ (w : tie.After-copy) where
+  abbrev told : tie.After-enum-told3
+  told = w .before .before
 
-put-name-requires : tie.Need-put-name-requires
-put-name-requires c κs =
-    let s = c .before .before .before .before .before .before .before .before .before .before .before .before .before .before in
-    let t = s .args .store .now in
-    let k = s .args .sheet .now in
-    let i = s .args .name - 1 in
-    let q = name-told t (s .args .name) (sym (c .before .before .before .before .before .before .before .ask-name .ensures) ∙ ap asked (c .before .before .before .before .before .enum-told3 .given .1)) in
-    let l : i < planCount = omega (arith, q .some, q .few) in
-    let d : placeStart i + sheetBytes - placeStart i ≡ sheetBytes = omega arith in
-    let b = c .before .before .before .copy .last .0 in
-    let z = sheet-plan k b (λ p. omega (arith, c .before .before .before .before .before .before .before .before .before .before .before .before .before .shared-slice-known .given p)) (sym (c .before .before .before .before .before .before .before .before .before .before .before .check .ensures) ∙ ap asked (c .before .before .before .before .before .before .before .before .before .enum-told .given .1)) (c .before .before .before .copy .ensures) in
-    let r = ap (λ (y : ℕ). take (placeStart i) t ++ (b ++ drop y (drop (placeStart i) t))) d in
-    let small : (p : ℕ) → getD t p 0 < 256 = λ p. omega (arith, c .before .before .before .before .before .before .before .before .before .before .before .before .slice-known .given p) in
-    (length-head-now t small (q .sound) i l (filled (graphOf k)) b z _ r, head-still t small (q .sound) i l (filled (graphOf k)) b z _ r, l)
+  abbrev place : ℕ
+  place = name told - 1
+
+  copied : Replaced (store told) place (filled (graphOf (sheet (asked-sheet told))))
+      (take (placeStart place) (store told) ++ (w .copy .last .0 ++ drop (placeStart place + sheetBytes - placeStart place) (drop (placeStart place) (store told))))
+  copied =
+      let t = asked-sheet told .before .before .before in
+      place-written (store told) (λ p. omega (arith, t .slice-known .given p)) (named told .sound) place (named told .place) _ (w .copy .last .0)
+      (sheet-plan (sheet (asked-sheet told)) _ (λ p. omega (arith, t .before .shared-slice-known .given p)) (sound (asked-sheet told)) (w .copy .ensures))
 
 returns-3 : tie.Need-returns-3
+unfolding keptStore askKeep
 returns-3 c =
-    let s = c .before .before .before .before .before .before .before .before .before .before .before .before .before .before .before .before .before in
-    let t = s .args .store .now in
-    let k = s .args .sheet .now in
-    let i = s .args .name - 1 in
-    let e = sym (c .before .before .before .before .before .before .before .before .before .before .ask-name .ensures) ∙ ap asked (c .before .before .before .before .before .before .before .before .enum-told3 .given .1) in
-    let q = name-told t (s .args .name) e in
-    let l : i < planCount = omega (arith, q .some, q .few) in
-    let d : placeStart i + sheetBytes - placeStart i ≡ sheetBytes = omega arith in
-    let b = c .before .before .before .before .before .before .copy .last .0 in
-    let h = sym (c .before .before .before .before .before .before .before .before .before .before .before .before .before .before .check .ensures) ∙ ap asked (c .before .before .before .before .before .before .before .before .before .before .before .before .enum-told .given .1) in
-    let z = sheet-plan k b (λ p. omega (arith, c .before .before .before .before .before .before .before .before .before .before .before .before .before .before .before .before .shared-slice-known .given p)) h (c .before .before .before .before .before .before .copy .ensures) in
-    keep-done k t (s .args .name) h _ e
-    (written t (λ p. omega (arith, c .before .before .before .before .before .before .before .before .before .before .before .before .before .before .before .slice-known .given p)) (q .sound) i l (filled (graphOf k)) b z _ (ap (λ (y : ℕ). take (placeStart i) t ++ (b ++ drop y (drop (placeStart i) t))) d) _ (c .before .before .put-name .ensures))
+    let w = c .before .before .before .before .before .before in
+    goes _ _ _ (first-passes _ _ (sound (asked-sheet (told w))) ∙ passes (told w)) (copied w .headed _ (c .before .before .put-name .ensures))
 
 pub keep-spec : {M : Type 1} → statement M
 keep-spec =
     tie.close
     (tie.spec
     (λ c κs. search needs) (λ c. search needs) (λ c. search needs)
-    returns
+    (λ c. unfold keptStore askKeep in stops _ _ _ (c .enum-told2 .given .1) (first-stops _ _ (c .enum-told2 .given .1) (c .before .before .check .ensures)))
     (λ c κs. search needs) (λ c. search needs) (λ c. search needs) (λ c. search needs)
-    returns-2
-    sub-place
-    mul-from
-    add-from
-    add-to
-    (λ c. search needs) (λ c. search needs)
-    part-copy-end
-    copy-requires
-    (λ c. search needs) (λ c. search needs)
-    part-put-name-end
-    put-name-requires
-    (λ c. search needs)
-    returns-3)
+    (λ c. unfold keptStore askKeep in stops _ _ _ (c .enum-told4 .given .1) (c .before .before .ask-name .ensures ∙ sym (first-passes _ _ (sound (c .before .before .before .before)))))
+    (λ c. let k = named c in omega arith) (λ c. let k = named c in omega arith) (λ c. let k = named c in omega arith)
+    (λ c. let k = named c in omega arith) (λ c. search needs) (λ c. search needs) (λ c. let k = named c in omega arith) copy-requires
+    (λ c. search needs) (λ c. search needs) (λ c. let k = copied (c .before .before) in omega arith)
+    (λ c κs. let w = c .before .before .before in let k = copied w in (k .head-size, k .head-right, named (told w) .place))
+    (λ c. search needs) returns-3)

@@ -6,7 +6,7 @@ use lib.ListN.{length, set, length-set}
 use Rattle.logic.specs.Steps.{update}
 use Rattle.bitset.specs.Words.{setOf, member}
 use Rattle.plan_store.specs.Store.{planCount, headBlock}
-use Rattle.plan_store.proofs.Heads.{head-told, renamed}
+use Rattle.plan_store.proofs.StoreHead.{head-told, renamed}
 use Rattle.plan_store.proofs.put_name.Statement.{statement}
 use Rattle.plan_store.proofs.put_name.Tie as tie
 
@@ -26,4 +26,8 @@ returns c =
     ∙ ap (λ (x : ℕ). headBlock (setOf planCount (update (member x) (s .args .place) (s .args .used)))) (c .before .before .before .before .before .wide .ensures .0)
 
 pub put-name-spec : {M : Type 1} → statement M
-put-name-spec = tie.close (tie.spec (λ c. search needs) (λ c κs. search needs) with-name-requires (λ c. search needs) (λ c. search needs) (λ c κs. search needs) same-length returns)
+put-name-spec =
+    tie.close
+    (tie.spec
+    (λ c. search needs) (λ c κs. search needs) with-name-requires (λ c. search needs) (λ c. search needs) (λ c κs. search needs) same-length
+    returns)

@@ -1,92 +1,99 @@
-use mathlib.Core.Path.{sym, ap, _∙_, subst}
+use mathlib.Core.Path.{_≡_, sym, ap, _∙_}
 use mathlib.Core.List.{List}
 use Prim.Native.Nat.{ℕ, _-_}
 use native.Mathlib.Omega.{arith}
 use borrow.Author.Needs.{needs}
 use lib.ListN.{length}
+use Rattle.answer.specs.Asked.{passed}
 use Rattle.answer.specs.Answers.{asked}
 use Rattle.sheet.specs.Sheet.{present}
-use Rattle.sheet.proofs.Loads.{sound-length}
-use Rattle.plan_store.proofs.Asks.{filled-told, store-told, place-part}
-use Rattle.plan_store.proofs.Places.{length-place}
-use Rattle.plan_store.proofs.Laws.{place-sound}
-use Rattle.plan_store.specs.Questions.{askKept}
 use Rattle.sheet.specs.Questions.{Sound}
-use Rattle.plan_store.proofs.Answers.{return-stops, return-unfilled, return-broken, return-done}
+use Rattle.sheet.proofs.SoundWords.{sound-length}
+use Rattle.plan_store.specs.Store.{placeIn}
+use Rattle.plan_store.specs.Questions.{askFilled, askKept, askReturn}
+use Rattle.plan_store.specs.Calls.{returnedSheet}
+use Rattle.plan_store.proofs.Asks.{first-stops, first-passes, Filled, filled-told, place-part}
+use Rattle.plan_store.proofs.StorePlaces.{length-place}
+use Rattle.plan_store.proofs.StoreLaws.{place-sound}
+use Rattle.plan_store.proofs.StoreStages.{stops, goes}
 use Rattle.plan_store.proofs.return_to.Statement.{statement}
 use Rattle.plan_store.proofs.return_to.Tie as tie
 
-returns : tie.Need-returns
-returns c = return-stops _ _ _ _ _ _ (c .before .before .check .ensures) (c .enum-told2 .given .1)
+-- the sheet has passed
+module _ (c : tie.After-enum-told) where
+  abbrev start : tie.Start
+  start = c .before .before .before .before .before .before .before
+
+  sound : Sound (start .args .sheet .now)
+  sound = sym (c .before .before .check .ensures) ∙ ap asked (c .enum-told .given .1)
 
 returns-2 : tie.Need-returns-2
-returns-2 c = return-unfilled _ _ _ _ (sym (c .before .before .before .before .before .check .ensures) ∙ ap asked (c .before .before .before .enum-told .given .1)) _ _ (c .before .before .ask-filled .ensures) (c .enum-told4 .given .1)
+unfolding returnedSheet askReturn
+returns-2 c =
+    stops _ _ _ (c .enum-told4 .given .1)
+    (first-stops _ _ (c .enum-told4 .given .1) (c .before .before .ask-filled .ensures) ∙ sym (first-passes _ _ (sound (c .before .before .before))))
 
-sub-from : tie.Need-sub-from
-sub-from c = let q = filled-told _ _ (sym (c .before .before .ask-filled .ensures) ∙ ap asked (c .enum-told3 .given .1)) in omega (arith, q .named .some)
+-- the name too
+module _ (c : tie.After-enum-told3) where
+  abbrev asked-sheet : tie.After-enum-told
+  asked-sheet = c .before .before .before
 
-mul-from : tie.Need-mul-from
-mul-from c = let q = filled-told _ _ (sym (c .before .before .ask-filled .ensures) ∙ ap asked (c .enum-told3 .given .1)) in omega (arith, q .place)
+  abbrev store : List ℕ
+  store = start asked-sheet .args .store .now
 
-add-from : tie.Need-add-from
-add-from c = let q = filled-told _ _ (sym (c .before .before .ask-filled .ensures) ∙ ap asked (c .enum-told3 .given .1)) in omega (arith, q .place)
+  abbrev name : ℕ
+  name = start asked-sheet .args .name
 
-add-to : tie.Need-add-to
-add-to c = let q = filled-told _ _ (sym (c .before .before .ask-filled .ensures) ∙ ap asked (c .enum-told3 .given .1)) in omega (arith, q .place)
+  abbrev book : List ℕ
+  book = start asked-sheet .args .book .now
 
-part-judge-kept-end : tie.Need-part-judge-kept-end
-part-judge-kept-end c = let q = filled-told _ _ (sym (c .before .before .ask-filled .ensures) ∙ ap asked (c .enum-told3 .given .1)) in omega (arith, q .place, store-told _ (q .named .sound) .size)
+  passes : askFilled store name ≡ passed tt
+  passes = sym (c .before .before .ask-filled .ensures) ∙ ap asked (c .enum-told3 .given .1)
+
+  held : Filled store name
+  held = filled-told store name passes
+
+  last-asked : askReturn (start asked-sheet .args .sheet .now) store name book ≡ askKept (placeIn store (name - 1)) book
+  last-asked = unfold askReturn in first-passes _ _ (sound asked-sheet) ∙ first-passes _ _ passes
 
 judge-kept-requires : tie.Need-judge-kept-requires
 judge-kept-requires c κs =
-    let s = c .before .before .before .before .before .before .before .before .before .before .before in
-    let t = s .args .store .now in
-    let q = filled-told t (s .args .name) (sym (c .before .before .before .ask-filled .ensures) ∙ ap asked (c .before .enum-told3 .given .1)) in
-    subst Sound (sym (place-part t (s .args .name - 1))) (place-sound t (λ p. omega (arith, c .before .before .before .before .before .before .before .before .before .shared-slice-known .given p)) (q .named .sound) (s .args .name - 1) (q .place) (q .held))
+    let q = c .before in
+    let k = held q in
+    rw (place-part (store q) (name q - 1))
+    (place-sound (store q) (λ p. omega (arith, asked-sheet q .before .before .before .before .before .shared-slice-known .given p)) (k .named .sound) (name q - 1) (k .place) (k .held))
 
-returns-3 : tie.Need-returns-3
-returns-3 c =
-    let s = c .before .before .before .before .before .before .before .before .before .before .before .before .before .before in
-    return-broken _ (s .args .store .now) (s .args .name) (s .args .book .now) (sym (c .before .before .before .before .before .before .before .before .before .check .ensures) ∙ ap asked (c .before .before .before .before .before .before .before .enum-told .given .1)) (sym (c .before .before .before .before .before .before .ask-filled .ensures) ∙ ap asked (c .before .before .before .before .enum-told3 .given .1)) _ _
-    (c .before .before .judge-kept .ensures ∙ ap (λ (k : List ℕ). askKept k (s .args .book .now)) (place-part (s .args .store .now) (s .args .name - 1))) (c .enum-told6 .given .1)
+-- the kept sheet is judged
+module _ (c : tie.After-judge-kept) where
+  abbrev told : tie.After-enum-told3
+  told = c .before .before
 
-part-copy-end : tie.Need-part-copy-end
-part-copy-end c = let q = filled-told _ _ (sym (c .before .before .before .before .before .before .before .ask-filled .ensures) ∙ ap asked (c .before .before .before .before .before .enum-told3 .given .1)) in omega (arith, q .place, store-told _ (q .named .sound) .size)
+  judged : asked (c .judge-kept .result) ≡ askReturn (start (asked-sheet told) .args .sheet .now) (store told) (name told) (book told)
+  judged = c .judge-kept .ensures ∙ ap (λ (k : List ℕ). askKept k (book told)) (place-part (store told) (name told - 1)) ∙ sym (last-asked told)
 
 copy-requires : tie.Need-copy-requires
 copy-requires c κs =
-    let s = c .before .before .before .before .before .before .before .before .before .before .before .before .before .before .before .before in
-    let t = s .args .store .now in
-    let q = filled-told t (s .args .name) (sym (c .before .before .before .before .before .before .before .before .ask-filled .ensures) ∙ ap asked (c .before .before .before .before .before .before .enum-told3 .given .1)) in
-    sound-length present (s .args .sheet .now) (sym (c .before .before .before .before .before .before .before .before .before .before .before .check .ensures) ∙ ap asked (c .before .before .before .before .before .before .before .before .before .enum-told .given .1))
-    ∙ sym (ap length (place-part t (s .args .name - 1)) ∙ length-place t (store-told t (q .named .sound) .size) (s .args .name - 1) (q .place))
+    let q = told (c .before .before .before .before) in
+    let k = held q in
+    sound-length present _ (sound (asked-sheet q)) ∙ sym (ap length (place-part (store q) (name q - 1)) ∙ length-place (store q) (k .named .size) (name q - 1) (k .place))
 
 returns-4 : tie.Need-returns-4
+unfolding returnedSheet
 returns-4 c =
-    let s = c .before .before .before .before .before .before .before .before .before .before .before .before .before .before .before .before .before .before .before in
-    return-done _ (s .args .store .now) (s .args .name) (s .args .book .now) (sym (c .before .before .before .before .before .before .before .before .before .before .before .before .before .before .check .ensures) ∙ ap asked (c .before .before .before .before .before .before .before .before .before .before .before .before .enum-told .given .1)) (sym (c .before .before .before .before .before .before .before .before .before .before .before .ask-filled .ensures) ∙ ap asked (c .before .before .before .before .before .before .before .before .before .enum-told3 .given .1)) _ _
-    (c .before .before .before .before .before .before .before .judge-kept .ensures ∙ ap (λ (k : List ℕ). askKept k (s .args .book .now)) (place-part (s .args .store .now) (s .args .name - 1))) (c .before .before .before .before .before .enum-told5 .given .1)
-    (c .before .before .copy .ensures ∙ place-part (s .args .store .now) (s .args .name - 1))
+    let d = c .before .before .before .before .before in
+    let q = told (d .before .before) in
+    goes _ _ _ (sym (judged (d .before .before)) ∙ ap asked (d .enum-told5 .given .1)) (c .before .before .copy .ensures ∙ place-part (store q) (name q - 1))
 
 pub return-to-spec : {M : Type 1} → statement M
 return-to-spec =
     tie.close
     (tie.spec
     (λ c κs. search needs) (λ c. search needs) (λ c. search needs) (λ c. search needs)
-    returns
-    (λ c κs. search needs) (λ c. search needs) (λ c. search needs) (λ c. search needs)
-    returns-2
-    sub-from
-    mul-from
-    add-from
-    add-to
+    (λ c. unfold returnedSheet askReturn in stops _ _ _ (c .enum-told2 .given .1) (first-stops _ _ (c .enum-told2 .given .1) (c .before .before .check .ensures)))
+    (λ c κs. search needs) (λ c. search needs) (λ c. search needs) (λ c. search needs) returns-2 (λ c. let k = held c in omega arith)
+    (λ c. let k = held c in omega arith) (λ c. let k = held c in omega arith) (λ c. let k = held c in omega arith) (λ c. search needs)
+    (λ c. search needs) (λ c. let k = held c in omega arith) judge-kept-requires (λ c. search needs) (λ c. search needs) (λ c. search needs)
+    (λ c. unfold returnedSheet in stops _ _ _ (c .enum-told6 .given .1) (judged (c .before .before)))
     (λ c. search needs) (λ c. search needs)
-    part-judge-kept-end
-    judge-kept-requires
-    (λ c. search needs) (λ c. search needs) (λ c. search needs)
-    returns-3
-    (λ c. search needs) (λ c. search needs)
-    part-copy-end
-    copy-requires
-    (λ c. search needs)
-    returns-4)
+    (λ c. let k = held (told (c .before .before .before)) in omega arith)
+    copy-requires (λ c. search needs) returns-4)

@@ -5,7 +5,7 @@ use native.Mathlib.Omega.{arith}
 use borrow.Author.Needs.{needs}
 use lib.Bits.{bitOr}
 use Rattle.sheet.specs.Masks.{zerosAt}
-use Rattle.plan_store.proofs.Bytes.{Zero, zero-none, zero-more, zero-test}
+use Rattle.plan_store.proofs.ByteLoops.{Zero, zero-none, zero-more, zero-test}
 use Rattle.plan_store.proofs.zeros.Statement.{statement}
 use Rattle.plan_store.proofs.zeros.Tie as tie
 
@@ -14,9 +14,6 @@ Inv-loop s at count all₀ j₀ all j = (j ≤ count) × Zero s at j all
 
 abbrev μ-loop : tie.MeasureT-loop
 μ-loop s at count all₀ j₀ all j = count - j
-
-loop-holds : tie.Need-loop-holds Inv-loop μ-loop
-loop-holds c = (search needs, zero-none _ _)
 
 loop-again : tie.Need-loop-again Inv-loop μ-loop
 loop-again c =
@@ -38,9 +35,5 @@ pub zeros-spec : {M : Type 1} → statement M
 zeros-spec =
     tie.close
     (tie.spec
-    Inv-loop
-    μ-loop
-    loop-holds
-    (λ c. search needs) (λ c. search needs) (λ c κs. search needs) (λ c. search needs) (λ c. search needs)
-    loop-again
-    returns)
+    Inv-loop μ-loop (λ c. (search needs, zero-none _ _)) (λ c. search needs) (λ c. search needs) (λ c κs. search needs) (λ c. search needs)
+    (λ c. search needs) loop-again returns)

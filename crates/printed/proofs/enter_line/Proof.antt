@@ -1,6 +1,6 @@
 use mathlib.Core.Path.{_∙_, ap}
 use borrow.Author.Needs.{needs}
-use Rattle.line.specs.Line.{askedLine}
+use Rattle.printed.specs.AnswerLine.{askedLine}
 use Rattle.printed.proofs.enter_line.Statement.{statement}
 use Rattle.printed.proofs.enter_line.Tie as tie
 

@@ -2,18 +2,16 @@ use mathlib.Core.Path.{_∙_, ap}
 use native.Mathlib.Omega.{arith}
 use borrow.Author.Needs.{needs}
 use Rattle.ends.specs.Shapes.{shapes, shapeOf}
-use Rattle.ends.proofs.Places.{inside}
-use Rattle.rewrite_counts.proofs.Turns.{count-at, least-here, most-here, nothing-here}
+use Rattle.ends.proofs.TreePlaces.{inside}
+use Rattle.rewrite_counts.proofs.RewriterTurns.{count-at, least-here, most-here, nothing-here}
 use Rattle.rewrite_counts.proofs.in_place.Statement.{statement}
 use Rattle.rewrite_counts.proofs.in_place.Tie as tie
 
 add-least : tie.Need-add-least-in-place
-unfolding shapes
-add-least c = let s = c .before .before .before in omega (arith, count-at _ _ _ (s .pre .stands) (ap shapeOf (c .if1 .taken)) .room, s .good .0 .0)
+add-least c = unfold shapes in let s = c .before .before .before in omega (arith, count-at _ _ _ (s .pre .stands) (ap shapeOf (c .if1 .taken)) .room, s .good .0 .0)
 
 read-least : tie.Need-shared-slice-read-least-in-place
-unfolding shapes
-read-least c = let s = c .before .before .before .before in omega (arith, count-at _ _ _ (s .pre .stands) (ap shapeOf (c .before .if1 .taken)) .room)
+read-least c = unfold shapes in let s = c .before .before .before .before in omega (arith, count-at _ _ _ (s .pre .stands) (ap shapeOf (c .before .if1 .taken)) .room)
 
 add-most : tie.Need-add-most-in-place
 unfolding shapes
@@ -27,13 +25,8 @@ pub in-place-spec : {M : Type 1} → statement M
 in-place-spec =
     tie.close
     (tie.spec
-    (λ c. inside _ _ _ (c .before .before .pre .stands))
-    add-least
-    read-least
-    (λ c κs. search needs)
+    (λ c. inside _ _ _ (c .before .before .pre .stands)) add-least read-least (λ c κs. search needs)
     (λ c t h. c .least-in-place .ensures ∙ least-here _ _ t h (c .before .before .if1 .taken))
-    add-most
-    read-most
-    (λ c κs. search needs)
+    add-most read-most (λ c κs. search needs)
     (λ c t h. c .most-in-place .ensures ∙ most-here _ _ t h (c .before .before .if2 .taken))
     (λ c t h. nothing-here _ _ t h (c .before .if1 .left) (c .if2 .left)))

@@ -5,12 +5,10 @@ use Rattle.rewrite_counts.proofs.most_in_place.Statement.{statement}
 use Rattle.rewrite_counts.proofs.most_in_place.Tie as tie
 
 above : tie.Need-returns
-unfolding mostInPlace
-above c = rw (le-ltb (c .before .args .count) 60 (omega (arith, c .if1 .taken)))
+above c = unfold mostInPlace in rw (le-ltb (c .before .args .count) 60 (omega (arith, c .if1 .taken)))
 
 within : tie.Need-returns-2
-unfolding mostInPlace
-within c = rw (lt-ltb (c .before .args .count) 60 (omega (arith, c .if1 .left)))
+within c = unfold mostInPlace in rw (lt-ltb (c .before .args .count) 60 (omega (arith, c .if1 .left)))
 
 pub most-in-place-spec : {M : Type 1} → statement M
 most-in-place-spec = tie.close (tie.spec above within)

@@ -1,4 +1,4 @@
-use mathlib.Core.Path.{_≡_, refl, ap, ap₂, _∙_}
+use mathlib.Core.Path.{_≡_, refl, ap, ap₂, _∙_, subst}
 use mathlib.Core.List.{List}
 use Prim.Native.Nat.{ℕ, _≤_, _<_, _-_, _*_, _%_, _+_, _/_}
 use native.Mathlib.Nat.{mul-le-mul, lt-of-le-of-lt, le-antisymm}
@@ -6,9 +6,9 @@ use lib.Dec.{lit<}
 use native.Mathlib.Numerals.{add-one}
 use native.Mathlib.Omega.{arith}
 use borrow.Author.Needs.{needs}
-use lib.ListN.{getD}
+use Rattle.bitset.specs.Words.{Bytes}
 use Rattle.seal.specs.Lanes.{oddsAt, pairsAt, fourAt, beforeAt, laneSum, lanePlaces, upTo, total, weighed}
-use Rattle.seal.proofs.Parts.{across, across-is, s-right, t-right}
+use Rattle.seal.proofs.LaneTotals.{across, across-is, block-right}
 use Rattle.seal.proofs.block_totals.Statement.{statement}
 use Rattle.seal.proofs.block_totals.Tie as tie
 
@@ -37,10 +37,9 @@ loop-holds c = record { within = omega arith; first-low = omega arith; second-lo
 
 -- a sum of lanes counted up to 8 times
 product : (x j : ℕ) → x % 0x10000 * (8 - j) ≤ 524280
-product x j = mul-le-mul {n₂ = 0xFFFF} {m₂ = 8} (below x) (omega arith)
-  where
-    below : (x : ℕ) → x % 0x10000 ≤ 0xFFFF
-    below x = omega arith
+product x j = mul-le-mul {n₂ = 0xFFFF} {m₂ = 8} (below x) (omega arith) where
+  below : (x : ℕ) → x % 0x10000 ≤ 0xFFFF
+  below x = omega arith
 
 more-fits : (x y j : ℕ) → j ≤ 8 → x ≤ 524280 * j → y ≤ 524280 → x + y < 0x10000000000000000
 more-fits x y j h f g = omega arith
@@ -52,30 +51,35 @@ halves-low x y f g = omega arith
 once-more : (x : ℕ) → x ≤ 0x0FF00FF01FE01FE0 → x + x / 0x10000 < 0x10000000000000000
 once-more x h = omega arith
 
-add-halves : tie.Need-add-halves Inv-loop μ-loop
-add-halves c = record { fits = lt-of-le-of-lt (halves-low _ _ (c .before .before .before .before .before .before .before .before .before .four-words .ensures .1 .0) (c .before .before .before .before .before .before .before .before .four-words2 .ensures .1 .0)) (lit< tt) }
+-- the earlier places in the loop, and after it
+abbrev words : tie.After-struct-known8 Inv-loop μ-loop → tie.After-four-words2 Inv-loop μ-loop
+words c = c .before .before .before .before .before .before .before .before
 
-add-z : tie.Need-add-z Inv-loop μ-loop
-add-z c = record { fits = once-more _ (halves-low _ _ (c .before .before .before .before .before .before .before .before .before .four-words .ensures .1 .0) (c .before .before .before .before .before .before .before .before .four-words2 .ensures .1 .0)) }
+abbrev at : tie.After-struct-known8 Inv-loop μ-loop → tie.At-loop Inv-loop μ-loop
+at c = words c .before .before .before
 
-mul-z : tie.Need-mul-z Inv-loop μ-loop
-mul-z c = record { fits = lt-of-le-of-lt (product _ (c .before .before .before .before .before .before .before .before .before .before .before .loop .j)) (lit< tt) }
+abbrev ended : tie.After-places Inv-loop μ-loop → tie.At-loop Inv-loop μ-loop
+ended c = c .before .before .before .before .before
 
-add-z-2 : tie.Need-add-z-2 Inv-loop μ-loop
-add-z-2 c = let l = c .before .before .before .before .before .before .before .before .before .before .before .loop in record { fits = more-fits (l .z) _ (l .j) (l .inv .within) (l .inv .z-low) (product _ (l .j)) }
+abbrev block : tie.At-loop Inv-loop μ-loop → List ℕ
+block c = c .before .before .args .block .now
+
+are-bytes : (c : tie.At-loop Inv-loop μ-loop) → Bytes (block c)
+are-bytes c p = omega (arith, c .before .shared-slice-known .given p)
+
+eights-low : (c : tie.After-struct-known8 Inv-loop μ-loop) → let e = words c .before .four-words .result .sum + words c .four-words2 .result .sum in e + e / 0x100000000 ≤ 0x0FF00FF01FE01FE0
+eights-low c = halves-low _ _ (words c .before .four-words .ensures .1 .0) (words c .four-words2 .ensures .1 .0)
 
 loop-again : tie.Need-loop-again Inv-loop μ-loop
 unfolding upTo
 loop-again c =
-    let l = c .before .before .before .before .before .before .before .before .before .before .before .loop in
-    let x = c .before .before .before .before .before .before .before .before .before .four-words in
-    let y = c .before .before .before .before .before .before .before .before .four-words2 in
+    let l = at c .loop in
+    let x = words c .before .four-words in
+    let y = words c .four-words2 in
     let eight = x .result .sum + y .result .sum in
-    let k = c .before .before .before .before .before .before .before .before .before .before .before .before .before .args .block .now in
-    let small : (p : ℕ) → getD k p 0 < 256 = λ p. omega (arith, c .before .before .before .before .before .before .before .before .before .before .before .before .shared-slice-known .given p) in
     rw (add-one (l .j))
     (record {
-      within = c .before .before .before .before .before .before .before .before .before .before .loop-test .taken;
+      within = words c .before .before .loop-test .taken;
       first-low = omega (arith, l .inv .first-low, x .ensures .1 .0);
       second-low = omega (arith, l .inv .second-low, y .ensures .1 .0);
       before-low = omega (arith, l .inv .before-low, x .ensures .1 .1, y .ensures .1 .1);
@@ -85,29 +89,20 @@ loop-again c =
       second-is = ap₂ _+_ (l .inv .second-is) (y .ensures .0 .0);
       before-is = ap₂ _+_ (l .inv .before-is) (ap₂ _+_ (x .ensures .0 .1) (y .ensures .0 .1));
       odds-is = ap₂ _+_ (l .inv .odds-is) (ap₂ _+_ (x .ensures .0 .2) (y .ensures .0 .2));
-      z-is = ap₂ _+_ (l .inv .z-is) (ap (_* (8 - l .j)) (across-is k small (l .j) eight (ap₂ _+_ (x .ensures .0 .0) (y .ensures .0 .0))));
+      z-is = ap₂ _+_ (l .inv .z-is) (ap (_* (8 - l .j)) (across-is (block (at c)) (are-bytes (at c)) (l .j) eight (ap₂ _+_ (x .ensures .0 .0) (y .ensures .0 .0))));
     })
 
 -- the totals, and what is taken off of t
-right : (c : tie.After-places Inv-loop μ-loop)
-    → (laneSum (c .before .before .before .before .before .loop .first + c .before .before .before .before .before .loop .second) ≡ total (c .before .before .before .before .before .before .before .args .block .now))
-    × (8 * (c .before .before .before .before .before .loop .z + 8 * (c .before .before .before .lane-sum .result + 4 * c .before .before .lane-sum2 .result)) ≡ weighed (c .before .before .before .before .before .before .before .args .block .now) + lanePlaces (c .before .before .before .before .before .loop .first + c .before .before .before .before .before .loop .second) (c .before .before .before .before .before .loop .odds))
+right : (c : tie.After-places Inv-loop μ-loop) → let l = ended c .loop in let k = block (ended c) in
+    (laneSum (l .first + l .second) ≡ total k)
+    × (8 * (l .z + 8 * (c .before .before .before .lane-sum .result + 4 * c .before .before .lane-sum2 .result)) ≡ weighed k + lanePlaces (l .first + l .second) (l .odds))
 right c =
-    let l = c .before .before .before .before .before .loop in
-    let v = l .inv in
-    let k = c .before .before .before .before .before .before .before .args .block .now in
-    let small : (p : ℕ) → getD k p 0 < 256 = λ p. omega (arith, c .before .before .before .before .before .before .shared-slice-known .given p) in
-    let e : l .j ≡ 8 = le-antisymm (v .within) (c .before .before .before .before .loop-test .left) in
-    let first-is = v .first-is ∙ ap (upTo (λ i. fourAt pairsAt k (8 * i))) e in
-    let second-is = v .second-is ∙ ap (upTo (λ i. fourAt pairsAt k (8 * i + 256))) e in
-    let before-is = v .before-is ∙ ap (upTo (λ i. beforeAt k (8 * i) + beforeAt k (8 * i + 256))) e in
-    let odds-is = v .odds-is ∙ ap (upTo (λ i. fourAt oddsAt k (8 * i) + fourAt oddsAt k (8 * i + 256))) e in
-    let z-is = v .z-is ∙ ap (upTo (λ i. across k i * (8 - i))) e in
-    let h = c .before .before .before .before .before .before .before .pre in (
-      s-right k small h (l .first) (l .second) (l .before) (l .odds) (l .z) first-is second-is before-is odds-is z-is,
-      ap₂ (λ x y. 8 * (l .z + 8 * (x + 4 * y))) (c .before .before .before .lane-sum .ensures .0) (c .before .before .lane-sum2 .ensures .0)
-          ∙ t-right k small h (l .first) (l .second) (l .before) (l .odds) (l .z) first-is second-is before-is odds-is z-is,
-    )
+    let l = ended c .loop in
+    let k = block (ended c) in
+    let e : l .j ≡ 8 = le-antisymm (l .inv .within) (c .before .before .before .before .loop-test .left) in
+    let v = subst (Inv k (l .first) (l .second) (l .before) (l .odds) (l .z)) e (l .inv) in
+    let both = block-right k (are-bytes (ended c)) (ended c .before .before .pre) (l .first) (l .second) (l .before) (l .odds) (l .z) (v .first-is) (v .second-is) (v .before-is) (v .odds-is) (v .z-is) in
+    (both .0, ap₂ (λ x y. 8 * (l .z + 8 * (x + 4 * y))) (c .before .before .before .lane-sum .ensures .0) (c .before .before .lane-sum2 .ensures .0) ∙ both .1)
 
 -- what is taken off is there
 there : (x w p off : ℕ) → x ≡ w + p → off ≡ p → off ≤ x
@@ -116,29 +111,18 @@ there x w p off e f = omega arith
 less : (x w p off : ℕ) → x ≡ w + p → off ≡ p → x - off ≡ w
 less x w p off e f = omega arith
 
-sub-t : tie.Need-sub-t27 Inv-loop μ-loop
-sub-t c = there _ _ _ _ (right c .1) (c .places .ensures .0)
-
-returns : tie.Need-returns Inv-loop μ-loop
-returns c = (c .before .lane-sum3 .ensures .0 ∙ right c .0, less _ _ _ _ (right c .1) (c .places .ensures .0))
-
 pub block-totals-spec : {M : Type 1} → statement M
 block-totals-spec =
     tie.close
     (tie.spec
-    Inv-loop
-    μ-loop
-    loop-holds
-    (λ c. search needs) (λ c κs. search needs) (λ c. search needs) (λ c. search needs) (λ c κs. search needs) (λ c. search needs) (λ c. search needs)
-    (λ c. search needs) (λ c. search needs) (λ c. search needs) (λ c. search needs) (λ c. search needs)
-    add-halves
+    Inv-loop μ-loop loop-holds (λ c. search needs) (λ c κs. search needs) (λ c. search needs) (λ c. search needs) (λ c κs. search needs)
+    (λ c. search needs) (λ c. search needs) (λ c. search needs) (λ c. search needs) (λ c. search needs) (λ c. search needs)
     (λ c. search needs)
-    add-z
-    mul-z
-    add-z-2
-    (λ c. search needs) (λ c. search needs)
-    loop-again
-    (λ c. search needs) (λ c κs. search needs) (λ c κs. search needs) (λ c. search needs) (λ c. search needs) (λ c κs. search needs)
-    (λ c. search needs) (λ c. search needs) (λ c. search needs) (λ c κs. search needs)
-    sub-t
-    returns)
+    (λ c. record { fits = lt-of-le-of-lt (eights-low c) (lit< tt) })
+    (λ c. search needs) (λ c. record { fits = once-more _ (eights-low c) })
+    (λ c. record { fits = lt-of-le-of-lt (product _ (at c .loop .j)) (lit< tt) })
+    (λ c. let l = at c .loop in record { fits = more-fits (l .z) _ (l .j) (l .inv .within) (l .inv .z-low) (product _ (l .j)) })
+    (λ c. search needs) (λ c. search needs) loop-again (λ c. search needs) (λ c κs. search needs) (λ c κs. search needs) (λ c. search needs)
+    (λ c. search needs) (λ c κs. search needs) (λ c. search needs) (λ c. search needs) (λ c. search needs) (λ c κs. search needs)
+    (λ c. there _ _ _ _ (right c .1) (c .places .ensures .0))
+    (λ c. (c .before .lane-sum3 .ensures .0 ∙ right c .0, less _ _ _ _ (right c .1) (c .places .ensures .0))))

@@ -15,8 +15,4 @@ returns c =
     c .before .before .put-sums .ensures ∙ ap₂ (λ (x y : ℕ). take 508 k ++ stored modulo257 (record { s = x; t = y })) (r .0 .0) (r .0 .1)
 
 pub seal-spec : {M : Type 1} → statement M
-seal-spec =
-    tie.close
-    (tie.spec
-    (λ c κs. search needs) (λ c κs. search needs) (λ c. search needs)
-    returns)
+seal-spec = tie.close (tie.spec (λ c κs. search needs) (λ c κs. search needs) (λ c. search needs) returns)

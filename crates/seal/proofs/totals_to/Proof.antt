@@ -7,7 +7,7 @@ use borrow.Author.Needs.{needs}
 use lib.ListN.{length, getD, take}
 use lib.Seq.{take-all}
 use Rattle.seal.specs.Lanes.{total, weighed}
-use Rattle.seal.proofs.WordSums.{S, T, S-next, T-next}
+use Rattle.seal.proofs.WordSums.{S, T, next-byte}
 use Rattle.seal.proofs.totals_to.Statement.{statement}
 use Rattle.seal.proofs.totals_to.Tie as tie
 
@@ -33,20 +33,17 @@ loop-holds c =
 
 -- a byte taken off
 module _ (l : List ℕ) (end s t i : ℕ) (v : Inv l end s t i) (h : end < i) (n : length l ≡ 512) where
-  last : S l i ≡ S l (i - 1) + getD l (i - 1) 0
-  last = S-next l (i - 1) i (omega arith) (omega (arith, v .to))
-
-  t-last : T l i ≡ T l (i - 1) + S l i
-  t-last = T-next l (i - 1) i (omega arith) (omega (arith, v .to)) ∙ ap (T l (i - 1) +_) (sym last)
+  last : (S l i ≡ S l (i - 1) + getD l (i - 1) 0) × (T l i ≡ T l (i - 1) + (S l (i - 1) + getD l (i - 1) 0))
+  last = next-byte l (i - 1) i (omega arith) (omega (arith, v .to))
 
   pub s-there : s ≤ t
-  s-there = omega (arith, v .s-is, v .t-is, t-last)
+  s-there = omega (arith, v .s-is, v .t-is, last)
 
   pub byte-there : (b : ℕ) → b ≡ getD l (i - 1) 0 → b ≤ s
-  byte-there b e = omega (arith, v .s-is, last)
+  byte-there b e = omega (arith, v .s-is, last .0)
 
   pub less : (b : ℕ) → b ≡ getD l (i - 1) 0 → Inv l end (s - b) (t - s) (i - 1)
-  less b e = record { from = omega arith; to = omega (arith, v .to); s-is = omega (arith, v .s-is, last); t-is = omega (arith, v .s-is, v .t-is, t-last) }
+  less b e = record { from = omega arith; to = omega (arith, v .to); s-is = omega (arith, v .s-is, last .0); t-is = omega (arith, v .s-is, v .t-is, last) }
 
 sub-t : tie.Need-sub-t Inv-loop μ-loop
 sub-t c =
@@ -77,14 +74,5 @@ pub totals-to-spec : {M : Type 1} → statement M
 totals-to-spec =
     tie.close
     (tie.spec
-    Inv-loop
-    μ-loop
-    (λ c κs. search needs)
-    loop-holds
-    (λ c. search needs)
-    sub-t
-    (λ c. search needs) (λ c κs. search needs)
-    sub-s
-    (λ c. search needs)
-    loop-again
-    returns)
+    Inv-loop μ-loop (λ c κs. search needs) loop-holds (λ c. search needs) sub-t (λ c. search needs) (λ c κs. search needs) sub-s
+    (λ c. search needs) loop-again returns)

@@ -6,7 +6,7 @@ use lib.ListN.{drop}
 use Rattle.answer.specs.Asked.{outcome}
 use Rattle.text.specs.Questions.{readRules, askBook}
 use Rattle.text.specs.Rows.{limitsOf, stepAnswer}
-use Rattle.text.proofs.Answers.{book-long, book-short, rules-end, rules-full, rules-next, rules-stopped}
+use Rattle.text.proofs.TextStages.{book-long, book-short, rules-end, rules-full, rules-next, rules-stopped}
 use Rattle.text.proofs.book_within.Statement.{statement}
 use Rattle.text.proofs.book_within.Tie as tie
 
@@ -16,27 +16,6 @@ Inv-loop book limits p₀ left₀ p left = outcome (readRules (limitsOf limits) 
 abbrev μ-loop : tie.MeasureT-loop
 μ-loop book limits p₀ left₀ p left = left
 
-returns : tie.Need-returns Inv-loop μ-loop
-returns c = book-long _ _ (c .if1 .taken)
-
-loop-holds : tie.Need-loop-holds Inv-loop μ-loop
-loop-holds c = book-short _ _ (c .if1 .left)
-
-returns-2 : tie.Need-returns-2 Inv-loop μ-loop
-returns-2 c = rules-full _ _ _ _ (c .before .loop-test .taken) (c .if2 .taken) ∙ c .before .before .loop .inv
-
-read-requires : tie.Need-read-requires Inv-loop μ-loop
-read-requires c κs = search needs
-
-enum-known-step : tie.Need-enum-known-step Inv-loop μ-loop
-enum-known-step c = search needs
-
-enum-told : tie.Need-enum-told Inv-loop μ-loop
-enum-told c = search needs
-
-book-answer-requires : tie.Need-book-answer-requires Inv-loop μ-loop
-book-answer-requires c κs = search needs
-
 returns-3 : tie.Need-returns-3 Inv-loop μ-loop
 returns-3 c =
     c .book-answer .ensures
@@ -44,20 +23,19 @@ returns-3 c =
     ∙ rules-stopped _ _ _ _ (c .before .before .before .before .before .loop-test .taken) (c .before .before .before .before .if2 .left) (sym (c .before .before .before .read .ensures) ∙ c .before .enum-told .given .1)
     ∙ c .before .before .before .before .before .before .loop .inv
 
-sub-left : tie.Need-sub-left Inv-loop μ-loop
-sub-left c = omega (arith, c .before .before .before .before .if2 .left)
-
-loop-less : tie.Need-loop-less Inv-loop μ-loop
-loop-less c = omega (arith, c .before .before .before .before .if2 .left)
-
 loop-again : tie.Need-loop-again Inv-loop μ-loop
 loop-again c =
     rules-next _ _ _ _ (c .before .before .before .before .before .loop-test .taken) (c .before .before .before .before .if2 .left) (sym (c .before .before .before .read .ensures) ∙ c .before .step .given .1)
     ∙ c .before .before .before .before .before .before .loop .inv
 
-returns-4 : tie.Need-returns-4 Inv-loop μ-loop
-returns-4 c = rules-end _ _ _ _ (c .loop-test .left) ∙ c .before .loop .inv
-
 pub book-within-spec : {M : Type 1} → statement M
 book-within-spec =
-    tie.close (tie.spec Inv-loop μ-loop (λ c. search needs) returns loop-holds returns-2 read-requires enum-known-step enum-told book-answer-requires returns-3 sub-left loop-less loop-again returns-4)
+    tie.close
+    (tie.spec
+    Inv-loop μ-loop (λ c. search needs) (λ c. book-long _ _ (c .if1 .taken)) (λ c. book-short _ _ (c .if1 .left))
+    (λ c. rules-full _ _ _ _ (c .before .loop-test .taken) (c .if2 .taken) ∙ c .before .before .loop .inv)
+    (λ c κs. search needs) (λ c. search needs) (λ c. search needs) (λ c κs. search needs) returns-3
+    (λ c. omega (arith, c .before .before .before .before .if2 .left))
+    (λ c. omega (arith, c .before .before .before .before .if2 .left))
+    loop-again
+    (λ c. rules-end _ _ _ _ (c .loop-test .left) ∙ c .before .loop .inv))

@@ -5,27 +5,6 @@ use Rattle.text.specs.Rows.{stepAnswer}
 use Rattle.text.proofs.edit_answer.Statement.{statement}
 use Rattle.text.proofs.edit_answer.Tie as tie
 
-enum-told : tie.Need-enum-told
-enum-told c = search needs
-
-enum-known-step : tie.Need-enum-known-step
-enum-known-step c = search needs
-
-enum-known-stop : tie.Need-enum-known-stop
-enum-known-stop c = search needs
-
-enum-known-stop-2 : tie.Need-enum-known-stop-2
-enum-known-stop-2 c = search needs
-
-enum-known-stop-3 : tie.Need-enum-known-stop-3
-enum-known-stop-3 c = search needs
-
-enum-known-stop-4 : tie.Need-enum-known-stop-4
-enum-known-stop-4 c = search needs
-
-returns : tie.Need-returns
-returns c = search needs
-
 returns-2 : tie.Need-returns-2
 returns-2 c = sym (ap (stepAnswer 20) (c .before .before .before .before .step .given .1 ∙ ap Stopped (c .before .stop .given .1)))
 
@@ -40,4 +19,7 @@ returns-5 c = sym (ap (stepAnswer 20) (c .before .before .before .before .step .
 
 pub edit-answer-spec : {M : Type 1} → statement M
 edit-answer-spec =
-    tie.close (tie.spec enum-told enum-known-step enum-known-stop enum-known-stop-2 enum-known-stop-3 enum-known-stop-4 returns returns-2 returns-3 returns-4 returns-5)
+    tie.close
+    (tie.spec
+    (λ c. search needs) (λ c. search needs) (λ c. search needs) (λ c. search needs) (λ c. search needs) (λ c. search needs)
+    (λ c. search needs) returns-2 returns-3 returns-4 returns-5)

@@ -16,15 +16,6 @@ Inv-loop text limits wanted at rows₀ level₀ row₀ p₀ rows level row p = (
 abbrev μ-loop : tie.MeasureT-loop
 μ-loop text limits wanted at rows₀ level₀ row₀ p₀ rows level row p = 2 * (length text - p) + level
 
-loop-holds : tie.Need-loop-holds Inv-loop μ-loop
-loop-holds c = (to-begin _ _ _ _ _ (omega arith) (omega arith), omega arith, omega arith, omega arith, no-rows)
-
-returns : tie.Need-returns Inv-loop μ-loop
-returns c = ended _ _ _ _ _ _ (c .before .if1 .taken) (c .if2 .taken) ∙ c .before .before .loop .inv .0
-
-loop-less : tie.Need-loop-less Inv-loop μ-loop
-loop-less c = omega (arith, c .if2 .left)
-
 loop-again : tie.Need-loop-again Inv-loop μ-loop
 loop-again c =
     let l = c .before .before .loop in
@@ -35,13 +26,11 @@ returns-2 c =
     let l = c .before .before .loop in
     missing _ _ _ _ _ _ (l .inv .1) (c .before .if1 .left) (omega (arith, l .inv .2, l .inv .3, l .inv .4 .all)) (c .if3 .taken) ∙ l .inv .0
 
-loop-less-2 : tie.Need-loop-less-2 Inv-loop μ-loop
-loop-less-2 c = omega (arith, c .before .before .before .before .if3 .left)
-
 loop-again-2 : tie.Need-loop-again-2 Inv-loop μ-loop
 loop-again-2 c =
     let l = c .before .before .before .before .before .before .loop in (
-      number-good _ _ _ _ _ _ (l .inv .1) (c .before .before .before .before .before .if1 .left) (c .before .before .before .if4 .taken) (c .before .before .before .before .if3 .left) (sym (c .before .in-range .ensures) ∙ c .if5 .taken) ∙ l .inv .0,
+      number-good _ _ _ _ _ _ (l .inv .1) (c .before .before .before .before .before .if1 .left) (c .before .before .before .if4 .taken)
+          (c .before .before .before .before .if3 .left) (sym (c .before .in-range .ensures) ∙ c .if5 .taken) ∙ l .inv .0,
       omega (arith, l .inv .1),
       l .inv .2,
       l .inv .3,
@@ -51,20 +40,22 @@ loop-again-2 c =
 returns-3 : tie.Need-returns-3 Inv-loop μ-loop
 returns-3 c =
     let l = c .before .before .before .before .before .before .loop in
-    number-bad _ _ _ _ _ _ (l .inv .1) (c .before .before .before .before .before .if1 .left) (c .before .before .before .if4 .taken) (c .before .before .before .before .if3 .left) (sym (c .before .in-range .ensures) ∙ c .if5 .left) ∙ l .inv .0
+    number-bad _ _ _ _ _ _ (l .inv .1) (c .before .before .before .before .before .if1 .left) (c .before .before .before .if4 .taken)
+    (c .before .before .before .before .if3 .left) (sym (c .before .in-range .ensures) ∙ c .if5 .left) ∙ l .inv .0
 
 returns-4 : tie.Need-returns-4 Inv-loop μ-loop
 returns-4 c =
     let l = c .before .before .before .before .before .before .loop in
-    code-wrong _ _ _ _ _ _ (l .inv .1) (c .before .before .before .before .before .if1 .left) (c .before .before .before .if4 .left) (c .before .before .before .before .if3 .left) (omega (arith, l .inv .2, l .inv .3, l .inv .4 .all)) (λ e. c .if6 .taken (c .before .sort-of .ensures ∙ e)) ∙ l .inv .0
-
-loop-less-3 : tie.Need-loop-less-3 Inv-loop μ-loop
-loop-less-3 c = omega (arith, c .before .before .before .before .before .before .if3 .left)
+    code-wrong _ _ _ _ _ _ (l .inv .1) (c .before .before .before .before .before .if1 .left) (c .before .before .before .if4 .left)
+    (c .before .before .before .before .if3 .left) (omega (arith, l .inv .2, l .inv .3, l .inv .4 .all)) (λ e. c .if6 .taken (c .before .sort-of .ensures ∙ e)) ∙ l .inv
+    .0
 
 loop-again-3 : tie.Need-loop-again-3 Inv-loop μ-loop
 loop-again-3 c =
     let l = c .before .before .before .before .before .before .before .before .loop in (
-      code-on _ _ _ _ _ _ (l .inv .1) (c .before .before .before .before .before .before .before .if1 .left) (c .before .before .before .before .before .if4 .left) (c .before .before .before .before .before .before .if3 .left) (sym (c .before .before .before .sort-of .ensures) ∙ c .before .before .if6 .left) _ (c .before .row-of .ensures) (c .if7 .taken) (l .inv .2) ∙ l .inv .0,
+      code-on _ _ _ _ _ _ (l .inv .1) (c .before .before .before .before .before .before .before .if1 .left) (c .before .before .before .before .before .if4 .left)
+          (c .before .before .before .before .before .before .if3 .left) (sym (c .before .before .before .sort-of .ensures) ∙ c .before .before .if6 .left) _
+          (c .before .row-of .ensures) (c .if7 .taken) (l .inv .2) ∙ l .inv .0,
       subst (λ r. r < 65536) (sym (c .before .row-of .ensures)) (row-small _),
       l .inv .2,
       l .inv .3,
@@ -74,15 +65,18 @@ loop-again-3 c =
 returns-5 : tie.Need-returns-5 Inv-loop μ-loop
 returns-5 c =
     let l = c .before .before .before .before .before .before .before .before .before .before .loop in
-    code-deep _ _ _ _ _ _ (l .inv .1) (c .before .before .before .before .before .before .before .before .before .if1 .left) (c .before .before .before .before .before .before .before .if4 .left) (c .before .before .before .before .before .before .before .before .if3 .left) (sym (c .before .before .before .before .before .sort-of .ensures) ∙ c .before .before .before .before .if6 .left) (c .before .before .if7 .left) (omega (arith, l .inv .2, l .inv .3, l .inv .4 .all)) (c .if8 .taken) ∙ l .inv .0
-
-loop-less-4 : tie.Need-loop-less-4 Inv-loop μ-loop
-loop-less-4 c = omega (arith, c .before .before .before .before .before .before .before .before .if3 .left)
+    code-deep _ _ _ _ _ _ (l .inv .1) (c .before .before .before .before .before .before .before .before .before .if1 .left)
+    (c .before .before .before .before .before .before .before .if4 .left) (c .before .before .before .before .before .before .before .before .if3 .left)
+    (sym (c .before .before .before .before .before .sort-of .ensures) ∙ c .before .before .before .before .if6 .left) (c .before .before .if7 .left)
+    (omega (arith, l .inv .2, l .inv .3, l .inv .4 .all)) (c .if8 .taken) ∙ l .inv .0
 
 loop-again-4 : tie.Need-loop-again-4 Inv-loop μ-loop
 loop-again-4 c =
     let l = c .before .before .before .before .before .before .before .before .before .before .loop in (
-      code-down _ _ _ _ _ _ (l .inv .1) (c .before .before .before .before .before .before .before .before .before .if1 .left) (c .before .before .before .before .before .before .before .if4 .left) (c .before .before .before .before .before .before .before .before .if3 .left) (sym (c .before .before .before .before .before .sort-of .ensures) ∙ c .before .before .before .before .if6 .left) _ (c .before .before .before .row-of .ensures) (c .before .before .if7 .left) (omega (arith, l .inv .2, l .inv .3, l .inv .4 .all)) (c .if8 .left) ∙ l .inv .0,
+      code-down _ _ _ _ _ _ (l .inv .1) (c .before .before .before .before .before .before .before .before .before .if1 .left)
+          (c .before .before .before .before .before .before .before .if4 .left) (c .before .before .before .before .before .before .before .before .if3 .left)
+          (sym (c .before .before .before .before .before .sort-of .ensures) ∙ c .before .before .before .before .if6 .left) _ (c .before .before .before .row-of .ensures)
+          (c .before .before .if7 .left) (omega (arith, l .inv .2, l .inv .3, l .inv .4 .all)) (c .if8 .left) ∙ l .inv .0,
       subst (λ r. r < 65536) (sym (c .before .before .before .row-of .ensures)) (row-small _),
       omega (arith, c .if8 .left),
       l .inv .3,
@@ -93,30 +87,19 @@ pub read-spec : {M : Type 1} → statement M
 read-spec =
     tie.close
     (tie.spec
-    Inv-loop
-    μ-loop
-    (λ c. search needs)
-    loop-holds
-    returns
+    Inv-loop μ-loop (λ c. search needs)
+    (λ c. (to-begin _ _ _ _ _ (omega arith) (omega arith), omega arith, omega arith, omega arith, no-rows))
+    (λ c. ended _ _ _ _ _ _ (c .before .if1 .taken) (c .if2 .taken) ∙ c .before .before .loop .inv .0)
     (λ c. search needs) (λ c. search needs)
     (λ c. omega (arith, c .before .before .loop .inv .2, c .before .before .loop .inv .3))
     (λ c. omega (arith, c .before .before .loop .inv .4 .small (c .before .before .loop .level - 1)))
-    loop-less
-    loop-again
-    returns-2
-    (λ c. search needs) (λ c κs. search needs) (λ c. search needs)
-    loop-less-2
-    loop-again-2
-    returns-3
-    (λ c. search needs) (λ c κs. search needs) (λ c. search needs)
-    returns-4
-    (λ c κs. search needs) (λ c. search needs)
-    loop-less-3
-    loop-again-3
+    (λ c. omega (arith, c .if2 .left)) loop-again returns-2 (λ c. search needs) (λ c κs. search needs) (λ c. search needs)
+    (λ c. omega (arith, c .before .before .before .before .if3 .left))
+    loop-again-2 returns-3 (λ c. search needs) (λ c κs. search needs) (λ c. search needs) returns-4 (λ c κs. search needs)
     (λ c. search needs)
-    returns-5
-    (λ c. search needs) (λ c. search needs)
+    (λ c. omega (arith, c .before .before .before .before .before .before .if3 .left))
+    loop-again-3 (λ c. search needs) returns-5 (λ c. search needs) (λ c. search needs)
     (λ c. omega (arith, c .before .before .before .before .before .before .before .before .before .before .loop .inv .2, c .before .before .before .before .before .before .before .before .before .before .loop .inv .3))
     (λ c. search needs) (λ c. search needs)
-    loop-less-4
+    (λ c. omega (arith, c .before .before .before .before .before .before .before .before .if3 .left))
     loop-again-4)

@@ -7,40 +7,32 @@ use Rattle.text.proofs.sort_of.Statement.{statement}
 use Rattle.text.proofs.sort_of.Tie as tie
 
 returns : tie.Need-returns
-unfolding sortDigit
-returns c = sym (ap sortDigit (of-nodes (c .before .before .args .code) (omega arith) (omega arith)))
+returns c = unfold sortDigit in sym (ap sortDigit (of-nodes (c .before .before .args .code) (omega arith) (omega arith)))
 
 returns-2 : tie.Need-returns-2
-unfolding sortDigit
-returns-2 c = sym (ap sortDigit (of-arrows (c .before .before .before .before .args .code) (omega arith) (omega arith)))
+returns-2 c = unfold sortDigit in sym (ap sortDigit (of-arrows (c .before .before .before .before .args .code) (omega arith) (omega arith)))
 
 returns-3 : tie.Need-returns-3
-unfolding sortDigit
-returns-3 c = sym (ap sortDigit (of-rules (c .before .before .before .before .before .before .args .code) (omega arith) (omega arith)))
+returns-3 c = unfold sortDigit in sym (ap sortDigit (of-rules (c .before .before .before .before .before .before .args .code) (omega arith) (omega arith)))
 
 returns-4 : tie.Need-returns-4
 unfolding sortDigit
 returns-4 c = sym (ap sortDigit (of-edits (c .before .before .before .before .before .before .before .before .args .code) (omega arith) (omega arith)))
 
 returns-5 : tie.Need-returns-5
-unfolding sortDigit
-returns-5 c = sym (ap sortDigit (before-nodes (c .before .args .code) (omega arith)))
+returns-5 c = unfold sortDigit in sym (ap sortDigit (before-nodes (c .before .args .code) (omega arith)))
 
 returns-6 : tie.Need-returns-6
-unfolding sortDigit
-returns-6 c = sym (ap sortDigit (before-arrows (c .before .before .before .args .code) (omega arith) (omega arith)))
+returns-6 c = unfold sortDigit in sym (ap sortDigit (before-arrows (c .before .before .before .args .code) (omega arith) (omega arith)))
 
 returns-7 : tie.Need-returns-7
-unfolding sortDigit
-returns-7 c = sym (ap sortDigit (before-rules (c .before .before .before .before .before .args .code) (omega arith) (omega arith)))
+returns-7 c = unfold sortDigit in sym (ap sortDigit (before-rules (c .before .before .before .before .before .args .code) (omega arith) (omega arith)))
 
 returns-8 : tie.Need-returns-8
-unfolding sortDigit
-returns-8 c = sym (ap sortDigit (before-edits (c .before .before .before .before .before .before .before .args .code) (omega arith) (omega arith)))
+returns-8 c = unfold sortDigit in sym (ap sortDigit (before-edits (c .before .before .before .before .before .before .before .args .code) (omega arith) (omega arith)))
 
 returns-9 : tie.Need-returns-9
-unfolding sortDigit
-returns-9 c = sym (ap sortDigit (behind-edits (c .before .before .before .before .before .before .before .before .args .code) (omega arith)))
+returns-9 c = unfold sortDigit in sym (ap sortDigit (behind-edits (c .before .before .before .before .before .before .before .before .args .code) (omega arith)))
 
 pub sort-of-spec : {M : Type 1} → statement M
 sort-of-spec = tie.close (tie.spec returns returns-2 returns-3 returns-4 returns-5 returns-6 returns-7 returns-8 returns-9)

@@ -8,7 +8,7 @@ use Rattle.logic.specs.Steps.{run}
 use Rattle.logic.specs.Meaning.{holdAll}
 use Rattle.count_small.specs.Small.{smallSheet, fourOf}
 use Rattle.count_small.specs.Counting.{Loaded, TextsStand}
-use Rattle.count_small.proofs.Sheets.{loaded-length}
+use Rattle.count_small.proofs.SmallBuffer.{loaded-length}
 use Rattle.count_small.proofs.Counting.{room, none-counted, counted-more, counted-all}
 use Rattle.count_small.proofs.small.count_all.Statement.{statement}
 use Rattle.count_small.proofs.small.count_all.Tie as tie
@@ -21,33 +21,27 @@ Inv-loop sheet₀ n book edit most four₀ x₀ sheet four x =
 abbrev μ-loop : tie.MeasureT-loop
 μ-loop sheet₀ n book edit most four₀ x₀ sheet four x = most - x
 
-how-many-requires : tie.Need-how-many-requires Inv-loop μ-loop
-how-many-requires c κs = search needs
-
-loop-holds : tie.Need-loop-holds Inv-loop μ-loop
-loop-holds c = (search needs, c .before .before .before .before .before .pre .0, λ rules Z s. c .none .ensures ∙ none-counted _ _)
-
-turn-requires : tie.Need-turn-requires Inv-loop μ-loop
-turn-requires c κs = let s = c .before .before .before .before .before .before .before .before in (c .before .before .loop .inv .1, s .pre .1, s .pre .2, s .pre .3)
-
 tally-requires : tie.Need-tally-requires Inv-loop μ-loop
 tally-requires c κs =
-    let q = c .before .before .before .before .before .before .before .before .before .before .before .pre .3 in
-    room (c .before .before .before .before .before .loop .x) _ _ _ (omega (arith, c .before .before .before .before .loop-test .taken, c .before .before .before .before .before .before .before .how-many .ensures .1)) (c .before .before .before .before .before .loop .inv .2 (q .rules) (q .what) (q .stand))
+    let i = c .before .before .before .before in
+    let l = i .before in
+    let n = l .before .before in
+    let q = n .before .before .before .before .pre .3 in
+    room (l .loop .x) _ _ _ (omega (arith, i .loop-test .taken, n .how-many .ensures .1)) (l .loop .inv .2 (q .rules) (q .what) (q .stand))
 
 loop-again : tie.Need-loop-again Inv-loop μ-loop
-loop-again c = (
-  search needs,
-  c .before .before .before .turn .ensures .0,
-  λ rules Z s. counted-more _ (c .before .before .before .before .before .before .loop .x) rules Z _ _ _ _ (c .before .before .before .before .before .before .loop .inv .2 rules Z s) (c .before .before .before .turn .ensures .1 rules Z s) (c .tally .ensures),
-)
-
-same-length : tie.Need-same-length Inv-loop μ-loop
-same-length c = loaded-length _ _ (c .before .loop .inv .1) ∙ sym (loaded-length _ _ (c .before .before .before .before .before .before .before .pre .0))
-
-returns : tie.Need-returns Inv-loop μ-loop
-returns c rules Z s = counted-all _ _ rules Z _ (omega (arith, c .before .loop .inv .0, c .loop-test .left, c .before .before .before .how-many .ensures .0)) (c .before .loop .inv .2 rules Z s)
+loop-again c =
+    let t = c .before .before .before in
+    let l = t .before .before .before .loop in
+    (search needs, t .turn .ensures .0, λ rules Z s. counted-more _ (l .x) rules Z _ _ _ _ (l .inv .2 rules Z s) (t .turn .ensures .1 rules Z s) (c .tally .ensures))
 
 pub count-all-spec : {M : Type 1} → statement M
 count-all-spec =
-    tie.close (tie.spec Inv-loop μ-loop how-many-requires (λ c κs. search needs) loop-holds turn-requires tally-requires (λ c. search needs) (λ c. search needs) loop-again same-length returns)
+    tie.close
+    (tie.spec
+    Inv-loop μ-loop (λ c κs. search needs) (λ c κs. search needs)
+    (λ c. (search needs, c .before .before .before .before .before .pre .0, λ rules Z s. c .none .ensures ∙ none-counted _ _))
+    (λ c κs. let s = c .before .before .before .before .before .before .before .before in (c .before .before .loop .inv .1, s .pre .1, s .pre .2, s .pre .3))
+    tally-requires (λ c. search needs) (λ c. search needs) loop-again
+    (λ c. loaded-length _ _ (c .before .loop .inv .1) ∙ sym (loaded-length _ _ (c .before .before .before .before .before .before .before .pre .0)))
+    (λ c rules Z s. let l = c .before in counted-all _ _ rules Z _ (omega (arith, l .loop .inv .0, c .loop-test .left, l .before .before .how-many .ensures .0)) (l .loop .inv .2 rules Z s)))

@@ -1,5 +1,5 @@
 use mathlib.Core.Path.{_≡_}
-use Prim.Native.Nat.{ℕ, _≤_, _<_, _-_}
+use Prim.Native.Nat.{ℕ, _≤_, _<_, _-_, _*_}
 use native.Mathlib.Omega.{arith}
 use borrow.Author.Needs.{needs}
 use lib.ListN.{length, getD, length-set}
@@ -15,34 +15,24 @@ Inv-loop x n rows₀ i₀ rows i = (i ≤ n) × (length rows ≡ 64) × ((k : �
 abbrev μ-loop : tie.MeasureT-loop
 μ-loop x n rows₀ i₀ rows i = n - i
 
-loop-holds : tie.Need-loop-holds Inv-loop μ-loop
-loop-holds c = (search needs, search needs, λ k l. absurd (omega arith))
-
-mul-part : tie.Need-mul-part Inv-loop μ-loop
-mul-part c = omega (arith, row-few (c .before .before .args .n) (c .before .loop .i) (c .before .before .pre) (c .loop-test .taken))
-
-add-part : tie.Need-add-part Inv-loop μ-loop
-add-part c = omega (arith, row-few (c .before .before .args .n) (c .before .loop .i) (c .before .before .pre) (c .loop-test .taken))
-
-part-requires : tie.Need-part-requires Inv-loop μ-loop
-part-requires c κs = let f = row-few (c .before .before .args .n) (c .before .loop .i) (c .before .before .pre) (c .loop-test .taken) in (omega (arith, f), omega (arith, c .before .before .pre))
-
-mul-rows : tie.Need-mul-rows Inv-loop μ-loop
-mul-rows c = search needs
-
-array-write-rows : tie.Need-array-write-rows Inv-loop μ-loop
-array-write-rows c = search needs
+-- the row's bits are few
+few : (c : tie.In-loop Inv-loop μ-loop) → c .before .before .args .n * c .before .loop .i ≤ 6
+few c = row-few (c .before .before .args .n) (c .before .loop .i) (c .before .before .pre) (c .loop-test .taken)
 
 loop-again : tie.Need-loop-again Inv-loop μ-loop
-loop-again c = (
-  search needs,
-  simp length-set (c .before .before .loop .inv .1),
-  rows-more (c .before .before .loop .rows) (c .before .before .loop .i) _ _ (omega (arith, c .before .before .loop .inv .1, c .before .loop-test .taken, c .before .before .before .pre)) (c .before .before .loop .inv .2) (row-is (c .before .before .before .args .n) (c .before .before .before .args .x) (c .before .before .loop .i) _ (c .before .loop-test .taken) (c .part .ensures)),
-)
-
-returns : tie.Need-returns Inv-loop μ-loop
-returns c = record { row = λ k l. c .before .loop .inv .2 k (omega (arith, c .loop-test .left, l)) }
+loop-again c =
+    let l = c .before .before .loop in
+    let s = c .before .before .before in
+    let k = c .before .loop-test .taken in
+    (search needs, simp length-set (l .inv .1), rows-more (l .rows) (l .i) _ _ (omega (arith, l .inv .1, k, s .pre)) (l .inv .2) (row-is (s .args .n) (s .args .x) (l .i) _ k (c .part .ensures)))
 
 pub rows-of-spec : {M : Type 1} → statement M
 rows-of-spec =
-    tie.close (tie.spec Inv-loop μ-loop loop-holds mul-part add-part part-requires mul-rows array-write-rows (λ c. search needs) (λ c. search needs) loop-again returns)
+    tie.close
+    (tie.spec
+    Inv-loop μ-loop
+    (λ c. (search needs, search needs, λ k l. absurd (omega arith)))
+    (λ c. omega (arith, few c)) (λ c. omega (arith, few c))
+    (λ c κs. (omega (arith, few c), omega (arith, c .before .before .pre)))
+    (λ c. search needs) (λ c. search needs) (λ c. search needs) (λ c. search needs) loop-again
+    (λ c. record { row = λ k l. c .before .loop .inv .2 k (omega (arith, c .loop-test .left, l)) }))

@@ -1,30 +1,41 @@
 use native.Mathlib.Omega.{arith}
 use borrow.Author.Needs.{needs}
-use mathlib.Core.Path.{refl, _∙_}
+use mathlib.Core.Path.{_≡_, refl, _∙_}
 use Prim.Native.Nat.{ℕ, _≤_, _-_, _+_, _*_}
 use native.Mathlib.Nat.{mul-le-mul}
-use lib.ListN.{length-set}
-use Rattle.ends.proofs.Places.{fits}
+use lib.ListN.{length, length-set}
+use Rattle.ends.proofs.TreePlaces.{fits}
 use Rattle.measure.proofs.Loops.{joined}
 use Rattle.measure.proofs.back.join_ways.Statement.{statement}
 use Rattle.measure.proofs.back.join_ways.Tie as tie
+
+-- from the scan to the merge, and to the start
+abbrev merged : tie.After-scan → tie.After-merge
+merged c = c .before .before .before .before
+
+abbrev start : tie.After-scan → tie.Start
+start c = merged c .before .before .before .before .before
+
+long : (c : tie.After-scan) → length (c .scan .last .1 .1 .1 .1 .0) ≡ 130
+long c = c .scan .kept .1 .1 .1 .1 .0 ∙ merged c .merge .kept .1 .0 ∙ start c .pre .4
+
+span : (c : tie.After-scan) → (start c .args .at ≤ c .scan .result) × (c .scan .result - start c .args .at ≤ 4096)
+span c =
+    let p = start c .pre in let e = c .scan .ensures (p .0 .what) (p .0 .stands) .ends in (omega (arith, e), omega (arith, e, fits _ _ (p .0 .what) (p .0 .stands), p .1))
 
 product : (r n : ℕ) → r ≤ 32 → n ≤ 4096 → r * (4 + 2 * n) ≤ 32 * 8196
 product r n a b = mul-le-mul a (let e : 4 + 2 * n ≤ 8196 = omega arith in e)
 
 pub join-ways-spec : {M : Type 1} → statement M
-join-ways-spec = tie.close (tie.spec
+join-ways-spec =
+    tie.close
+    (tie.spec
     (λ c κs. search needs) (λ c. search needs)
-    (λ c κs. let s = c .before .before .before .before .before .before .before .before in (s .pre .0, omega arith, c .before .before .before .merge .kept .1 .0 ∙ s .pre .4))
-    (λ c. let s = c .before .before .before .before .before .before .before .before .before .before .before .before in omega (arith, c .before .before .before .before .before .before .before .merge .kept .1 .0, s .pre .4, c .before .before .before .scan .kept .1 .1 .1 .1 .0))
-    (λ c. let s = c .before .before .before .before .before .before .before .before .before .before .before .before in omega (arith, c .before .before .before .scan .ensures (s .pre .0 .what) (s .pre .0 .stands) .ends))
-    (λ c. let s = c .before .before .before .before .before .before .before .before .before .before .before .before in omega (arith, c .before .before .before .scan .ensures (s .pre .0 .what) (s .pre .0 .stands) .ends, fits _ _ (s .pre .0 .what) (s .pre .0 .stands), s .pre .1))
-    (λ c. let s = c .before .before .before .before .before .before .before .before .before .before .before .before in omega (arith, c .before .before .before .scan .ensures (s .pre .0 .what) (s .pre .0 .stands) .ends, fits _ _ (s .pre .0 .what) (s .pre .0 .stands), s .pre .1))
-    (λ c. let s = c .before .before .before .before .before .before .before .before .before .before .before .before in
-    let n : c .before .before .before .scan .result - s .args .at ≤ 4096 = omega (arith, c .before .before .before .scan .ensures (s .pre .0 .what) (s .pre .0 .stands) .ends, fits _ _ (s .pre .0 .what) (s .pre .0 .stands), s .pre .1) in
-    omega (arith, product (s .args .rules) (c .before .before .before .scan .result - s .args .at) (s .pre .2) n))
+    (λ c κs. let m = c .before .before .before in let p = m .before .before .before .before .before .pre in (p .0, omega arith, m .merge .kept .1 .0 ∙ p .4))
+    (λ c. omega (arith, long (c .before .before .before))) (λ c. span (c .before .before .before) .0)
+    (λ c. omega (arith, span (c .before .before .before) .1)) (λ c. omega (arith, span (c .before .before .before) .1))
+    (λ c. let l = c .before .before .before in omega (arith, product _ _ (start l .pre .2) (span l .1)))
     (λ c κs. search needs)
-    (λ c. let s = c .before .before .before .before .before .before .before .before .before .before .before .before .before in omega (arith, c .before .before .before .before .before .before .before .before .merge .kept .1 .0, s .pre .4, c .before .before .before .before .scan .kept .1 .1 .1 .1 .0))
-    (λ c. let s = c .before .before .before .before .before .before .before .before .before .before .before .before .before in length-set (c .before .before .before .before .scan .last .1 .1 .1 .1 .0) 128 (c .sum .result) ∙ c .before .before .before .before .scan .kept .1 .1 .1 .1 .0 ∙ c .before .before .before .before .before .before .before .before .merge .kept .1 .0)
-    (λ c. let s = c .before .before .before .before .before .before .before .before .before .before .before .before .before in joined _ _ _ _ _ _ _ _ _ _ (c .before .before .before .before .scan .kept .1 .1 .1 .1 .0 ∙ c .before .before .before .before .before .before .before .before .merge .kept .1 .0 ∙ s .pre .4) (c .before .before .before .before .before .before .before .before .merge .ensures) (c .before .before .before .before .scan .ensures) (c .sum .ensures) refl)
-    )
+    (λ c. omega (arith, long (c .before .before .before .before)))
+    (λ c. let l = c .before .before .before .before in simp length-set (l .scan .kept .1 .1 .1 .1 .0 ∙ merged l .merge .kept .1 .0))
+    (λ c. let l = c .before .before .before .before in joined (long l) (merged l .merge .ensures) (l .scan .ensures) (c .sum .ensures) refl))

@@ -15,10 +15,11 @@ abbrev μ-loop : tie.MeasureT-loop
 μ-loop src out₀ i₀ out i = 130 - i
 
 pub copy-spec : {M : Type 1} → statement M
-copy-spec = tie.close (tie.spec Inv-loop μ-loop
-    (λ c. (search needs, search needs, copy-none _ _))
-    (λ c. search needs) (λ c. search needs) (λ c. search needs) (λ c. search needs) (λ c. search needs) (λ c. search needs)
+copy-spec =
+    tie.close
+    (tie.spec
+    Inv-loop μ-loop (λ c. (search needs, search needs, copy-none _ _)) (λ c. search needs) (λ c. search needs) (λ c. search needs)
+    (λ c. search needs) (λ c. search needs) (λ c. search needs)
     (λ c. let l = c .before .before .loop in (search needs, length-set (l .out) (l .i) _ ∙ l .inv .1, copy-more _ _ _ (omega (arith, l .inv .1, c .before .loop-test .taken)) (l .inv .2)))
     (λ c. omega (arith, c .before .loop .inv .1, c .before .before .pre .1))
-    (λ c. record { same = λ i r. c .before .loop .inv .2 .same i (omega (arith, c .loop-test .left)) })
-    )
+    (λ c. record { same = λ i r. c .before .loop .inv .2 .same i (omega (arith, c .loop-test .left)) }))

@@ -15,15 +15,17 @@ abbrev μ-loop : tie.MeasureT-loop
 μ-loop t state₀ n h i₀ state i = 64 - i
 
 pub merge-spec : {M : Type 1} → statement M
-merge-spec = tie.close (tie.spec Inv-loop μ-loop
-    (λ c. search needs) (λ c. search needs) (λ c κs. search needs) (λ c. search needs) (λ c. search needs) (λ c κs. search needs)
-    (λ c κs. search needs)
-    (λ c. (search needs, search needs, merging-none _ _))
-    (λ c κs. (c .before .before .before .before .before .before .before .before .before .before .before .before .pre .0, c .before .before .loop .inv .1, c .before .loop-test .taken))
+merge-spec =
+    tie.close
+    (tie.spec
+    Inv-loop μ-loop (λ c. search needs) (λ c. search needs) (λ c κs. search needs) (λ c. search needs) (λ c. search needs)
+    (λ c κs. search needs) (λ c κs. search needs) (λ c. (search needs, search needs, merging-none _ _))
+    (λ c κs. let l = c .before .before in (l .before .before .before .before .before .before .before .before .before .before .pre .0, l .loop .inv .1, c .before .loop-test .taken))
     (λ c. search needs) (λ c. search needs)
-    (λ c. let l = c .before .before .before .before .before .loop in (omega (arith, c .before .before .before .before .loop-test .taken), c .before .before .merge-one .kept .1 .0 ∙ l .inv .1, merging-more _ _ _ _ _ (l .inv .1) (c .before .before .before .before .loop-test .taken) (l .inv .2) (c .before .before .merge-one .ensures)))
+    (λ c. let m = c .before .before in let t = m .before .before .loop-test .taken in let i = m .before .before .before .loop .inv in
+    (omega (arith, t), m .merge-one .kept .1 .0 ∙ i .1, merging-more _ _ _ _ _ (i .1) t (i .2) (m .merge-one .ensures)))
     (λ c. omega (arith, c .before .loop .inv .1))
     (λ c. let l = c .before .loop in omega (arith, l .inv .1, length-set (l .state) 128 (c .before .before .before .before .before .before .sum .result)))
-    (λ c. let l = c .before .loop in length-set (set (l .state) 128 (c .before .before .before .before .before .before .sum .result)) 129 (c .before .before .sum2 .result) ∙ length-set (l .state) 128 (c .before .before .before .before .before .before .sum .result) ∙ l .inv .1 ∙ sym (c .before .before .before .before .before .before .before .before .before .before .before .pre .1))
-    (λ c. let l = c .before .loop in merging-end _ _ _ _ _ _ (l .inv .1) (c .loop-test .left) (l .inv .2) (c .before .before .before .before .before .before .sum .ensures) (c .before .before .sum2 .ensures ∙ ap (λ (u : ℕ). capped (u + 2)) (c .before .before .before .larger .ensures)))
-    )
+    (λ c. let l = c .before .loop in simp length-set (l .inv .1 ∙ sym (c .before .before .before .before .before .before .before .before .before .before .before .pre .1)))
+    (λ c. let l = c .before .loop in
+    merging-end _ _ _ _ _ _ (l .inv .1) (c .loop-test .left) (l .inv .2) (c .before .before .before .before .before .before .sum .ensures) (c .before .before .sum2 .ensures ∙ ap (λ (u : ℕ). capped (u + 2)) (c .before .before .before .larger .ensures))))

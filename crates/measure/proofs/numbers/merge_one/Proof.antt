@@ -1,20 +1,17 @@
 use native.Mathlib.Omega.{arith}
 use borrow.Author.Needs.{needs}
-use mathlib.Core.Path.{ap, ap₂, _∙_}
-use Prim.Native.Nat.{ℕ, _+_}
-use lib.ListN.{length-set, set}
+use lib.ListN.{length-set}
 use denote.Ref.{now}
-use Rattle.tree.specs.Sizes.{capped}
-use Rattle.tree.specs.Tree.{under}
 use Rattle.measure.proofs.numbers.merge_one.Statement.{statement}
 use Rattle.measure.proofs.numbers.merge_one.Tie as tie
 
 pub merge-one-spec : {M : Type 1} → statement M
-merge-one-spec = tie.close (tie.spec
-    (λ c. search needs) (λ c. search needs) (λ c. search needs) (λ c. search needs) (λ c κs. search needs) (λ c. search needs) (λ c. search needs)
-    (λ c. search needs) (λ c. search needs) (λ c. search needs) (λ c. search needs) (λ c κs. search needs) (λ c κs. search needs)
-    (λ c κs. search needs) (λ c. search needs) (λ c. search needs) (λ c. search needs) (λ c. search needs)
+merge-one-spec =
+    tie.close
+    (tie.spec
+    (λ c. search needs) (λ c. search needs) (λ c. search needs) (λ c. search needs) (λ c κs. search needs) (λ c. search needs)
+    (λ c. search needs) (λ c. search needs) (λ c. search needs) (λ c. search needs) (λ c. search needs) (λ c κs. search needs)
+    (λ c κs. search needs) (λ c κs. search needs) (λ c. search needs) (λ c. search needs) (λ c. search needs) (λ c. search needs)
     (λ c. let s = c .before .before .before .before .before .before .before .before .before .before in omega (arith, s .pre .1, s .pre .2, length-set (now (s .args .state)) (s .args .i) (c .before .before .before .before .before .sum .result)))
     (λ c. search needs)
-    (λ c. let s = c .before .before .before .before .before .before .before .before .before .before in ap₂ (λ (x y : ℕ). set (set (now (s .args .state)) (s .args .i) x) (64 + s .args .i) y) (c .before .before .before .before .before .sum .ensures) (c .deeper2 .ensures ∙ ap (λ (u : ℕ). capped (under u 2)) (c .before .deeper .ensures ∙ ap (λ (u : ℕ). capped (under u 2)) (c .before .before .larger .ensures))))
-    )
+    (λ c. simp (c .before .before .before .before .before .sum .ensures, c .deeper2 .ensures, c .before .deeper .ensures, c .before .before .larger .ensures)))

@@ -1,56 +1,31 @@
-use mathlib.Core.Path.{_≡_, sym, ap, _∙_}
-use mathlib.Core.List.{List}
-use Prim.Native.Nat.{ℕ, _-_, _≤_}
+use mathlib.Core.Path.{sym, ap, _∙_}
+use mathlib.Core.List.{_∷_, _++_}
 use native.Mathlib.Omega.{arith}
 use borrow.Author.Needs.{needs}
-use borrow.Rule.Slice.PartMut.{post-is}
-use lib.ListN.{length, take, drop, set, length-drop, length-set}
-use lib.Seq.{length-take-le}
-use Rattle.line.specs.Line.{digits}
-use Rattle.pages.proofs.LineLaws.{Blanks, blanks-first, blanks-next, blanks-last}
+use borrow.Rule.Slice.PartMut.{postOf}
+use lib.ListN.{length, take, set, length-set}
+use Rattle.decimal.specs.Digits.{digits}
+use Rattle.pages.proofs.LineLaws.{Started, head-started, head-written}
+use Rattle.pages.proofs.PageLaws.{length-headLine}
 use Rattle.pages.proofs.lines.put_head.Statement.{statement}
 use Rattle.pages.proofs.lines.put_head.Tie as tie
 
-abbrev Inv-loop : tie.InvT-loop
-Inv-loop line₀ letter x j₀ line j = (j ≤ 60) × Blanks letter x j line
+abbrev start : tie.After-write-digits → tie.Start
+start c = c .before .before .before
 
-abbrev μ-loop : tie.MeasureT-loop
-μ-loop line₀ letter x j₀ line j = 60 - j
+-- the letter is written, then the digits
+started : (c : tie.After-write-digits) → let l = set (start c .args .line .now) 0 (start c .args .letter) in Started (start c .args .letter ∷ digits 2 (start c .args .x)) (take 1 l ++ (c .write-digits .last .0 ++ postOf 1 2 l))
+started c = head-started (start c .args .x) (start c .args .line .now) (start c .args .letter) (start c .pre) (c .write-digits .ensures)
 
--- the part that the digits fill
-length-part : (line : List ℕ) (a : ℕ) → length line ≡ 64 → length (take 2 (drop 1 (set line 0 a))) ≡ 2
-length-part line a h = length-take-le 2 (drop 1 (set line 0 a)) (omega (arith, length-drop 1 (set line 0 a), length-set line 0 a))
-
-loop-holds : tie.Need-loop-holds Inv-loop μ-loop
-loop-holds c =
-    let s = c .before .before .before .before .before in
-    let l = set (s .args .line .now) 0 (s .args .letter) in (
-      search needs,
-      blanks-first _ (s .args .x) (s .args .line .now) _ _ (s .pre)
-          (c .before .before .write-digits .ensures ∙ ap (λ k. digits k (s .args .x)) (length-part (s .args .line .now) (s .args .letter) (s .pre)))
-          (ap length (post-is 1 3 l (omega arith)) ∙ length-drop 3 l ∙ omega (arith, length-set (s .args .line .now) 0 (s .args .letter), s .pre)),
-    )
-
-loop-again : tie.Need-loop-again Inv-loop μ-loop
-loop-again c =
-    let l = c .before .loop in
-    (search needs, blanks-next _ _ (l .j) (l .line) (c .loop-test .taken) (l .inv .1))
-
-returns : tie.Need-returns Inv-loop μ-loop
-returns c = let l = c .before .loop in blanks-last _ _ (l .j) (l .line) (l .inv .0) (c .loop-test .left) (l .inv .1)
+returns : tie.Need-returns
+returns c = c .before .before .put-squares .ensures ∙ head-written _ (started (c .before .before .before .before .before .before))
 
 pub put-head-spec : {M : Type 1} → statement M
 put-head-spec =
     tie.close
     (tie.spec
-    Inv-loop
-    μ-loop
     (λ c. search needs) (λ c. search needs) (λ c. search needs)
-    (λ c. let s = c .before in omega (arith, s .pre, length-set (s .args .line .now) 0 (s .args .letter)))
-    (λ c κs. search needs)
-    loop-holds
-    (λ c. search needs) (λ c. search needs) (λ c. search needs) (λ c. search needs)
-    loop-again
-    (λ c. search needs)
-    (λ c. let l = c .before .loop in length-set (l .line) 63 10 ∙ l .inv .1 .0 ∙ sym (c .before .before .before .before .before .before .before .pre))
+    (λ c. omega (arith, c .before .pre, length-set (c .before .args .line .now) 0 (c .before .args .letter)))
+    (λ c κs. search needs) (λ c κs. started (c .before .before .before) .whole)
+    (λ c. ap length (returns c) ∙ length-headLine _ _ ∙ sym (start (c .before .before .before .before .before .before) .pre))
     returns)

@@ -16,8 +16,7 @@ abbrev μ-loop : tie.MeasureT-loop
 μ-loop a b i₀ i = 64 - i
 
 loop-holds : tie.Need-loop-holds Inv-loop μ-loop
-unfolding sameBytes
-loop-holds c = (search needs, λ i. sameBytes (c .args .a .now) (c .args .b .now))
+loop-holds c = unfold sameBytes in (search needs, λ i. sameBytes (c .args .a .now) (c .args .b .now))
 
 returns : tie.Need-returns Inv-loop μ-loop
 returns c =
@@ -39,11 +38,4 @@ pub same-spec : {M : Type 1} → statement M
 same-spec =
     tie.close
     (tie.spec
-    Inv-loop
-    μ-loop
-    loop-holds
-    (λ c. search needs) (λ c. search needs)
-    returns
-    (λ c. search needs) (λ c. search needs)
-    loop-again
-    returns-2)
+    Inv-loop μ-loop loop-holds (λ c. search needs) (λ c. search needs) returns (λ c. search needs) (λ c. search needs) loop-again returns-2)

@@ -8,8 +8,7 @@ use Rattle.pages.proofs.lines.square.Statement.{statement}
 use Rattle.pages.proofs.lines.square.Tie as tie
 
 returns : tie.Need-returns
-unfolding square
-returns c = rw (le-ltb _ _ (c .if1 .taken))
+returns c = unfold square in rw (le-ltb _ _ (c .if1 .taken))
 
 returns-2 : tie.Need-returns-2
 unfolding square

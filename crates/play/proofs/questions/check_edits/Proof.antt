@@ -2,7 +2,7 @@ use Prim.Native.Nat.{_-_, _≤_}
 use native.Mathlib.Omega.{arith}
 use lib.ListN.{length}
 use borrow.Author.Needs.{needs}
-use Rattle.play.proofs.Edits.{Left, texts-first, end-inside, text-stops, text-passes, texts-end}
+use Rattle.play.proofs.GameEdits.{Left, texts-first, end-inside, text-stops, text-passes, texts-end}
 use Rattle.play.proofs.questions.check_edits.Statement.{statement}
 use Rattle.play.proofs.questions.check_edits.Tie as tie
 
@@ -15,30 +15,17 @@ abbrev μ-loop : tie.MeasureT-loop
 pub check-edits-spec : {M : Type 1} → statement M
 check-edits-spec =
     tie.close
-    (tie.spec
-    Inv-loop
-    μ-loop
-    -- loop-holds
-    (λ c. (omega arith, texts-first _ _ _ (c .before .before .pre)))
-    -- mul-end, shared-slice-read-end
+    (tie.spec Inv-loop μ-loop
+    (λ c. (omega arith, texts-first _ (c .before .before .pre)))
+    -- the text of the edit is a part
     (λ c. search needs) (λ c. search needs)
-    -- add-end
-    (λ c. omega (arith, end-inside _ _ _ _ _ (c .before .before .loop .inv .1) (c .before .loop-test .taken)))
-    -- sub-check-edit; part start, end
-    (λ c. omega arith)
-    (λ c. omega arith)
-    (λ c. omega (arith, end-inside _ _ _ _ _ (c .before .before .loop .inv .1) (c .before .loop-test .taken)))
+    (λ c. omega (arith, end-inside _ (c .before .before .loop .inv .1) (c .before .loop-test .taken)))
+    (λ c. omega arith) (λ c. omega arith)
+    (λ c. omega (arith, end-inside _ (c .before .before .loop .inv .1) (c .before .loop-test .taken)))
     (λ c κs. search needs) (λ c. search needs) (λ c. search needs)
-    -- returns
-    (λ c. text-stops _ _ _ _ _ (c .before .before .before .before .before .before .loop .inv .1) (c .before .before .before .before .before .loop-test .taken) _ (c .before .before .check-edit .ensures) _ (c .enum-told2 .given .1))
-    -- add-i
-    (λ c. omega (arith, c .before .before .before .before .before .loop-test .taken))
-    -- loop-less
-    (λ c. omega (arith, c .before .before .before .before .before .loop-test .taken))
-    -- loop-again
-    (λ c. let l = c .before .before .before .before .before .loop-test .taken in (
-      omega (arith, l),
-      text-passes _ _ _ _ _ (c .before .before .before .before .before .before .loop .inv .1) l _ (c .before .before .check-edit .ensures) (c .enum-told .given .1),
-    ))
-    -- returns-2
-    (λ c. texts-end _ _ _ _ _ (c .before .loop .inv .1) (c .before .loop .inv .0) (c .loop-test .left)))
+    -- it is refused, or passes
+    (λ c. let i = c .before .before .before .before .before in text-stops _ (i .before .loop .inv .1) (i .loop-test .taken) _ (c .before .before .check-edit .ensures) (c .enum-told2 .given .1))
+    (λ c. omega (arith, c .before .before .before .before .before .loop-test .taken)) (λ c. omega (arith, c .before .before .before .before .before .loop-test .taken))
+    (λ c. let i = c .before .before .before .before .before in
+    (omega (arith, i .loop-test .taken), text-passes _ (i .before .loop .inv .1) (i .loop-test .taken) _ (c .before .before .check-edit .ensures) (c .enum-told .given .1)))
+    (λ c. texts-end _ (c .before .loop .inv .1) (c .loop-test .left)))

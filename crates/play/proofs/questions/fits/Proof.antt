@@ -1,6 +1,6 @@
 use mathlib.Core.Path.{sym, _∙_}
 use borrow.Author.Needs.{needs}
-use Rattle.play.proofs.Fitting.{fits-length, fits-no-room, fits-not}
+use Rattle.play.proofs.FitsTold.{fits-length, fits-no-room, fits-not}
 use Rattle.play.proofs.questions.fits.Statement.{statement}
 use Rattle.play.proofs.questions.fits.Tie as tie
 

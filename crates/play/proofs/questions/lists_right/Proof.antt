@@ -1,7 +1,7 @@
 use mathlib.Core.Path.{sym, _∙_}
 use borrow.Author.Needs.{needs}
 use borrow.Author.Tests.{not-true, not-false}
-use Rattle.play.proofs.Asking.{out-of-range, by-filling}
+use Rattle.play.proofs.PlayStages.{out-of-range, by-filling}
 use Rattle.play.proofs.questions.lists_right.Statement.{statement}
 use Rattle.play.proofs.questions.lists_right.Tie as tie
 

@@ -90,34 +90,42 @@ pub +goes-well+search-spec : {M : Type 1} → statement M
     (λ c. sym (c .before .before .loop .inv .1))
     -- make-requires
     (λ c κs.
-    let s = c .before .before .before .before .before .before .before .before .before in
+    let l = c .before .before in
+    let s = l .before .before .before .before .before .before .before in
     let q = s .pre .1 .1 in
-    (s .pre .1 .0, record { what = _; stands = here-stands _ _ _ _ _ _ _ (q .what) (q .stands) _ _ _ (c .before .before .loop .inv .2 (q .what) (q .stands)) _ (c .before .before .before .before .count-of .ensures) (c .before .loop-test .taken) }, c .before .before .loop .inv .1))
+    let here = here-stands _ _ _ _ _ _ _ (q .what) (q .stands) _ _ _ (l .loop .inv .2 (q .what) (q .stands)) _ (l .before .before .count-of .ensures) (c .before .loop-test .taken) in
+    (s .pre .1 .0, record { what = _; stands = here }, l .loop .inv .1))
     -- slice-aggregate-may-leave
     (λ c. sym (c .before .before .make .kept .1 .1 .1 .0 ∙ c .before .before .before .before .before .loop .inv .1))
     -- may-leave-requires
     (λ c κs.
-    let q = c .before .before .before .before .before .before .before .before .before .before .before .before .pre .1 .1 in
-    let o = c .before .before .make .ensures .1 _ (here-stands _ _ _ _ _ _ _ (q .what) (q .stands) _ _ _ (c .before .before .before .before .before .loop .inv .2 (q .what) (q .stands)) _ (c .before .before .before .before .before .before .before .count-of .ensures) (c .before .before .before .before .loop-test .taken)) in
-    (c .before .before .make .ensures .0, record { what = q .what .book; stand = as-many _ _ _ _ _ _ (q .what) (copy-n o) (q .stands) .rules }))
+    let k = c .before .before in
+    let l = k .before .before .before in
+    let q = l .before .before .before .before .before .before .before .pre .1 .1 in
+    let here = here-stands _ _ _ _ _ _ _ (q .what) (q .stands) _ _ _ (l .loop .inv .2 (q .what) (q .stands)) _ (l .before .before .count-of .ensures) (k .before .before .loop-test .taken) in
+    (k .make .ensures .0, record { what = q .what .book; stand = as-many _ _ _ _ _ _ (q .what) (copy-n (k .make .ensures .1 _ here)) (q .stands) .rules }))
     -- slice-aggregate-goes-well
     (λ c. sym (c .before .before .before .before .before .make .kept .1 .1 .1 .0 ∙ c .before .before .before .before .before .before .before .before .loop .inv .1))
     -- sub-goes-well
     (λ c. omega (arith, c .before .before .before .before .before .before .before .before .before .before .before .before .before .before .before .pre .1 .2))
     -- goes-well-requires
     (λ c κs.
-    let s = c .before .before .before .before .before .before .before .before .before .before .before .before .before .before .before in
+    let k = c .before .before .before .before .before in
+    let l = k .before .before .before in
+    let s = l .before .before .before .before .before .before .before in
     let q = s .pre .1 .1 in
-    let o = c .before .before .before .before .before .make .ensures .1 _ (here-stands _ _ _ _ _ _ _ (q .what) (q .stands) _ _ _ (c .before .before .before .before .before .before .before .before .loop .inv .2 (q .what) (q .stands)) _ (c .before .before .before .before .before .before .before .before .before .before .count-of .ensures) (c .before .before .before .before .before .before .before .loop-test .taken)) in
-    (omega (arith, s .pre .0, s .pre .1 .2), (c .before .before .before .before .before .make .ensures .0, record { what = q .what; stands = as-many _ _ _ _ _ _ (q .what) (copy-n o) (q .stands) })))
+    let here = here-stands _ _ _ _ _ _ _ (q .what) (q .stands) _ _ _ (l .loop .inv .2 (q .what) (q .stands)) _ (l .before .before .count-of .ensures) (k .before .before .loop-test .taken) in
+    (omega (arith, s .pre .0, s .pre .1 .2), (k .make .ensures .0, record { what = q .what; stands = as-many _ _ _ _ _ _ (q .what) (copy-n (k .make .ensures .1 _ here)) (q .stands) })))
     -- returns
     (λ c G st.
-    let t = c .before .before .before .before .before .before .before .before .before .before .loop .inv .2 G st in
-    let n = c .before .before .before .before .before .before .before .before .before .before .before .before .count-of .ensures in
-    let l = c .before .before .before .before .before .before .before .before .before .loop-test .taken in
-    let o = c .before .before .before .before .before .before .before .make .ensures .1 _ (here-stands _ _ _ _ _ _ _ G st _ _ _ t _ n l) in
+    let m = c .before .before .before .before in
+    let p = m .before .before .before in
+    let t = p .before .before .before .loop .inv .2 G st in
+    let n = p .before .before .before .before .before .count-of .ensures in
+    let l = p .before .before .loop-test .taken in
+    let o = p .make .ensures .1 _ (here-stands _ _ _ _ _ _ _ G st _ _ _ t _ n l) in
     let k = as-many _ _ _ _ _ _ G (copy-n o) st in
-    found-edit _ _ _ _ _ _ _ G st _ _ _ t _ n l _ _ o _ (c .before .before .before .before .may-leave .ensures G (k .rules)) (c .before .before .before .if1 .taken) _ (c .before .goes-well .ensures G k) (c .if2 .taken))
+    found-edit _ _ _ _ _ _ _ G st _ _ _ t _ n l _ _ o _ (m .may-leave .ensures G (k .rules)) (c .before .before .before .if1 .taken) _ (c .before .goes-well .ensures G k) (c .if2 .taken))
     -- add-i
     (λ c. omega (arith, c .before .before .before .before .before .before .before .before .before .count-of .ok))
     -- loop-less
@@ -127,21 +135,24 @@ pub +goes-well+search-spec : {M : Type 1} → statement M
       omega (arith, c .before .before .before .before .before .before .loop-test .taken),
       c .before .before .before .before .make .kept .1 .1 .1 .0 ∙ c .before .before .before .before .before .before .before .loop .inv .1,
       λ G st.
-          let t = c .before .before .before .before .before .before .before .loop .inv .2 G st in
-          let n = c .before .before .before .before .before .before .before .before .before .count-of .ensures in
-          let l = c .before .before .before .before .before .before .loop-test .taken in
-          let o = c .before .before .before .before .make .ensures .1 _ (here-stands _ _ _ _ _ _ _ G st _ _ _ t _ n l) in
+          let p = c .before .before .before .before in
+          let t = p .before .before .before .loop .inv .2 G st in
+          let n = p .before .before .before .before .before .count-of .ensures in
+          let l = p .before .before .loop-test .taken in
+          let o = p .make .ensures .1 _ (here-stands _ _ _ _ _ _ _ G st _ _ _ t _ n l) in
           let k = as-many _ _ _ _ _ _ G (copy-n o) st in
           let m = c .before .may-leave .ensures G (k .rules) in
-          ⊎-elim (λ w. no-use _ _ _ _ _ _ _ G st _ _ _ t _ n l _ _ o _ m (w .0 .taken) _ (w .2 .ensures G k) (w .3 .left) _ (w .4)) (λ w. no-edit _ _ _ _ _ _ _ G st _ _ _ t _ n l _ _ o _ m (w .0 .left) _ (w .1)) (c .if1 .came),
+          ⊎-elim (λ w. no-use _ _ _ _ _ _ _ G st _ _ _ t _ n l _ _ o _ m (w .0 .taken) _ (w .2 .ensures G k) (w .3 .left) _ (w .4))
+          (λ w. no-edit _ _ _ _ _ _ _ G st _ _ _ t _ n l _ _ o _ m (w .0 .left) _ (w .1)) (c .if1 .came),
     ))
     -- returns-2
-    (λ c G st. found-none _ _ _ _ _ _ _ G st _ _ _ (c .before .before .loop .inv .2 G st) _ (c .before .before .before .before .count-of .ensures) (c .before .before .loop .inv .0) (c .before .loop-test .left) (c .if3 .taken))
+    (λ c G st. let l = c .before .before in found-none _ _ _ _ _ _ _ G st _ _ _ (l .loop .inv .2 G st) _ (l .before .before .count-of .ensures) (l .loop .inv .0) (c .before .loop-test .left) (c .if3 .taken))
     -- sub-goes-well-2
     (λ c. omega (arith, c .before .before .before .before .before .before .before .before .before .pre .1 .2))
     -- goes-well-requires-2
     (λ c κs. let s = c .before .before .before .before .before .before .before .before .before in (omega (arith, s .pre .0, s .pre .1 .2), (s .pre .1 .0, s .pre .1 .1)))
-    -- returns-3
-    (λ c G st. found-pass _ _ _ _ _ _ _ G st _ _ _ (c .before .before .before .before .loop .inv .2 G st) _ (c .before .before .before .before .before .before .count-of .ensures) (c .before .before .before .before .loop .inv .0) (c .before .before .before .loop-test .left) (c .before .before .if3 .left) _ (c .before .goes-well2 .ensures G st) (c .if4 .taken))
-    -- returns-4
-    (λ c G st. found-no-pass _ _ _ _ _ _ _ G st _ _ _ (c .before .before .before .before .loop .inv .2 G st) _ (c .before .before .before .before .before .before .count-of .ensures) (c .before .before .before .before .loop .inv .0) (c .before .before .before .loop-test .left) (c .before .before .if3 .left) _ (c .before .goes-well2 .ensures G st) (c .if4 .left)))
+    -- returns-3 and 4
+    (λ c G st. let e = c .before .before in let l = e .before .before in
+    found-pass _ _ _ _ _ _ _ G st _ _ _ (l .loop .inv .2 G st) _ (l .before .before .count-of .ensures) (l .loop .inv .0) (e .before .loop-test .left) (e .if3 .left) _ (c .before .goes-well2 .ensures G st) (c .if4 .taken))
+    (λ c G st. let e = c .before .before in let l = e .before .before in
+    found-no-pass _ _ _ _ _ _ _ G st _ _ _ (l .loop .inv .2 G st) _ (l .before .before .count-of .ensures) (l .loop .inv .0) (e .before .loop-test .left) (e .if3 .left) _ (c .before .goes-well2 .ensures G st) (c .if4 .left)))

@@ -4,11 +4,10 @@ use Rattle.play.proofs.Moves.{may-ours, may-theirs}
 use Rattle.play.proofs.search.may_leave.Statement.{statement}
 use Rattle.play.proofs.search.may_leave.Tie as tie
 
-returns : tie.Need-returns
-returns c G stand = c .holds .ensures (G .book) stand ∙ sym (may-ours G _ (c .before .if1 .taken))
-
-returns-2 : tie.Need-returns-2
-returns-2 c G stand = sym (may-theirs G _ (c .if1 .left))
-
 pub may-leave-spec : {M : Type 1} → statement M
-may-leave-spec = tie.close (tie.spec (λ c κs. search needs) returns returns-2)
+may-leave-spec =
+    tie.close
+    (tie.spec
+    (λ c κs. search needs)
+    (λ c G stand. c .holds .ensures (G .book) stand ∙ sym (may-ours G _ (c .before .if1 .taken)))
+    (λ c G stand. sym (may-theirs G _ (c .if1 .left))))

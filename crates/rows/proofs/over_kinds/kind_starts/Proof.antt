@@ -8,7 +8,7 @@ use Rattle.sheet.specs.Sheet.{graphOf}
 use Rattle.bitset.specs.Words.{setOf}
 use Rattle.bitset.proofs.MemberLaws.{member-small}
 use Rattle.rows.specs.Operations.{number, enough}
-use Rattle.rows.proofs.Walks.{Inside, inside-less, Picked, picked-none, picked-yes, picked-no, picked-end}
+use Rattle.rows.proofs.MemberWalks.{Inside, inside-less, Picked, picked-none, picked-yes, picked-no, picked-end}
 use Rattle.rows.proofs.over_kinds.kind_starts.Statement.{statement}
 use Rattle.rows.proofs.over_kinds.kind_starts.Tie as tie
 
@@ -19,17 +19,17 @@ abbrev μ-loop : tie.MeasureT-loop
 μ-loop k sheet n within a e r₀ left₀ r left = left
 
 pub kind-starts-spec : {M : Type 1} → statement M
-kind-starts-spec = tie.close (tie.spec Inv-loop μ-loop
-    (λ c. (search needs, λ k h. h, λ w q. picked-none _ _ _))
-    (λ c κs. c .loop-test .taken)
+kind-starts-spec =
+    tie.close
+    (tie.spec
+    Inv-loop μ-loop (λ c. (search needs, λ k h. h, λ w q. picked-none _ _ _)) (λ c κs. c .loop-test .taken)
     (λ c. omega (arith, c .first .ensures .1))
     (λ c κs. let s = c .before .before .before .before in let i = member-small _ _ _ (c .before .before .loop .inv .0) (c .first .ensures .0) in (s .pre .0 .sound, s .pre .0 .kind, omega (arith, s .pre .0 .count, i)))
-    (λ c κs. search needs)
-    (λ c κs. c .before .before .before .first .ensures .1) (λ c κs. search needs) (λ c κs. c .before .before .before .before .loop-test .taken)
+    (λ c κs. search needs) (λ c κs. c .before .before .before .first .ensures .1) (λ c κs. search needs)
+    (λ c κs. c .before .before .before .before .loop-test .taken)
     (λ c. c .but-first .ensures .1)
     (λ c.
-    let s = c .before .before .before .before .before .before .before .before in
-    let l = c .before .before .before .before .before .before .loop in
+    let s = c .before .before .before .before .before .before .before .before in let l = c .before .before .before .before .before .before .loop in
     let m = c .before .before .before .before .first .ensures .0 in
     let i = member-small _ _ _ (l .inv .0) m in (
       omega (arith, c .but-first .ensures .1, l .inv .0),

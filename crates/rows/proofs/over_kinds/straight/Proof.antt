@@ -10,7 +10,8 @@ no : false ≡ true → ⊥
 no e = omega (arith, ap {B = ℕ} (λ (z : Bool). cond z 1 0) e)
 
 pub straight-spec : {M : Type 1} → statement M
-straight-spec = tie.close (tie.spec
-    (λ c e. absurd (no e))
-    (λ c. search needs)
+straight-spec =
+    tie.close
+    (tie.spec
+    (λ c e. absurd (no e)) (λ c. search needs)
     (λ c e. (omega (arith, c .before .if1 .left), λ t. absurd (no (sym (c .if2 .left) ∙ t)))))

@@ -4,7 +4,7 @@ use borrow.Author.Needs.{needs}
 use Rattle.logic.specs.Graph.{Pairs}
 use Rattle.sheet.specs.Sheet.{Rows}
 use Rattle.bitset.proofs.MemberLaws.{member-small}
-use Rattle.rows.proofs.Walks.{Inside, inside-less, Counted, counted-none, counted-one, counted-end}
+use Rattle.rows.proofs.MemberWalks.{Inside, inside-less, Counted, counted-none, counted-one, counted-end}
 use Rattle.rows.proofs.over_rows.ends_of_one.Statement.{statement}
 use Rattle.rows.proofs.over_rows.ends_of_one.Tie as tie
 
@@ -15,15 +15,16 @@ abbrev μ-loop : tie.MeasureT-loop
 μ-loop n rows e one₀ left₀ one left = left
 
 pub ends-of-one-spec : {M : Type 1} → statement M
-ends-of-one-spec = tie.close (tie.spec Inv-loop μ-loop
+ends-of-one-spec =
+    tie.close
+    (tie.spec
+    Inv-loop μ-loop
     (λ c. (search needs, λ k h. h, λ v p. counted-none _ _ v 1 (omega arith)))
-    (λ c κs. c .loop-test .taken)
-    (λ c. omega (arith, c .first .ensures .1)) (λ c. omega (arith, c .before .first .ensures .1, c .before .before .before .before .before .pre .1)) (λ c κs. search needs)
-    (λ c κs. c .before .before .before .loop-test .taken)
-    (λ c. c .but-first .ensures .1)
+    (λ c κs. c .loop-test .taken) (λ c. omega (arith, c .first .ensures .1))
+    (λ c. omega (arith, c .before .first .ensures .1, c .before .before .before .before .before .pre .1))
+    (λ c κs. search needs) (λ c κs. c .before .before .before .loop-test .taken) (λ c. c .but-first .ensures .1)
     (λ c.
-    let s = c .before .before .before .before .before .before .before in
-    let l = c .before .before .before .before .before .loop in
+    let s = c .before .before .before .before .before .before .before in let l = c .before .before .before .before .before .loop in
     let m = c .before .before .before .first .ensures .0 in
     let i = member-small _ _ _ (l .inv .0) m in (
       omega (arith, c .but-first .ensures .1, l .inv .0),

@@ -8,7 +8,7 @@ use Rattle.sheet.specs.Sheet.{Rows}
 use Rattle.bitset.specs.Words.{setOf}
 use Rattle.bitset.proofs.MemberLaws.{member-small}
 use Rattle.rows.specs.Operations.{number, enough}
-use Rattle.rows.proofs.Walks.{Inside, inside-less, Picked, picked-none, picked-yes, picked-no, picked-end}
+use Rattle.rows.proofs.MemberWalks.{Inside, inside-less, Picked, picked-none, picked-yes, picked-no, picked-end}
 use Rattle.rows.proofs.over_rows.starts.Statement.{statement}
 use Rattle.rows.proofs.over_rows.starts.Tie as tie
 
@@ -19,15 +19,18 @@ abbrev μ-loop : tie.MeasureT-loop
 μ-loop k n within rows e r₀ left₀ r left = left
 
 pub starts-spec : {M : Type 1} → statement M
-starts-spec = tie.close (tie.spec Inv-loop μ-loop
+starts-spec =
+    tie.close
+    (tie.spec
+    Inv-loop μ-loop
     (λ c. (search needs, λ k h. h, λ v w p q. picked-none _ _ _))
-    (λ c κs. c .loop-test .taken)
-    (λ c. omega (arith, c .first .ensures .1)) (λ c. omega (arith, c .before .first .ensures .1, c .before .before .before .before .before .pre .1)) (λ c κs. search needs)
-    (λ c κs. c .before .before .before .first .ensures .1) (λ c κs. search needs) (λ c κs. c .before .before .before .before .loop-test .taken)
+    (λ c κs. c .loop-test .taken) (λ c. omega (arith, c .first .ensures .1))
+    (λ c. omega (arith, c .before .first .ensures .1, c .before .before .before .before .before .pre .1))
+    (λ c κs. search needs) (λ c κs. c .before .before .before .first .ensures .1) (λ c κs. search needs)
+    (λ c κs. c .before .before .before .before .loop-test .taken)
     (λ c. c .but-first .ensures .1)
     (λ c.
-    let s = c .before .before .before .before .before .before .before .before in
-    let l = c .before .before .before .before .before .before .loop in
+    let s = c .before .before .before .before .before .before .before .before in let l = c .before .before .before .before .before .before .loop in
     let m = c .before .before .before .before .first .ensures .0 in
     let i = member-small _ _ _ (l .inv .0) m in (
       omega (arith, c .but-first .ensures .1, l .inv .0),

@@ -5,7 +5,7 @@ use borrow.Author.Needs.{needs}
 use lib.ListN.{length, length-set}
 use Rattle.bitset.specs.Words.{setOf}
 use Rattle.sheet.specs.Sheet.{graphOf}
-use Rattle.rows.proofs.Laws.{Changed, changed-none, changed-more, rows-of-arrow}
+use Rattle.rows.proofs.OperationLaws.{Changed, changed-none, changed-more, rows-of-arrow}
 use Rattle.rows.proofs.relations.arrow_rows.Statement.{statement}
 use Rattle.rows.proofs.relations.arrow_rows.Tie as tie
 
@@ -16,7 +16,10 @@ abbrev μ-loop : tie.MeasureT-loop
 μ-loop sheet n a out₀ i₀ out i = n - i
 
 pub arrow-rows-spec : {M : Type 1} → statement M
-arrow-rows-spec = tie.close (tie.spec Inv-loop μ-loop
+arrow-rows-spec =
+    tie.close
+    (tie.spec
+    Inv-loop μ-loop
     (λ c. (search needs, c .before .before .pre .4, changed-none))
     (λ c. search needs)
     (λ c κs. let s = c .before .before .before .before in (s .pre .0, s .pre .3, omega (arith, s .pre .1)))

@@ -4,7 +4,7 @@ use native.Mathlib.Omega.{arith}
 use borrow.Author.Needs.{needs}
 use lib.ListN.{length, getD, length-set}
 use Rattle.rows.specs.Operations.{arrowOperation}
-use Rattle.rows.proofs.Laws.{Changed, changed-none, changed-more, rows-combined-kind}
+use Rattle.rows.proofs.OperationLaws.{Changed, changed-none, changed-more, rows-combined-kind}
 use Rattle.bitset.specs.Words.{setOf, combined}
 use Rattle.sheet.specs.Sheet.{graphOf}
 use Rattle.rows.proofs.relations.combine_kind.Statement.{statement}
@@ -17,7 +17,10 @@ abbrev μ-loop : tie.MeasureT-loop
 μ-loop c sheet n k a₀ i₀ a i = n - i
 
 pub combine-kind-spec : {M : Type 1} → statement M
-combine-kind-spec = tie.close (tie.spec Inv-loop μ-loop
+combine-kind-spec =
+    tie.close
+    (tie.spec
+    Inv-loop μ-loop
     (λ c. (search needs, c .before .before .pre .4, changed-none))
     (λ c. search needs) (λ c. search needs) (λ c. search needs)
     (λ c κs. let s = c .before .before .before .before .before in (s .pre .0, s .pre .3, omega (arith, s .pre .1)))

@@ -1,6 +1,6 @@
 use mathlib.Core.Path.{sym, ap, _∙_}
 use borrow.Author.Needs.{needs}
-use Rattle.rows.proofs.Laws.{pair-there, pair-gone}
+use Rattle.rows.proofs.OperationLaws.{pair-there, pair-gone}
 use Rattle.bitset.specs.Words.{member}
 use Rattle.rows.proofs.relations.pair_row.Statement.{statement}
 use Rattle.rows.proofs.relations.pair_row.Tie as tie

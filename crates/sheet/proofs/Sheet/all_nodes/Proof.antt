@@ -2,12 +2,9 @@ use mathlib.Core.Path.{refl, _∙_}
 use native.Mathlib.Omega.{arith}
 use borrow.Author.Needs.{needs}
 use Rattle.sheet.specs.Sheet.{present}
-use Rattle.sheet.proofs.Loads.{sound-length, sound-used}
+use Rattle.sheet.proofs.SoundWords.{sound-length, sound-used}
 use Rattle.sheet.proofs.Sheet.all_nodes.Statement.{statement}
 use Rattle.sheet.proofs.Sheet.all_nodes.Tie as tie
-
-load-requires : tie.Need-load-requires
-load-requires c κs = let st = c .before in omega (arith, sound-length present (st .args .sheet .now) (st .pre))
 
 returns : tie.Need-returns
 returns c =
@@ -15,4 +12,9 @@ returns c =
     c .load .ensures ∙ sound-used present (st .args .sheet .now) (λ p. omega (arith, c .before .shared-slice-known .given p)) (st .pre) refl
 
 pub all-nodes-spec : {M : Type 1} → statement M
-all-nodes-spec = tie.close (tie.spec (λ c. search needs) (λ c. search needs) load-requires returns)
+all-nodes-spec =
+    tie.close
+    (tie.spec
+    (λ c. search needs) (λ c. search needs)
+    (λ c κs. let st = c .before in omega (arith, sound-length present (st .args .sheet .now) (st .pre)))
+    returns)

@@ -3,7 +3,7 @@ use mathlib.Core.Bool.{_&&_}
 use native.Mathlib.Omega.{arith}
 use borrow.Author.Needs.{needs}
 use Rattle.bitset.specs.Words.{combined}
-use Rattle.sheet.proofs.Asks.{told-held, told-all}
+use Rattle.sheet.proofs.SheetQuestionLaws.{told-held, told-all}
 use Rattle.sheet.proofs.Sheet.nodes_told.Statement.{statement}
 use Rattle.sheet.proofs.Sheet.nodes_told.Tie as tie
 
@@ -23,5 +23,4 @@ nodes-told-spec =
     tie.close
     (tie.spec
     (λ c. search needs) (λ c κs. search needs) (λ c. search needs) (λ c. search needs) (λ c κs. search needs) (λ c κs. search needs)
-    returns-2
-    returns-3)
+    returns-2 returns-3)

@@ -3,7 +3,7 @@ use mathlib.Core.Bool.{cond}
 use borrow.Author.Needs.{needs}
 use lib.Dec.{ltb}
 use Rattle.bitset.specs.Words.{setOf}
-use Rattle.sheet.proofs.Outside.{lines-over}
+use Rattle.sheet.proofs.MaskLaws.{lines-over}
 use Rattle.sheet.proofs.block.lines_over.Statement.{statement}
 use Rattle.sheet.proofs.block.lines_over.Tie as tie
 

@@ -5,7 +5,7 @@ use native.Mathlib.Nat.{le-antisymm}
 use borrow.Author.Needs.{needs}
 use Rattle.bitset.specs.Words.{combined}
 use Rattle.sheet.specs.Masks.{Outside}
-use Rattle.sheet.proofs.Outside.{outside-none, outside-more}
+use Rattle.sheet.proofs.MaskLaws.{outside-none, outside-more}
 use Rattle.sheet.proofs.block.outside.Statement.{statement}
 use Rattle.sheet.proofs.block.outside.Tie as tie
 
@@ -36,9 +36,5 @@ pub outside-spec : {M : Type 1} → statement M
 outside-spec =
     tie.close
     (tie.spec
-    Inv-loop
-    μ-loop
-    loop-holds
-    (λ c. search needs) (λ c. search needs) (λ c κs. search needs) (λ c κs. search needs) (λ c. search needs) (λ c. search needs)
-    loop-again
-    returns)
+    Inv-loop μ-loop loop-holds (λ c. search needs) (λ c. search needs) (λ c κs. search needs) (λ c κs. search needs) (λ c. search needs)
+    (λ c. search needs) loop-again returns)

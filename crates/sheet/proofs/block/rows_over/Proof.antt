@@ -1,6 +1,6 @@
 use native.Mathlib.Omega.{arith}
 use borrow.Author.Needs.{needs}
-use Rattle.sheet.proofs.Outside.{rows-over, closed-in, closed-nodes}
+use Rattle.sheet.proofs.MaskLaws.{rows-over, closed-in, closed-nodes}
 use Rattle.sheet.proofs.block.rows_over.Statement.{statement}
 use Rattle.sheet.proofs.block.rows_over.Tie as tie
 
@@ -22,7 +22,4 @@ pub rows-over-spec : {M : Type 1} → statement M
 rows-over-spec =
     tie.close
     (tie.spec
-    (λ c κs. search needs) (λ c κs. search needs) (λ c κs. search needs)
-    bare-requires
-    (λ c κs. search needs)
-    returns)
+    (λ c κs. search needs) (λ c κs. search needs) (λ c κs. search needs) bare-requires (λ c κs. search needs) returns)

@@ -2,10 +2,10 @@ use mathlib.Core.Path.{refl, _∙_}
 use native.Mathlib.Omega.{arith}
 use borrow.Author.Needs.{needs}
 use Rattle.seal.specs.Forms.{formOf}
-use Rattle.sheet.specs.Forms.{formIn}
+use Rattle.sheet.specs.SheetForms.{formIn}
 use Rattle.sheet.specs.Masks.{lineMask, rowMask}
-use Rattle.sheet.proofs.Outside.{all-zero}
-use Rattle.sheet.proofs.Zeros.{masks-first, masks-later}
+use Rattle.sheet.proofs.MaskLaws.{all-zero}
+use Rattle.sheet.proofs.ZeroLaws.{masks-first, masks-later}
 use Rattle.sheet.proofs.block.zero_right.Statement.{statement}
 use Rattle.sheet.proofs.block.zero_right.Tie as tie
 

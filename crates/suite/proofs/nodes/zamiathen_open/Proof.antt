@@ -4,10 +4,9 @@ use Rattle.suite.specs.Numbers.{numbers}
 use Rattle.suite.proofs.nodes.zamiathen_open.Statement.{statement}
 use Rattle.suite.proofs.nodes.zamiathen_open.Tie as tie
 
-returns : tie.Need-returns
-returns c =
-    let e = c .before .before .before .open .ensures in
-    (c .answer-numbers .ensures ∙ ap numbers (e .0), e .1)
-
 pub zamiathen-open-spec : {M : Type 1} → statement M
-zamiathen-open-spec = tie.close (tie.spec (λ c κs. search needs) (λ c κs. search needs) (λ c. search needs) returns)
+zamiathen-open-spec =
+    tie.close
+    (tie.spec
+    (λ c κs. search needs) (λ c κs. search needs) (λ c. search needs)
+    (λ c. let e = c .before .before .before .open .ensures in (c .answer-numbers .ensures ∙ ap numbers (e .0), e .1)))

@@ -4,10 +4,9 @@ use Rattle.suite.specs.Numbers.{lengthNumbers}
 use Rattle.suite.proofs.paper.zamiathen_print_labels.Statement.{statement}
 use Rattle.suite.proofs.paper.zamiathen_print_labels.Tie as tie
 
-returns : tie.Need-returns
-returns c =
-    let e = c .before .before .before .print-labels .ensures in
-    (c .written-numbers .ensures ∙ ap lengthNumbers (e .0), e .1)
-
 pub zamiathen-print-labels-spec : {M : Type 1} → statement M
-zamiathen-print-labels-spec = tie.close (tie.spec (λ c κs. search needs) (λ c κs. search needs) (λ c. search needs) returns)
+zamiathen-print-labels-spec =
+    tie.close
+    (tie.spec
+    (λ c κs. search needs) (λ c κs. search needs) (λ c. search needs)
+    (λ c. let e = c .before .before .before .print-labels .ensures in (c .written-numbers .ensures ∙ ap lengthNumbers (e .0), e .1)))

@@ -5,10 +5,9 @@ use Rattle.suite.proofs.NumberLaws.{outcome-numbers}
 use Rattle.suite.proofs.paper.zamiathen_type_page.Statement.{statement}
 use Rattle.suite.proofs.paper.zamiathen_type_page.Tie as tie
 
-returns : tie.Need-returns
-returns c =
-    let e = c .before .before .before .type-page .ensures in
-    (c .answer-numbers .ensures ∙ ap numbers (e .0) ∙ outcome-numbers _, e .1)
-
 pub zamiathen-type-page-spec : {M : Type 1} → statement M
-zamiathen-type-page-spec = tie.close (tie.spec (λ c κs. search needs) (λ c κs. search needs) (λ c. search needs) returns)
+zamiathen-type-page-spec =
+    tie.close
+    (tie.spec
+    (λ c κs. search needs) (λ c κs. search needs) (λ c. search needs)
+    (λ c. let e = c .before .before .before .type-page .ensures in (c .answer-numbers .ensures ∙ ap numbers (e .0) ∙ outcome-numbers _, e .1)))

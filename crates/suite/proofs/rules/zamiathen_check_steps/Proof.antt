@@ -4,8 +4,9 @@ use Rattle.suite.specs.Numbers.{numbers}
 use Rattle.suite.proofs.rules.zamiathen_check_steps.Statement.{statement}
 use Rattle.suite.proofs.rules.zamiathen_check_steps.Tie as tie
 
-returns : tie.Need-returns
-returns c = c .answer-numbers .ensures ∙ ap numbers (c .before .check-steps .ensures)
-
 pub zamiathen-check-steps-spec : {M : Type 1} → statement M
-zamiathen-check-steps-spec = tie.close (tie.spec (λ c κs. search needs) (λ c κs. search needs) returns)
+zamiathen-check-steps-spec =
+    tie.close
+    (tie.spec
+    (λ c κs. search needs) (λ c κs. search needs)
+    (λ c. c .answer-numbers .ensures ∙ ap numbers (c .before .check-steps .ensures)))

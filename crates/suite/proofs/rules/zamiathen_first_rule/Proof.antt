@@ -2,7 +2,7 @@ use borrow.Author.Needs.{needs}
 use mathlib.Core.Path.{ap, _∙_}
 use lib.ListN.{length}
 use Rattle.answer.proofs.AnswerLaws.{number-of, place-of}
-use Rattle.text.proofs.Books.{part-is-rule}
+use Rattle.text.proofs.TextSpelling.{part-is-rule}
 use Rattle.suite.proofs.NumberLaws.{rule-end-numbers}
 use Rattle.suite.proofs.rules.zamiathen_first_rule.Statement.{statement}
 use Rattle.suite.proofs.rules.zamiathen_first_rule.Tie as tie
@@ -16,4 +16,7 @@ returns c =
     (ap length (part-is-rule (c .before .before .first-rule .ensures)))
 
 pub zamiathen-first-rule-spec : {M : Type 1} → statement M
-zamiathen-first-rule-spec = tie.close (tie.spec (λ c κs. search needs) (λ c κs. search needs) (λ c κs. search needs) (λ c κs. search needs) returns)
+zamiathen-first-rule-spec =
+    tie.close
+    (tie.spec
+    (λ c κs. search needs) (λ c κs. search needs) (λ c κs. search needs) (λ c κs. search needs) returns)

@@ -18,4 +18,6 @@ returns c =
 
 pub zamiathen-arrow-bit-spec : {M : Type 1} → statement M
 zamiathen-arrow-bit-spec =
-    tie.close (tie.spec (λ c κs. search needs) (λ c κs. search needs) (λ c κs. search needs) (λ c κs. search needs) (λ c κs. search needs) returns)
+    tie.close
+    (tie.spec
+    (λ c κs. search needs) (λ c κs. search needs) (λ c κs. search needs) (λ c κs. search needs) (λ c κs. search needs) returns)

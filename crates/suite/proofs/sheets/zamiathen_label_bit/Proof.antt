@@ -18,4 +18,7 @@ returns c =
     ∙ label-bit-byte t (λ p. omega (arith, c .before .before .before .before .shared-slice-known .given p)) (st .args .label) (st .args .node))
 
 pub zamiathen-label-bit-spec : {M : Type 1} → statement M
-zamiathen-label-bit-spec = tie.close (tie.spec (λ c κs. search needs) (λ c κs. search needs) (λ c κs. search needs) (λ c κs. search needs) returns)
+zamiathen-label-bit-spec =
+    tie.close
+    (tie.spec
+    (λ c κs. search needs) (λ c κs. search needs) (λ c κs. search needs) (λ c κs. search needs) returns)

@@ -5,18 +5,9 @@ use Prim.Native.Nat.{ℕ}
 use lib.ListN.{length, take}
 use denote.Ref.{now}
 use Rattle.text.specs.Questions.{firstPart}
-use Rattle.text.proofs.Answers.{no-rule-long, no-rule, the-rule, rule-inside}
+use Rattle.text.proofs.TextStages.{no-rule-long, no-rule, the-rule, rule-inside}
 use Rattle.text.proofs.Text.first_rule.Statement.{statement}
 use Rattle.text.proofs.Text.first_rule.Tie as tie
-
-sub-result : tie.Need-sub-result
-sub-result c = search needs
-
-part-result-start : tie.Need-part-result-start
-part-result-start c = search needs
-
-part-result-end : tie.Need-part-result-end
-part-result-end c = search needs
 
 returns : tie.Need-returns
 unfolding firstPart
@@ -25,39 +16,12 @@ returns c =
     let size = no-rule-long text _ (c .before .before .before .limits-for .ensures) (c .before .if1 .taken) in
     record { memory = search needs; starts = search needs; contents = ap (λ (l : List ℕ). take (length l) text) size }
 
-limits-for-requires : tie.Need-limits-for-requires
-limits-for-requires c κs = search needs
-
-read-requires : tie.Need-read-requires
-read-requires c κs = search needs
-
-enum-known-step : tie.Need-enum-known-step
-enum-known-step c = search needs
-
-enum-told : tie.Need-enum-told
-enum-told c = search needs
-
-sub-result-2 : tie.Need-sub-result-2
-sub-result-2 c = search needs
-
-part-result-start-2 : tie.Need-part-result-start-2
-part-result-start-2 c = search needs
-
-part-result-end-2 : tie.Need-part-result-end-2
-part-result-end-2 c = search needs
-
 returns-2 : tie.Need-returns-2
 unfolding firstPart
 returns-2 c =
     let text = now (c .before .before .before .before .before .before .before .before .args .text) in
     let size = no-rule text _ (c .before .before .before .before .before .before .limits-for .ensures) (c .before .before .before .before .if1 .left) (sym (c .before .before .before .read .ensures) ∙ c .before .enum-told .given .1) in
     record { memory = search needs; starts = search needs; contents = ap (λ (l : List ℕ). take (length l) text) size }
-
-sub-result-3 : tie.Need-sub-result-3
-sub-result-3 c = search needs
-
-part-result-start-3 : tie.Need-part-result-start-3
-part-result-start-3 c = search needs
 
 part-result-end-3 : tie.Need-part-result-end-3
 part-result-end-3 c = rule-inside _ _ (c .before .before .before .before .before .before .limits-for .ensures) (c .before .before .before .before .if1 .left) (sym (c .before .before .before .read .ensures) ∙ c .before .step .given .1)
@@ -73,20 +37,6 @@ pub first-rule-spec : {M : Type 1} → statement M
 first-rule-spec =
     tie.close
     (tie.spec
-    limits-for-requires
-    (λ c. search needs)
-    sub-result
-    part-result-start
-    part-result-end
-    returns
-    read-requires
-    enum-known-step
-    enum-told
-    sub-result-2
-    part-result-start-2
-    part-result-end-2
-    returns-2
-    sub-result-3
-    part-result-start-3
-    part-result-end-3
-    returns-3)
+    (λ c κs. search needs) (λ c. search needs) (λ c. search needs) (λ c. search needs) (λ c. search needs) returns (λ c κs. search needs)
+    (λ c. search needs) (λ c. search needs) (λ c. search needs) (λ c. search needs) (λ c. search needs) returns-2 (λ c. search needs)
+    (λ c. search needs) part-result-end-3 returns-3)

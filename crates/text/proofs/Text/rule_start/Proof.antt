@@ -8,7 +8,7 @@ use Rattle.logic.specs.Syntax.{rule}
 use Rattle.text.specs.Reading.{textLimits, expr}
 use Rattle.text.specs.Questions.{rulesEnd, ruleStart}
 use Rattle.text.specs.Rows.{limitsOf}
-use Rattle.text.proofs.Answers.{was-read, start-here, start-next, start-stopped}
+use Rattle.text.proofs.TextStages.{was-read, start-here, start-next, start-stopped}
 use Rattle.text.proofs.Text.rule_start.Statement.{statement}
 use Rattle.text.proofs.Text.rule_start.Tie as tie
 
@@ -18,21 +18,8 @@ Inv-loop book n i limits p₀ left₀ p left = (p ≤ length book) × (rulesEnd 
 abbrev μ-loop : tie.MeasureT-loop
 μ-loop book n i limits p₀ left₀ p left = left
 
-limits-for-requires : tie.Need-limits-for-requires Inv-loop μ-loop
-limits-for-requires c κs = search needs
-
 loop-holds : tie.Need-loop-holds Inv-loop μ-loop
-unfolding ruleStart
-loop-holds c = (search needs, ap (λ r. rulesEnd r (c .before .before .args .i) (now (c .before .before .args .book)) 0) (c .limits-for .ensures))
-
-read-requires : tie.Need-read-requires Inv-loop μ-loop
-read-requires c κs = search needs
-
-enum-known-step : tie.Need-enum-known-step Inv-loop μ-loop
-enum-known-step c = search needs
-
-enum-told : tie.Need-enum-told Inv-loop μ-loop
-enum-told c = search needs
+loop-holds c = unfold ruleStart in (search needs, ap (λ r. rulesEnd r (c .before .before .args .i) (now (c .before .before .args .book)) 0) (c .limits-for .ensures))
 
 returns : tie.Need-returns Inv-loop μ-loop
 returns c =
@@ -40,20 +27,16 @@ returns c =
     let l = c .before .before .before .before .loop in
     start-stopped _ _ (l .left) _ (search needs) (l .inv .0) e ∙ l .inv .1
 
-sub-left : tie.Need-sub-left Inv-loop μ-loop
-sub-left c = search needs
-
-loop-less : tie.Need-loop-less Inv-loop μ-loop
-loop-less c = search needs
-
 loop-again : tie.Need-loop-again Inv-loop μ-loop
 loop-again c =
     let e = sym (c .before .before .before .read .ensures) ∙ c .before .step .given .1 in
     let l = c .before .before .before .before .before .loop in
     (was-read _ _ (expr rule) _ e .inside (l .inv .0), start-next _ _ (l .left) _ (search needs) e ∙ l .inv .1)
 
-returns-2 : tie.Need-returns-2 Inv-loop μ-loop
-returns-2 c = start-here _ _ _ _ (c .loop-test .left) ∙ c .before .loop .inv .1
-
 pub rule-start-spec : {M : Type 1} → statement M
-rule-start-spec = tie.close (tie.spec Inv-loop μ-loop limits-for-requires loop-holds read-requires enum-known-step enum-told returns sub-left loop-less loop-again returns-2)
+rule-start-spec =
+    tie.close
+    (tie.spec
+    Inv-loop μ-loop (λ c κs. search needs) loop-holds (λ c κs. search needs) (λ c. search needs) (λ c. search needs) returns
+    (λ c. search needs) (λ c. search needs) loop-again
+    (λ c. start-here _ _ _ _ (c .loop-test .left) ∙ c .before .loop .inv .1))

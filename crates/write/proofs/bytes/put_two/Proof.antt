@@ -9,10 +9,11 @@ use Rattle.write.proofs.bytes.put_two.Statement.{statement}
 use Rattle.write.proofs.bytes.put_two.Tie as tie
 
 pub put-two-spec : {M : Type 1} → statement M
-put-two-spec = tie.close (tie.spec
+put-two-spec =
+    tie.close
+    (tie.spec
     (λ c. search needs) (λ c. search needs)
     (λ c. omega (arith, c .pre, length-set (now (c .args .out)) (c .args .pos) (c .args .a)))
     (λ c. search needs)
     (λ c. length-set (set (now (c .args .out)) (c .args .pos) (c .args .a)) (c .args .pos + 1) (c .args .b) ∙ length-set (now (c .args .out)) (c .args .pos) (c .args .a))
-    (λ c. wrote-two (now (c .args .out)) (c .args .pos) (c .args .a) (c .args .b))
-    )
+    (λ c. wrote-two (now (c .args .out)) (c .args .pos) (c .args .a) (c .args .b)))

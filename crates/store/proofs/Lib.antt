@@ -1,0 +1,4 @@
+pub mod StoredReads
+pub mod StoredPasses
+pub mod StoredBytes
+pub mod ConvertedLaws
