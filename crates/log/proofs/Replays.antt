@@ -8,8 +8,9 @@ use Rattle.answer.specs.Asked.{Asked, passed, refused}
 use Rattle.printed.specs.AnswerLine.{askedLine}
 use Rattle.runs.specs.Clerk.{Line}
 use Rattle.runs.specs.Enter.{enterAnswer, enterSheet}
-use Rattle.runs.specs.Run.{Keeps, Call, log, Bytes}
-use Rattle.runs.specs.Demand3.{Each}
+use Rattle.bitset.specs.Words.{Bytes}
+use Rattle.runs.specs.Run.{Keeps, Call, log}
+use Rattle.logic.specs.Lists.{All}
 use Rattle.runs.proofs.Demand3.{demand-3}
 use Rattle.printed.specs.Printed.{scratchBytes, printedLine, printedSheet}
 use Rattle.log.specs.Log.{isLast, content, isBegun, askLogBlock, askLogEnd, Recorded, follows, recorded, blocksOf, readLog}
@@ -46,8 +47,8 @@ held-is sheet book (edit ∷ edits) =
     held-is (printedSheet sheet book edit) book edits ∙ ap (λ n. lastSheet (enterSheet sheet book edit n) (log book (enterSheet sheet book edit n) (calls edits))) (sym room)
 
 -- the last of sheets that all keep the book
-last-keeps : (book sheet : List ℕ) (ls : List Line) → Keeps book sheet → Each (λ l. Keeps book (l .sheet)) ls → Keeps book (lastSheet sheet ls)
-unfolding lastSheet Each
+last-keeps : (book sheet : List ℕ) (ls : List Line) → Keeps book sheet → All (λ l. Keeps book (l .sheet)) ls → Keeps book (lastSheet sheet ls)
+unfolding lastSheet
 last-keeps book sheet [] k e = k
 last-keeps book sheet (l ∷ ls) k e = last-keeps book (l .sheet) ls (e .0) (e .1)
 

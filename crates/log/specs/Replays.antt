@@ -7,7 +7,8 @@ use lib.ListN.{length, replicate}
 use Rattle.seal.specs.Seal.{blockBytes}
 use Rattle.printed.specs.AnswerLine.{askedLine}
 use Rattle.runs.specs.Clerk.{Line}
-use Rattle.runs.specs.Run.{Keeps, Call, log, Bytes}
+use Rattle.bitset.specs.Words.{Bytes}
+use Rattle.runs.specs.Run.{Keeps, Call, log}
 use Rattle.runs.specs.Demand3.{RunRight}
 use Rattle.printed.specs.Printed.{scratchBytes}
 use Rattle.log.specs.Log.{lastNumber, blocksOf, readLog}

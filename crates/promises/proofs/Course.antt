@@ -22,7 +22,7 @@ use Rattle.judge.specs.Questions.{askRules, askSheetAndBook, askJudge}
 use Rattle.runs.specs.Scratch.{longestRule}
 use Rattle.apply.specs.Apply.{appliedSheet}
 use Rattle.runs.specs.Enter.{enterSheet}
-use Rattle.runs.specs.Run.{Bytes}
+use Rattle.bitset.specs.Words.{Bytes}
 use Rattle.judge.proofs.QuestionLaws.{hold-asked, asked-hold}
 use Rattle.game.specs.Game.{Side, dispatcher, disruption, Game, Move, pass, edit, editsOf, leaves, mayLeave, canMake, allowed, Outcome, answer}
 use Rattle.game.specs.Play.{Plan, since, Play, Course, ended, wrong, course, Fair, Won, Broken, Wins, CanFollow, SomeBreaks, Begins, Right}

@@ -18,7 +18,8 @@ use Rattle.judge.specs.Questions.{askSheetAndBook, askRules}
 use Rattle.apply.specs.Apply.{afterSteps, appliedSheet}
 use Rattle.runs.specs.Enter.{StepsAndCarried, askBefore41, askEnter, enterAnswer, enterSheet}
 use Rattle.logic.specs.Meaning.{holdAll}
-use Rattle.runs.specs.Run.{Keeps, Bytes}
+use Rattle.bitset.specs.Words.{Bytes}
+use Rattle.runs.specs.Run.{Keeps}
 use Rattle.answer.proofs.AskedLaws.{passed-same, bind-passed, then-passed, outcome-passed}
 use Rattle.judge.proofs.QuestionLaws.{hold-asked, asked-hold}
 use Rattle.runs.proofs.Runs.{keeps}

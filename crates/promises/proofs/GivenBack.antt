@@ -18,7 +18,7 @@ use Rattle.plan_store.specs.Calls.{blankStore, keptStore, returnedSheet, droppe
 use Rattle.plan_store.proofs.Asks.{Named, name-told, Filled, filled-told, store-told}
 use Rattle.plan_store.proofs.StoreLaws.{opening, place-storeOf, filled-storeOf}
 use Rattle.plan_store.proofs.StoreIsBytes.{FewNodes, storeOf-small}
-use Rattle.runs.specs.Run.{Bytes}
+use Rattle.bitset.specs.Words.{Bytes}
 use Rattle.logic.specs.Lists.{All}
 use Rattle.promises.specs.StoreCalls.{StoreCall, blank, keep, return, drop, KeepsBytes, storeAfter, storeAtEnd, Kept, nothing, some, told, lastKept, heldIn, GivesBack}
 use Rattle.promises.proofs.HistoryBytes.{n-bytes, plans-bytes}

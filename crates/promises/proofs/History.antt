@@ -7,7 +7,8 @@ use Rattle.logic.specs.Closing.{closeNode, openNode}
 use Rattle.sheet.specs.Sheet.{present, store, graphOf}
 use Rattle.sheet.proofs.SoundSheets as sheets
 use Rattle.close_node.specs.Questions.{askClose, askOpen, closedSheet, openedSheet}
-use Rattle.runs.specs.Run.{Keeps, Call, Bytes}
+use Rattle.bitset.specs.Words.{Bytes}
+use Rattle.runs.specs.Run.{Keeps, Call}
 use Rattle.runs.specs.Demand3.{RunRight}
 use Rattle.runs.proofs.Runs.{keeps}
 use Rattle.runs.proofs.Demand3.{stored-right}

@@ -14,7 +14,7 @@ use Rattle.logic.proofs.Inside.{run-n}
 use Rattle.sheet.specs.Sheet.{sheetBytes, graphIn, graphOf, store}
 use Rattle.close_node.specs.Questions.{askClose, askOpen, closedSheet, openedSheet}
 use Rattle.runs.specs.Enter.{askEnter, enterSheet}
-use Rattle.runs.specs.Run.{Bytes}
+use Rattle.bitset.specs.Words.{Bytes}
 use Rattle.plan_store.specs.Store.{Plan, unfilled, filled, storeOf, plansOf, placeIn, placeStart, filledIn}
 use Rattle.plan_store.specs.Questions.{askKeep, askReturn, askDrop}
 use Rattle.plan_store.specs.Calls.{keptStore, returnedSheet, droppedStore}

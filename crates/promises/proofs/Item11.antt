@@ -16,7 +16,7 @@ use Rattle.shortening.specs.Questions.{CheckPasses}
 use Rattle.shortening.specs.SameTruth.{SameTruth}
 use Rattle.shortening.proofs.Checked.{check-passes, check-means}
 use Rattle.shortening.proofs.OneReading.{one-rule-book}
-use Rattle.runs.specs.Run.{Bytes}
+use Rattle.bitset.specs.Words.{Bytes}
 use Rattle.promises.specs.Item11.{Accepts, BookAs, Item11}
 
 module _ (carried steps sent : List ℕ) (accepts : Accepts carried steps sent) (sheet : List ℕ) (bytes : Bytes sheet) where

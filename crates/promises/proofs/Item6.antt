@@ -34,7 +34,7 @@ use Rattle.store.proofs.StoredReads.{read-back}
 use Rattle.store.proofs.ConvertedLaws.{converted-reads}
 use Rattle.apply.specs.Apply.{afterSteps, askApply, appliedSheet}
 use Rattle.runs.specs.Enter.{askEnter, enterSheet}
-use Rattle.runs.specs.Run.{Bytes}
+use Rattle.bitset.specs.Words.{Bytes}
 use Rattle.runs.proofs.After.{applied-is, applied-read, after-graph}
 use Rattle.close_node.proofs.CloseStages.{found, close-already, close-kept, open-already}
 use Rattle.promises.proofs.EnteredJoined.{entered, enter-leaves}

@@ -15,7 +15,7 @@ use Rattle.sheet.proofs.SoundSheets.{sound-is-stored}
 use Rattle.text.specs.Reading.{textLimits}
 use Rattle.text.specs.Questions.{askEdit}
 use Rattle.apply.specs.Apply.{afterSteps, askApply, appliedSheet}
-use Rattle.runs.specs.Run.{Bytes}
+use Rattle.bitset.specs.Words.{Bytes}
 use Rattle.answer.proofs.AskedLaws.{outcome-passed}
 use Rattle.runs.proofs.After.{applied-is, applies, applied-read, after-sound, after-graph, after-n}
 use Rattle.join_edits.proofs.JoinedPasses.{Joins}

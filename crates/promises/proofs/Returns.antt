@@ -15,7 +15,8 @@ use Rattle.plan_store.specs.Store.{placeIn}
 use Rattle.plan_store.specs.Questions.{askKept, askReturn}
 use Rattle.plan_store.specs.Calls.{returnedSheet}
 use Rattle.plan_store.proofs.StoreLaws.{place-small, place-sound}
-use Rattle.runs.specs.Run.{Keeps, Call, Bytes}
+use Rattle.bitset.specs.Words.{Bytes}
+use Rattle.runs.specs.Run.{Keeps, Call}
 use Rattle.runs.specs.Demand3.{RunRight}
 use Rattle.judge.proofs.QuestionLaws.{asked-hold}
 use Rattle.promises.proofs.HistorySteps.{Stores}

@@ -15,7 +15,8 @@ use Rattle.text.specs.Questions.{askBook, askEdit}
 use Rattle.carry.specs.Carrying.{carryAnswer, carryOutput}
 use Rattle.apply.specs.Apply.{askApply, appliedSheet}
 use Rattle.runs.specs.Enter.{askBefore41, enterAnswer, enterSheet}
-use Rattle.runs.specs.Run.{Keeps, Bytes}
+use Rattle.bitset.specs.Words.{Bytes}
+use Rattle.runs.specs.Run.{Keeps}
 use Rattle.join_edits.specs.Chain.{withoutLast}
 
 -- An edit passes its questions for n nodes; it is carried out without a refusal.

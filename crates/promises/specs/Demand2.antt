@@ -18,7 +18,8 @@ use Rattle.text.specs.Reading.{Limits}
 use Rattle.text.specs.Questions.{askBook, askEdit}
 use Rattle.text.specs.Marked.{Right, examples, texts}
 use Rattle.judge.specs.Questions.{askJudge}
-use Rattle.runs.specs.Run.{Bytes, Keeps}
+use Rattle.bitset.specs.Words.{Bytes}
+use Rattle.runs.specs.Run.{Keeps}
 use Rattle.runs.specs.Examples.{enteredOnT, calls, results}
 
 pub record Demand2 : Type 0 where

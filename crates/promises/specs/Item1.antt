@@ -9,7 +9,7 @@ use Rattle.sheet.specs.Questions.{blockOf, Sound}
 use Rattle.pages.specs.Print.{askPrintArrow, askPrintLabels}
 use Rattle.pages.specs.Typed.{Block, arrows, labels, askType, typedSheet}
 use Rattle.pages.specs.Prints.{Alike}
-use Rattle.runs.specs.Run.{Bytes}
+use Rattle.bitset.specs.Words.{Bytes}
 
 -- Two sheets with the same n and nodes in use: one from which a page is printed, and a sound one into which it is typed.
 pub record TwoSheets (first second : List ℕ) : Type 0 where

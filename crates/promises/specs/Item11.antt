@@ -11,7 +11,7 @@ use Rattle.text.specs.Reading.{textLimits, carriedLimits}
 use Rattle.text.specs.Questions.{askBook, askRule}
 use Rattle.judge.specs.Questions.{askJudge}
 use Rattle.shortening.specs.Questions.{askCheck, CheckPasses}
-use Rattle.runs.specs.Run.{Bytes}
+use Rattle.bitset.specs.Words.{Bytes}
 
 -- The check accepts the text sent for the carried one.
 abbrev pub Accepts : (carried steps sent : List ℕ) → Type 0

@@ -7,7 +7,8 @@ use Rattle.logic.specs.Syntax.{Edit}
 use Rattle.sheet.specs.Sheet.{graphOf}
 use Rattle.sheet.specs.Questions.{Sound}
 use Rattle.apply.specs.Apply.{afterSteps}
-use Rattle.runs.specs.Run.{Bytes, Keeps}
+use Rattle.bitset.specs.Words.{Bytes}
+use Rattle.runs.specs.Run.{Keeps}
 use Rattle.count_small.specs.declared.Four.{Four}
 use Rattle.count_small.specs.Small.{Small, total}
 use Rattle.count_small.specs.Exactly.{Exactly}

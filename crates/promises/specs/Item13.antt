@@ -3,7 +3,7 @@ use mathlib.Core.Path.{_≡_}
 use mathlib.Core.List.{List}
 use Prim.Native.Nat.{ℕ}
 use Rattle.answer.specs.Asked.{passed}
-use Rattle.runs.specs.Run.{Bytes}
+use Rattle.bitset.specs.Words.{Bytes}
 use Rattle.game.specs.Game.{Game, Outcome}
 use Rattle.play.specs.Questions.{cut, askGame, askPlay}
 use Rattle.play.specs.Right.{PlayRight}

@@ -10,7 +10,7 @@ use Rattle.sheet.specs.Sheet.{SheetForm, present, former, sheetBytes, graphIn, 
 use Rattle.sheet.specs.Questions.{blockOf, SoundIn, Sound}
 use Rattle.store.specs.Converted.{askConvert, converted}
 use Rattle.sheet.specs.Noticed.{AsksSheetFirst}
-use Rattle.runs.specs.Run.{Bytes}
+use Rattle.bitset.specs.Words.{Bytes}
 
 -- A sound sheet of a form, block 1 of which has no arrows.
 pub record WithoutArrows (φ : SheetForm) (t : List ℕ) : Type 0 where

@@ -12,7 +12,7 @@ use Rattle.text.specs.Reading.{textLimits, formerLimits}
 use Rattle.text.specs.Questions.{askBook}
 use Rattle.rewrite_counts.specs.Rewritten.{askRewritten}
 use Rattle.rewrite_counts.specs.OnSheet.{OnSheet}
-use Rattle.runs.specs.Run.{Bytes}
+use Rattle.bitset.specs.Words.{Bytes}
 
 pub record Item3 : Type 0 where
   -- "Stored books pass once through a rewriter": rewriting again changes nothing, and a book that passes today's questions is left as it is.

@@ -7,7 +7,7 @@ use Rattle.seal.specs.Seal.{Form, sums}
 use Rattle.seal.specs.Lanes.{total, weighed}
 use Rattle.sheet.specs.Questions.{askSheet}
 use Rattle.sheet.specs.Noticed.{AsksSheetFirst}
-use Rattle.runs.specs.Run.{Bytes}
+use Rattle.bitset.specs.Words.{Bytes}
 
 pub record Item5 : Type 0 where
   -- "take the two remainders once a block": the sums are the remainders of the plain totals, in any form,

@@ -20,7 +20,8 @@ use Rattle.sheet.specs.Questions.{blockOf, headRight, askBlock, askSheet, Sound
 use Rattle.store.specs.Converted.{converted}
 use Rattle.apply.specs.Apply.{appliedSheet}
 use Rattle.runs.specs.Enter.{enterSheet}
-use Rattle.runs.specs.Run.{Bytes, Keeps}
+use Rattle.bitset.specs.Words.{Bytes}
+use Rattle.runs.specs.Run.{Keeps}
 use Rattle.close_node.specs.Questions.{askNode, askClose, askOpen, closedSheet, openedSheet}
 use Rattle.promises.specs.History.{Event, HistoryRight}
 

@@ -5,7 +5,8 @@ use Prim.Native.Nat.{ℕ}
 use Rattle.answer.specs.Asked.{passed}
 use Rattle.plan_store.specs.Questions.{askReturn}
 use Rattle.plan_store.specs.Calls.{returnedSheet}
-use Rattle.runs.specs.Run.{Bytes, Keeps, Call}
+use Rattle.bitset.specs.Words.{Bytes}
+use Rattle.runs.specs.Run.{Keeps, Call}
 use Rattle.runs.specs.Demand3.{RunRight}
 use Rattle.logic.specs.Lists.{All}
 use Rattle.promises.specs.StoreCalls.{StoreCall, blank, KeepsBytes, nothing, heldIn, GivesBack}

@@ -12,7 +12,8 @@ use Rattle.sheet.specs.Sheet.{graphOf}
 use Rattle.sheet.specs.Questions.{Sound}
 use Rattle.text.specs.Reading.{textLimits}
 use Rattle.text.specs.Questions.{askBook}
-use Rattle.runs.specs.Run.{Bytes, Keeps}
+use Rattle.bitset.specs.Words.{Bytes}
+use Rattle.runs.specs.Run.{Keeps}
 use Rattle.join_sheets.specs.Joined.{sideBySide, pairsBySide, joinedGraph, nodesTotal, askJoin, joinedSheet}
 use Rattle.join_sheets.specs.Joinable.{Joinable, JoinableBook}
 

@@ -14,7 +14,7 @@ use Rattle.sheet.specs.Questions.{Sound}
 use Rattle.runs.specs.Scratch.{longestRule}
 use Rattle.apply.specs.Apply.{askApply, appliedSheet}
 use Rattle.runs.specs.Enter.{enterAnswer, enterSheet}
-use Rattle.runs.specs.Run.{Bytes}
+use Rattle.bitset.specs.Words.{Bytes}
 use Rattle.game.specs.Game.{Side, dispatcher, disruption, Game, edit, leaves, canMake}
 use Rattle.play.specs.Questions.{cut, askGame}
 

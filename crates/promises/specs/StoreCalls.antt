@@ -10,7 +10,7 @@ use Rattle.answer.specs.Asked.{passed, after}
 use Rattle.plan_store.specs.Store.{placeIn, filledIn}
 use Rattle.plan_store.specs.Questions.{nameRight, askBlankStore, askKeep, askReturn, askDrop}
 use Rattle.plan_store.specs.Calls.{blankStore, keptStore, returnedSheet, droppedStore}
-use Rattle.runs.specs.Run.{Bytes}
+use Rattle.bitset.specs.Words.{Bytes}
 
 -- "Blank [..], keep, return, drop"
 pub data StoreCall : Type 0 where

@@ -16,7 +16,7 @@ use Rattle.store.proofs.StoredReads.{read-back}
 use Rattle.text.specs.Reading.{textLimits}
 use Rattle.text.specs.Questions.{askEdit}
 use Rattle.apply.specs.Apply.{afterSteps, askApply, appliedSheet}
-use Rattle.runs.specs.Run.{Bytes}
+use Rattle.bitset.specs.Words.{Bytes}
 use Rattle.answer.proofs.AskedLaws.{then-passed}
 use Rattle.runs.proofs.Runs.{steps-within}
 

@@ -23,8 +23,10 @@ use Rattle.runs.specs.Scratch.{askScratch}
 use Rattle.apply.specs.Apply.{afterSteps}
 use Rattle.runs.specs.Enter.{askEnter, enterAnswer, enterSheet}
 use Rattle.runs.specs.Clerk.{Fed, rulesOf, clerkLog, clerk}
-use Rattle.runs.specs.Run.{Keeps, Call, fed, log, enteredAfterEach, madeInOrder, Bytes, Given}
-use Rattle.runs.specs.Demand3.{Each, RunRight, Demand3}
+use Rattle.bitset.specs.Words.{Bytes}
+use Rattle.runs.specs.Run.{Keeps, Call, fed, log, enteredAfterEach, madeInOrder, Given}
+use Rattle.logic.specs.Lists.{All}
+use Rattle.runs.specs.Demand3.{RunRight, Demand3}
 use Rattle.answer.proofs.AskedLaws.{outcome-passed}
 use Rattle.runs.proofs.OneCall.{askSteps, enter-asks, Entered, when-passed, so-passed}
 use Rattle.runs.proofs.Runs.{steps-within, Kept, keeps, kept-each, log-clerk, alone-each}
@@ -99,7 +101,7 @@ unfolding clerk rulesOf after madeInOrder
 stored-right book rules g calls kept =
     let same : log book (store g) calls ≡ clerkLog rules g (map fed calls) = log-clerk book rules g calls kept in
     record {
-      kept = subst (Each (λ l. Keeps book (l .sheet))) (sym same) (kept-each book rules g (map fed calls) kept);
+      kept = subst (All (λ l. Keeps book (l .sheet))) (sym same) (kept-each book rules g (map fed calls) kept);
       alone = subst (λ x. map (λ l. l .sheet) x ≡ map (madeInOrder (store g)) (enteredAfterEach [] x)) (sym same) (alone-each book rules (store g) [] g (map fed calls) kept refl);
       clerks =
           same ∙ ap (λ q. clerkLog (after q (λ rules. rules) []) g (map fed calls)) (sym (kept .book-read))

@@ -18,7 +18,7 @@ use Rattle.runs.specs.Scratch.{askScratch, writings}
 use Rattle.apply.specs.Apply.{afterSteps}
 use Rattle.runs.specs.Enter.{StepsAndCarried, askBefore41, askEnter, enterAnswer, enterSheet, enterScratch}
 use Rattle.runs.specs.Run.{Call, log}
-use Rattle.runs.specs.Demand3.{Each}
+use Rattle.logic.specs.Lists.{All}
 use Rattle.runs.specs.Leaves.{ScratchWritten, Leaves}
 use Rattle.answer.proofs.AskedLaws.{passed-same, bind-passed, then-passed}
 use Rattle.runs.proofs.EnterRefusals.{before-41-refuses}
@@ -90,13 +90,13 @@ passed-33 sheet book edit room c e =
 answers : (sheet book edit : List ℕ) (room q p : ℕ) → askSheetAndBook sheet book ≡ refused q p → enterAnswer sheet book edit room ≡ refused q p
 answers sheet book edit room q p e = unfold askEnter askBefore41 outcome _>>=_ in rw e
 
-others : (opening book : List ℕ) (calls : List Call) (q p : ℕ) → askSheetAndBook opening book ≡ refused q p → Each (λ l. (l .answer ≡ refused q p) × (l .sheet ≡ opening)) (log book opening calls)
-unfolding Each log
+others : (opening book : List ℕ) (calls : List Call) (q p : ℕ) → askSheetAndBook opening book ≡ refused q p → All (λ l. (l .answer ≡ refused q p) × (l .sheet ≡ opening)) (log book opening calls)
+unfolding log
 others opening book [] q p e = tt
 others opening book (c ∷ cs) q p e =
     let answer : enterAnswer opening book (c .edit) (length (c .scratch)) ≡ refused q p = answers opening book (c .edit) (length (c .scratch)) q p e in
     let same : enterSheet opening book (c .edit) (length (c .scratch)) ≡ opening = stays opening book (c .edit) (length (c .scratch)) q p answer in
-    ((answer, same), subst (λ s. Each (λ l. (l .answer ≡ refused q p) × (l .sheet ≡ opening)) (log book s cs)) (sym same) (others opening book cs q p e))
+    ((answer, same), subst (λ s. All (λ l. (l .answer ≡ refused q p) × (l .sheet ≡ opening)) (log book s cs)) (sym same) (others opening book cs q p e))
 
 pub leaves : Leaves
 leaves = record { sheet-stays = stays; scratch-stays = scratch-same; scratch-written = done-or-41; others-stay = others }

@@ -19,7 +19,7 @@ use Rattle.apply.specs.Apply.{afterSteps, askApply, appliedSheet}
 use Rattle.runs.specs.Clerk.{Fed, clerkGraph, clerkLine, clerkLog}
 use Rattle.logic.specs.Meaning.{holdAll}
 use Rattle.runs.specs.Run.{Keeps, Call, fed, log, entered, enteredAfterEach, madeInOrder}
-use Rattle.runs.specs.Demand3.{Each}
+use Rattle.logic.specs.Lists.{All}
 use Rattle.runs.proofs.OneCall.{askSteps, Entered, when-passed, clerk-asks, clerk-line, enter-line}
 
 -- The steps of an edit in range leave a graph within the limits, with the same nodes.
@@ -77,8 +77,8 @@ module _ (book : List ℕ) (rules : List (Expr rule)) where
     go (refused n p) e = k
 
   -- After each call of the clerk his sheet keeps the book.
-  pub kept-each : (g : Graph) (calls : List Fed) → Kept g → Each (λ l. Keeps book (l .sheet)) (clerkLog rules g calls)
-  unfolding Each clerkLog
+  pub kept-each : (g : Graph) (calls : List Fed) → Kept g → All (λ l. Keeps book (l .sheet)) (clerkLog rules g calls)
+  unfolding clerkLog
   kept-each g [] k = tt
   kept-each g (c ∷ cs) k = (keeps (clerkGraph rules g c) (still-kept g c k), kept-each (clerkGraph rules g c) cs (still-kept g c k))
 

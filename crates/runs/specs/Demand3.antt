@@ -1,11 +1,12 @@
 -- Demand 3, word for word. proofs/Demand3 proves it.
 use mathlib.Core.Path.{_≡_}
 use mathlib.Core.Logic.{_↔_}
-use mathlib.Core.List.{List, [], _∷_, map}
+use mathlib.Core.List.{List, [], map}
 use Prim.Native.Nat.{ℕ}
 use lib.Dec.{T}
 use Rattle.answer.specs.Asked.{passed, _>>_}
 use Rattle.logic.specs.Syntax.{Expr, rule}
+use Rattle.logic.specs.Lists.{All}
 use Rattle.logic.specs.Meaning.{value, holdAll}
 use Rattle.logic.specs.Carry.{carry, carriedBook}
 use Rattle.sheet.specs.Sheet.{graphOf}
@@ -13,18 +14,14 @@ use Rattle.judge.specs.Questions.{askRules}
 use Rattle.runs.specs.Scratch.{askScratch}
 use Rattle.apply.specs.Apply.{afterSteps}
 use Rattle.runs.specs.Enter.{enterAnswer, enterSheet}
-use Rattle.runs.specs.Clerk.{Line, clerk}
-use Rattle.runs.specs.Run.{Keeps, Call, fed, log, enteredAfterEach, madeInOrder, Bytes, Given, Condition, Ensures}
-
--- Each line of a log.
-unfoldable pub Each : (Line → Type 0) → List Line → Type 0
-Each P [] = Unit {0}
-Each P (l ∷ ls) = P l × Each P ls
+use Rattle.runs.specs.Clerk.{clerk}
+use Rattle.bitset.specs.Words.{Bytes}
+use Rattle.runs.specs.Run.{Keeps, Call, fed, log, enteredAfterEach, madeInOrder, Given, Condition, Ensures}
 
 -- Of a run, as one statement about the whole list of calls.
 pub record RunRight (opening book : List ℕ) (calls : List Call) : Type 0 where
   -- After each call the sheet keeps the book
-  pub kept : Each (λ l. Keeps book (l .sheet)) (log book opening calls)
+  pub kept : All (λ l. Keeps book (l .sheet)) (log book opening calls)
   -- and is, byte for byte, what the entered edits alone, in their order, leave from the opening sheet,
   pub alone : map (λ l. l .sheet) (log book opening calls)
       ≡ map (madeInOrder opening) (enteredAfterEach [] (log book opening calls))

@@ -12,7 +12,7 @@ use Rattle.sheet.specs.Sheet.{graphOf}
 use Rattle.runs.specs.Scratch.{writings}
 use Rattle.runs.specs.Enter.{StepsAndCarried, askBefore41, enterAnswer, enterSheet, enterScratch}
 use Rattle.runs.specs.Run.{Call, log}
-use Rattle.runs.specs.Demand3.{Each}
+use Rattle.logic.specs.Lists.{All}
 
 -- The scratch after done or 41: what the writings of the carried rules leave, up to the first broken one.
 pub record ScratchWritten (sheet book edit scratch : List ℕ) : Type 0 where
@@ -33,4 +33,4 @@ pub record Leaves : Type 0 where
       → ScratchWritten sheet book edit scratch
   -- A sheet that is not sound, or whose book is not within the limits, stays as it is through all calls, each refused alike.
   pub others-stay : (opening book : List ℕ) (calls : List Call) (q p : ℕ) → askSheetAndBook opening book ≡ refused q p
-      → Each (λ l. (l .answer ≡ refused q p) × (l .sheet ≡ opening)) (log book opening calls)
+      → All (λ l. (l .answer ≡ refused q p) × (l .sheet ≡ opening)) (log book opening calls)

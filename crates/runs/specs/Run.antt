@@ -1,13 +1,13 @@
 -- Runs of enter calls, and conditions on the sheet before an edit ("The run" of document 01).
 use mathlib.Core.Path.{_≡_}
 use mathlib.Core.List.{List, [], _∷_, _++_}
-use Prim.Native.Nat.{ℕ, _<_}
+use Prim.Native.Nat.{ℕ}
 use lib.Dec.{T}
-use lib.ListN.{length, getD}
+use lib.ListN.{length}
 use Rattle.answer.specs.Asked.{passed, after}
 use Rattle.logic.specs.Syntax.{Expr, rule, Edit}
-use Rattle.logic.specs.Graph.{Graph}
-use Rattle.logic.specs.Meaning.{value, holdAll}
+use Rattle.logic.specs.Meaning.{holdAll}
+use Rattle.bitset.specs.Words.{Bytes}
 use Rattle.sheet.specs.Sheet.{graphOf}
 use Rattle.sheet.specs.Questions.{Sound}
 use Rattle.text.specs.Reading.{textLimits}
@@ -59,10 +59,6 @@ enteredAfterEach edits (l ∷ ls) = entered edits l ∷ enteredAfterEach (entere
 unfoldable pub madeInOrder : List ℕ → List (List ℕ) → List ℕ
 madeInOrder sheet [] = sheet
 madeInOrder sheet (edit ∷ edits) = madeInOrder (appliedSheet sheet edit) edits
-
--- The contents of a buffer of bytes.
-abbrev pub Bytes : List ℕ → Type 0
-Bytes t = (p : ℕ) → getD t p 0 < 256
 
 -- A sheet, a book and an edit within the limits, with every node number on the sheet; and what book and edit say.
 pub record Given (book edit sheet : List ℕ) : Type 0 where
