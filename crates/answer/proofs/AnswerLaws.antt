@@ -1,5 +1,5 @@
 -- The number and place of an answer are those of the questions that it answers.
-use mathlib.Core.Path.{_≡_, refl, _∙_, ap}
+use mathlib.Core.Path.{_≡_, refl}
 use Prim.Native.Nat.{ℕ}
 use native.Mathlib.Omega.{arith}
 use Rattle.answer.specs.declared.Answer.{Answer}
@@ -7,40 +7,18 @@ use Rattle.answer.specs.declared.Answer.the-variants.{Done, Refused}
 use Rattle.answer.specs.Asked.{Asked, passed, refused, askedNumber, askedPlace, outcome}
 use Rattle.answer.specs.Answers.{answerNumber, answerPlace, asked}
 
-module _ (a : Answer) {A : Type 0} (q : Asked A) (is : asked a ≡ outcome q) where
-  pub number-of : answerNumber a ≡ askedNumber q
-  unfolding askedNumber outcome
-  number-of = of-answer a ∙ ap askedNumber is ∙ of-outcome q where
-    of-answer : (b : Answer) → answerNumber b ≡ askedNumber (asked b)
-    of-answer Done = refl
-    of-answer (Refused r) = refl
-
-    of-outcome : (o : Asked A) → askedNumber (outcome o) ≡ askedNumber o
-    of-outcome (passed x) = refl
-    of-outcome (refused n p) = refl
-
-  pub place-of : answerPlace a ≡ askedPlace q
-  unfolding askedPlace outcome
-  place-of = of-answer a ∙ ap askedPlace is ∙ of-outcome q where
-    of-answer : (b : Answer) → answerPlace b ≡ askedPlace (asked b)
-    of-answer Done = refl
-    of-answer (Refused r) = refl
-
-    of-outcome : (o : Asked A) → askedPlace (outcome o) ≡ askedPlace o
-    of-outcome (passed x) = refl
-    of-outcome (refused n p) = refl
+pub numbers-of : (a : Answer) {A : Type 0} (q : Asked A) → asked a ≡ outcome q → (answerNumber a ≡ askedNumber q) × (answerPlace a ≡ askedPlace q)
+unfolding askedNumber askedPlace outcome
+numbers-of Done (passed x) e = (refl, refl)
+numbers-of Done (refused n p) e = ((cc), (cc))
+numbers-of (Refused r) (passed x) e = ((cc), (cc))
+numbers-of (Refused r) (refused n p) e = ((cc), (cc))
 
 -- Questions from which nothing is learned.
-unit-outcome : (q : Asked (Unit {0})) → q ≡ outcome q
+pub unit-numbers : (a : Answer) (q : Asked (Unit {0})) → asked a ≡ q → (answerNumber a ≡ askedNumber q) × (answerPlace a ≡ askedPlace q)
 unfolding outcome
-unit-outcome (passed u) = refl
-unit-outcome (refused n p) = refl
-
-pub unit-number : (a : Answer) (q : Asked (Unit {0})) → asked a ≡ q → answerNumber a ≡ askedNumber q
-unit-number a q e = number-of a q (e ∙ unit-outcome q)
-
-pub unit-place : (a : Answer) (q : Asked (Unit {0})) → asked a ≡ q → answerPlace a ≡ askedPlace q
-unit-place a q e = place-of a q (e ∙ unit-outcome q)
+unit-numbers a (passed u) e = numbers-of a (passed u) e
+unit-numbers a (refused n p) e = numbers-of a (refused n p) e
 
 -- What was learned from questions that were passed; and those that were not.
 pub record Learned {A : Type 0} (q : Asked A) : Type 0 where

@@ -1,5 +1,5 @@
 -- Laws of a list of questions: what passed passes on, a refusal ends the list, and where all have passed, each has.
-use mathlib.Core.Path.{_≡_, refl}
+use mathlib.Core.Path.{_≡_, refl, sym}
 use mathlib.Core.Bool.{Bool, true, false}
 use mathlib.Core.Logic.{_⊎_, inl, inr}
 use Prim.Native.Nat.{ℕ}
@@ -79,6 +79,11 @@ module _ {A B : Type 0} where
   bind-refused (passed a) f e = inr (a, refl, e)
   bind-refused (refused n p) f e = inl cc
 
+  pub then-refused : (x : Asked A) (b : B) {q p : ℕ} → (x >> passed b) ≡ refused q p → x ≡ refused q p
+  unfolding _>>_
+  then-refused (passed a) b e = refused-not-passed (sym e)
+  then-refused (refused n m) b e = cc
+
 pub outcome-passed : {A : Type 0} (x : Asked A) → outcome x ≡ passed tt → (a : A) × (x ≡ passed a)
 unfolding outcome
 outcome-passed (passed a) e = (a, refl)
@@ -89,3 +94,15 @@ pub outcome-bind : {A B : Type 0} (x : Asked A) (f : A → B) → outcome (x >>=
 unfolding outcome _>>=_
 outcome-bind (passed a) f = refl
 outcome-bind (refused q p) f = refl
+
+-- Questions are asked in the same order, however they are put together.
+module _ {A B C : Type 0} where
+  pub bind-bind : (x : Asked A) (f : A → Asked B) (k : B → Asked C) → ((x >>= f) >>= k) ≡ (x >>= (λ a. f a >>= k))
+  unfolding _>>=_
+  bind-bind (passed a) f k = refl
+  bind-bind (refused q p) f k = refl
+
+  pub then-bind : (x : Asked A) (y : Asked B) (k : B → Asked C) → ((x >> y) >>= k) ≡ (x >> (y >>= k))
+  unfolding _>>=_ _>>_
+  then-bind (passed a) y k = refl
+  then-bind (refused q p) y k = refl

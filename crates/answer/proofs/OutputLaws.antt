@@ -1,5 +1,5 @@
 -- A call that writes an output, by its questions.
-use mathlib.Core.Path.{_≡_, sym, _∙_, ap}
+use mathlib.Core.Path.{_≡_, sym, ap}
 use mathlib.Core.List.{List}
 use Prim.Native.Nat.{ℕ, _≤_, _<_}
 use native.Mathlib.Omega.{arith}
@@ -18,11 +18,8 @@ room-enough bytes room size e l = unfold askRoom is _>>_ in rw (le-leb (length b
 module _ (q : Asked (List ℕ)) (output : List ℕ) where
   -- a refusal writes nothing
   pub not-written : (n p : ℕ) → q ≡ refused n p → (refused n p ≡ writtenLength q) × (output ≡ writtenOutput q output)
-  unfolding writtenLength writtenOutput _>>=_ after
-  not-written n p e = (sym (ap (λ (x : Asked (List ℕ)). x >>= (λ bytes. passed (length bytes))) e), sym (ap (λ (x : Asked (List ℕ)). after x (λ bytes. writtenAtStart bytes output) output) e))
+  not-written n p e = unfold writtenLength writtenOutput _>>=_ after in (rw e, rw e)
 
   -- what was learned is written
   pub is-written : (bytes : List ℕ) (size : ℕ) → q ≡ passed bytes → size ≡ length bytes → (passed size ≡ writtenLength q) × (writtenAtStart bytes output ≡ writtenOutput q output)
-  unfolding writtenLength writtenOutput _>>=_ after
-  is-written bytes size e s =
-      (ap passed s ∙ sym (ap (λ (x : Asked (List ℕ)). x >>= (λ bytes. passed (length bytes))) e), sym (ap (λ (x : Asked (List ℕ)). after x (λ bytes. writtenAtStart bytes output) output) e))
+  is-written bytes size e s = unfold writtenLength writtenOutput _>>=_ after in (rw (e, s), rw e)

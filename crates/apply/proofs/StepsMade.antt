@@ -2,7 +2,7 @@
 use mathlib.Core.Path.{_≡_, refl, sym, ap, ap₂, _∙_, subst}
 use mathlib.Core.Bool.{Bool, true, false, _&&_, cond}
 use mathlib.Core.List.{List}
-use Prim.Native.Nat.{ℕ, _+_, _≤_, _<_}
+use Prim.Native.Nat.{ℕ, _+_, _≤_}
 use native.Mathlib.Omega.{arith}
 use lib.Dec.{eqb, ltb}
 use lib.ListN.{length, getD}
@@ -11,10 +11,12 @@ use Rattle.logic.specs.Graph.{Graph, Nodes, Pairs, isNode}
 use Rattle.logic.specs.Meaning.{Value, value}
 use Rattle.logic.specs.Steps.{relabel, rejoin, run}
 use Rattle.logic.specs.Limits.{PairsIn, Within, ranges, EditInRange, labelCount, arrowCount}
+use Rattle.logic.proofs.Tables.{cond-both}
 use Rattle.logic.proofs.Inside.{value-in, run-within}
-use Rattle.bitset.specs.Words.{setOf, combined}
+use Rattle.bitset.specs.Words.{Bytes, setOf, combined}
 use Rattle.bitset.proofs.SetLaws.{setOf-cong, combined-sets}
 use Rattle.rows.specs.Operations.{arrowOperation}
+use Rattle.rows.proofs.OperationLaws.{arrow-operation-none}
 use Rattle.sheet.specs.Sheet.{present, sheetBytes, store, graphOf, Rows}
 use Rattle.sheet.specs.Questions.{Sound}
 use Rattle.sheet.proofs.BlockLaws.{length-store}
@@ -34,7 +36,7 @@ graph-again : (g : Graph) (t : List ℕ) → Within g → t ≡ store g → grap
 graph-again g t w e = ap graphOf e ∙ read-back g w
 
 -- A sound sheet, once its n and its nodes are loaded, is ready.
-pub ready-first : (t : List ℕ) (n all : ℕ) → ((p : ℕ) → getD t p 0 < 256) → Sound t → n ≡ graphOf t .n → all ≡ setOf (graphOf t .n) (isNode (graphOf t)) → Ready t n all
+pub ready-first : (t : List ℕ) (n all : ℕ) → Bytes t → Sound t → n ≡ graphOf t .n → all ≡ setOf (graphOf t .n) (isNode (graphOf t)) → Ready t n all
 ready-first t n all small sound c a =
     let o = sound-is-stored present t small sound in
     record { stored = o .stored; within = o .within; count = c; nodes = a ∙ ap (λ (m : ℕ). setOf m (isNode (graphOf t))) (sym c) }
@@ -86,12 +88,8 @@ module _ (t : List ℕ) (n all : ℕ) (r : Ready t n all) where
         let f = new E (q .first) in let w : e ≡ setOf (g .n) (value g E) = f .set ∙ ap (λ (m : ℕ). setOf m (value g E)) (r .count) in
         let u : y ≡ setOf (g .n) (λ i. labelOperation c (g .labelled k i) (value g E i)) =
         both ∙ ap (λ (z : ℕ). combined (labelOperation c) z e) old ∙ ap (combined (labelOperation c) (setOf (g .n) (g .labelled k))) w
-        ∙ combined-sets (labelOperation c) (none (eqb c 0x31)) (g .n) (g .labelled k) (value g E) (omega (arith, r .within .few-nodes)) in
+        ∙ combined-sets (labelOperation c) (cond-both (_≡ false) (eqb c 0x31) false false refl refl) (g .n) (g .labelled k) (value g E) (omega (arith, r .within .few-nodes)) in
         step-made labelCount labelMade (λ c g k v. (refl, refl)) q next t′ (f .ends) (put (λ i. labelOperation c (g .labelled k i) (value g E i)) u ∙ ap (λ (a : ℕ). store (labelMade c g a (value g E))) (q .reads))
-      where
-        none : (b : Bool) → cond b false false ≡ false
-        none true = refl
-        none false = refl
 
     -- 33 and 34: the rows of the arrow, of the expression, and what both make.
     pub arrow-made : (q : IsStep (ranges n) edit at Z arrow arrowCount arrowMade) (c : ℕ) (old new rows : List ℕ) (next : ℕ) (t′ : List ℕ) → Rows n (graphOf t .joined (getD edit (at + 1) 0)) old
@@ -104,17 +102,12 @@ module _ (t : List ℕ) (n all : ℕ) (r : Ready t n all) where
         let x = r .within .arrows-in a in let y = value-in g (r .within) R in
         let z : PairsIn g (λ i j. arrowOperation c (g .joined a i j) (value g R i j)) =
         record {
-          starts = λ i j h. ap₂ (arrowOperation c) (x .starts i j h) (y .starts i j h) ∙ none (eqb c 0x13) (eqb c 0x14);
-          ends = λ i j h. ap₂ (arrowOperation c) (x .ends i j h) (y .ends i j h) ∙ none (eqb c 0x13) (eqb c 0x14);
+          starts = λ i j h. ap₂ (arrowOperation c) (x .starts i j h) (y .starts i j h) ∙ arrow-operation-none c;
+          ends = λ i j h. ap₂ (arrowOperation c) (x .ends i j h) (y .ends i j h) ∙ arrow-operation-none c;
         } in
         step-made arrowCount arrowMade (λ c g k v. (refl, refl)) q next t′ (f .ends)
         (put (λ i j. arrowOperation c (g .joined a i j) (value g R i j)) z u
         ∙ ap (λ (b : ℕ). store (rejoin g a (λ i j. arrowOperation b (g .joined a i j) (value g R i j)))) says ∙ ap (λ (b : ℕ). store (arrowMade (getD edit at 0) g b (value g R))) (q .reads))
-      where
-        none : (b b′ : Bool) → cond b false (cond b′ false false) ≡ false
-        none true b′ = refl
-        none false true = refl
-        none false false = refl
 
     -- A step 35 made: Y is the way taken.
     way-made : (q : IsChoose (ranges n) edit at Z) (Y : Edit) (next : ℕ) (t′ : List ℕ) → EditInRange (ranges n) Y → cond (value (graphOf t) (q .K)) (run (q .P) (graphOf t)) (run (q .Q) (graphOf t)) ≡ run Y (graphOf t)

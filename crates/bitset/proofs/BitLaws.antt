@@ -35,44 +35,36 @@ module _ (op : ℕ → ℕ → ℕ) (f : Bool → Bool → Bool)
   words-op : (x y : ℕ) → x < 2 ^ 64 → y < 2 ^ 64 → op x y ≡ combined f x y
   words-op x y h l = is-setOf 64 (op x y) _ (small 64 x y h l) (λ i k. member-op x y i)
 
-and-digit : (a b : Bool) → bitAnd (digit a) (digit b) ≡ digit (a && b)
-and-digit false b = refl
-and-digit true false = refl
-and-digit true true = refl
-
-or-digit : (a b : Bool) → bitOr (digit a) (digit b) ≡ digit (a || b)
-or-digit false b = refl
-or-digit true false = refl
-or-digit true true = refl
+-- on two digits, by their four cases
+digits : (op : ℕ → ℕ → ℕ) (f : Bool → Bool → Bool) → op 0 0 ≡ digit (f false false) → op 0 1 ≡ digit (f false true)
+    → op 1 0 ≡ digit (f true false) → op 1 1 ≡ digit (f true true) → (a b : Bool) → op (digit a) (digit b) ≡ digit (f a b)
+digits op f x y z w false false = x
+digits op f x y z w false true = y
+digits op f x y z w true false = z
+digits op f x y z w true true = w
 
 -- one and not the other
 abbrev differ : Bool → Bool → Bool
 differ false b = b
 differ true b = not b
 
-xor-digit : (a b : Bool) → bitXor (digit a) (digit b) ≡ digit (differ a b)
-xor-digit false b = refl
-xor-digit true false = refl
-xor-digit true true = refl
-
 pub member-and : (x y j : ℕ) → member (bitAnd x y) j ≡ (member x j && member y j)
-member-and = member-op bitAnd _&&_ and-shr and-mod and-lt and-digit
+member-and = member-op bitAnd _&&_ and-shr and-mod and-lt (digits bitAnd _&&_ refl refl refl refl)
 
 pub member-or : (x y j : ℕ) → member (bitOr x y) j ≡ (member x j || member y j)
-member-or = member-op bitOr _||_ or-shr or-mod or-lt or-digit
-
-member-xor : (x y j : ℕ) → member (bitXor x y) j ≡ differ (member x j) (member y j)
-member-xor = member-op bitXor differ xor-shr xor-mod xor-lt xor-digit
+member-or = member-op bitOr _||_ or-shr or-mod or-lt (digits bitOr _||_ refl refl refl refl)
 
 pub words-and : (x y : ℕ) → x < 2 ^ 64 → y < 2 ^ 64 → bitAnd x y ≡ combined _&&_ x y
-words-and = words-op bitAnd _&&_ and-shr and-mod and-lt and-digit
+words-and = words-op bitAnd _&&_ and-shr and-mod and-lt (digits bitAnd _&&_ refl refl refl refl)
 
 pub words-or : (x y : ℕ) → x < 2 ^ 64 → y < 2 ^ 64 → bitOr x y ≡ combined _||_ x y
-words-or = words-op bitOr _||_ or-shr or-mod or-lt or-digit
+words-or = words-op bitOr _||_ or-shr or-mod or-lt (digits bitOr _||_ refl refl refl refl)
 
 pub words-minus : (x y : ℕ) → x < 2 ^ 64 → y < 2 ^ 64 → bitAnd x (bitXor x y) ≡ combined (λ a b. a && not b) x y
 words-minus x y h l =
-    is-setOf 64 _ _ (and-lt 64 x _ h (xor-lt 64 x y h l)) (λ i k. member-and x (bitXor x y) i ∙ ap (member x i &&_) (member-xor x y i) ∙ and-differ (member x i) (member y i)) where
+    let xor-bit = member-op bitXor differ xor-shr xor-mod xor-lt (digits bitXor differ refl refl refl refl) x y in
+    is-setOf 64 _ _ (and-lt 64 x _ h (xor-lt 64 x y h l))
+    (λ i k. member-and x (bitXor x y) i ∙ ap (member x i &&_) (xor-bit i) ∙ and-differ (member x i) (member y i)) where
       and-differ : (a b : Bool) → (a && differ a b) ≡ (a && not b)
       and-differ false b = refl
       and-differ true b = refl

@@ -22,6 +22,11 @@ either-half : (x y n : Bool) → ((x && not n) || (y && n)) ≡ cond (not n) x y
 either-half x y true = rw (and-false x, and-true y)
 either-half x y false = rw (and-true x, and-false y) (or-false x)
 
+-- a bit chosen is the bit of what is chosen
+chosen : (x : Bool) (a : List ℕ) (i k j l : ℕ) → cond x (member (getD a i 0) j) (member (getD a k 0) l) ≡ member (getD a (cond x i k) 0) (cond x j l)
+chosen true a i k j l = refl
+chosen false a i k j l = refl
+
 and-swap : (k y m : Bool) → (k && (y && m)) ≡ (y && (k && m))
 and-swap true y m = refl
 and-swap false y m = sym (and-false y)
@@ -63,9 +68,6 @@ module _ (x y s m : ℕ) (B : Blocks s m) (hx : x < 2 ^ 64) (hy : y < 2 ^ 64) (h
 
 -- the rows of a low half, and those behind them
 module _ {s m : ℕ} (B : Blocks s m) where
-  low-first : (i : ℕ) → i < s → i < 64 → lowHalf s i ≡ true
-  low-first i h l = sym (Bool·not-not (lowHalf s i)) ∙ ap not (sym (B .halves i l) ∙ ap (_&& lowHalf s (i - s)) (lt-leb s i h))
-
   behind-half : (i : ℕ) → i + s < 64 → lowHalf s (i + s) ≡ not (lowHalf s i)
   behind-half i h =
       let e : i + s - s ≡ i = omega arith in
@@ -73,7 +75,7 @@ module _ {s m : ℕ} (B : Blocks s m) where
       ∙ ap not (sym (B .halves (i + s) h) ∙ ap₂ _&&_ (le-leb s (i + s) (omega arith)) (ap (lowHalf s) e))
 
   pub low-none : LowFrom s 0
-  low-none = record { low = λ i h l k. low-first i (omega arith) k }
+  low-none = record { low = λ i h l k. sym (Bool·not-not (lowHalf s i)) ∙ ap not (sym (B .halves i k) ∙ ap (_&& lowHalf s (i - s)) (lt-leb s i (omega arith))) }
 
   module _ (b : ℕ) (L : LowFrom s b) where
     -- a low half that starts in the word has room for itself and as much again
@@ -115,17 +117,6 @@ moving-none = record { low = λ k h l. absurd (omega arith); high = λ k h l. ab
 pub moving-end : {b i s : ℕ} {a r : List ℕ} → b + s ≤ i → i ≤ b + s → Moving b i s a r → MovedFrom b s a r
 moving-end h l d = record { low = λ k p q. d .low k p (omega arith); high = λ k p q. d .high k p (omega arith); before = d .before; behind = λ k p. d .behind k (omega arith) }
 
--- the pair of rows i and i + s put
-module _ (r : List ℕ) (i s v w : ℕ) (some : 0 < s) (h : i + s < length r) where
-  put-low : getD (set (set r i v) (i + s) w) i 0 ≡ v
-  put-low = getD-set-other (set r i v) (i + s) i w 0 (λ z. omega arith) ∙ getD-set-same r i v 0 (omega arith)
-
-  put-high : getD (set (set r i v) (i + s) w) (i + s) 0 ≡ w
-  put-high = getD-set-same (set r i v) (i + s) w 0 (simp length-set (omega arith))
-
-  put-other : (k : ℕ) → (k ≡ i → ⊥) → (k ≡ i + s → ⊥) → getD (set (set r i v) (i + s) w) k 0 ≡ getD r k 0
-  put-other k p q = getD-set-other (set r i v) (i + s) k w 0 q ∙ getD-set-other r i k v 0 p
-
 module _ {s m : ℕ} (B : Blocks s m) (b : ℕ) (L : LowFrom s b) (i : ℕ) (a r : List ℕ) (h : b ≤ i) (l : i < b + s) (room : b + s + s ≤ 64) (size : length r ≡ 64) (d : Moving b i s a r) where
   is-low : lowHalf s i ≡ true
   is-low = L .low i h l (omega arith)
@@ -133,35 +124,31 @@ module _ {s m : ℕ} (B : Blocks s m) (b : ℕ) (L : LowFrom s b) (i : ℕ) (a r
   low-exchanged : (v : ℕ) → v ≡ setOf 64 (λ j. cond (lowHalf s j) (member (getD r i 0) j) (member (getD r (i + s) 0) (j - s))) → v ≡ exchangedRow s a i
   unfolding fromRow fromColumn
   low-exchanged v e =
-      e ∙ setOf-cong 64 _ _ (λ j k. rw (is-low, d .between i (omega arith) l, d .behind (i + s) (omega arith)) (go j (lowHalf s j))) where
-        go : (j : ℕ) (x : Bool) → cond x (member (getD a i 0) j) (member (getD a (i + s) 0) (j - s)) ≡ member (getD a (cond x i (i + s)) 0) (cond x j (j - s))
-        go j true = refl
-        go j false = refl
+      e ∙ setOf-cong 64 _ _ (λ j k. rw (is-low, d .between i (omega arith) l, d .behind (i + s) (omega arith)) (chosen (lowHalf s j) a i (i + s) j (j - s)))
 
   high-exchanged : (w : ℕ) → w ≡ setOf 64 (λ j. cond (lowHalf s j) (member (getD r i 0) (j + s)) (member (getD r (i + s) 0) j)) → w ≡ exchangedRow s a (i + s)
   unfolding fromRow fromColumn
   high-exchanged w e =
       let c : i + s - s ≡ i = omega arith in
       let f : lowHalf s (i + s) ≡ false = behind-half B i (omega arith) ∙ ap not is-low in
-      e ∙ setOf-cong 64 _ _ (λ j k. rw (f, c, d .between i (omega arith) l, d .behind (i + s) (omega arith)) (go j (lowHalf s j))) where
-        go : (j : ℕ) (x : Bool) → cond x (member (getD a i 0) (j + s)) (member (getD a (i + s) 0) j) ≡ member (getD a (cond x i (i + s)) 0) (cond x (j + s) j)
-        go j true = refl
-        go j false = refl
+      e ∙ setOf-cong 64 _ _ (λ j k. rw (f, c, d .between i (omega arith) l, d .behind (i + s) (omega arith)) (chosen (lowHalf s j) a i (i + s) (j + s) j))
 
   pub moving-more : (v w : ℕ)
       → v ≡ setOf 64 (λ j. cond (lowHalf s j) (member (getD r i 0) j) (member (getD r (i + s) 0) (j - s)))
       → w ≡ setOf 64 (λ j. cond (lowHalf s j) (member (getD r i 0) (j + s)) (member (getD r (i + s) 0) j))
       → Moving b (i + 1) s a (set (set r i v) (i + s) w)
   moving-more v w e f =
-      let in-list : i + s < length r = omega arith in
-      let other = put-other r i s v w (B .some) in-list in
+      let put : ℕ → ℕ = λ k. getD (set (set r i v) (i + s) w) k 0 in
+      let other : (k : ℕ) → (k ≡ i → ⊥) → (k ≡ i + s → ⊥) → put k ≡ getD r k 0 = λ k p q. getD-set-other (set r i v) (i + s) k w 0 q ∙ getD-set-other r i k v 0 p in
+      let low : put i ≡ v = getD-set-other (set r i v) (i + s) i w 0 (λ z. omega (arith, B .some)) ∙ getD-set-same r i v 0 (omega arith) in
+      let high : put (i + s) ≡ w = getD-set-same (set r i v) (i + s) w 0 (simp length-set (omega arith)) in
       record {
         low = λ k p q. ⊎-elim
-            (λ (z : k ≡ i). subst (λ (n : ℕ). getD (set (set r i v) (i + s) w) n 0 ≡ exchangedRow s a n) (sym z) (put-low r i s v w (B .some) in-list ∙ low-exchanged v e))
+            (λ (z : k ≡ i). subst (λ (n : ℕ). put n ≡ exchangedRow s a n) (sym z) (low ∙ low-exchanged v e))
             (λ (z : k < i). other k (λ y. omega arith) (λ y. omega arith) ∙ d .low k p z)
             (eq-or-lt-of-le (le-of-suc-le-suc (rw add-one at q)));
         high = λ k p q. ⊎-elim
-            (λ (z : k ≡ i). subst (λ (n : ℕ). getD (set (set r i v) (i + s) w) (n + s) 0 ≡ exchangedRow s a (n + s)) (sym z) (put-high r i s v w (B .some) in-list ∙ high-exchanged w f))
+            (λ (z : k ≡ i). subst (λ (n : ℕ). put (n + s) ≡ exchangedRow s a (n + s)) (sym z) (high ∙ high-exchanged w f))
             (λ (z : k < i). other (k + s) (λ y. omega arith) (λ y. omega arith) ∙ d .high k p z)
             (eq-or-lt-of-le (le-of-suc-le-suc (rw add-one at q)));
         before = λ k p. other k (λ y. omega arith) (λ y. omega arith) ∙ d .before k p;

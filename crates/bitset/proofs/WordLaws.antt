@@ -67,16 +67,17 @@ member-numberOf (b ∷ bs) small i = ⊎-elim first (later (member-numberOf bs (
 pub getD-eight : (l : List ℕ) (at j : ℕ) → j < 8 → getD (take 8 (drop at l)) j 0 ≡ getD l (at + j) 0
 getD-eight l at j h = getD-take 8 (drop at l) j 0 h ∙ getD-drop at l j 0
 
-pub eight-small : (l : List ℕ) (at : ℕ) → Bytes l → Bytes (take 8 (drop at l))
-eight-small l at small j = ⊎-elim
-    (λ (b : j < 8). omega (arith, getD-eight l at j b, small (at + j)))
-    (λ (b : 8 ≤ j). omega (arith, List·getD-eq-default (take 8 (drop at l)) 0 {n = j} (simp length-take (omega arith))))
-    (below-or-not j 8)
+-- a part of bytes is bytes
+pub part-small : (l : List ℕ) (size at : ℕ) → Bytes l → Bytes (take size (drop at l))
+part-small l size at small j = ⊎-elim
+    (λ (b : j < size). omega (arith, getD-take size (drop at l) j 0 b, getD-drop at l j 0, small (at + j)))
+    (λ (b : size ≤ j). omega (arith, List·getD-eq-default (take size (drop at l)) 0 {n = j} (simp length-take (omega arith))))
+    (below-or-not j size)
 
 pub member-wordAt : (l : List ℕ) (at i : ℕ) → Bytes l → i < 64 → member (wordAt l at) i ≡ member (getD l (at + i / 8) 0) (i % 8)
 unfolding wordAt
 member-wordAt l at i small h =
-    member-numberOf (take 8 (drop at l)) (eight-small l at small) i ∙ ap (λ (b : ℕ). member b (i % 8)) (getD-eight l at (i / 8) (omega arith))
+    member-numberOf (take 8 (drop at l)) (part-small l 8 at small) i ∙ ap (λ (b : ℕ). member b (i % 8)) (getD-eight l at (i / 8) (omega arith))
 
 -- the word is x when its bytes are those of x
 pub wordAt-of : (l : List ℕ) (at x : ℕ) → at + 8 ≤ length l → x < 2 ^ 64 → ((j : ℕ) → j < 8 → getD l (at + j) 0 ≡ x / 2 ^ (8 * j) % 2 ^ 8) → wordAt l at ≡ x
@@ -93,13 +94,6 @@ module _ (l : List ℕ) (at x : ℕ) (h : at + 8 ≤ length l) where
 
   pub length-putWord : length (putWord l at x) ≡ length l
   length-putWord = unfold putWord in simp (length-append, length-drop) (omega (arith, taken, length-bytes 8 x))
-
-  pub putWord-inside : (j : ℕ) → j < 8 → getD (putWord l at x) (at + j) 0 ≡ x / 2 ^ (8 * j) % 2 ^ 8
-  unfolding putWord
-  putWord-inside j b =
-      List·getD-append (take at l ++ bytes 8 x) (drop (at + 8) l) 0 (at + j) (simp length-append (omega (arith, taken, length-bytes 8 x)))
-      ∙ ap (λ (k : ℕ). getD (take at l ++ bytes 8 x) (k + j) 0) (sym taken) ∙ getD-append-add (take at l) (bytes 8 x) j 0
-      ∙ getD-bytes 8 x j b
 
   -- no other byte changes
   pub putWord-other : (i : ℕ) → (i < at) ⊎ (at + 8 ≤ i) → getD (putWord l at x) i 0 ≡ getD l i 0
@@ -119,11 +113,7 @@ module _ (l : List ℕ) (at x : ℕ) (h : at + 8 ≤ length l) where
         ∙ getD-append-add (take at l ++ bytes 8 x) (drop (at + 8) l) (i - (at + 8)) 0
         ∙ getD-drop (at + 8) l (i - (at + 8)) 0 ∙ ap (λ (k : ℕ). getD l k 0) f
 
-  -- what is stored is read
-  pub wordAt-put : x < 2 ^ 64 → wordAt (putWord l at x) at ≡ x
-  wordAt-put b = wordAt-of (putWord l at x) at x (omega (arith, length-putWord)) b putWord-inside
-
-  -- and a word beside it is as before
+  -- a word beside it is as before
   pub wordAt-other : (p : ℕ) → (p + 8 ≤ at) ⊎ (at + 8 ≤ p) → wordAt (putWord l at x) p ≡ wordAt l p
   unfolding wordAt
   wordAt-other p o =

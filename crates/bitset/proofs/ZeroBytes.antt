@@ -9,7 +9,7 @@ use lib.Dec.{lit<}
 use lib.ListN.{length, getD, take, drop, length-drop}
 use lib.Seq.{getD-take, getD-drop, length-take-le}
 use Rattle.bitset.specs.Words.{Bytes, numberOf, wordAt}
-use Rattle.bitset.proofs.WordLaws.{positive, getD-eight, eight-small}
+use Rattle.bitset.proofs.WordLaws.{positive, getD-eight, part-small}
 
 number-zero : (l : List ℕ) → numberOf l ≡ 0 → (j : ℕ) → getD l j 0 ≡ 0
 unfolding numberOf
@@ -47,9 +47,6 @@ module _ (l : List ℕ) (small : Bytes l) (at : ℕ) (h : at + 8 ≤ length l) w
   abbrev eight : List ℕ
   eight = take 8 (drop at l)
 
-  eight-at : (j : ℕ) → j < 8 → getD eight j 0 ≡ getD l (at + j) 0
-  eight-at = getD-eight l at
-
   length-eight : length eight ≡ 8
   length-eight = length-take-le 8 (drop at l) (omega (arith, length-drop at l))
 
@@ -58,24 +55,24 @@ module _ (l : List ℕ) (small : Bytes l) (at : ℕ) (h : at + 8 ≤ length l) w
   unfolding wordAt
   high-zero m e j k u =
       let i : m + (j - m) ≡ j = omega arith in
-      sym (eight-at j u) ∙ ap (λ x. getD eight x 0) (sym i) ∙ sym (getD-drop m eight (j - m) 0) ∙ number-zero (drop m eight) (sym (high eight (eight-small l at small) m) ∙ e) (j - m)
+      sym (getD-eight l at j u) ∙ ap (λ x. getD eight x 0) (sym i) ∙ sym (getD-drop m eight (j - m) 0) ∙ number-zero (drop m eight) (sym (high eight (part-small l 8 at small) m) ∙ e) (j - m)
 
   pub zero-high : (m : ℕ) → ((j : ℕ) → m ≤ j → j < 8 → getD l (at + j) 0 ≡ 0) → wordAt l at / 256 ^ m ≡ 0
   unfolding wordAt
   zero-high m z =
-      high eight (eight-small l at small) m
+      high eight (part-small l 8 at small) m
       ∙ zero-number (drop m eight) (λ j k.
       let u : m + j < 8 = omega (arith, length-drop m eight, length-eight) in
-      getD-drop m eight j 0 ∙ eight-at (m + j) u ∙ z (m + j) (omega arith) u)
+      getD-drop m eight j 0 ∙ getD-eight l at (m + j) u ∙ z (m + j) (omega arith) u)
 
   -- and those before it
   pub low-zero : (m : ℕ) → wordAt l at % 256 ^ m ≡ 0 → (j : ℕ) → j < m → j < 8 → getD l (at + j) 0 ≡ 0
-  low-zero m e j k u = unfold wordAt in sym (eight-at j u) ∙ sym (getD-take m eight j 0 k) ∙ number-zero (take m eight) (sym (low eight (eight-small l at small) m) ∙ e) j
+  low-zero m e j k u = unfold wordAt in sym (getD-eight l at j u) ∙ sym (getD-take m eight j 0 k) ∙ number-zero (take m eight) (sym (low eight (part-small l 8 at small) m) ∙ e) j
 
   pub zero-low : (m : ℕ) → m ≤ 8 → ((j : ℕ) → j < m → getD l (at + j) 0 ≡ 0) → wordAt l at % 256 ^ m ≡ 0
   unfolding wordAt
   zero-low m few z =
-      low eight (eight-small l at small) m
+      low eight (part-small l 8 at small) m
       ∙ zero-number (take m eight) (λ j k.
       let u : j < m = omega (arith, length-take-le m eight (omega (arith, length-eight))) in
-      getD-take m eight j 0 u ∙ eight-at j (omega arith) ∙ z j u)
+      getD-take m eight j 0 u ∙ getD-eight l at j (omega arith) ∙ z j u)

@@ -22,7 +22,7 @@ use Rattle.measure.specs.Pruned.{pruned}
 use Rattle.ends.specs.Edits.{EditAt}
 use Rattle.ends.specs.Books.{BookIs}
 use Rattle.measure.specs.Book.{BookSized, BookKept}
-use Rattle.measure.proofs.Idle.{pruned-code, kept-stands}
+use Rattle.measure.proofs.Idle.{pruned-book, kept-stands}
 use Rattle.measure.proofs.RuleMeasures.{no-book}
 use Rattle.write.specs.Laid.{Wrote}
 use Rattle.write.specs.Rules.{SomeBookFits}
@@ -34,9 +34,6 @@ use Rattle.carry.specs.Into.{Into}
 module _ (carried : List (Expr rule)) (out : List ℕ) where
   into-refused : (r : Refusal) → askSize carried (length out) ≡ refused (refusalNumber r) (refusalPlace r) → Into carried (Refused r) out out
   into-refused r e = record { answer-is = sym (then-ends e _); output-is = sym (after-ends e _ out) }
-
-  into-passed : (n : ℕ) (out′ : List ℕ) → askSize carried (length out) ≡ passed tt → n ≡ length (bookCode carried) → out′ ≡ writtenAtStart (bookCode carried) out → Into carried (Length n) out out′
-  into-passed n out′ e l w = record { answer-is = ap passed l ∙ sym (then-on e _); output-is = w ∙ sym (after-on e _ out) }
 
 -- the questions of a length, a number of levels, the length needed and a room
 unfoldable pub sized : (len levels needed room : ℕ) → Asked (Unit {0})
@@ -75,27 +72,23 @@ module _ {Z : Edit} {rules : List (Expr rule)} {len tall : ℕ} (s : BookSized Z
     len-exact : len ≡ len-of
     len-exact = omega (arith, s .len-is)
 
-    short : len-of ≤ longestCarried
-    short = omega (arith, s .len-is)
-
     -- 32
     pub too-deep : deepestCarried < tall → Into (carriedBook Z rules) (Refused (CarriedLevels 0)) out out
-    too-deep k = into-refused (carriedBook Z rules) out (CarriedLevels 0) (asks ∙ no-32 len-of levels-of len-of (length out) short (omega (arith, s .tall-is)))
+    too-deep k = into-refused (carriedBook Z rules) out (CarriedLevels 0) (asks ∙ no-32 len-of levels-of len-of (length out) (omega (arith, s .len-is)) (omega (arith, s .tall-is)))
 
     module _ (k : tall ≤ deepestCarried) where
-      shallow : levels-of ≤ deepestCarried
-      shallow = omega (arith, s .tall-is)
-
       -- 33, with the length needed
       pub no-room : length out < len → Into (carriedBook Z rules) (Refused (OutputLength len)) out out
-      no-room i = into-refused (carriedBook Z rules) out (OutputLength len) (asks ∙ no-33 len-of levels-of len-of (length out) short shallow (omega (arith, len-exact)) ∙ ap (refused 33) (sym len-exact))
+      no-room i = into-refused (carriedBook Z rules) out (OutputLength len) (asks ∙ no-33 len-of levels-of len-of (length out) (omega (arith, s .len-is)) (omega (arith, s .tall-is)) (omega (arith, len-exact)) ∙ ap (refused 33) (sym len-exact))
 
       module _ (i : len ≤ length out) where
         pub fits-out : len-of ≤ length out
         fits-out = omega (arith, len-exact)
 
         pub into-written : (n : ℕ) (out′ : List ℕ) → n ≡ len-of → out′ ≡ writtenAtStart (bookCode (carriedBook Z rules)) out → Into (carriedBook Z rules) (Length n) out out′
-        into-written n out′ l w = into-passed (carriedBook Z rules) out n out′ (asks ∙ all-so len-of levels-of len-of (length out) short shallow fits-out) l w
+        into-written n out′ l w =
+            let e = asks ∙ all-so len-of levels-of len-of (length out) (omega (arith, s .len-is)) (omega (arith, s .tall-is)) fits-out in
+            record { answer-is = ap passed l ∙ sym (then-on e _); output-is = w ∙ sym (after-on e _ out) }
 
 -- the empty book
 pub empty-into : (book : List ℕ) → length book ≡ 0 → (rules : List (Expr rule)) (Z : Edit) → BookIs book rules → (out : List ℕ) → Into (carriedBook Z rules) (Length 0) out out
@@ -120,15 +113,15 @@ module _ {book : List ℕ} (ne : length book ≡ 0 → ⊥) {rules : List (Expr 
     abbrev busy : Edit
     busy = pruned (length rules) Z (measures rules)
 
-    busy-at : EditAt kept start busy
+    pub busy-at : EditAt kept start busy
     busy-at = record { limits = g .limits; place = kept-stands (g .limits) Z rules _ _ (g .place .range) some-rule b }
 
     pub book-fits : {room : ℕ} → length (bookCode (carriedBook Z rules)) ≤ room → SomeBookFits book kept start room
-    book-fits {room} f = record { rules = rules; is = h; Z = busy; Z-at = busy-at; fits = omega (arith, f, ap length (pruned-code Z rules)) }
+    book-fits {room} f = record { rules = rules; is = h; Z = busy; Z-at = busy-at; fits = omega (arith, f, ap (λ (l : List (Expr rule)). length (bookCode l)) (pruned-book Z rules)) }
 
     module _ {out out′ : List ℕ} {n : ℕ} (f : (rules : List (Expr rule)) (Z : Edit) → BookIs book rules → EditAt kept start Z → Wrote out 0 (bookCode (carriedBook Z rules)) n out′) where
       pub written-long : n ≡ length (bookCode (carriedBook Z rules))
-      written-long = omega (arith, f rules busy h busy-at .counted, ap length (pruned-code Z rules))
+      written-long = omega (arith, f rules busy h busy-at .counted, ap (λ (l : List (Expr rule)). length (bookCode l)) (pruned-book Z rules))
 
       pub written-so : length (bookCode (carriedBook Z rules)) ≤ length out → out′ ≡ writtenAtStart (bookCode (carriedBook Z rules)) out
-      written-so l = at-start (wrote-as (pruned-code Z rules) (f rules busy h busy-at)) l
+      written-so l = at-start (wrote-as (ap bookCode (pruned-book Z rules)) (f rules busy h busy-at)) l

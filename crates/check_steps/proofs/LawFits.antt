@@ -7,6 +7,7 @@ use native.Mathlib.Decide.{ℕ-discrete}
 use native.Mathlib.Omega.{arith}
 use lib.ListN.{length, getD}
 use borrow.Author.Tests.{eq-eqb}
+use Rattle.logic.specs.Lists.{All}
 use Rattle.logic.specs.Syntax.{Sort, node, arrow, rule, Expr, complement, and, or, notRule}
 use Rattle.logic.specs.Limits.{maxNodes, ranges, InRange}
 use Rattle.logic.specs.Arity.{Unary, complement·, notRule·, Binary, and·, or·, either·, build1, build2}
@@ -16,7 +17,7 @@ use Rattle.text.proofs.Items.{each-below}
 use Rattle.shortening.specs.Place.{put, before, behind}
 use Rattle.shortening.specs.Laws.{Law, laws, Made, made, unfit, numbered}
 use Rattle.shortening.specs.Checking.{mapMade, makeStep}
-use Rattle.shortening.proofs.Numbered.{_&_, Each, by-number, unfit-not-made}
+use Rattle.shortening.proofs.Numbered.{_&_, by-number, unfit-not-made}
 use Rattle.shortening.proofs.StepLimits.{range-at}
 use Rattle.shortening.proofs.StandingTerms.{StandsIn}
 use Rattle.shortening.proofs.ExactSteps.{fits-made, FitsAt, step-exact}
@@ -63,8 +64,8 @@ abbrev Left : {s : Sort} → ℕ → Law s → Type 0
 Left {s} n l =
     (x : Expr s) (B D : List ℕ) → InRange (ranges maxNodes) x → Found (B ++ (textOf x ++ D)) (length B) n → Begun s (getD firstBytes n 0) x → (v : Expr s) × (x ≡ l .left v)
 
-laws-left : (s : Sort) → Each (λ l. Left (l .number) l) (laws s)
-unfolding Each laws firstBytes secondBytes build1 build2 head-1 head-2
+laws-left : (s : Sort) → All (λ l. Left (l .number) l) (laws s)
+unfolding laws firstBytes secondBytes build1 build2 head-1 head-2
 laws-left node =
     (λ x B D r f (y, e). let (z, g) = next-one x B D f complement· refl y e (omega arith) in (z, e ∙ ap complement g))
     & (λ x B D r f (y, z, e). (y, same-two x B D f and· refl y z e r (omega arith) refl))

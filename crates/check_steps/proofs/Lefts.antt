@@ -7,10 +7,11 @@ use native.Mathlib.Omega.{arith}
 use lib.ListN.{length, getD, set, take, drop, length-append}
 use lib.Seq.{drop-cons, drop-at, take-append-seam, drop-append-add, getD-append-seam, getD-append-add, drop-set-add}
 use borrow.Author.Tests.{ne-eqb}
+use Rattle.logic.specs.Lists.{All}
 use Rattle.logic.specs.Syntax.{Sort, node, arrow, rule, Expr, all, complement, notRule}
 use Rattle.logic.specs.Arity.{complement·, notRule·, and·, or·, either·, build1, build2, all·, none·, build0}
 use Rattle.shortening.specs.Laws.{Law, laws, made}
-use Rattle.shortening.proofs.Numbered.{_&_, Each}
+use Rattle.shortening.proofs.Numbered.{_&_}
 use Rattle.check_steps.specs.Raised.{behindAt, againAt, firstBytes, secondBytes, contraryAt, rightAt, withByte, stepOn}
 use Rattle.check_steps.proofs.Sides.{contrary-found, right-4, right-5, right-again, right-next, side-any, side-both}
 use Rattle.check_steps.proofs.TermHeads.{head-0, head-1, head-2}
@@ -108,8 +109,8 @@ module _ (v : Expr node) (B D : List ℕ) where
       (right-5 (B ++ Y) at 5 (omega arith) refl ∙ side-both (B ++ Y) at 5 room (omega arith) (getD-append-seam B 0x07 (0x01 ∷ (W ++ D)) 0) (omega arith) (getD-append-add B Y 1 0)) refl
 
 -- Each law of the table.
-pub laws-make : (s : Sort) → Each (λ l. Makes (l .number) l) (laws s)
-unfolding Each laws firstBytes secondBytes build0 build1 build2 head-0 head-1 head-2
+pub laws-make : (s : Sort) → All (λ l. Makes (l .number) l) (laws s)
+unfolding laws firstBytes secondBytes build0 build1 build2 head-0 head-1 head-2
 laws-make node =
     (λ v B D. two-bytes v B D 1 (omega arith) 0x05 0x05 (text-one-then complement· (complement v) D ∙ ap (0x05 ∷_) (text-one-then complement· v D)) refl refl (omega arith))
     & (λ v B D. twice v B D 2 (omega arith) 0x06 (text-two-then and· v v D) refl refl)

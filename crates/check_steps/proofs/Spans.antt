@@ -13,35 +13,22 @@ use borrow.Author.Tests.{le-leb, lt-leb, eq-eqb, ne-eqb, leb-true}
 use Rattle.ends.specs.Shapes.{shapes, shapeOf}
 use Rattle.answer.specs.Outputs.{writtenAtStart}
 use Rattle.logic.proofs.Below.{all-stop, all-end}
+use Rattle.logic.proofs.Tables.{cond-both}
 use Rattle.check_steps.specs.Raised.{numbersOf, operandsOf, nextNumbers, raisedByte, raised, nextWanted, width, behindAt, alike, againAt}
 
 pub shape-none : (c : ℕ) → 40 ≤ c → 0 ≡ shapeOf c
 shape-none c h = unfold shapes in sym (List·getD-eq-default shapes 0 h)
 
 -- One byte more.
-pub numbers-less : (n x : ℕ) → 0 < n → n - 1 ≡ nextNumbers n x
-unfolding nextNumbers
-numbers-less zero x h = absurd (omega arith)
-numbers-less (suc n) x h = omega arith
+pub after-number : (n w x : ℕ) → 0 < n → (n - 1 ≡ nextNumbers n x) × (x % 128 + 128 ≡ raisedByte n x) × (w ≡ nextWanted n w x)
+unfolding nextNumbers raisedByte nextWanted
+after-number zero w x h = absurd (omega arith)
+after-number (suc n) w x h = (omega arith, refl, refl)
 
-pub numbers-new : (n x : ℕ) → n ≤ 0 → numbersOf x ≡ nextNumbers n x
-numbers-new n x h = unfold nextNumbers in let e : n ≡ 0 = omega arith in cc
-
-pub byte-raised : (n x : ℕ) → 0 < n → x % 128 + 128 ≡ raisedByte n x
-unfolding raisedByte
-byte-raised zero x h = absurd (omega arith)
-byte-raised (suc n) x h = refl
-
-pub byte-left : (n x : ℕ) → n ≤ 0 → x ≡ raisedByte n x
-byte-left n x h = unfold raisedByte in let e : n ≡ 0 = omega arith in cc
-
-pub wanted-same : (n w x : ℕ) → 0 < n → w ≡ nextWanted n w x
-unfolding nextWanted
-wanted-same zero w x h = absurd (omega arith)
-wanted-same (suc n) w x h = refl
-
-pub wanted-new : (n w x : ℕ) → n ≤ 0 → w - 1 + operandsOf x ≡ nextWanted n w x
-wanted-new n w x h = unfold nextWanted in let e : n ≡ 0 = omega arith in cc
+pub after-code : (n w x : ℕ) → n ≤ 0 → (numbersOf x ≡ nextNumbers n x) × (x ≡ raisedByte n x) × (w - 1 + operandsOf x ≡ nextWanted n w x)
+unfolding nextNumbers raisedByte nextWanted
+after-code zero w x h = (refl, refl, refl)
+after-code (suc n) w x h = absurd (omega arith)
 
 pub raised-length : (n : ℕ) (t : List ℕ) → length (raised n t) ≡ length t
 unfolding raised
@@ -85,42 +72,33 @@ pub record Passing (text : List ℕ) (at p n w : ℕ) : Type 0 where
   pub low : n ≤ 3
   pub ends : p + width n w (drop p text) ≡ behindAt text at
 
+-- Where nothing is to come, the end is here.
+pub width-none : (n w : ℕ) → n + w ≡ 0 → (t : List ℕ) → width n w t ≡ 0
+unfolding width
+width-none n w e [] = refl
+width-none n w e (x ∷ t) = cc (eq-eqb (n + w) 0 e)
+
 module _ (text : List ℕ) (at : ℕ) where
   pub passing-first : at ≤ length text → Passing text at at 0 1
   passing-first h = record { on = h; from = omega arith; few = omega arith; low = omega arith; ends = refl }
 
   module _ {p n w : ℕ} (r : Passing text at p n w) where
     pub passing-none : n + w ≡ 0 → p ≡ behindAt text at
-    unfolding width
-    passing-none e = omega (arith, stop (drop p text), r .ends) where
-      stop : (t : List ℕ) → width n w t ≡ 0
-      stop [] = refl
-      stop (x ∷ t) = cc (eq-eqb (n + w) 0 e)
+    passing-none e = omega (arith, width-none n w e (drop p text), r .ends)
 
     pub passing-over : length text ≤ p → p ≡ behindAt text at
     passing-over h = unfold width in omega (arith, ap (width n w) (drop-of-length-le text h), r .ends)
 
-    low-next : (n x : ℕ) → n ≤ 3 → nextNumbers n x ≤ 3
-    unfolding nextNumbers
-    low-next zero x h = omega arith
-    low-next (suc n) x h = omega arith
-
-    few-next : (n w x : ℕ) → nextWanted n w x ≤ w + 3
-    unfolding nextWanted
-    few-next zero w x = omega arith
-    few-next (suc n) w x = omega arith
+    few-next : (n w x : ℕ) → n ≤ 3 → (nextNumbers n x ≤ 3) × (nextWanted n w x ≤ w + 3)
+    unfolding nextNumbers nextWanted
+    few-next zero w x h = omega arith
+    few-next (suc n) w x h = omega arith
 
     pub passing-next : p < length text → (n + w ≡ 0 → ⊥) → (m v : ℕ) → m ≡ nextNumbers n (getD text p 0) → v ≡ nextWanted n w (getD text p 0) → Passing text at (p + 1) m v
     unfolding width
     passing-next l some m v e f =
         let turned : width n w (drop p text) ≡ suc (width m v (drop (p + 1) text)) = cc (drop-cons text p 0 l, ne-eqb (n + w) 0 some, add-one p) in
-        record {
-          on = omega arith;
-          from = omega (arith, r .from);
-          few = omega (arith, r .few, few-next n w (getD text p 0));
-          low = omega (arith, low-next n (getD text p 0) (r .low));
-          ends = omega (arith, r .ends);
-        }
+        omega (arith, r .from, r .few, r .ends, few-next n w (getD text p 0) (r .low))
 
 -- An expression that stands once more.
 module _ (text : List ℕ) (at gap end : ℕ) (is : end ≡ behindAt text at) where
@@ -144,10 +122,7 @@ module _ (text : List ℕ) (at gap end : ℕ) (is : end ≡ behindAt text at) wh
 width-in : (n w : ℕ) (t : List ℕ) → width n w t ≤ length t
 unfolding width
 width-in n w [] = omega arith
-width-in n w (x ∷ t) = go (eqb (n + w) 0) (width-in (nextNumbers n x) (nextWanted n w x) t) where
-  go : (b : Bool) → width (nextNumbers n x) (nextWanted n w x) t ≤ length t → cond b 0 (suc (width (nextNumbers n x) (nextWanted n w x) t)) ≤ suc (length t)
-  go true h = omega arith
-  go false h = omega arith
+width-in n w (x ∷ t) = cond-both (λ z. z ≤ suc (length t)) (eqb (n + w) 0) 0 (suc (width (nextNumbers n x) (nextWanted n w x) t)) (omega arith) (omega (arith, width-in (nextNumbers n x) (nextWanted n w x) t))
 
 pub behind-in : (text : List ℕ) (at : ℕ) → at ≤ length text → behindAt text at ≤ length text
 behind-in text at h = omega (arith, width-in 0 1 (drop at text), length-drop at text)

@@ -16,16 +16,11 @@ use Rattle.text.specs.Code.{code, levels}
 use Rattle.text.specs.Reading.{Limits, expr}
 use Rattle.text.proofs.TextReadBack.{one-reading}
 use Rattle.check_steps.specs.Raised.{lowered, width, behindAt, againAt, contraryAt}
-use Rattle.check_steps.proofs.Spans.{raised-length, again-found, AgainIn, again-in}
+use Rattle.check_steps.proofs.Spans.{raised-length, width-none, again-found, AgainIn, again-in}
 use Rattle.check_steps.proofs.Sides.{contrary-none, contrary-other}
 use Rattle.check_steps.proofs.TermHeads.{head-1}
 use Rattle.check_steps.proofs.Texts.{textOf, text-one-then, width-text, lowered-append, lowered-text}
 use Rattle.check_steps.proofs.Tops.{top, text-some, begun-by}
-
-width-none : (z : List ℕ) → width 0 0 z ≡ 0
-unfolding width
-width-none [] = refl
-width-none (x ∷ z) = refl
 
 -- A term behind the bytes B and h, and Z behind it.
 module _ (B h : List ℕ) {s : Sort} (E : Expr s) (Z : List ℕ) where
@@ -38,7 +33,7 @@ module _ (B h : List ℕ) {s : Sort} (E : Expr s) (Z : List ℕ) where
   pub behind-term : behindAt t at ≡ at + length (textOf E)
   behind-term =
       ap (at +_)
-      (ap (width 0 1) (drop-append-add B (h ++ (textOf E ++ Z)) (length h) ∙ drop-append-seam h (textOf E ++ Z)) ∙ width-text E 0 Z ∙ omega (arith, width-none Z, raised-length 0 (code E)))
+      (ap (width 0 1) (drop-append-add B (h ++ (textOf E ++ Z)) (length h) ∙ drop-append-seam h (textOf E ++ Z)) ∙ width-text E 0 Z ∙ omega (arith, width-none 0 0 refl Z, raised-length 0 (code E)))
 
   byte-at : (i : ℕ) → getD t (at + i) 0 ≡ getD (textOf E ++ Z) i 0
   byte-at i = rw (add-assoc (length B) (length h) i, getD-append-add, getD-append-add)

@@ -1,7 +1,7 @@
 -- The raised text of a term: its parts, where it ends, its bytes lowered again.
 use mathlib.Core.Path.{_≡_, refl, sym, ap, ap₂, _∙_}
-use mathlib.Core.Bool.{Bool, true, _&&_, cond}
-use mathlib.Core.List.{List, [], _∷_, _++_, map, append-assoc, append-nil}
+use mathlib.Core.Bool.{cond}
+use mathlib.Core.List.{List, [], _∷_, _++_, map, append-assoc, append-nil, map-append}
 use Prim.Native.Nat.{ℕ, zero, suc, _+_, _-_, _%_, _<_}
 use native.Mathlib.Nat.{add-zero}
 use native.Mathlib.Numerals.{add-one}
@@ -12,6 +12,7 @@ use borrow.Author.Tests.{ne-eqb}
 use Rattle.logic.specs.Syntax.{Sort, Expr}
 use Rattle.logic.specs.Limits.{maxNodes, ranges, InRange, Kind, labelNumber, arrowNumber, nodeNumber, leastCount, mostCount, fits}
 use Rattle.logic.specs.Arity.{Unary, Binary, build1, build2, Nullary, build0, byArity}
+use Rattle.logic.proofs.Bools.{both-so}
 use Rattle.logic.proofs.ArityLaws.{range-1, range-2, range-0, Fit}
 use Rattle.text.specs.Code.{code}
 use Rattle.text.specs.Heads.{head1, head2}
@@ -42,9 +43,7 @@ unfolding width nextNumbers nextWanted
 width-numbers n w [] z e = ap (λ k. width k w z) (sym e) ∙ omega arith
 width-numbers zero w (x ∷ ns) z e = absurd (omega arith)
 width-numbers (suc n) w (x ∷ ns) z e =
-    ap (λ b. cond b 0 (suc (width n w (ns ++ z)))) (ne-eqb (suc n + w) 0 (λ q. absurd (omega arith)))
-    ∙ ap suc (width-numbers n w ns z (omega arith))
-    ∙ omega arith
+    ap (λ b. cond b 0 (suc (width n w (ns ++ z)))) (ne-eqb (suc n + w) 0 (λ q. absurd (omega arith))) ∙ omega (arith, width-numbers n w ns z (omega arith))
 
 -- The first bytes of a term, raised.
 module _ {h : List ℕ} {k : ℕ} (H : Head h k) where
@@ -69,10 +68,9 @@ module _ {h : List ℕ} {k : ℕ} (H : Head h k) where
   width-head : (w : ℕ) (z : List ℕ) → width 0 (suc w) (front ++ z) ≡ length h + width 0 (w + k) z
   unfolding width nextNumbers nextWanted
   width-head w z =
-      ap (λ b. cond b 0 (suc (width (numbersOf (H .byte)) (suc w - 1 + operandsOf (H .byte)) (marks numbers ++ z)))) (ne-eqb (0 + suc w) 0 (λ q. absurd (omega arith)))
-      ∙ ap suc (width-numbers (numbersOf (H .byte)) (suc w - 1 + operandsOf (H .byte)) (marks numbers) z (length-marks numbers ∙ counted))
-      ∙ (let e : suc w - 1 + operandsOf (H .byte) ≡ w + k = omega (arith, H .wants) in ap (λ v. suc (length (marks numbers) + width 0 v z)) e)
-      ∙ omega (arith, front-length)
+      let e : suc w - 1 + operandsOf (H .byte) ≡ w + k = omega (arith, H .wants) in
+      let numbers-over = width-numbers (numbersOf (H .byte)) (w + k) (marks numbers) z (length-marks numbers ∙ counted) in
+      ap₂ (λ b v. cond b 0 (suc (width (numbersOf (H .byte)) v (marks numbers ++ z)))) (ne-eqb (0 + suc w) 0 (λ q. absurd (omega arith))) e ∙ omega (arith, numbers-over, front-length)
 
 -- A text that goes on as if what follows stood alone.
 abbrev Splits : List ℕ → Type 0
@@ -82,12 +80,7 @@ splits-head : {h : List ℕ} {k : ℕ} → Head h k → Splits h
 splits-head H z = raised-head H z ∙ ap (_++ raised 0 z) (sym (raised-alone H))
 
 splits-append : (a b : List ℕ) → Splits a → Splits b → Splits (a ++ b)
-splits-append a b s t z =
-    ap (raised 0) (append-assoc a b z)
-    ∙ s (b ++ z)
-    ∙ ap (raised 0 a ++_) (t z)
-    ∙ sym (append-assoc (raised 0 a) (raised 0 b) (raised 0 z))
-    ∙ ap (_++ raised 0 z) (sym (s b))
+splits-append a b s t z = cc (append-assoc a b z, s (b ++ z), t z, append-assoc (raised 0 a) (raised 0 b) (raised 0 z), s b)
 
 splits-as : {a b : List ℕ} → a ≡ b → Splits b → Splits a
 splits-as e s z = ap (λ l. raised 0 (l ++ z)) e ∙ s z ∙ ap (λ l. raised 0 l ++ raised 0 z) (sym e)
@@ -119,23 +112,14 @@ abbrev Ends : {s : Sort} → Expr s → Type 0
 Ends e = (w : ℕ) (z : List ℕ) → width 0 (suc w) (textOf e ++ z) ≡ length (code e) + width 0 w z
 
 pub width-text : {s : Sort} (e : Expr s) (w : ℕ) (z : List ℕ) → width 0 (suc w) (textOf e ++ z) ≡ length (code e) + width 0 w z
-width-text e = byArity (λ s e. Ends e) leaf one two e where
-  leaf : (s : Sort) (b : Nullary s) → Ends (build0 b)
-  leaf s b w z = ap (λ l. width 0 (suc w) (l ++ z)) (text-leaf b) ∙ width-head (head-0 b) w z ∙ ap (λ v. length (code (build0 b)) + width 0 v z) (add-zero w)
-
-  one : (u t : Sort) (b : Unary u t) (x : Expr u) → Ends x → Ends (build1 b x)
-  one u t b x f w z =
-      ap (width 0 (suc w)) (text-one-then b x z)
-      ∙ width-head (head-1 b) w (textOf x ++ z)
-      ∙ ap (λ v. length (head1 b) + width 0 v (textOf x ++ z)) (add-one w)
-      ∙ omega (arith, f w z, ap length (code-1 b x), length-append (head1 b) (code x))
-
-  two : (u v t : Sort) (b : Binary u v t) (x : Expr u) (y : Expr v) → Ends x → Ends y → Ends (build2 b x y)
-  two u v t b x y f g w z =
-      ap (width 0 (suc w)) (text-two-then b x y z)
-      ∙ width-head (head-2 b) w (textOf x ++ (textOf y ++ z))
-      ∙ ap (λ v. length (head2 b) + width 0 v (textOf x ++ (textOf y ++ z))) (let e : w + 2 ≡ suc (suc w) = omega arith in e)
-      ∙ omega (arith, f (suc w) (textOf y ++ z), g w z, ap length (code-2 b x y), length-append (head2 b) (code x ++ code y), length-append (code x) (code y))
+width-text e = byArity (λ s e. Ends e)
+    (λ s b w z. ap (λ l. width 0 (suc w) (l ++ z)) (text-leaf b) ∙ width-head (head-0 b) w z ∙ ap (λ v. length (code (build0 b)) + width 0 v z) (add-zero w))
+    (λ u t b x f w z. ap (width 0 (suc w)) (text-one-then b x z) ∙ width-head (head-1 b) w (textOf x ++ z) ∙ ap (λ v. length (head1 b) + width 0 v (textOf x ++ z)) (add-one w)
+    ∙ omega (arith, f w z, ap length (code-1 b x), length-append (head1 b) (code x)))
+    (λ u v t b x y f g w z. let e : w + 2 ≡ suc (suc w) = omega arith in
+    ap (width 0 (suc w)) (text-two-then b x y z) ∙ width-head (head-2 b) w (textOf x ++ (textOf y ++ z)) ∙ ap (λ v. length (head2 b) + width 0 v (textOf x ++ (textOf y ++ z))) e
+    ∙ omega (arith, f (suc w) (textOf y ++ z), g w z, ap length (code-2 b x y), length-append (head2 b) (code x ++ code y), length-append (code x) (code y)))
+    e
 
 -- The text with a term at a place.
 before-splits : {s t : Sort} (c : Context s t) → Splits (before c)
@@ -150,22 +134,18 @@ text-put c x = ap (raised 0) (code-put c x) ∙ before-splits c (code x ++ behin
 
 -- Lowered again, a term's text is its code.
 pub lowered-append : (a b : List ℕ) → lowered (a ++ b) ≡ lowered a ++ lowered b
-lowered-append [] b = refl
-lowered-append (x ∷ a) b = ap ((x % 128) ∷_) (lowered-append a b)
+lowered-append a b = map-append (λ x. x % 128) a b
 
 -- A number in range is below 128,
 low : (k : Kind) (x : ℕ) → T (fits (ranges maxNodes) k x) → x < 128
 low labelNumber x h = omega (arith, ltb→lt x 48 h)
 low arrowNumber x h = omega (arith, ltb→lt x 16 h)
 low nodeNumber x h = omega (arith, ltb→lt x 60 h)
-low leastCount x h = omega (arith, leb→le x 60 (and-second (leb 1 x) (leb x 60) h)) where
-  and-second : (a b : Bool) → T (a && b) → T b
-  and-second true b h = h
+low leastCount x h = omega (arith, leb→le x 60 (both-so (leb 1 x) (leb x 60) h .1))
 low mostCount x h = omega (arith, leb→le x 59 h)
 
 -- so that raising and lowering it is nothing.
 lower-numbers : (ns : List (Kind × ℕ)) → Fit (ranges maxNodes) ns → lowered (marks (map (λ n. n .1) ns)) ≡ map (λ n. n .1) ns
-unfolding Fit
 lower-numbers [] f = refl
 lower-numbers (n ∷ ns) f = ap₂ _∷_ (let l = low (n .0) (n .1) (f .0) in omega arith) (lower-numbers ns (f .1))
 
@@ -177,22 +157,9 @@ Lowers e = InRange (ranges maxNodes) e → lowered (textOf e) ≡ code e
 
 pub lowered-text : {s : Sort} (e : Expr s) → InRange (ranges maxNodes) e → lowered (textOf e) ≡ code e
 unfolding head-0 head-1 head-2
-lowered-text e = byArity (λ s e. Lowers e) leaf one two e where
-  leaf : (s : Sort) (b : Nullary s) → Lowers (build0 b)
-  leaf s b r = ap lowered (text-leaf b) ∙ lower-head (head-0 b) (range-0 (ranges maxNodes) b .0 r)
-
-  one : (u t : Sort) (b : Unary u t) (x : Expr u) → Lowers x → Lowers (build1 b x)
-  one u t b x f r =
-      let q = range-1 (ranges maxNodes) b x .0 r in
-      ap lowered (text-one b x)
-      ∙ lowered-append (front (head-1 b)) (textOf x)
-      ∙ ap₂ _++_ (lower-head (head-1 b) (q .0)) (f (q .1))
-      ∙ sym (code-1 b x)
-
-  two : (u v t : Sort) (b : Binary u v t) (x : Expr u) (y : Expr v) → Lowers x → Lowers y → Lowers (build2 b x y)
-  two u v t b x y f g r =
-      let q = range-2 (ranges maxNodes) b x y .0 r in
-      ap lowered (text-two b x y)
-      ∙ lowered-append (front (head-2 b)) (textOf x ++ textOf y)
-      ∙ ap₂ _++_ (lower-head (head-2 b) (q .0)) (lowered-append (textOf x) (textOf y) ∙ ap₂ _++_ (f (q .1 .0)) (g (q .1 .1)))
-      ∙ sym (code-2 b x y)
+lowered-text e = byArity (λ s e. Lowers e) (λ s b r. ap lowered (text-leaf b) ∙ lower-head (head-0 b) (range-0 (ranges maxNodes) b .0 r))
+    (λ u t b x f r. let q = range-1 (ranges maxNodes) b x .0 r in
+    cc (text-one b x, lowered-append (front (head-1 b)) (textOf x), lower-head (head-1 b) (q .0), f (q .1), code-1 b x))
+    (λ u v t b x y f g r. let q = range-2 (ranges maxNodes) b x y .0 r in
+    cc (text-two b x y, lowered-append (front (head-2 b)) (textOf x ++ textOf y), lower-head (head-2 b) (q .0), lowered-append (textOf x) (textOf y), f (q .1 .0), g (q .1 .1), code-2 b x y))
+    e

@@ -1,27 +1,27 @@
--- What closing and sound-is-stored answer and leave, by where they stop.
+-- What closing and opening answer and leave, by where they stop.
 use mathlib.Core.Path.{_≡_, refl, sym, ap, _∙_}
 use mathlib.Core.Bool.{Bool, true, false, cond}
 use mathlib.Core.List.{List}
 use Prim.Native.Nat.{ℕ, _≤_, _<_}
-use native.Mathlib.Omega.{arith}
 use lib.Dec.{ltb}
-use lib.ListN.{length, getD}
+use lib.ListN.{length}
 use borrow.Author.Tests.{lt-ltb, le-ltb, ltb-true}
 use Rattle.answer.specs.Asked.{Asked, passed, refused, _>>=_, _>>_, is, after, outcome}
-use Rattle.answer.specs.Answers.{asked, refusalNumber, refusalPlace}
+use Rattle.answer.specs.Answers.{asked}
 use Rattle.answer.specs.declared.Refusal.{Refusal}
 use Rattle.answer.specs.declared.Refusal.the-variants.{NodeTaken}
 use Rattle.answer.specs.declared.Answer.{Answer}
 use Rattle.answer.specs.declared.Answer.the-variants.{Done, Refused}
-use Rattle.answer.proofs.AnswerLaws.{Learned, learned, not-learned}
+use Rattle.answer.proofs.AskedLaws.{bind-passed, is-then}
 use Rattle.logic.specs.Syntax.{Expr, rule}
 use Rattle.logic.specs.Limits.{Within, ranges}
 use Rattle.logic.specs.Closing.{closeNode, openNode, canClose}
+use Rattle.bitset.specs.Words.{Bytes}
 use Rattle.sheet.specs.Sheet.{present, store, graphOf}
 use Rattle.sheet.specs.Questions.{askSheet, Sound}
 use Rattle.sheet.proofs.SoundSheets.{sound-is-stored}
 use Rattle.judge.proofs.SheetAndBook.{done-learned, refused-asked, sheet-sound, rules-stand}
-use Rattle.judge.specs.Questions.{askSheetAndBook, askRules}
+use Rattle.judge.specs.Questions.{askSheetAndBook}
 use Rattle.judge.specs.Judging.{RulesStand}
 use Rattle.close_node.specs.Questions.{askNode, askClose, askOpen, closedSheet, openedSheet}
 use Rattle.close_node.specs.Changing.{setUse, Judged}
@@ -40,34 +40,34 @@ module _ (sheet book : List ℕ) (node : ℕ) where
     out-of-range l = unfold askNode outcome is _>>=_ _>>_ in rw (e, le-ltb node (graphOf sheet .n) l)
 
   -- What is known once they have passed.
-  pub record Ready : Type 0 where
-    pub rules : List (Expr rule)
+  pub record Ready (rules : List (Expr rule)) : Type 0 where
     pub is-read : askNode sheet book node ≡ passed rules
-    pub sound : Sound sheet
+    pub read : askSheetAndBook sheet book ≡ passed rules
     pub below : node < graphOf sheet .n
+    pub sound : Sound sheet
     pub stand : RulesStand (ranges (graphOf sheet .n)) book 0 (length book) rules
 
-  pub found : Learned (askNode sheet book node) → Ready
-  unfolding askNode _>>=_ _>>_ is
-  found q = go (askSheetAndBook sheet book) refl (ltb node (graphOf sheet .n)) refl (q .is) where
-    go : (x : Asked (List (Expr rule))) → askSheetAndBook sheet book ≡ x → (z : Bool) → ltb node (graphOf sheet .n) ≡ z
-        → (x >>= (λ rules. is z 7 0 >> passed rules)) ≡ passed (q .what) → Ready
-    go (passed rs) e true l h =
-        let e′ : askSheetAndBook sheet book ≡ passed (q .what) = e ∙ h in
-        record { rules = q .what; is-read = q .is; sound = sheet-sound sheet book e′; below = ltb-true node (graphOf sheet .n) l; stand = rules-stand sheet book e′ }
-    go (passed rs) e false l h = let z : _≡_ {A = ℕ} 0 1 = cc in absurd (omega arith)
-    go (refused m p) e z l h = let z : _≡_ {A = ℕ} 0 1 = cc in absurd (omega arith)
+  pub found : (rules : List (Expr rule)) → askNode sheet book node ≡ passed rules → Ready rules
+  unfolding askNode
+  found rules e =
+      let (rs, asked, rest) = bind-passed (askSheetAndBook sheet book) _ rules e in
+      let (below, same) = is-then (ltb node (graphOf sheet .n)) 7 0 (passed rs) rest in
+      let read : askSheetAndBook sheet book ≡ passed rules = asked ∙ same in
+      record { is-read = e; read = read; below = ltb-true node (graphOf sheet .n) below; sound = sheet-sound sheet book read; stand = rules-stand sheet book read }
 
   -- The same of a sheet of bytes.
   pub record AskPassed : Type 0 where
-    pub ready : Ready
-    pub bytes : (p : ℕ) → getD sheet p 0 < 256
+    pub rules : List (Expr rule)
+    pub ready : Ready rules
+    pub bytes : Bytes sheet
     pub within : Within (graphOf sheet)
 
-  pub ask-passed : ((p : ℕ) → getD sheet p 0 < 256) → {a : Answer} → asked a ≡ outcome (askNode sheet book node) → a ≡ Done → AskPassed
-  ask-passed bytes s d = let q = found (done-learned s d) in record { ready = q; bytes = bytes; within = sound-is-stored present sheet bytes (q .sound) .within }
+  pub ask-passed : Bytes sheet → {a : Answer} → asked a ≡ outcome (askNode sheet book node) → a ≡ Done → AskPassed
+  ask-passed bytes s d =
+      let l = done-learned s d in let q = found (l .what) (l .is) in
+      record { rules = l .what; ready = q; bytes = bytes; within = sound-is-stored present sheet bytes (q .sound) .within }
 
-  -- Sheet and answer after closing, and after sound-is-stored.
+  -- Sheet and answer after closing, and after opening.
   abbrev pub Closed : Answer → List ℕ → Type 0
   Closed a t = (asked a ≡ askClose sheet book node) × (t ≡ closedSheet sheet book node)
 
@@ -81,32 +81,22 @@ module _ (sheet book : List ℕ) (node : ℕ) where
     pub open-stops : Opened a sheet
     open-stops = unfold askOpen openedSheet _>>=_ after in rw (e, refused-asked s e) (refl, refl)
 
-  module _ (q : Ready) where
+  module _ {rules : List (Expr rule)} (q : Ready rules) where
     -- the sheet is the same where the node is so already
-    same-sheet : ((p : ℕ) → getD sheet p 0 < 256) → (used : Bool) → graphOf sheet .inUse node ≡ used → sheet ≡ store (setUse (graphOf sheet) node used)
+    same-sheet : Bytes sheet → (used : Bool) → graphOf sheet .inUse node ≡ used → sheet ≡ store (setUse (graphOf sheet) node used)
     same-sheet small used e = sound-is-stored present sheet small (q .sound) .stored ∙ ap store (sym (use-same (graphOf sheet) node used e))
 
-    pub close-already : ((p : ℕ) → getD sheet p 0 < 256) → graphOf sheet .inUse node ≡ false → Closed Done sheet
+    pub close-already : Bytes sheet → graphOf sheet .inUse node ≡ false → Closed Done sheet
     close-already small e = unfold askClose closedSheet closeNode after _>>=_ in rw (q .is-read, e) (refl, same-sheet small false e)
 
     pub close-kept : graphOf sheet .inUse node ≡ true → canClose (graphOf sheet) node ≡ false → Closed (Refused (NodeTaken node)) sheet
     close-kept e k = unfold askClose closedSheet after is _>>_ _>>=_ in rw (q .is-read, e, k) (refl, refl)
 
-    pub close-judged : graphOf sheet .inUse node ≡ true → canClose (graphOf sheet) node ≡ true → {a : Answer} {t : List ℕ} → Judged (q .rules) (setUse (graphOf sheet) node false) a sheet t → Closed a t
+    pub close-judged : graphOf sheet .inUse node ≡ true → canClose (graphOf sheet) node ≡ true → {a : Answer} {t : List ℕ} → Judged rules (setUse (graphOf sheet) node false) a sheet t → Closed a t
     close-judged e k j = unfold askClose closedSheet closeNode is _>>_ _>>=_ in rw (q .is-read, e, k) (j .answer-is, j .sheet-is)
 
-    pub open-already : ((p : ℕ) → getD sheet p 0 < 256) → graphOf sheet .inUse node ≡ true → Opened Done sheet
+    pub open-already : Bytes sheet → graphOf sheet .inUse node ≡ true → Opened Done sheet
     open-already small e = unfold askOpen openedSheet openNode after _>>=_ in rw (q .is-read, e) (refl, same-sheet small true e)
 
-    pub open-judged : graphOf sheet .inUse node ≡ false → {a : Answer} {t : List ℕ} → Judged (q .rules) (setUse (graphOf sheet) node true) a sheet t → Opened a t
+    pub open-judged : graphOf sheet .inUse node ≡ false → {a : Answer} {t : List ℕ} → Judged rules (setUse (graphOf sheet) node true) a sheet t → Opened a t
     open-judged e j = unfold askOpen openedSheet openNode _>>=_ in rw (q .is-read, e) (j .answer-is, j .sheet-is)
-
-  -- what they ask then, by whether the node is in use and may be closed
-  abbrev pub closing-asks : Bool → Bool → List (Expr rule) → Asked (Unit {0})
-  closing-asks b k rules = cond b (is k 54 node >> askRules (closeNode (graphOf sheet) node) rules 0) (passed tt)
-
-  abbrev pub closing-here : List (Expr rule) → Asked (Unit {0})
-  closing-here rules = closing-asks (graphOf sheet .inUse node) (canClose (graphOf sheet) node) rules
-
-  abbrev pub opening-here : List (Expr rule) → Asked (Unit {0})
-  opening-here rules = cond (graphOf sheet .inUse node) (passed tt) (askRules (openNode (graphOf sheet) node) rules 0)

@@ -4,7 +4,7 @@ use mathlib.Core.Bool.{Bool, true, false, not, _&&_, cond}
 use mathlib.Core.List.{List}
 use Prim.Native.Nat.{ℕ, _≤_, _<_}
 use lib.Dec.{eqb, ltb}
-use lib.ListN.{length, getD}
+use lib.ListN.{length}
 use borrow.Author.Tests.{eqb-true, lt-ltb}
 use Rattle.answer.specs.Asked.{Asked, after}
 use Rattle.answer.specs.Answers.{asked}
@@ -17,7 +17,7 @@ use Rattle.logic.specs.Limits.{Within, ranges}
 use Rattle.logic.specs.Steps.{update}
 use Rattle.logic.specs.Closing.{withUse, closeNode, openNode, canClose}
 use Rattle.logic.proofs.Closing.{close-open, open-close, close-within, open-within}
-use Rattle.bitset.specs.Words.{setOf, member, combined}
+use Rattle.bitset.specs.Words.{Bytes, setOf, member, combined}
 use Rattle.bitset.proofs.SetLaws.{setOf-cong, setOf-wide, member-of, member-setOf}
 use Rattle.sheet.specs.Sheet.{present, store, graphOf}
 use Rattle.sheet.specs.Questions.{Sound}
@@ -90,7 +90,7 @@ module _ (sheet book : List ℕ) (i : ℕ) (used : Bool) (within : Within (setUs
     unfolding after
     judged-done d = record { answer-is = sym (asked-of ∙ ap asked d); sheet-is = stores ∙ sym (ap (λ (x : Asked (Unit {0})). after x (λ u. store h) sheet) (asked-of ∙ ap asked d)) }
 
-    pub judged-broken : {r : Refusal} (t′ : List ℕ) → ((p : ℕ) → getD sheet p 0 < 256) → Sound sheet → graphOf sheet .inUse i ≡ not used → a ≡ Refused r → t′ ≡ store (setUse (graphOf t) i (not used)) → Judged rules h a sheet t′
+    pub judged-broken : {r : Refusal} (t′ : List ℕ) → Bytes sheet → Sound sheet → graphOf sheet .inUse i ≡ not used → a ≡ Refused r → t′ ≡ store (setUse (graphOf t) i (not used)) → Judged rules h a sheet t′
     unfolding after
     judged-broken t′ small sound was d back =
         record {

@@ -3,13 +3,10 @@ use mathlib.Core.Path.{_≡_, refl, sym, ap, ap₂, _∙_, subst}
 use mathlib.Core.Bool.{Bool, not, _&&_, cond, and-comm}
 use mathlib.Core.List.{List}
 use Prim.Native.Nat.{ℕ, zero, suc, _+_, _*_, _/_, _^_, _≤_, _<_}
-use native.Mathlib.Nat.{add-comm, add-assoc}
+use native.Mathlib.Nat.{add-comm, add-assoc, mul-le-mul-left}
 use native.Mathlib.Numerals.{add-one}
 use native.Mathlib.Omega.{arith}
-use native.Mathlib.Decide.{decLt}
 use lib.Dec.{ltb}
-use lib.ListN.{length, getD, set}
-use lib.Seq.{getD-set-same, getD-set-other}
 use borrow.Author.Tests.{lt-ltb}
 use Rattle.logic.specs.Syntax.{Expr, rule, Edit}
 use Rattle.logic.specs.Graph.{Nodes, countBelow}
@@ -24,26 +21,15 @@ use Rattle.count_small.specs.Questions.{mostSmall, noCounts}
 use Rattle.count_small.specs.Counting.{tallied, Room, Turned}
 
 -- n is small
-pub square-few : (n : ℕ) → n ≤ mostSmall → n * n ≤ 9
-square-few zero l = omega arith
-square-few (suc zero) l = omega arith
-square-few (suc (suc zero)) l = omega arith
-square-few (suc (suc (suc zero))) l = omega arith
-square-few (suc (suc (suc (suc n)))) l = absurd (omega arith)
+pub few-bits : (n : ℕ) → n ≤ mostSmall → (n * n ≤ 9) × (2 ^ bits n ≤ 4096)
+few-bits zero l = (omega arith, omega arith)
+few-bits (suc zero) l = (omega arith, omega arith)
+few-bits (suc (suc zero)) l = (omega arith, omega arith)
+few-bits (suc (suc (suc zero))) l = (omega arith, omega arith)
+few-bits (suc (suc (suc (suc n)))) l = absurd (omega arith)
 
-pub row-few : (n i : ℕ) → n ≤ mostSmall → i < n → n * i ≤ 6
-row-few zero i l k = absurd (omega arith)
-row-few (suc zero) i l k = omega arith
-row-few (suc (suc zero)) i l k = omega arith
-row-few (suc (suc (suc zero))) i l k = omega arith
-row-few (suc (suc (suc (suc n)))) i l k = absurd (omega arith)
-
-pub powers-few : (n : ℕ) → n ≤ mostSmall → 2 ^ bits n ≤ 4096
-powers-few zero l = omega arith
-powers-few (suc zero) l = omega arith
-powers-few (suc (suc zero)) l = omega arith
-powers-few (suc (suc (suc zero))) l = omega arith
-powers-few (suc (suc (suc (suc n)))) l = absurd (omega arith)
+pub row-few : (n i : ℕ) → n ≤ mostSmall → i < n → n * i ≤ 9
+row-few n i l k = let h : i ≤ n = omega arith in omega (arith, few-bits n l .0, mul-le-mul-left n h)
 
 -- n bits of x, from one on
 pub part-is : (x from n low : ℕ) → n < 64 → low ≡ setOf 64 (λ j. ltb j n) → combined _&&_ (x / 2 ^ from) low ≡ setOf n (λ j. member x (from + j))
@@ -58,13 +44,6 @@ label-is n x w e = unfold smallSheet in e ∙ setOf-cong n _ _ (λ j l. let z : 
 
 pub row-is : (n x i w : ℕ) → i < n → w ≡ setOf n (λ j. member x (n + n * i + j)) → w ≡ setOf n (smallSheet n x .joined 0 i)
 row-is n x i w k e = unfold smallSheet in e ∙ setOf-cong n _ _ (λ j l. ap (member x) (add-assoc n (n * i) j) ∙ sym (rw (lt-ltb i n k, lt-ltb j n l)))
-
--- one row more
-pub rows-more : (rows : List ℕ) (i w : ℕ) (f : ℕ → ℕ) → i < length rows → ((k : ℕ) → k < i → getD rows k 0 ≡ f k) → w ≡ f i → (k : ℕ) → k < i + 1 → getD (set rows i w) k 0 ≡ f k
-rows-more rows i w f room before here k l = go (decLt k i) where
-  go : Dec (k < i) → getD (set rows i w) k 0 ≡ f k
-  go (yes h) = getD-set-other rows i k w 0 (λ (e : k ≡ i). absurd (omega arith)) ∙ before k h
-  go (no h) = let e : k ≡ i = omega arith in ap (λ (j : ℕ). getD (set rows i w) j 0) e ∙ getD-set-same rows i w 0 room ∙ here ∙ ap f (sym e)
 
 -- One sheet more is counted.
 pub tally-more : (x : ℕ) (before next : Nodes) → tallied (fourOf x before next) (before x) (next x) ≡ fourOf (x + 1) before next

@@ -15,7 +15,8 @@ use Rattle.logic.specs.Meaning.{holdAll}
 use Rattle.count_small.specs.Small.{Small, bits, smallSheet, fourOf, fourCounts}
 use Rattle.count_small.specs.Exactly.{In, Once, Exactly}
 use Rattle.count_small.specs.declared.Four.{Four}
-use Rattle.count_small.proofs.Numbering.{true-false, numbered-once, each-numbered, number-small}
+use Rattle.logic.proofs.Bools.{true-false}
+use Rattle.count_small.proofs.Numbering.{numbered-once, each-numbered, number-small}
 
 module _ (n : ℕ) (P : Graph → Bool) where
   -- those with numbers below m, the highest first
@@ -54,12 +55,8 @@ module _ (n : ℕ) (P : Graph → Bool) where
     go : Dec (x < m) → (x < m → In g (listed m)) → (b : Bool) → P (smallSheet n m) ≡ b → In {A = Graph} g (elim b [ true ↦ smallSheet n m ∷ listed m | false ↦ listed m ])
     go (yes k) rest true q = inr (rest k)
     go (yes k) rest false q = rest k
-    go (no k) rest true q = inl (ap (smallSheet n) (same k) ∙ e) where
-      same : ¬ (x < m) → m ≡ x
-      same k = omega arith
-    go (no k) rest false q = true-false p (ap P (sym e) ∙ ap (λ y. P (smallSheet n y)) (same k) ∙ q) where
-      same : ¬ (x < m) → x ≡ m
-      same k = omega arith
+    go (no k) rest true q = let same : m ≡ x = omega arith in inl (ap (smallSheet n) same ∙ e)
+    go (no k) rest false q = let same : x ≡ m = omega arith in true-false p (ap P (sym e) ∙ ap (λ y. P (smallSheet n y)) same ∙ q)
 
   listed-once : 0 < n → (m : ℕ) → m ≤ 2 ^ bits n → Once (listed m)
   unfolding listed Once

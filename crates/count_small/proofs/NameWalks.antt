@@ -84,7 +84,7 @@ module _ (r : Ranges) where
 
   -- The names of a book are those of its rules,
   pub walk-rules : (rules : List (Expr rule)) → RulesInRange r rules → walk 0 (bookCode rules) ≡ rulesOnlyFirst rules
-  unfolding bookCode RulesInRange rulesOnlyFirst walk
+  unfolding bookCode rulesOnlyFirst walk
   walk-rules [] f = refl
   walk-rules (K ∷ rules) f = walk-code K (f .0) (bookCode rules) ∙ ap (onlyFirst (tree K) &&_) (walk-rules rules (f .1))
 

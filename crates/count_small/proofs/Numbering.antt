@@ -12,15 +12,9 @@ use Rattle.bitset.proofs.SetLaws.{setOf-lt, setOf-cong, setOf-member-lt, member
 use Rattle.logic.specs.Graph.{Graph, Nodes, isNode}
 use Rattle.logic.specs.Limits.{maxNodes}
 use Rattle.logic.proofs.Below.{any-one}
+use Rattle.logic.proofs.Bools.{true-false}
 use Rattle.logic.proofs.Inside.{no-node}
 use Rattle.count_small.specs.Small.{Small, bits, smallSheet}
-
-pub true-false : {b : Bool} {A : Type 0} → b ≡ true → b ≡ false → A
-true-false {b} t f = let z : _≡_ {A = ℕ} 0 1 = cc in absurd (omega arith)
-
-pub and-both : (a b : Bool) → (a && b) ≡ true → (a ≡ true) × (b ≡ true)
-and-both true b h = (refl, h)
-and-both false b h = true-false h refl
 
 -- the bit of a pair is one of the bits, behind those of the nodes
 pair-bit : (n i j : ℕ) → i < n → j < n → n + (n * i + j) < bits n

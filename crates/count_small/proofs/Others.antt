@@ -2,7 +2,7 @@
 -- its arrow 0 alone.
 use mathlib.Core.Path.{_≡_, refl, ap, _∙_}
 use mathlib.Core.Logic.{_≢_}
-use mathlib.Core.Bool.{Bool, true, false, _&&_, cond}
+use mathlib.Core.Bool.{Bool, true, false, _&&_, cond, and-eq-true-iff}
 use Prim.Native.Nat.{ℕ}
 use lib.Dec.{eqb}
 use borrow.Author.Tests.{eqb-true, eqb-false, ne-eqb}
@@ -11,12 +11,12 @@ use Rattle.logic.specs.Graph.{Graph, Nodes, Pairs}
 use Rattle.logic.specs.Meaning.{value}
 use Rattle.logic.specs.Steps.{update, relabel, rejoin, run}
 use Rattle.logic.specs.Limits.{Ranges, EditInRange}
-use Rattle.logic.proofs.Inside.{cond-both, run-n, run-within}
+use Rattle.logic.proofs.Tables.{cond-both}
+use Rattle.logic.proofs.Inside.{run-n, run-within}
 use Rattle.logic.proofs.Closing.{run-inUse}
 use Rattle.tree.specs.Tree.{tree}
 use Rattle.count_small.specs.Small.{Small, smallSheet}
 use Rattle.count_small.specs.Names.{onlyFirst, editOnlyFirst}
-use Rattle.count_small.proofs.Numbering.{and-both}
 
 -- No label and no arrow but 0 differs.
 pub record SameOthers (g h : Graph) : Type 0 where
@@ -37,7 +37,7 @@ rejoined : (g : Graph) (a : ℕ) (v : Pairs) → eqb a 0 ≡ true → SameOthers
 rejoined g a v e = record { labels = λ k i n. refl; arrows = λ x i j n. ap (λ (u : Pairs). u i j) (elsewhere (g .joined) a v x e n) }
 
 step-first : (k : ℕ) {s : Sort} (e : Expr s) (Z : Edit) → (eqb k 0 && (onlyFirst (tree e) && editOnlyFirst Z)) ≡ true → (eqb k 0 ≡ true) × (editOnlyFirst Z ≡ true)
-step-first k e Z o = let (h, q) = and-both (eqb k 0) (onlyFirst (tree e) && editOnlyFirst Z) o in (h, and-both (onlyFirst (tree e)) (editOnlyFirst Z) q .1)
+step-first k e Z o = let (h, q) = and-eq-true-iff (eqb k 0) (onlyFirst (tree e) && editOnlyFirst Z) .0 o in (h, and-eq-true-iff (onlyFirst (tree e)) (editOnlyFirst Z) .0 q .1)
 
 pub run-others : (Z : Edit) → editOnlyFirst Z ≡ true → (g : Graph) → SameOthers g (run Z g)
 unfolding run editOnlyFirst
@@ -47,9 +47,9 @@ run-others (takeLabel k E Z) o g = let (h, q) = step-first k E Z o in same-then 
 run-others (addArrow a R Z) o g = let (h, q) = step-first a R Z o in same-then g _ _ (rejoined g a _ h) (run-others Z q _)
 run-others (takeArrow a R Z) o g = let (h, q) = step-first a R Z o in same-then g _ _ (rejoined g a _ h) (run-others Z q _)
 run-others (choose K P Q Z) o g =
-    let (k, x) = and-both (onlyFirst (tree K)) (editOnlyFirst P && (editOnlyFirst Q && editOnlyFirst Z)) o in
-    let (p, y) = and-both (editOnlyFirst P) (editOnlyFirst Q && editOnlyFirst Z) x in
-    let (q, z) = and-both (editOnlyFirst Q) (editOnlyFirst Z) y in
+    let (k, x) = and-eq-true-iff (onlyFirst (tree K)) (editOnlyFirst P && (editOnlyFirst Q && editOnlyFirst Z)) .0 o in
+    let (p, y) = and-eq-true-iff (editOnlyFirst P) (editOnlyFirst Q && editOnlyFirst Z) .0 x in
+    let (q, z) = and-eq-true-iff (editOnlyFirst Q) (editOnlyFirst Z) .0 y in
     same-then g (cond (value g K) (run P g) (run Q g)) _
     (cond-both (SameOthers g) (value g K) (run P g) (run Q g) (run-others P p g) (run-others Q q g))
     (run-others Z z _)

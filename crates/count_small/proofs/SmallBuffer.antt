@@ -1,27 +1,26 @@
 -- The buffer holds one small sheet after another.
 use mathlib.Core.Path.{_≡_, refl, sym, ap, _∙_, subst}
-use mathlib.Core.Bool.{Bool, true, false, _&&_, cond}
+use mathlib.Core.Bool.{true, _&&_}
 use mathlib.Core.List.{List}
 use Prim.Native.Nat.{ℕ, _≤_}
 use native.Mathlib.Omega.{arith}
-use lib.Dec.{eqb, ltb}
+use lib.Dec.{ltb}
 use lib.ListN.{length}
-use borrow.Author.Tests.{eqb-true, ne-eqb, lt-ltb, le-ltb}
+use borrow.Author.Tests.{ne-eqb}
 use Rattle.answer.specs.Asked.{after}
 use Rattle.answer.proofs.AskedLaws.{after-on}
 use Rattle.logic.specs.Syntax.{Expr, rule, Edit}
 use Rattle.logic.specs.Graph.{Graph, Nodes, Pairs, isNode}
 use Rattle.logic.specs.Steps.{update, relabel, rejoin, run}
 use Rattle.logic.specs.Limits.{Within, PairsIn, maxNodes, ranges, EditInRange}
-use Rattle.logic.proofs.Below.{any-one}
-use Rattle.logic.proofs.Inside.{some-n}
+use Rattle.logic.proofs.Inside.{some-n, relabel-within}
 use Rattle.bitset.specs.Words.{setOf}
 use Rattle.sheet.specs.Sheet.{present, sheetBytes, store, graphOf, blank, Rows}
 use Rattle.sheet.specs.Questions.{Sound, askBlank}
 use Rattle.sheet.proofs.BlankSheets.{room}
 use Rattle.sheet.proofs.BlockLaws.{length-store}
 use Rattle.store.proofs.StoredReads.{read-back}
-use Rattle.store.proofs.StoredPasses.{stored-passes}
+use Rattle.store.proofs.StoredPasses.{stored-passes, blank-within}
 use Rattle.text.specs.Stands.{EditStands}
 use Rattle.judge.specs.Judging.{RulesStand}
 use Rattle.apply.specs.Made.{Made}
@@ -37,14 +36,8 @@ module _ (n : ℕ) where
   small-nodes : (g : Graph) → Small n g → (x i : ℕ) → isNode g i ≡ isNode (smallSheet n x) i
   small-nodes g s x i = unfold isNode smallSheet in ap (λ (m : ℕ). ltb i m && g .inUse i) (s .count) ∙ ap (ltb i n &&_) (s .all-in-use i)
 
-  small-some : (g : Graph) → Small n g → 1 ≤ n
-  small-some g s = omega (arith, some-n g (s .within), s .count)
-
-  small-few : (g : Graph) → Small n g → n ≤ maxNodes
-  small-few g s = omega (arith, s .within .few-nodes, s .count)
-
   numbered-small : (g : Graph) → Small n g → (x : ℕ) → Small n (smallSheet n x)
-  numbered-small g s x = number-small n x (small-some g s) (small-few g s)
+  numbered-small g s x = number-small n x (omega (arith, some-n g (s .within), s .count)) (omega (arith, s .within .few-nodes, s .count))
 
   module _ (t : List ℕ) (l : Loaded n t) where
     pub loaded-graph : graphOf t ≡ l .graph
@@ -72,24 +65,7 @@ module _ (n : ℕ) where
       g = l .graph
 
       label-within : Within (relabelledAs n x g)
-      unfolding update isNode
-      label-within =
-          record {
-            some-node = l .small .within .some-node;
-            few-nodes = l .small .within .few-nodes;
-            use-below = l .small .within .use-below;
-            labels-in = λ k i h. inside k i h (eqb k 0) refl;
-            arrows-in = λ a. record { starts = l .small .within .arrows-in a .starts; ends = l .small .within .arrows-in a .ends };
-            no-more-labels = λ k i h. beyond k i h (eqb k 0) refl;
-            no-more-arrows = l .small .within .no-more-arrows;
-          } where
-            inside : (k i : ℕ) → isNode g i ≡ false → (b : Bool) → eqb k 0 ≡ b → cond b (smallSheet n x .labelled 0) (g .labelled k) i ≡ false
-            inside k i h true e = numbered-small g (l .small) x .within .labels-in 0 i (sym (small-nodes g (l .small) x i) ∙ h)
-            inside k i h false e = l .small .within .labels-in k i h
-
-            beyond : (k i : ℕ) → 48 ≤ k → (b : Bool) → eqb k 0 ≡ b → cond b (smallSheet n x .labelled 0) (g .labelled k) i ≡ false
-            beyond k i h true e = absurd (omega (arith, eqb-true k 0 e))
-            beyond k i h false e = l .small .within .no-more-labels k i h
+      label-within = relabel-within g (l .small .within) 0 (smallSheet n x .labelled 0) tt (λ i h. numbered-small g (l .small) x .within .labels-in 0 i (sym (small-nodes g (l .small) x i) ∙ h))
 
       label-small : Small n (relabelledAs n x g)
       unfolding update
@@ -139,22 +115,7 @@ module _ (n : ℕ) where
 
   -- The blank sheet comes first.
   blank-small : 1 ≤ n → n ≤ maxNodes → Small n (blank n)
-  blank-small some few =
-      record {
-        within = record {
-          some-node = any-one n (λ i. ltb i n) 0 some (lt-ltb 0 n some);
-          few-nodes = few;
-          use-below = λ i l. le-ltb i n l;
-          labels-in = λ k i h. refl;
-          arrows-in = λ a. record { starts = λ i j h. refl; ends = λ i j h. refl };
-          no-more-labels = λ k i l. refl;
-          no-more-arrows = λ a i j l. refl;
-        };
-        count = refl;
-        all-in-use = λ i. refl;
-        one-label = λ k i h. refl;
-        one-arrow = λ a i j h. refl;
-      }
+  blank-small some few = record { within = blank-within n some few; count = refl; all-in-use = λ i. refl; one-label = λ k i h. refl; one-arrow = λ a i j h. refl }
 
   pub blank-loaded : 1 ≤ n → n ≤ mostSmall → (t t′ : List ℕ) → t′ ≡ after (askBlank n (length t)) (λ u. store (blank n)) t → length t ≡ sheetBytes → Loaded n t′
   blank-loaded some few t t′ e l =

@@ -3,19 +3,13 @@
 ghost use mathlib.Core.Path.{_≡_};
 ghost use mathlib.Core.List.{List};
 ghost use Prim.Native.Nat.{_+_, _*_, _^_, _<_, _≤_};
-ghost use lib.ListN.{length};
 ghost use Rattle.logic.specs.Syntax.{Edit, Expr, rule};
-ghost use Rattle.logic.specs.Limits.{ranges};
 ghost use Rattle.bitset.specs.Words.{setOf, member};
-ghost use Rattle.sheet.specs.Sheet.{store, graphOf, Rows};
-ghost use Rattle.sheet.specs.Questions.{Sound};
-ghost use Rattle.judge.specs.Judging.{RulesStand, SomeRulesStand};
-ghost use Rattle.logic.specs.Meaning.{holdAll};
+ghost use Rattle.sheet.specs.Sheet.{store, Rows};
 ghost use Rattle.count_small.specs.Small.{bits, smallSheet, fourCounts};
 ghost use Rattle.count_small.specs.Questions.{mostSmall, noCounts};
 ghost use Rattle.count_small.specs.Counting.{Loaded, TextsStand, SomeTextsStand, Turned, tallied, Room};
 use crate::Four;
-use answer::Answer;
 use logic::Arrow;
 use logic::Label;
 use store::Store;
@@ -68,28 +62,15 @@ fn put_small(sheet: &mut [u8], n: usize, x: u64)
     Store::put_rows(sheet, Arrow(0), rows_of(x, n));
 }
 
-// Whether each rule of the book holds on the sheet.
-fn keeps(sheet: &[u8], book: &[u8]) -> bool
-    requires { ⌜ Sound (now sheet) × SomeRulesStand (ranges (graphOf (now sheet) .n)) (now book) 0 (length (now book)) ⌝ }
-    ensures { λ r. ⌜ ((rules : List (Expr rule)) → RulesStand (ranges (graphOf (now (sheet .entry)) .n)) (now (book .entry)) 0 (length (now (book .entry))) rules → r ≡ holdAll (graphOf (now (sheet .entry))) rules) ⌝ }
-{
-    let verdict = judge::judge_rules(sheet, book, book.len());
-    let answer = verdict.answer;
-    let Answer::Done = answer else {
-        return false;
-    };
-    true
-}
-
 // Small sheet x, before the edit and after it. The edit is made in the buffer, which then holds another small sheet.
 fn turn(sheet: &mut [u8], n: usize, x: u64, book: &[u8], edit: &[u8]) -> Judged
     requires { ⌜ Loaded n (now sheet) × (1 ≤ n) × (n ≤ mostSmall) × SomeTextsStand n (now book) (now edit) ⌝ }
     ensures { λ r. ⌜ Loaded n (now (sheet .exit)) × ((rules : List (Expr rule)) (Z : Edit) → TextsStand n (now (book .entry)) (now (edit .entry)) rules Z → Turned n x rules Z (r .before) (r .next)) ⌝ }
 {
     put_small(sheet, n, x);
-    let before = keeps(sheet, book);
+    let before = judge::holds(sheet, book);
     apply::run_edit(sheet, edit, 0);
-    let next = keeps(sheet, book);
+    let next = judge::holds(sheet, book);
     Judged { before, next }
 }
 

@@ -4,14 +4,16 @@ use mathlib.Core.List.{List, [], _∷_, _++_, append-assoc}
 use mathlib.Core.Logic.{inl, inr}
 use Prim.Native.Nat.{ℕ, _+_, _-_, _≤_, _<_}
 use native.Mathlib.Omega.{arith}
-use lib.Dec.{ltb→lt}
+use lib.Dec.{T, eqb, ltb→lt}
+use borrow.Author.Tests.{eq-eqb}
 use lib.ListN.{length, getD, drop, length-append}
 use Rattle.logic.specs.Syntax.{rule, Expr, Edit, finish, addLabel, takeLabel, addArrow, takeArrow, choose}
 use Rattle.logic.specs.Limits.{Ranges, EditInRange}
+use Rattle.logic.proofs.Bools.{so}
 use Rattle.text.specs.Code.{code, editCode}
 use Rattle.text.proofs.StandingLaws.{byte-at, behind, within}
 use Rattle.tree.specs.Tree.{Tree, leaf, treeCode, tree, size}
-use Rattle.tree.specs.Stack.{Step, touched}
+use Rattle.tree.specs.Stack.{Substitution, touched}
 use Rattle.tree.proofs.TreeLaws.{code-tree, size-is}
 use Rattle.ends.specs.Shapes.{Named, Formed, At}
 use Rattle.ends.specs.Edits.{EditAt, behindStep}
@@ -45,20 +47,23 @@ editTree (takeArrow a R Z) = tree R
 editTree (choose K P Q Z) = tree K
 
 -- such a step, and its bytes
-abbrev pub stepOf : Edit → Step
+abbrev pub stepOf : Edit → Substitution
 stepOf Z = record { op = editTag Z; number = editNumber Z; what = editTree Z }
 
 abbrev pub stepCode : Edit → List ℕ
 stepCode Z = editTag Z ∷ editNumber Z ∷ treeCode (editTree Z)
 
-pub tag-edit : (text : List ℕ) (at : ℕ) (Z : Edit) → EditAt text at Z → getD text at 0 ≡ editTag Z
+edit-opens : (Z : Edit) → editCode Z ≡ editTag Z ∷ drop 1 (editCode Z)
 unfolding editCode
-tag-edit text at finish h = byte-at text at _ _ (h .place .here)
-tag-edit text at (addLabel k E Z) h = byte-at text at _ _ (h .place .here)
-tag-edit text at (takeLabel k E Z) h = byte-at text at _ _ (h .place .here)
-tag-edit text at (addArrow a R Z) h = byte-at text at _ _ (h .place .here)
-tag-edit text at (takeArrow a R Z) h = byte-at text at _ _ (h .place .here)
-tag-edit text at (choose K P Q Z) h = byte-at text at _ _ (h .place .here)
+edit-opens finish = refl
+edit-opens (addLabel k E Z) = refl
+edit-opens (takeLabel k E Z) = refl
+edit-opens (addArrow a R Z) = refl
+edit-opens (takeArrow a R Z) = refl
+edit-opens (choose K P Q Z) = refl
+
+pub tag-edit : (text : List ℕ) (at : ℕ) (Z : Edit) → EditAt text at Z → getD text at 0 ≡ editTag Z
+tag-edit text at Z h = byte-at text at _ _ (h .place .here ∙ ap (_++ h .place .rest) (edit-opens Z))
 
 pub step-code : (Z : Edit) → (editTag Z ≡ 0x30 → ⊥) → (editTag Z ≡ 0x35 → ⊥) → editCode Z ≡ stepCode Z ++ editCode (behindStep Z)
 unfolding editCode behindStep
@@ -70,13 +75,7 @@ step-code (takeArrow a R Z) n m = ap (λ (l : List ℕ). 0x34 ∷ a ∷ l ++ edi
 step-code (choose K P Q Z) n m = absurd (m refl)
 
 pub code-pos : (Z : Edit) → 0 < length (editCode Z)
-unfolding editCode
-code-pos finish = omega arith
-code-pos (addLabel k E Z) = omega arith
-code-pos (takeLabel k E Z) = omega arith
-code-pos (addArrow a R Z) = omega arith
-code-pos (takeArrow a R Z) = omega arith
-code-pos (choose K P Q Z) = omega arith
+code-pos Z = omega (arith, ap length (edit-opens Z))
 
 pub edit-long : (text : List ℕ) (at : ℕ) (Z : Edit) → EditAt text at Z → length (editCode Z) ≤ length text - at
 edit-long text at Z h = omega (arith, within text at (editCode Z) (h .place .rest) (h .place .here))
@@ -159,14 +158,9 @@ pub record IsChoose (text : List ℕ) (at : ℕ) (Z : Edit) : Type 0 where
 pub four : (a p q z r : List ℕ) → (a ++ p ++ q ++ z) ++ r ≡ a ++ (p ++ (q ++ (z ++ r)))
 four a p q z r = append-assoc (a ++ p ++ q) z r ∙ append-assoc (a ++ p) q (z ++ r) ∙ append-assoc a p (q ++ (z ++ r))
 
-pub as-choose : (text : List ℕ) (at : ℕ) (Z : Edit) → EditAt text at Z → getD text at 0 ≡ 0x35 → IsChoose text at Z
+chosen : (text : List ℕ) (at : ℕ) (Z : Edit) → EditAt text at Z → T (eqb (editTag Z) 0x35) → IsChoose text at Z
 unfolding editCode EditInRange behindStep
-as-choose text at finish h m = absurd (omega (arith, tag-edit text at finish h))
-as-choose text at (addLabel k E Z) h m = absurd (omega (arith, tag-edit text at (addLabel k E Z) h))
-as-choose text at (takeLabel k E Z) h m = absurd (omega (arith, tag-edit text at (takeLabel k E Z) h))
-as-choose text at (addArrow k E Z) h m = absurd (omega (arith, tag-edit text at (addArrow k E Z) h))
-as-choose text at (takeArrow k E Z) h m = absurd (omega (arith, tag-edit text at (takeArrow k E Z) h))
-as-choose text at (choose K P Q Z) h m =
+chosen text at (choose K P Q Z) h t =
     let lim = h .limits in
     let rest = h .place .rest in
     let r = h .place .range in
@@ -190,14 +184,15 @@ as-choose text at (choose K P Q Z) h m =
       split = d;
     }
 
+pub as-choose : (text : List ℕ) (at : ℕ) (Z : Edit) → EditAt text at Z → getD text at 0 ≡ 0x35 → IsChoose text at Z
+as-choose text at Z h m = chosen text at Z h (so (eq-eqb _ _ (sym (tag-edit text at Z h) ∙ m)))
+
 -- the end of an edit
+is-finish : (Z : Edit) → T (eqb (editTag Z) 0x30) → Z ≡ finish
+is-finish finish t = refl
+
 pub as-finish : (text : List ℕ) (at : ℕ) (Z : Edit) → EditAt text at Z → getD text at 0 ≡ 0x30 → Z ≡ finish
-as-finish text at finish h m = refl
-as-finish text at (addLabel k E Z) h m = absurd (omega (arith, tag-edit text at (addLabel k E Z) h))
-as-finish text at (takeLabel k E Z) h m = absurd (omega (arith, tag-edit text at (takeLabel k E Z) h))
-as-finish text at (addArrow k E Z) h m = absurd (omega (arith, tag-edit text at (addArrow k E Z) h))
-as-finish text at (takeArrow k E Z) h m = absurd (omega (arith, tag-edit text at (takeArrow k E Z) h))
-as-finish text at (choose K P Q Z) h m = absurd (omega (arith, tag-edit text at (choose K P Q Z) h))
+as-finish text at Z h m = is-finish Z (so (eq-eqb _ _ (sym (tag-edit text at Z h) ∙ m)))
 
 pub finish-long : (Z : Edit) → Z ≡ finish → length (editCode Z) ≡ 1
 finish-long Z e = unfold editCode in ap (λ (Y : Edit). length (editCode Y)) e

@@ -1,13 +1,18 @@
 -- The cells of names: 64 of them, and different names have different ones.
-use mathlib.Core.Path.{_≡_, sym, ap, ap₂, _∙_}
+use mathlib.Core.Path.{_≡_, refl, sym, ap, ap₂, _∙_}
 use mathlib.Core.Bool.{Bool, true, false, cond}
 use mathlib.Core.Logic.{⊎-elim}
-use Prim.Native.Nat.{ℕ, _<_}
+use mathlib.Core.List.{List}
+use Prim.Native.Nat.{ℕ, _+_, _<_}
 use native.Mathlib.Omega.{arith}
 use borrow.Author.Tests.{ne-eqb}
+use lib.ListN.{length, getD, set}
+use lib.Seq.{getD-set-same}
 use Rattle.tree.specs.Tree.{same}
 use Rattle.tree.proofs.Measured.{same-eq, same-self}
 use Rattle.ends.specs.Shapes.{Named, labelCell, arrowCell, cell}
+use Rattle.ends.proofs.Kept.{elsewhere}
+use Rattle.logic.proofs.Bools.{true-false}
 
 -- a label's and an arrow's
 pub cell-label : (c k : ℕ) → c ≡ 0x03 → cell c k ≡ labelCell k
@@ -26,11 +31,16 @@ cell-inj c k c′ k′ n m e = ⊎-elim
     (λ p. let x : cell c k ≡ arrowCell k = cell-arrow c k (λ e. omega (arith, p .0)) in ⊎-elim (λ q. absurd (omega (arith, q .1, cell-label c′ k′ (q .0)))) (λ q. (omega (arith, p .0, q .0), omega (arith, cell-arrow c′ k′ (λ f. omega (arith, q .0))))) m)
     n
 
-false-true : {b : Bool} → b ≡ false → b ≡ true → ⊥
-false-true e f = let z : _≡_ {A = ℕ} 0 1 = ap {B = ℕ} (λ (x : Bool). cond x 1 0) (sym e ∙ f) in omega (arith, z)
-
 pub apart : (c k c′ k′ : ℕ) → Named c k → Named c′ k′ → same c k c′ k′ ≡ false → cell c k ≡ cell c′ k′ → ⊥
-apart c k c′ k′ n m e q = let p = cell-inj c k c′ k′ n m q in false-true e (ap₂ (λ (u v : ℕ). same c k u v) (sym (p .0)) (sym (p .1)) ∙ same-self c k)
+apart c k c′ k′ n m e q = let p = cell-inj c k c′ k′ n m q in true-false (ap₂ (λ (u v : ℕ). same c k u v) (sym (p .0)) (sym (p .1)) ∙ same-self c k) e
 
 pub alike : (c k c′ k′ : ℕ) → same c k c′ k′ ≡ true → cell c′ k′ ≡ cell c k
 alike c k c′ k′ e = let p = same-eq c k c′ k′ e in ap₂ cell (sym (p .0)) (sym (p .1))
+
+-- A number stored in the cell of a name, and read in that of any: A says what is read there, by whether the names are the same.
+pub stored-name : (l : List ℕ) {c k i x : ℕ} (base : ℕ) → Named c k → i ≡ base + cell c k → i < length l → (A : ℕ → ℕ → Bool → ℕ) → x ≡ A c k true
+    → (c′ k′ j : ℕ) → Named c′ k′ → j ≡ base + cell c′ k′ → getD l j 0 ≡ A c′ k′ false → getD (set l i x) j 0 ≡ A c′ k′ (same c′ k′ c k)
+stored-name l {c} {k} {i} {x} base n e r A f c′ k′ j n′ e′ g = go (same c′ k′ c k) refl where
+  go : (b : Bool) → same c′ k′ c k ≡ b → getD (set l i x) j 0 ≡ A c′ k′ b
+  go true q = let p = same-eq c′ k′ c k q in let m : j ≡ i = omega (arith, alike c′ k′ c k q) in rw (m, p .0, p .1) (getD-set-same l i x 0 r ∙ f)
+  go false q = elsewhere l i j x (λ m. apart c′ k′ c k n′ n q (omega arith)) ∙ g

@@ -6,6 +6,7 @@ use Prim.Native.Nat.{ℕ, _+_, _-_, _/_, _%_, _≤_, _<_}
 use native.Mathlib.Decide.{decLt}
 use native.Mathlib.Omega.{arith}
 use lib.ListN.{length, getD, drop, length-append, List·getD-eq-default}
+use Rattle.logic.specs.Lists.{All}
 use Rattle.tree.specs.Tree.{Tree, name, leaf, one, two, treeCode, size}
 use Rattle.tree.proofs.TreeLaws.{size-is}
 use Rattle.ends.specs.Shapes.{shapes, shapeOf, Formed, At, Some}
@@ -42,20 +43,16 @@ code-opened (leaf h) = sym (append-nil h)
 code-opened (one h x) = ap (λ (l : List ℕ). h ++ l) (sym (append-nil (treeCode x)))
 code-opened (two h x y) = append-assoc h (treeCode x) (treeCode y) ∙ ap (λ (l : List ℕ). h ++ (treeCode x ++ l)) (sym (append-nil (treeCode y)))
 
-unfoldable pub AllFormed : List Tree → Type 0
-AllFormed [] = Unit {0}
-AllFormed (t ∷ ts) = Formed t × AllFormed ts
-
-parts-formed : (t : Tree) (more : List Tree) → Formed t → AllFormed more → AllFormed (partsOf t ++ more)
-unfolding Formed AllFormed
+parts-formed : (t : Tree) (more : List Tree) → Formed t → All Formed more → All Formed (partsOf t ++ more)
+unfolding Formed
 parts-formed (name c k) more f m = m
 parts-formed (leaf h) more f m = m
 parts-formed (one h x) more f m = (f .1, m)
 parts-formed (two h x y) more f m = (f .1, (f .2, m))
 
 -- each has a byte
-few : (ts : List Tree) → AllFormed ts → length ts ≤ length (texts treeCode ts)
-unfolding texts AllFormed
+few : (ts : List Tree) → All Formed ts → length ts ≤ length (texts treeCode ts)
+unfolding texts
 few [] f = omega arith
 few (t ∷ ts) f = omega (arith, few ts (f .1), size-pos t (f .0), size-is t, length-append (treeCode t) (texts treeCode ts))
 
@@ -74,10 +71,7 @@ shaped (two h x y) f s e = record { head = omega (arith, e, f .0 .short); on = o
 
 pub code-low : (c : ℕ) → 0 < shapeOf c → c < 40
 unfolding shapes
-code-low c l = go (decLt c 40) where
-  go : Dec (c < 40) → c < 40
-  go (yes h) = h
-  go (no h) = let g : 40 ≤ c = omega arith in absurd (omega (arith, l, List·getD-eq-default shapes 0 g))
+code-low c l = elim (decLt c 40) [ yes h ↦ h | no h ↦ (let g : 40 ≤ c = omega arith in absurd (omega (arith, l, List·getD-eq-default shapes 0 g))) ]
 
 pub code-at : (text : List ℕ) (at : ℕ) (t : Tree) → At text at t → getD text at 0 < 40
 code-at text at t h = code-low (getD text at 0) (omega (arith, shaped t (h .formed) (shapeOf (getD text at 0)) (tag-at text at t h) .on))
@@ -86,11 +80,11 @@ code-at text at t h = code-low (getD text at 0) (omega (arith, shaped t (h .form
 pub record Pending (text : List ℕ) (p wanted : ℕ) (parts : List Tree) : Type 0 where
   pub rest : List ℕ
   pub here : drop p text ≡ texts treeCode parts ++ rest
-  pub formed : AllFormed parts
+  pub formed : All Formed parts
   pub count : length parts ≡ wanted
 
 pub pending-one : (text : List ℕ) (at : ℕ) (t : Tree) → At text at t → Pending text at 1 (t ∷ [])
-unfolding texts AllFormed
+unfolding texts
 pending-one text at t h = record { rest = h .rest; here = h .here ∙ ap (λ (l : List ℕ). l ++ h .rest) (sym (append-nil (treeCode t))); formed = (h .formed, tt); count = refl }
 
 -- the first of them, and one turn: its code and numbers are passed, and its operands wanted
@@ -103,9 +97,9 @@ pub record First (text : List ℕ) (p : ℕ) (parts : List Tree) : Type 0 where
   pub low : getD text p 0 < 40
 
 pub first : {text : List ℕ} {p wanted : ℕ} {parts : List Tree} → Pending text p wanted parts → 0 < wanted → First text p parts
-unfolding texts AllFormed
+unfolding texts
 first {text} {p} {wanted} {parts} w l = go parts (w .count) (w .here) (w .formed) where
-  go : (parts : List Tree) → length parts ≡ wanted → drop p text ≡ texts treeCode parts ++ w .rest → AllFormed parts → First text p parts
+  go : (parts : List Tree) → length parts ≡ wanted → drop p text ≡ texts treeCode parts ++ w .rest → All Formed parts → First text p parts
   go [] n e f = absurd (omega (arith, n))
   go (t ∷ more) n e f =
       let h : At text p t = record { rest = texts treeCode more ++ w .rest; here = e ∙ append-assoc (treeCode t) (texts treeCode more) (w .rest); formed = f .0 } in
@@ -120,7 +114,7 @@ pub record Turn (text : List ℕ) (p wanted : ℕ) (t : Tree) (more : List Tree)
   pub bytes-are : texts treeCode (t ∷ more) ≡ headOf t ++ texts treeCode (partsOf t ++ more)
 
 pub turn : {text : List ℕ} {p wanted : ℕ} {parts : List Tree} → Pending text p wanted parts → (f : First text p parts) (s : ℕ) → s ≡ shapeOf (getD text p 0) → Turn text p wanted (f .t) (f .more) s
-unfolding texts AllFormed
+unfolding texts
 turn {text} {p} {wanted} {parts} v f s e =
     let t : Tree = f .t in
     let more : List Tree = f .more in

@@ -22,9 +22,10 @@ use Rattle.ends.specs.Edits.{EditAt}
 use Rattle.ends.specs.Books.{BookIs}
 use Rattle.measure.specs.Pruned.{pruned}
 use Rattle.measure.specs.Book.{BookSized, BookKept}
-use Rattle.measure.proofs.Idle.{pruned-codes, kept-stands}
+use Rattle.measure.proofs.Idle.{pruned-codes}
 use Rattle.write.specs.Rules.{SomeBookFits}
 use Rattle.carry.proofs.CarriedSizes.{no-31, no-32, no-33, all-so, book-fits}
+use Rattle.carry.proofs.CarriedSizes as carry
 use Rattle.judge.specs.Questions.{askRules}
 use Rattle.judge.specs.Judging.{RulesStand}
 use Rattle.judge.proofs.RulesJudged.{none-left}
@@ -83,15 +84,8 @@ module _ {n : ℕ} {book edit : List ℕ} {rules : List (Expr rule)} {Z : Edit} 
         abbrev busy : Edit
         busy = pruned (length rules) Z (measures rules)
 
-        some-rule : length rules ≡ 0 → ⊥
-        unfolding bookCode
-        some-rule = go rules (b .is) where
-          go : (Ks : List (Expr rule)) → book ≡ bookCode Ks → length Ks ≡ 0 → ⊥
-          go [] e n = ne (ap length e)
-          go (K ∷ Ks) e n = omega (arith, n)
-
         busy-at : EditAt kept start busy
-        busy-at = record { limits = ranges n; place = kept-stands (ranges n) Z rules start kept (b .stands .range) some-rule (m rules Z book-is edit-at .1) }
+        busy-at = carry.busy-at ne book-is edit-at (m rules Z book-is edit-at .1)
 
         pub busy-fits : SomeBookFits book kept start longestCarried
         busy-fits = book-fits ne book-is edit-at (m rules Z book-is edit-at .1) short

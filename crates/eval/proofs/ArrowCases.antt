@@ -1,5 +1,5 @@
 -- The cases of an arrow expression by its code byte, and the relation that each means.
-use mathlib.Core.Path.{_≡_, refl, sym, ap, ap₂, subst}
+use mathlib.Core.Path.{_≡_, refl, sym, ap, ap₂}
 use mathlib.Core.Bool.{cond, _&&_}
 use mathlib.Core.List.{List, []}
 use Prim.Native.Nat.{ℕ, _+_, _≤_, _<_}
@@ -15,7 +15,9 @@ use Rattle.sheet.specs.Sheet.{graphOf, Rows}
 use Rattle.text.specs.Code.{code}
 use Rattle.text.specs.Stands.{Stands}
 use Rattle.rows.specs.Operations.{arrowOperation}
-use Rattle.eval.specs.Evaluated.{IsSet, IsRelation, IsJoined}
+use Rattle.eval.specs.Evaluated.{Opened, IsRelation, IsCombined}
+use Rattle.eval.proofs.EvaluatorPosts.{SetAt, RelationAt}
+use Rattle.eval.proofs.InUse.{is-whole}
 use Rattle.eval.proofs.CodePlaces.{first-number, second-number, codeByte, by-byte, below, above, Leaf, One, Two, leaf-at, one-at, two-at}
 
 module _ (n : ℕ) (text : List ℕ) (at : ℕ) where
@@ -82,36 +84,28 @@ module _ (n : ℕ) (text : List ℕ) (at : ℕ) where
     pub leaf-relation : {k : ℕ} {P : Type 0} {v : Graph → Pairs} → Leaf text at k P v e → Rows n (v (graphOf sheet)) out → IsRelation sheet n at e out (at + k)
     leaf-relation h r = record { rows-are = rw (h .means (graphOf sheet)) r; ends = omega (arith, h .size) }
 
-    pub reversed-relation : IsReversed e → (rows : List ℕ) (nx : ℕ)
-        → ((f : Expr arrow) → Stands (ranges n) text (at + 1) f → IsRelation sheet n (at + 1) f rows nx)
-        → ((v : Pairs) → Rows n v rows → Rows n (λ i j. v j i) out)
-        → IsRelation sheet n at e out nx
+    pub reversed-relation : IsReversed e → (rows : List ℕ) (nx : ℕ) → RelationAt n text sheet (at + 1) rows nx
+        → ((v : Pairs) → Rows n v rows → Rows n (λ i j. v j i) out) → IsRelation sheet n at e out nx
     reversed-relation h rows nx p r =
         let a = p (h .A) (h .first) in
         record { rows-are = rw (h .means (graphOf sheet)) (r (value (graphOf sheet) (h .A)) (a .rows-are)); ends = omega (arith, a .ends, h .size) }
 
-    pub two-relation : IsTwo (getD text at 0) e → (first : List ℕ) (nx ny : ℕ)
-        → ((f : Expr arrow) → Stands (ranges n) text (at + 1) f → IsRelation sheet n (at + 1) f first nx)
-        → ((f : Expr arrow) → Stands (ranges n) text nx f → IsJoined sheet n nx (getD text at 0) f first out ny)
-        → IsRelation sheet n at e out ny
+    pub two-relation : IsTwo (getD text at 0) e → (first : List ℕ) (nx ny : ℕ) → RelationAt n text sheet (at + 1) first nx
+        → ((f : Expr arrow) → Stands (ranges n) text nx f → IsCombined sheet n nx (getD text at 0) f first out ny) → IsRelation sheet n at e out ny
     two-relation h first nx ny p q =
         let a = p (h .A) (h .first) in let b = q (h .B) (h .second nx (a .ends)) in
         record { rows-are = rw (h .means (graphOf sheet)) (b .rows-are (value (graphOf sheet) (h .A)) (a .rows-are)); ends = omega (arith, a .ends, b .ends, h .size) }
 
-    pub ending-relation : IsEnding e → (rows : List ℕ) (x nx ny : ℕ)
-        → ((f : Expr arrow) → Stands (ranges n) text (at + 1) f → IsRelation sheet n (at + 1) f rows nx)
-        → ((f : Expr node) → Stands (ranges n) text nx f → IsSet sheet n nx f x ny)
-        → ((v : Pairs) (w : Nodes) → Rows n v rows → x ≡ setOf n w → Rows n (λ i j. v i j && w j) out)
-        → IsRelation sheet n at e out ny
-    ending-relation h rows x nx ny p q r =
-        let a = p (h .A) (h .first) in let b = q (h .B) (h .second nx (a .ends)) in
+    pub ending-relation : {all : ℕ} → Opened sheet n all → IsEnding e → (rows : List ℕ) (x nx ny : ℕ) → RelationAt n text sheet (at + 1) rows nx → SetAt n text sheet nx all x ny
+        → ((v : Pairs) (w : Nodes) → Rows n v rows → x ≡ setOf n w → Rows n (λ i j. v i j && w j) out) → IsRelation sheet n at e out ny
+    ending-relation o h rows x nx ny p q r =
+        let a = p (h .A) (h .first) in let b = is-whole o (q (h .B) (h .second nx (a .ends))) in
         record { rows-are = rw (h .means (graphOf sheet)) (r _ _ (a .rows-are) (b .set)); ends = omega (arith, a .ends, b .ends, h .size) }
 
   module _ (sheet : List ℕ) (c : ℕ) (e : Expr arrow) (old out : List ℕ) where
-    pub leaf-joined : {k : ℕ} {P : Type 0} {w : Graph → Pairs} → Leaf text at k P w e → ((v : Pairs) → Rows n v old → Rows n (λ i j. arrowOperation c (v i j) (w (graphOf sheet) i j)) out) → IsJoined sheet n at c e old out (at + k)
-    leaf-joined h r = record { rows-are = λ v p. rw (h .means (graphOf sheet)) (r v p); ends = omega (arith, h .size) }
+    pub leaf-combined : {k : ℕ} {P : Type 0} {w : Graph → Pairs} → Leaf text at k P w e → ((v : Pairs) → Rows n v old → Rows n (λ i j. arrowOperation c (v i j) (w (graphOf sheet) i j)) out) → IsCombined sheet n at c e old out (at + k)
+    leaf-combined h r = record { rows-are = λ v p. rw (h .means (graphOf sheet)) (r v p); ends = omega (arith, h .size) }
 
-    pub apart-joined : (other : List ℕ) (nx : ℕ) → IsRelation sheet n at e other nx
-        → ((v w : Pairs) → Rows n v old → Rows n w other → Rows n (λ i j. arrowOperation c (v i j) (w i j)) out)
-        → IsJoined sheet n at c e old out nx
-    apart-joined other nx a r = record { rows-are = λ v p. r v (value (graphOf sheet) e) p (a .rows-are); ends = a .ends }
+    pub apart-combined : (other : List ℕ) (nx : ℕ) → IsRelation sheet n at e other nx
+        → ((v w : Pairs) → Rows n v old → Rows n w other → Rows n (λ i j. arrowOperation c (v i j) (w i j)) out) → IsCombined sheet n at c e old out nx
+    apart-combined other nx a r = record { rows-are = λ v p. r v (value (graphOf sheet) e) p (a .rows-are); ends = a .ends }

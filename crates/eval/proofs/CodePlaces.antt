@@ -4,17 +4,16 @@ use mathlib.Core.Bool.{Bool, cond}
 use mathlib.Core.List.{List, [], _∷_, _++_, append-assoc}
 use Prim.Native.Nat.{ℕ, _+_, _≤_, _<_}
 use native.Mathlib.Omega.{arith}
-use native.Mathlib.Nat.{add-zero}
 use lib.Dec.{leb}
 use borrow.Author.Tests.{le-leb, lt-leb}
 use lib.ListN.{length, getD, drop, length-append, List·getD-append}
 use lib.Seq.{getD-drop}
-use Rattle.logic.specs.Syntax.{Sort, Expr, all, none, label, nominal, complement, and, or, some, every, atLeast, atMost, arrowKind, reversed, union, common, minus, endingIn, pair, subNodes, subArrows, nodeIn, pairIn, both, either, notRule}
+use Rattle.logic.specs.Syntax.{Sort, Expr}
 use Rattle.logic.specs.Graph.{Graph}
 use Rattle.logic.specs.Meaning.{Value, value}
 use Rattle.logic.specs.Limits.{Ranges, InRange}
 use Rattle.text.specs.Code.{code}
-use Rattle.text.specs.Stands.{Stands}
+use Rattle.text.specs.Stands.{Stands, SomeStands}
 use Rattle.text.proofs.StandingLaws.{byte-at, behind, within}
 use Rattle.text.proofs.HeadLaws.{code-some}
 
@@ -29,37 +28,9 @@ second-number text at x y m l e = byte-at text (at + 2) m l (behind text at (x �
 abbrev pub codeByte : {s : Sort} → Expr s → ℕ
 codeByte e = getD (code e) 0 0
 
-pub filled : {s : Sort} (e : Expr s) → 0 < length (code e)
-unfolding code
-filled all = omega arith
-filled none = omega arith
-filled (label k) = omega arith
-filled (nominal i) = omega arith
-filled (complement E) = omega arith
-filled (and E F) = omega arith
-filled (or E F) = omega arith
-filled (some R E) = omega arith
-filled (every R E) = omega arith
-filled (atLeast m R E) = omega arith
-filled (atMost m R E) = omega arith
-filled (arrowKind a) = omega arith
-filled (reversed R) = omega arith
-filled (union R S) = omega arith
-filled (common R S) = omega arith
-filled (minus R S) = omega arith
-filled (endingIn R E) = omega arith
-filled (pair i j) = omega arith
-filled (subNodes E F) = omega arith
-filled (subArrows R S) = omega arith
-filled (nodeIn i E) = omega arith
-filled (pairIn i j R) = omega arith
-filled (both K L) = omega arith
-filled (either K L) = omega arith
-filled (notRule K) = omega arith
-
 module _ (r : Ranges) (text : List ℕ) (at : ℕ) {s : Sort} (e : Expr s) (h : Stands r text at e) where
   pub code-at : getD text at 0 ≡ codeByte e
-  code-at = let z : at ≡ at + 0 = omega arith in ap (λ k. getD text k 0) z ∙ sym (getD-drop at text 0 0) ∙ ap (λ l. getD l 0 0) (h .here) ∙ List·getD-append (code e) (h .rest) 0 0 (filled e)
+  code-at = let z : at ≡ at + 0 = omega arith in ap (λ k. getD text k 0) z ∙ sym (getD-drop at text 0 0) ∙ ap (λ l. getD l 0 0) (h .here) ∙ List·getD-append (code e) (h .rest) 0 0 (code-some e)
 
   -- What is so of a term by its code is so by the byte read.
   pub by-byte : (P : ℕ → Expr s → Type 0) → P (codeByte e) e → (c : ℕ) → getD text at 0 ≡ c → P c e
@@ -70,6 +41,9 @@ module _ (r : Ranges) (text : List ℕ) (at : ℕ) {s : Sort} (e : Expr s) (h : 
 
   pub starts-inside : at < length text
   starts-inside = omega (arith, inside-at, code-some e)
+
+pub some-inside : {r : Ranges} {text : List ℕ} {at : ℕ} {s : Sort} → SomeStands r text at s → at < length text
+some-inside h = starts-inside _ _ _ (h .what) (h .stands)
 
 -- Which of two it is, by a bound on the code.
 pub below : {c : ℕ} (k : ℕ) (A B : Type 0) → cond (leb c k) A B → c ≤ k → A
@@ -104,6 +78,18 @@ pub record Two (r : Ranges) (text : List ℕ) (at k : ℕ) {s : Sort} (a b : Sor
   pub behind-code : 0 < k
   pub inside : at + k < length text
   pub size : length (code e) ≡ k + (length (code A) + length (code B))
+
+-- The operands, as something that stands there.
+module _ {r : Ranges} {text : List ℕ} {at k : ℕ} {s a : Sort} {e : Expr s} where
+  pub operand : {P : Type 0} {mean : Graph → Value a → Value s} → One r text at k P a mean e → SomeStands r text (at + k) a
+  operand q = record { what = q .A; stands = q .first }
+
+  module _ {b : Sort} {mean : Graph → Value a → Value b → Value s} (q : Two r text at k a b mean e) where
+    pub operand-1 : SomeStands r text (at + k) a
+    operand-1 = record { what = q .A; stands = q .first }
+
+    pub operand-2 : {next : ℕ} → next ≡ at + k + length (code (q .A)) → SomeStands r text next b
+    operand-2 {next} ends = record { what = q .B; stands = q .second next ends }
 
 module _ {r : Ranges} {text : List ℕ} {at : ℕ} {s : Sort} {e : Expr s} (stands : Stands r text at e) where
   pub leaf-at : {P : Type 0} {mean : Graph → Value s} → P → ((g : Graph) → value g e ≡ mean g) → Leaf text at (length (code e)) P mean e

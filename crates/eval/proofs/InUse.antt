@@ -10,6 +10,7 @@ use Rattle.logic.specs.Syntax.{node, Expr}
 use Rattle.logic.specs.Graph.{Nodes, Pairs, isNode}
 use Rattle.logic.specs.Meaning.{value}
 use Rattle.logic.specs.Limits.{NodesIn, PairsIn}
+use Rattle.logic.proofs.Bools.{and-only}
 use Rattle.logic.proofs.Inside.{no-node, value-in}
 use Rattle.bitset.specs.Words.{setOf, member, combined}
 use Rattle.bitset.proofs.SetLaws.{setOf-cong, setOf-none, member-zero, setOf-member-lt, member-of, combined-sets}
@@ -23,16 +24,11 @@ pub in-use : (u b : Bool) (f : Bool → Bool) → (b ≡ false → u ≡ false) 
 in-use u true f h = refl
 in-use u false f h = rw (h refl)
 
--- What only nodes have, nodes have.
-pub only-nodes : (b x : Bool) → (b ≡ false → x ≡ false) → (b && x) ≡ x
-only-nodes true x h = refl
-only-nodes false x h = sym (h refl)
-
 -- the word of the nodes in use
 pub all-members : {sheet : List ℕ} {n all : ℕ} → Opened sheet n all → (i : ℕ) → member all i ≡ isNode (graphOf sheet) i
 all-members {sheet} {n} o i =
     let g = graphOf sheet in
-    ap (λ (y : ℕ). member y i) (o .nodes) ∙ member-of n (isNode g) i ∙ only-nodes (ltb i n) (isNode g i) (λ h. no-node g i (omega (arith, o .count, ltb-false i n h)))
+    ap (λ (y : ℕ). member y i) (o .nodes) ∙ member-of n (isNode g) i ∙ and-only (ltb i n) (isNode g i) (λ h. no-node g i (omega (arith, o .count, ltb-false i n h)))
 
 pub all-used : {sheet : List ℕ} {n all : ℕ} → Opened sheet n all → Used sheet n all
 all-used {sheet} {n} o = record { small = set-small n (isNode (graphOf sheet)) (o .nodes); nodes = λ i h. all-members o i ∙ h }
@@ -44,7 +40,7 @@ among-all o p = record { starts = λ i j h. p .starts i j (sym (all-members o i)
 -- asked of all nodes, the part is the whole
 pub part-whole : (sheet : List ℕ) (n all : ℕ) → Opened sheet n all → (e : Expr node) (x : ℕ) → x ≡ setOf n (λ i. member all i && value (graphOf sheet) e i) → x ≡ setOf n (value (graphOf sheet) e)
 part-whole sheet n w o e x h =
-    h ∙ setOf-cong n _ _ (λ i l. ap (_&& value (graphOf sheet) e i) (all-members o i) ∙ only-nodes (isNode (graphOf sheet) i) (value (graphOf sheet) e i) (value-in (graphOf sheet) (o .within) e i))
+    h ∙ setOf-cong n _ _ (λ i l. ap (_&& value (graphOf sheet) e i) (all-members o i) ∙ and-only (isNode (graphOf sheet) i) (value (graphOf sheet) e i) (value-in (graphOf sheet) (o .within) e i))
 
 pub is-whole : {sheet : List ℕ} {n all at : ℕ} {e : Expr node} {x next : ℕ} → Opened sheet n all → IsSetWithin sheet n at e all x next → IsSet sheet n at e x next
 is-whole {sheet = sheet} {n = n} {all = w} {e = e} {x = x} o h = record { set = part-whole sheet n w o e x (h .set); ends = h .ends }

@@ -1,4 +1,5 @@
 pub mod CodePlaces
+pub mod EvaluatorPosts
 pub mod InUse
 pub mod ArrowCases
 pub mod NodeCases

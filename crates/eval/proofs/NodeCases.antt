@@ -1,6 +1,6 @@
 -- The cases of a node expression by its code byte, and the set that each means.
 use mathlib.Core.Path.{_≡_, refl, sym, ap, ap₂, _∙_, subst}
-use mathlib.Core.Bool.{Bool, true, false, not, _&&_, _||_, cond, and-true, and-false}
+use mathlib.Core.Bool.{Bool, true, false, not, _&&_, _||_, cond, and-true, and-false, and-assoc}
 use mathlib.Core.List.{List, [], _∷_}
 use Prim.Native.Nat.{ℕ, _+_, _-_, _≤_, _<_}
 use native.Mathlib.Omega.{arith}
@@ -19,6 +19,7 @@ use Rattle.text.specs.Stands.{Stands}
 use Rattle.rows.specs.Operations.{quantified, quantifiedNodes}
 use Rattle.eval.specs.Evaluated.{Opened, Used, IsSetWithin}
 use Rattle.eval.proofs.CodePlaces.{first-number, codeByte, by-byte, below, above, Leaf, One, Two, leaf-at, one-at, two-at}
+use Rattle.eval.proofs.EvaluatorPosts.{SetAt}
 use Rattle.eval.proofs.InUse.{in-use, combined-used}
 
 module _ (n : ℕ) (text : List ℕ) (at : ℕ) where
@@ -135,57 +136,39 @@ module _ (n : ℕ) (text : List ℕ) (at : ℕ) where
     nominal-set h q = leaf-set h (q ∙ setOf-cong n _ _ (λ k l. sym (in-use (member within k) (isNode (graphOf sheet) k) (λ b. b && eqb k (getD text (at + 1) 0)) (u .nodes k))))
 
   module _ (sheet : List ℕ) (all : ℕ) (o : Opened sheet n all) (within : ℕ) (u : Used sheet n within) (e : Expr node) where
-    pub complement-set : IsComplement e → (x nx z : ℕ)
-        → ((f : Expr node) → Stands (ranges n) text (at + 1) f → IsSetWithin sheet n (at + 1) f within x nx)
-        → z ≡ combined (λ a b. a && not b) within x
-        → IsSetWithin sheet n at e within z nx
+    pub complement-set : IsComplement e → (x nx z : ℕ) → SetAt n text sheet (at + 1) within x nx → z ≡ combined (λ a b. a && not b) within x → IsSetWithin sheet n at e within z nx
     complement-set h x nx z p r =
         let g = graphOf sheet in let a = p (h .A) (h .first) in
+        let rest = combined-used (λ a b. a && not b) refl (λ i. member within i && value g (h .A) i) (omega (arith, o .few)) u (a .set) r in
         record {
-          set =
-              combined-used (λ a b. a && not b) refl (λ i. member within i && value g (h .A) i) (omega (arith, o .few)) u (a .set) r
-              ∙ setOf-cong n _ (λ i. member within i && (isNode g i && not (value g (h .A) i))) (λ i l. go (member within i) (value g (h .A) i) ∙ sym (in-use (member within i) (isNode g i) (λ b. b && not (value g (h .A) i)) (u .nodes i)))
-              ∙ ap (λ (v : Nodes). setOf n (λ i. member within i && v i)) (sym (h .means g));
+          set = rw (h .means g) (rest ∙ setOf-cong n _ _ (λ i l. go (member within i) (value g (h .A) i) ∙ sym (in-use (member within i) (isNode g i) (λ b. b && not (value g (h .A) i)) (u .nodes i))));
           ends = omega (arith, a .ends, h .size);
         } where
           go : (a b : Bool) → (a && not (a && b)) ≡ (a && (true && not b))
           go true b = refl
           go false b = refl
 
-    pub and-set : IsAnd e → (x nx y ny : ℕ)
-        → ((f : Expr node) → Stands (ranges n) text (at + 1) f → IsSetWithin sheet n (at + 1) f within x nx)
-        → ((f : Expr node) → Stands (ranges n) text nx f → IsSetWithin sheet n nx f x y ny)
-        → IsSetWithin sheet n at e within y ny
+    pub and-set : IsAnd e → (x nx y ny : ℕ) → SetAt n text sheet (at + 1) within x nx → SetAt n text sheet nx x y ny → IsSetWithin sheet n at e within y ny
     and-set h x nx y ny p q =
         let g = graphOf sheet in let a = p (h .A) (h .first) in let b = q (h .B) (h .second nx (a .ends)) in
+        let first : (i : ℕ) → i < n → member x i ≡ (member within i && value g (h .A) i) = λ i l. ap (λ (z : ℕ). member z i) (a .set) ∙ member-setOf n _ i l in
         record {
-          set =
-              b .set
-              ∙ setOf-cong n _ (λ i. member within i && (value g (h .A) i && value g (h .B) i)) (λ i l. ap (_&& value g (h .B) i) (ap (λ (z : ℕ). member z i) (a .set) ∙ member-setOf n (λ i. member within i && value g (h .A) i) i l) ∙ go (member within i) (value g (h .A) i) (value g (h .B) i))
-              ∙ ap (λ (v : Nodes). setOf n (λ i. member within i && v i)) (sym (h .means g));
+          set = rw (h .means g) (b .set ∙ setOf-cong n _ _ (λ i l. ap (_&& value g (h .B) i) (first i l) ∙ and-assoc (member within i) (value g (h .A) i) (value g (h .B) i)));
           ends = omega (arith, a .ends, b .ends, h .size);
-        } where
-          go : (a b c : Bool) → ((a && b) && c) ≡ (a && (b && c))
-          go true b c = refl
-          go false b c = refl
+        }
 
-    pub or-set : IsOr e → (x nx w y ny z : ℕ)
-        → ((f : Expr node) → Stands (ranges n) text (at + 1) f → IsSetWithin sheet n (at + 1) f within x nx)
-        → w ≡ combined (λ a b. a && not b) within x
-        → ((f : Expr node) → Stands (ranges n) text nx f → IsSetWithin sheet n nx f w y ny)
-        → z ≡ combined _||_ x y
-        → IsSetWithin sheet n at e within z ny
+    pub or-set : IsOr e → (x nx w y ny z : ℕ) → SetAt n text sheet (at + 1) within x nx → w ≡ combined (λ a b. a && not b) within x
+        → SetAt n text sheet nx w y ny → z ≡ combined _||_ x y → IsSetWithin sheet n at e within z ny
     or-set h x nx w y ny z p s q r =
         let g = graphOf sheet in let a = p (h .A) (h .first) in let b = q (h .B) (h .second nx (a .ends)) in
         let rest : w ≡ setOf n (λ i. member within i && not (member within i && value g (h .A) i)) =
         combined-used (λ a b. a && not b) refl (λ i. member within i && value g (h .A) i) (omega (arith, o .few)) u (a .set) s in
         record {
           set =
-              r ∙ ap₂ (combined _||_) (a .set) (b .set)
+              rw (h .means g) (r ∙ ap₂ (combined _||_) (a .set) (b .set)
               ∙ combined-sets _||_ refl n (λ i. member within i && value g (h .A) i) (λ i. member w i && value g (h .B) i) (omega (arith, o .few))
-              ∙ setOf-cong n _ (λ i. member within i && (value g (h .A) i || value g (h .B) i))
-              (λ i l. ap (λ (c : Bool). (member within i && value g (h .A) i) || (c && value g (h .B) i)) (ap (λ (z : ℕ). member z i) rest ∙ member-setOf n _ i l) ∙ go (member within i) (value g (h .A) i) (value g (h .B) i))
-              ∙ ap (λ (v : Nodes). setOf n (λ i. member within i && v i)) (sym (h .means g));
+              ∙ setOf-cong n _ _ (λ i l. ap (λ (c : Bool). (member within i && value g (h .A) i) || (c && value g (h .B) i)) (ap (λ (z : ℕ). member z i) rest ∙ member-setOf n _ i l)
+              ∙ go (member within i) (value g (h .A) i) (value g (h .B) i)));
           ends = omega (arith, a .ends, b .ends, h .size);
         } where
           go : (a b c : Bool) → ((a && b) || ((a && not (a && b)) && c)) ≡ (a && (b || c))

@@ -19,8 +19,9 @@ use Rattle.text.specs.Code.{code}
 use Rattle.text.specs.Stands.{Stands}
 use Rattle.rows.specs.Operations.{quantified, quantifiedNodes, answered, least, looked, turn, Among}
 use Rattle.rows.proofs.Quantifiers.{quantified-is}
-use Rattle.eval.specs.Evaluated.{Opened, Used, IsSetWithin, IsRelation, IsTurned}
+use Rattle.eval.specs.Evaluated.{Opened, Used, IsSetWithin, IsTurned}
 use Rattle.eval.proofs.ArrowCases.{as-kind}
+use Rattle.eval.proofs.EvaluatorPosts.{SetAt, RelationAt}
 use Rattle.eval.proofs.InUse.{in-use, among-all, part-whole}
 use Rattle.eval.proofs.NodeCases.{IsQuantifier}
 
@@ -39,11 +40,12 @@ nodes-there c m n nodes v w i u h = ap (u &&_) (go (eqb c 0x08) (quantified c m 
     go false q = refl
 
 module _ (n : ℕ) (text : List ℕ) (at : ℕ) (sheet : List ℕ) (all : ℕ) (o : Opened sheet n all) (within : ℕ) (u : Used sheet n within) (e : Expr node) where
+  -- the nodes asked about that are quantified over v, turned or not
+  abbrev Part : (k : ℕ) → Bool → Pairs → (x : ℕ) → ℕ
+  Part k turned v x = setOf n (λ i. member within i && quantified (getD text at 0) (getD text (at + k - 1) 0) n (turn turned v i) (member x))
+
   quantifier-part : (k : ℕ) (h : IsQuantifier n text at (getD text at 0) k e) (turned : Bool) (next x nx ny z : ℕ) (d : IsTurned n text (at + k) (h .A) turned next)
-      → nx ≡ next + length (code (d .R))
-      → ((f : Expr node) → Stands (ranges n) text nx f → IsSetWithin sheet n nx f all x ny)
-      → z ≡ setOf n (λ i. member within i && quantified (getD text at 0) (getD text (at + k - 1) 0) n (turn turned (value (graphOf sheet) (d .R)) i) (member x))
-      → IsSetWithin sheet n at e within z ny
+      → nx ≡ next + length (code (d .R)) → SetAt n text sheet nx all x ny → z ≡ Part k turned (value (graphOf sheet) (d .R)) x → IsSetWithin sheet n at e within z ny
   quantifier-part k h turned next x nx ny z d s q r =
       let g = graphOf sheet in let c = getD text at 0 in
       let m = getD text (at + k - 1) 0 in let b = q (h .B) (h .second nx (omega (arith, d .ends, s))) in
@@ -62,23 +64,17 @@ module _ (n : ℕ) (text : List ℕ) (at : ℕ) (sheet : List ℕ) (all : ℕ) (
       }
 
   pub quantifier-set : (k : ℕ) → IsQuantifier n text at (getD text at 0) k e → (turned : Bool) (next : ℕ) (rows : List ℕ) (x nx ny z : ℕ)
-      → ((f : Expr arrow) → Stands (ranges n) text (at + k) f → IsTurned n text (at + k) f turned next)
-      → ((f : Expr arrow) → Stands (ranges n) text next f → IsRelation sheet n next f rows nx)
-      → ((f : Expr node) → Stands (ranges n) text nx f → IsSetWithin sheet n nx f all x ny)
-      → ((v : Pairs) → Among all v → Rows n v rows → z ≡ setOf n (λ i. member within i && quantified (getD text at 0) (getD text (at + k - 1) 0) n (turn turned v i) (member x)))
-      → IsSetWithin sheet n at e within z ny
+      → ((f : Expr arrow) → Stands (ranges n) text (at + k) f → IsTurned n text (at + k) f turned next) → RelationAt n text sheet next rows nx
+      → SetAt n text sheet nx all x ny → ((v : Pairs) → Among all v → Rows n v rows → z ≡ Part k turned v x) → IsSetWithin sheet n at e within z ny
   quantifier-set k h turned next rows x nx ny z t p q r =
       let d = t (h .A) (h .first) in let a = p (d .R) (d .stands) in
       quantifier-part k h turned next x nx ny z d (a .ends) q (r (value (graphOf sheet) (d .R)) (among-all o (value-in (graphOf sheet) (o .within) (d .R))) (a .rows-are))
 
   -- over 11, or 12 11
   pub quantifier-kind : (k : ℕ) → IsQuantifier n text at (getD text at 0) k e → (turned : Bool) (next x ny z : ℕ)
-      → ((f : Expr arrow) → Stands (ranges n) text (at + k) f → IsTurned n text (at + k) f turned next)
-      → getD text next 0 ≤ 0x11
-      → ((f : Expr node) → Stands (ranges n) text (next + 2) f → IsSetWithin sheet n (next + 2) f all x ny)
-      → z ≡ setOf n (λ i. member within i && quantified (getD text at 0) (getD text (at + k - 1) 0) n (turn turned (graphOf sheet .joined (getD text (next + 1) 0)) i) (member x))
-      → IsSetWithin sheet n at e within z ny
+      → ((f : Expr arrow) → Stands (ranges n) text (at + k) f → IsTurned n text (at + k) f turned next) → getD text next 0 ≤ 0x11
+      → SetAt n text sheet (next + 2) all x ny → z ≡ Part k turned (graphOf sheet .joined (getD text (next + 1) 0)) x → IsSetWithin sheet n at e within z ny
   quantifier-kind k h turned next x ny z t l q r =
       let g = graphOf sheet in let d = t (h .A) (h .first) in let w = as-kind n text next (d .R) (d .stands) l in
       quantifier-part k h turned next x (next + 2) ny z d (omega (arith, w .size)) q
-      (r ∙ ap (λ (v : Pairs). setOf n (λ i. member within i && quantified (getD text at 0) (getD text (at + k - 1) 0) n (turn turned v i) (member x))) (sym (w .means g)))
+      (r ∙ ap (λ (v : Pairs). Part k turned v x) (sym (w .means g)))

@@ -11,6 +11,7 @@ use Rattle.logic.specs.Syntax.{node, arrow, rule, Expr, subNodes, subArrows, no
 use Rattle.logic.specs.Graph.{Nodes, Pairs, isNode, allBelow, implies}
 use Rattle.logic.specs.Meaning.{value}
 use Rattle.logic.specs.Limits.{ranges, InRange}
+use Rattle.logic.proofs.Bools.{and-only}
 use Rattle.logic.proofs.Below.{all-cong}
 use Rattle.logic.proofs.Inside.{value-in}
 use Rattle.bitset.specs.Words.{setOf, member}
@@ -18,8 +19,9 @@ use Rattle.bitset.proofs.SetLaws.{member-setOf}
 use Rattle.sheet.specs.Sheet.{graphOf, Rows}
 use Rattle.text.specs.Code.{code}
 use Rattle.text.specs.Stands.{Stands}
-use Rattle.eval.specs.Evaluated.{Opened, IsSetWithin, IsRelation, IsTruth, ruleOperation, decided}
-use Rattle.eval.proofs.InUse.{only-nodes, part-whole}
+use Rattle.eval.specs.Evaluated.{Opened, IsTruth, ruleOperation, decided}
+use Rattle.eval.proofs.EvaluatorPosts.{SetAt, RelationAt, TruthAt}
+use Rattle.eval.proofs.InUse.{part-whole}
 use Rattle.eval.proofs.CodePlaces.{first-number, second-number, codeByte, by-byte, below, above, One, Two, one-at, two-at}
 
 module _ (n : ℕ) (text : List ℕ) (at : ℕ) where
@@ -92,11 +94,8 @@ module _ (n : ℕ) (text : List ℕ) (at : ℕ) where
     as-not l = above 0x26 _ _ (above {c = getD text at 0} 0x24 _ _ (shown e h _ refl) (omega arith)) l
 
   module _ (sheet : List ℕ) (all : ℕ) (o : Opened sheet n all) (e : Expr rule) (b : Bool) where
-    pub sub-nodes-truth : IsSubNodes e → (x nx y ny : ℕ)
-        → ((f : Expr node) → Stands (ranges n) text (at + 1) f → IsSetWithin sheet n (at + 1) f all x nx)
-        → ((f : Expr node) → Stands (ranges n) text nx f → IsSetWithin sheet n nx f x y ny)
-        → ((m : ℕ) (v w : Nodes) → m ≤ 64 → x ≡ setOf m v → y ≡ setOf m w → b ≡ allBelow m (λ i. implies (v i) (w i)))
-        → IsTruth sheet at e b ny
+    pub sub-nodes-truth : IsSubNodes e → (x nx y ny : ℕ) → SetAt n text sheet (at + 1) all x nx → SetAt n text sheet nx x y ny
+        → ((m : ℕ) (v w : Nodes) → m ≤ 64 → x ≡ setOf m v → y ≡ setOf m w → b ≡ allBelow m (λ i. implies (v i) (w i))) → IsTruth sheet at e b ny
     sub-nodes-truth h x nx y ny p q r =
         let g = graphOf sheet in let s = p (h .A) (h .first) in
         let t = q (h .B) (h .second nx (s .ends)) in let whole = part-whole sheet n all o (h .A) x (s .set) in
@@ -112,33 +111,26 @@ module _ (n : ℕ) (text : List ℕ) (at : ℕ) where
           go true d = refl
           go false d = refl
 
-    pub sub-arrows-truth : IsSubArrows e → (first second : List ℕ) (nx ny : ℕ)
-        → ((f : Expr arrow) → Stands (ranges n) text (at + 1) f → IsRelation sheet n (at + 1) f first nx)
-        → ((f : Expr arrow) → Stands (ranges n) text nx f → IsRelation sheet n nx f second ny)
-        → ((v w : Pairs) → Rows n v first → Rows n w second → b ≡ allBelow n (λ i. allBelow n (λ j. implies (v i j) (w i j))))
-        → IsTruth sheet at e b ny
+    pub sub-arrows-truth : IsSubArrows e → (first second : List ℕ) (nx ny : ℕ) → RelationAt n text sheet (at + 1) first nx → RelationAt n text sheet nx second ny
+        → ((v w : Pairs) → Rows n v first → Rows n w second → b ≡ allBelow n (λ i. allBelow n (λ j. implies (v i j) (w i j)))) → IsTruth sheet at e b ny
     sub-arrows-truth h first second nx ny p q r =
         let s = p (h .A) (h .first) in let t = q (h .B) (h .second nx (s .ends)) in
         record { truth = (rw (o .count) at (r _ _ (s .rows-are) (t .rows-are))) ∙ sym (h .means (graphOf sheet)); ends = omega (arith, s .ends, t .ends, h .size) }
 
-    pub node-in-truth : IsNodeIn e → (w x nx : ℕ)
-        → w ≡ setOf n (λ k. isNode (graphOf sheet) k && eqb k (getD text (at + 1) 0))
-        → ((f : Expr node) → Stands (ranges n) text (at + 2) f → IsSetWithin sheet n (at + 2) f w x nx)
-        → ((m : ℕ) (v : Nodes) → getD text (at + 1) 0 < m → x ≡ setOf m v → b ≡ v (getD text (at + 1) 0))
-        → IsTruth sheet at e b nx
+    pub node-in-truth : IsNodeIn e → (w x nx : ℕ) → w ≡ setOf n (λ k. isNode (graphOf sheet) k && eqb k (getD text (at + 1) 0)) → SetAt n text sheet (at + 2) w x nx
+        → ((m : ℕ) (v : Nodes) → getD text (at + 1) 0 < m → x ≡ setOf m v → b ≡ v (getD text (at + 1) 0)) → IsTruth sheet at e b nx
     node-in-truth h w x nx d p r =
         let g = graphOf sheet in let s = p (h .A) (h .first) in let i = getD text (at + 1) 0 in
         record {
           truth =
               r n (λ k. member w k && value g (h .A) k) (h .range) (s .set)
               ∙ ap (_&& value g (h .A) i) (ap (λ (z : ℕ). member z i) d ∙ member-setOf n _ i (h .range) ∙ ap (isNode g i &&_) (eq-eqb i i refl) ∙ and-true (isNode g i))
-              ∙ only-nodes (isNode g i) (value g (h .A) i) (value-in g (o .within) (h .A) i)
+              ∙ and-only (isNode g i) (value g (h .A) i) (value-in g (o .within) (h .A) i)
               ∙ sym (h .means g);
           ends = omega (arith, s .ends, h .size);
         }
 
-    pub pair-in-truth : IsPairIn e → (rows : List ℕ) (nx : ℕ)
-        → ((f : Expr arrow) → Stands (ranges n) text (at + 3) f → IsRelation sheet n (at + 3) f rows nx)
+    pub pair-in-truth : IsPairIn e → (rows : List ℕ) (nx : ℕ) → RelationAt n text sheet (at + 3) rows nx
         → ((m : ℕ) (v : Pairs) → getD text (at + 1) 0 < m → getD text (at + 2) 0 < m → Rows m v rows → b ≡ v (getD text (at + 1) 0) (getD text (at + 2) 0))
         → IsTruth sheet at e b nx
     pair-in-truth h rows nx p r =
@@ -146,11 +138,8 @@ module _ (n : ℕ) (text : List ℕ) (at : ℕ) where
         record { truth = r n _ (h .range .0) (h .range .1) (s .rows-are) ∙ sym (h .means (graphOf sheet)); ends = omega (arith, s .ends, h .size) }
 
   module _ (sheet : List ℕ) (e : Expr rule) where
-    pub first-truth : IsTwo (getD text at 0) e → (x b : Bool) (nx ny : ℕ)
-        → ((f : Expr rule) → Stands (ranges n) text (at + 1) f → IsTruth sheet (at + 1) f x nx)
-        → ((f : Expr rule) → Stands (ranges n) text nx f → ny ≡ nx + length (code f))
-        → b ≡ decided (getD text at 0) x → b ≡ true
-        → IsTruth sheet at e x ny
+    pub first-truth : IsTwo (getD text at 0) e → (x b : Bool) (nx ny : ℕ) → TruthAt n text sheet (at + 1) x nx
+        → ((f : Expr rule) → Stands (ranges n) text nx f → ny ≡ nx + length (code f)) → b ≡ decided (getD text at 0) x → b ≡ true → IsTruth sheet at e x ny
     first-truth h x b nx ny p q r d =
         let s = p (h .A) (h .first) in
         record {
@@ -163,11 +152,8 @@ module _ (n : ℕ) (text : List ℕ) (at : ℕ) where
           go false true l e = refl
           go false false l e = cc
 
-    pub second-truth : IsTwo (getD text at 0) e → (x y b : Bool) (nx ny : ℕ)
-        → ((f : Expr rule) → Stands (ranges n) text (at + 1) f → IsTruth sheet (at + 1) f x nx)
-        → ((f : Expr rule) → Stands (ranges n) text nx f → IsTruth sheet nx f y ny)
-        → b ≡ decided (getD text at 0) x → b ≡ false
-        → IsTruth sheet at e y ny
+    pub second-truth : IsTwo (getD text at 0) e → (x y b : Bool) (nx ny : ℕ) → TruthAt n text sheet (at + 1) x nx → TruthAt n text sheet nx y ny
+        → b ≡ decided (getD text at 0) x → b ≡ false → IsTruth sheet at e y ny
     second-truth h x y b nx ny p q r d =
         let s = p (h .A) (h .first) in let t = q (h .B) (h .second nx (s .ends)) in
         record { truth = rw (h .means (graphOf sheet), ← s .truth, ← t .truth) (go (eqb (getD text at 0) 0x25) x y (sym r ∙ d)); ends = omega (arith, s .ends, t .ends, h .size) } where
@@ -177,8 +163,6 @@ module _ (n : ℕ) (text : List ℕ) (at : ℕ) where
           go false true l e = cc
           go false false l e = refl
 
-    pub not-truth : IsNot e → (x : Bool) (nx : ℕ)
-        → ((f : Expr rule) → Stands (ranges n) text (at + 1) f → IsTruth sheet (at + 1) f x nx)
-        → IsTruth sheet at e (not x) nx
+    pub not-truth : IsNot e → (x : Bool) (nx : ℕ) → TruthAt n text sheet (at + 1) x nx → IsTruth sheet at e (not x) nx
     not-truth h x nx p =
         let s = p (h .A) (h .first) in record { truth = ap not (s .truth) ∙ sym (h .means (graphOf sheet)); ends = omega (arith, s .ends, h .size) }

@@ -42,8 +42,8 @@ pub record IsRelation (sheet : List ℕ) (n at : ℕ) (e : Expr arrow) (rows : L
   pub rows-are : Rows n (value (graphOf sheet) e) rows
   pub ends : next ≡ at + length (code e)
 
--- The relation joined, by the code c, to the one that the rows held before.
-pub record IsJoined (sheet : List ℕ) (n at c : ℕ) (e : Expr arrow) (old rows : List ℕ) (next : ℕ) : Type 0 where
+-- The relation combined, by the code c, with the one that the rows held before.
+pub record IsCombined (sheet : List ℕ) (n at c : ℕ) (e : Expr arrow) (old rows : List ℕ) (next : ℕ) : Type 0 where
   pub rows-are : (v : Pairs) → Rows n v old → Rows n (λ i j. arrowOperation c (v i j) (value (graphOf sheet) e i j)) rows
   pub ends : next ≡ at + length (code e)
 

@@ -12,7 +12,7 @@ ghost use Rattle.logic.specs.Limits.{ranges, maxNodes};
 ghost use Rattle.sheet.specs.Sheet.{graphOf};
 ghost use Rattle.sheet.specs.Questions.{Sound};
 ghost use Rattle.text.specs.Stands.{Stands, SomeStands};
-ghost use Rattle.eval.specs.Evaluated.{Opened, Used, IsSet, IsSetWithin, IsRelation, IsJoined, IsTruth, IsTurned, decided};
+ghost use Rattle.eval.specs.Evaluated.{Opened, Used, IsSet, IsSetWithin, IsRelation, IsCombined, IsTruth, IsTurned, decided};
 use logic::Arrow;
 use logic::Label;
 use logic::Node;
@@ -83,16 +83,16 @@ fn one_pair(sheet: &[u8], n: usize, all: u64, text: &[u8], at: usize, out: &mut 
 }
 
 // 13, 14, 15 with 11 as the second.
-fn join_kind(c: u8, sheet: &[u8], n: usize, text: &[u8], at: usize, out: &mut [u64]) -> usize
+fn combine_kind(c: u8, sheet: &[u8], n: usize, text: &[u8], at: usize, out: &mut [u64]) -> usize
     requires { ⌜ Sound (now sheet) × (n ≡ graphOf (now sheet) .n) × (n ≤ maxNodes) × SomeStands (ranges n) (now text) at arrow × (getD (now text) at 0 ≤ 0x11) × (length (now out) ≡ 64) ⌝ }
-    ensures { λ r. ⌜ ((e : Expr arrow) → Stands (ranges n) (now (text .entry)) at e → IsJoined (now (sheet .entry)) n at c e (now (out .entry)) (now (out .exit)) r) × (length (now (out .exit)) ≡ 64) ⌝ }
+    ensures { λ r. ⌜ ((e : Expr arrow) → Stands (ranges n) (now (text .entry)) at e → IsCombined (now (sheet .entry)) n at c e (now (out .entry)) (now (out .exit)) r) × (length (now (out .exit)) ≡ 64) ⌝ }
 {
     rows::relations::combine_kind(c, sheet, n, Arrow(text[at + 1]), out);
     at + 2
 }
 
 // 13, 15 with 17 as the second.
-fn join_pair(
+fn combine_pair(
     c: u8,
     sheet: &[u8],
     n: usize,
@@ -102,7 +102,7 @@ fn join_pair(
     out: &mut [u64],
 ) -> usize
     requires { ⌜ Opened (now sheet) n all × SomeStands (ranges n) (now text) at arrow × (0x16 < getD (now text) at 0) × (c ≡ 0x14 → ⊥) × (length (now out) ≡ 64) ⌝ }
-    ensures { λ r. ⌜ ((e : Expr arrow) → Stands (ranges n) (now (text .entry)) at e → IsJoined (now (sheet .entry)) n at c e (now (out .entry)) (now (out .exit)) r) × (length (now (out .exit)) ≡ 64) ⌝ }
+    ensures { λ r. ⌜ ((e : Expr arrow) → Stands (ranges n) (now (text .entry)) at e → IsCombined (now (sheet .entry)) n at c e (now (out .entry)) (now (out .exit)) r) × (length (now (out .exit)) ≡ 64) ⌝ }
 {
     rows::relations::combine_pair(c, all, Node(text[at + 1]), Node(text[at + 2]), out);
     at + 3
@@ -224,7 +224,7 @@ pub fn eval_arrow(
         next
     } else if c <= 0x15 {
         let second = eval_arrow(sheet, n, all, text, at + 1, out);
-        join_arrow(c, sheet, n, all, text, second, out)
+        combine_arrow(c, sheet, n, all, text, second, out)
     } else if c <= 0x16 {
         let second = eval_arrow(sheet, n, all, text, at + 1, out);
         let e = node_within(sheet, n, all, all, text, second);
@@ -235,9 +235,9 @@ pub fn eval_arrow(
     }
 }
 
-// 13, 14, 15: the relation that the second operand means joined to what is in `out`; only one that is no leaf needs rows of its own.
+// 13, 14, 15: the relation that the second operand means combined with what is in `out`; only one that is no leaf needs rows of its own.
 // That one is evaluated where it stands: the unread length fell at the call of this function, and not again here. The measure is twice the unread length, here one more.
-fn join_arrow(
+fn combine_arrow(
     c: u8,
     sheet: &[u8],
     n: usize,
@@ -247,13 +247,13 @@ fn join_arrow(
     out: &mut [u64],
 ) -> usize
     requires { ⌜ Opened (now sheet) n all × SomeStands (ranges n) (now text) at arrow × (length (now out) ≡ 64) ⌝ }
-    ensures { λ r. ⌜ ((e : Expr arrow) → Stands (ranges n) (now (text .entry)) at e → IsJoined (now (sheet .entry)) n at c e (now (out .entry)) (now (out .exit)) r) × (length (now (out .exit)) ≡ 64) ⌝ }
+    ensures { λ r. ⌜ ((e : Expr arrow) → Stands (ranges n) (now (text .entry)) at e → IsCombined (now (sheet .entry)) n at c e (now (out .entry)) (now (out .exit)) r) × (length (now (out .exit)) ≡ 64) ⌝ }
 {
     let d = text[at];
     if d <= 0x11 {
-        join_kind(c, sheet, n, text, at, out)
+        combine_kind(c, sheet, n, text, at, out)
     } else if one_row(c, d) {
-        join_pair(c, sheet, n, all, text, at, out)
+        combine_pair(c, sheet, n, all, text, at, out)
     } else {
         let mut other = [0u64; 64];
         let next = eval_arrow(sheet, n, all, text, at, &mut other);

@@ -7,8 +7,9 @@ use native.Mathlib.Decide.{decLt}
 use lib.ListN.{length}
 use Rattle.logic.specs.Graph.{Graph, Nodes, anyBelow}
 use Rattle.logic.specs.Meaning.{value}
-use Rattle.game.specs.Game.{Side, dispatcher, disruption, Game, Move, pass, edit, editsOf, leaves, canMake, allowed, someMove, forced, Lowest, nothing, at, lowestBelow, Outcome, cannot, first, lowestMove, forcesBy, answer}
+use Rattle.game.specs.Game.{Side, dispatcher, disruption, Game, Move, pass, edit, editsOf, leaves, canMake, legal, someMove, forced, Lowest, nothing, at, lowestBelow, Outcome, cannot, first, lowestMove, forcesBy, answer}
 use Rattle.game.specs.Search.{sideOf, goesWell, serves, chosen}
+use Rattle.logic.proofs.Below.{any-none, any-one}
 use Rattle.logic.proofs.Bools.{true-false}
 use Rattle.game.proofs.Search.{IsLowest, lowest-right, every-is}
 
@@ -26,24 +27,15 @@ orPass l b = elim l [ at i ↦ first (edit i) | nothing ↦ cond b (first pass) 
 
 -- No number is found exactly when none is in the set,
 lowest-none : (n : ℕ) (v : Nodes) (b : Bool) → isCannot (orPass (lowestBelow n v) b) ≡ not (anyBelow n v || b)
-unfolding lowestBelow anyBelow
-lowest-none zero v true = refl
-lowest-none zero v false = refl
-lowest-none (suc n) v b = go (lowestBelow n v) (v n) (anyBelow n v) (lowest-none n v false) where
-  last : (c b : Bool) → isCannot (orPass (cond c (at n) nothing) b) ≡ not (c || b)
-  last true b = refl
-  last false true = refl
-  last false false = refl
-
-  go : (l : Lowest) (c a : Bool) → isCannot (orPass l false) ≡ not (a || false) → isCannot (orPass (elim l [ at i ↦ at i | nothing ↦ cond c (at n) nothing ]) b) ≡ not ((a || c) || b)
-  go (at i) c true h = refl
-  go (at i) c false h = true-false h refl
-  go nothing c true h = true-false refl h
-  go nothing c false h = last c b
+lowest-none n v b = go (lowestBelow n v) (lowest-right n v) b where
+  go : (l : Lowest) → IsLowest n v l → (b : Bool) → isCannot (orPass l b) ≡ not (anyBelow n v || b)
+  go (at i) h b = rw (any-one n v i (h .0) (h .1))
+  go nothing h true = rw (any-none n v h)
+  go nothing h false = rw (any-none n v h)
 
 -- and no move of a side exactly when no move that it can make serves.
-none-serves : (G : Game) (s : Side) (g : Graph) (f : Move → Bool) → isCannot (lowestMove (length (editsOf G s)) (λ x. allowed G s g x && f x)) ≡ not (someMove G s g f)
-none-serves G s g f = unfold lowestMove someMove in lowest-none (length (editsOf G s)) (λ i. allowed G s g (edit i) && f (edit i)) (allowed G s g pass && f pass)
+none-serves : (G : Game) (s : Side) (g : Graph) (f : Move → Bool) → isCannot (lowestMove (length (editsOf G s)) (λ x. legal G s g x && f x)) ≡ not (someMove G s g f)
+none-serves G s g f = unfold lowestMove someMove in lowest-none (length (editsOf G s)) (λ i. legal G s g (edit i) && f (edit i)) (legal G s g pass && f pass)
 
 module _ (G : Game) (g : Graph) where
   pub well-over : (ours : Bool) → goesWell G zero ours g ≡ cond ours (value g (G .goal)) (not (value g (G .goal)))
@@ -85,7 +77,7 @@ module _ (G : Game) (m : ℕ) (ours : Bool) (g : Graph) where
 
   -- A pass cannot be made where an edit can; where none can, it serves when it goes well.
   pub no-pass : anyBelow edits (canMake G (sideOf ours) g) ≡ true → serves G m ours g pass ≡ false
-  no-pass e = unfold serves allowed in ap (λ (b : Bool). not b && goesWell G m ours (leaves G (sideOf ours) g pass)) e
+  no-pass e = unfold serves legal in ap (λ (b : Bool). not b && goesWell G m ours (leaves G (sideOf ours) g pass)) e
 
   pub pass-serves : anyBelow edits (canMake G (sideOf ours) g) ≡ false → serves G m ours g pass ≡ goesWell G m ours g
-  pass-serves e = unfold serves allowed leaves in ap (λ (b : Bool). not b && goesWell G m ours g) e
+  pass-serves e = unfold serves legal leaves in ap (λ (b : Bool). not b && goesWell G m ours g) e

@@ -1,7 +1,7 @@
 pub mod Search
-pub mod Plans
+pub mod Strategies
 pub mod Answer
 pub mod Examples
 pub mod DisruptionPasses
-pub mod Pasts
+pub mod Histories
 pub mod Chosen

@@ -44,16 +44,16 @@ unfoldable pub canMake : Game → Side → Graph → Nodes
 canMake G s g i = ltb i (length (editsOf G s)) && mayLeave G s (leaves G s g (edit i))
 
 -- "Whoever has no edit that can be made passes", and nobody else.
-unfoldable pub allowed : Game → Side → Graph → Move → Bool
-allowed G s g pass = not (anyBelow (length (editsOf G s)) (canMake G s g))
-allowed G s g (edit i) = canMake G s g i
+unfoldable pub legal : Game → Side → Graph → Move → Bool
+legal G s g pass = not (anyBelow (length (editsOf G s)) (canMake G s g))
+legal G s g (edit i) = canMake G s g i
 
 -- Some move that can be made is in f; each one is.
 unfoldable pub someMove : Game → Side → Graph → (Move → Bool) → Bool
-someMove G s g f = anyBelow (length (editsOf G s)) (λ i. allowed G s g (edit i) && f (edit i)) || (allowed G s g pass && f pass)
+someMove G s g f = anyBelow (length (editsOf G s)) (λ i. legal G s g (edit i) && f (edit i)) || (legal G s g pass && f pass)
 
 unfoldable pub everyMove : Game → Side → Graph → (Move → Bool) → Bool
-everyMove G s g f = allBelow (length (editsOf G s)) (λ i. implies (allowed G s g (edit i)) (f (edit i))) && implies (allowed G s g pass) (f pass)
+everyMove G s g f = allBelow (length (editsOf G s)) (λ i. implies (legal G s g (edit i)) (f (edit i))) && implies (legal G s g pass) (f pass)
 
 -- A win can be forced, with so many moves left and this side to move. "The dispatcher wins when the goal holds after the last move."
 unfoldable pub forced : Game → ℕ → Side → Graph → Bool
@@ -81,7 +81,7 @@ lowestMove n f = elim (lowestBelow n (λ i. f (edit i))) [ at i ↦ first (edit 
 
 -- This move can be made, and forces a win with m moves to follow.
 unfoldable pub forcesBy : Game → ℕ → Graph → Move → Bool
-forcesBy G m g x = allowed G dispatcher g x && forced G m disruption (leaves G dispatcher g x)
+forcesBy G m g x = legal G dispatcher g x && forced G m disruption (leaves G dispatcher g x)
 
 -- The answer for m + 1 moves.
 unfoldable pub answer : Game → ℕ → Graph → Outcome

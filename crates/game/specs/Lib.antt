@@ -1,4 +1,4 @@
 pub mod Game
-pub mod Play
+pub mod Strategies
 pub mod Examples
 pub mod Search

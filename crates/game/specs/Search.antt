@@ -3,7 +3,7 @@ use mathlib.Core.Bool.{Bool, true, false, not, _&&_}
 use Prim.Native.Nat.{ℕ}
 use lib.ListN.{length}
 use Rattle.logic.specs.Graph.{Graph}
-use Rattle.game.specs.Game.{Side, dispatcher, disruption, Game, Move, editsOf, leaves, allowed, forced, Outcome, lowestMove}
+use Rattle.game.specs.Game.{Side, dispatcher, disruption, Game, Move, editsOf, leaves, legal, forced, Outcome, lowestMove}
 
 -- The side that is meant by "ours".
 abbrev pub sideOf : Bool → Side
@@ -17,7 +17,7 @@ goesWell G m false g = not (forced G m dispatcher g)
 
 -- This move of a side can be made, and it goes well with m moves to follow.
 unfoldable pub serves : Game → ℕ → Bool → Graph → Move → Bool
-serves G m ours g x = allowed G (sideOf ours) g x && goesWell G m ours (leaves G (sideOf ours) g x)
+serves G m ours g x = legal G (sideOf ours) g x && goesWell G m ours (leaves G (sideOf ours) g x)
 
 -- The side's move, with m moves to follow.
 unfoldable pub chosen : Game → ℕ → Bool → Graph → Outcome

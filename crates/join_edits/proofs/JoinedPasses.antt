@@ -1,5 +1,6 @@
 -- A joined edit passes the questions of an edit where both edits do.
 use mathlib.Core.Path.{_≡_, refl, sym, ap, _∙_}
+use mathlib.Core.Logic.{_↔_}
 use mathlib.Core.List.{List}
 use Prim.Native.Nat.{ℕ, _≤_}
 use native.Mathlib.Omega.{arith}
@@ -18,24 +19,14 @@ use Rattle.text.proofs.TextSpelling.{edit-is-spelled, spelled-edit-passes}
 use Rattle.join_edits.specs.Chain.{askJoined, askJoinEdits}
 
 -- its numbers are those of both
-module _ (r : Ranges) (Q : Edit) where
-  in-range : (P : Edit) → EditInRange r P → EditInRange r Q → EditInRange r (followedBy P Q)
-  unfolding EditInRange followedBy
-  in-range finish i j = j
-  in-range (addLabel k E P) i j = (i .0, i .1, in-range P (i .2) j)
-  in-range (takeLabel k E P) i j = (i .0, i .1, in-range P (i .2) j)
-  in-range (addArrow a R P) i j = (i .0, i .1, in-range P (i .2) j)
-  in-range (takeArrow a R P) i j = (i .0, i .1, in-range P (i .2) j)
-  in-range (choose K P₁ Q₁ P) i j = (i .0, i .1, i .2, in-range P (i .3) j)
-
-  both-in-range : (P : Edit) → EditInRange r (followedBy P Q) → EditInRange r P × EditInRange r Q
-  unfolding EditInRange followedBy
-  both-in-range finish i = (tt, i)
-  both-in-range (addLabel k E P) i = let b = both-in-range P (i .2) in ((i .0, i .1, b .0), b .1)
-  both-in-range (takeLabel k E P) i = let b = both-in-range P (i .2) in ((i .0, i .1, b .0), b .1)
-  both-in-range (addArrow a R P) i = let b = both-in-range P (i .2) in ((i .0, i .1, b .0), b .1)
-  both-in-range (takeArrow a R P) i = let b = both-in-range P (i .2) in ((i .0, i .1, b .0), b .1)
-  both-in-range (choose K P₁ Q₁ P) i = let b = both-in-range P (i .3) in ((i .0, i .1, i .2, b .0), b .1)
+in-range : (r : Ranges) (Q P : Edit) → EditInRange r (followedBy P Q) ↔ (EditInRange r P × EditInRange r Q)
+unfolding EditInRange followedBy
+in-range r Q finish = (λ i. (tt, i), λ i. i .1)
+in-range r Q (addLabel k E P) = let (b, c) = in-range r Q P in (λ i. let (p, q) = b (i .2) in ((i .0, i .1, p), q), λ i. (i .0 .0, i .0 .1, c (i .0 .2, i .1)))
+in-range r Q (takeLabel k E P) = let (b, c) = in-range r Q P in (λ i. let (p, q) = b (i .2) in ((i .0, i .1, p), q), λ i. (i .0 .0, i .0 .1, c (i .0 .2, i .1)))
+in-range r Q (addArrow a R P) = let (b, c) = in-range r Q P in (λ i. let (p, q) = b (i .2) in ((i .0, i .1, p), q), λ i. (i .0 .0, i .0 .1, c (i .0 .2, i .1)))
+in-range r Q (takeArrow a R P) = let (b, c) = in-range r Q P in (λ i. let (p, q) = b (i .2) in ((i .0, i .1, p), q), λ i. (i .0 .0, i .0 .1, c (i .0 .2, i .1)))
+in-range r Q (choose K P₁ Q₁ P) = let (b, c) = in-range r Q P in (λ i. let (p, q) = b (i .3) in ((i .0, i .1, i .2, p), q), λ i. (i .0 .0, i .0 .1, i .0 .2, c (i .0 .3, i .1)))
 
 -- and so are its levels
 no-deeper : (d : ℕ) (Q P : Edit) → editLevels P ≤ d → editLevels Q ≤ d → editLevels (followedBy P Q) ≤ d
@@ -59,7 +50,7 @@ module _ (l : Limits) (p q : List ℕ) (P Q : Edit) where
         text-is = refl;
         short = short;
         within = record {
-          numbers-fit = in-range (l .numbers) Q P (s .within .numbers-fit) (t .within .numbers-fit);
+          numbers-fit = in-range (l .numbers) Q P .1 (s .within .numbers-fit, t .within .numbers-fit);
           levels-fit = omega (arith, no-deeper (l .deepest) Q P (omega (arith, s .within .levels-fit)) (omega (arith, t .within .levels-fit)));
         };
       })
@@ -71,7 +62,7 @@ module _ (r r′ : Ranges) (p q : List ℕ) (P Q : Edit) where
   both-pass e f i =
       let s = edit-is-spelled (limitsBy r) p P e in
       let t = edit-is-spelled (limitsBy r) q Q f in
-      let (j, k) = both-in-range r′ Q P i in (
+      let (j, k) = in-range r′ Q P .0 i in (
         spelled-edit-passes (limitsBy r′) p P (record { text-is = s .text-is; short = s .short; within = record { numbers-fit = j; levels-fit = s .within .levels-fit } }),
         spelled-edit-passes (limitsBy r′) q Q (record { text-is = t .text-is; short = t .short; within = record { numbers-fit = k; levels-fit = t .within .levels-fit } }),
       )

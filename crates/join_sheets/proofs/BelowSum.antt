@@ -1,6 +1,6 @@
 -- Of numbers below n + m: some, all and how many are, from those below n and those from n on.
 use mathlib.Core.Path.{_≡_, refl, sym, _∙_, ap, ap₂}
-use mathlib.Core.Bool.{Bool, true, false, _&&_, _||_, cond, or-false, and-true}
+use mathlib.Core.Bool.{Bool, true, false, _&&_, _||_, cond, or-false, or-assoc, and-true, and-assoc}
 use Prim.Native.Nat.{ℕ, zero, suc, _+_, _<_}
 use native.Mathlib.Nat.{add-suc, add-zero, zero-add}
 use Rattle.logic.specs.Graph.{Nodes, anyBelow, allBelow, countBelow}
@@ -11,18 +11,12 @@ module _ (v u : Nodes) where
   pub any-onwards : (n m : ℕ) → ((j : ℕ) → v (n + j) ≡ u j) → anyBelow (n + m) v ≡ (anyBelow n v || anyBelow m u)
   unfolding anyBelow
   any-onwards n zero h = ap (λ k. anyBelow k v) (add-zero n) ∙ sym (or-false (anyBelow n v))
-  any-onwards n (suc m) h = ap (λ k. anyBelow k v) (add-suc n m) ∙ ap₂ _||_ (any-onwards n m h) (h m) ∙ regroup (anyBelow n v) (anyBelow m u) (u m) where
-    regroup : (a b c : Bool) → ((a || b) || c) ≡ (a || (b || c))
-    regroup true b c = refl
-    regroup false b c = refl
+  any-onwards n (suc m) h = ap (λ k. anyBelow k v) (add-suc n m) ∙ ap₂ _||_ (any-onwards n m h) (h m) ∙ or-assoc (anyBelow n v) (anyBelow m u) (u m)
 
   pub all-onwards : (n m : ℕ) → ((j : ℕ) → v (n + j) ≡ u j) → allBelow (n + m) v ≡ (allBelow n v && allBelow m u)
   unfolding allBelow
   all-onwards n zero h = ap (λ k. allBelow k v) (add-zero n) ∙ sym (and-true (allBelow n v))
-  all-onwards n (suc m) h = ap (λ k. allBelow k v) (add-suc n m) ∙ ap₂ _&&_ (all-onwards n m h) (h m) ∙ regroup (allBelow n v) (allBelow m u) (u m) where
-    regroup : (a b c : Bool) → ((a && b) && c) ≡ (a && (b && c))
-    regroup true b c = refl
-    regroup false b c = refl
+  all-onwards n (suc m) h = ap (λ k. allBelow k v) (add-suc n m) ∙ ap₂ _&&_ (all-onwards n m h) (h m) ∙ and-assoc (allBelow n v) (allBelow m u) (u m)
 
   pub count-onwards : (n m : ℕ) → ((j : ℕ) → v (n + j) ≡ u j) → countBelow (n + m) v ≡ countBelow n v + countBelow m u
   unfolding countBelow

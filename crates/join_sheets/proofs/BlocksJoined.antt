@@ -1,18 +1,18 @@
 -- The first sheet made the joined one, block by block.
-use mathlib.Core.Path.{_≡_, sym, ap, ap₂, _∙_}
-use mathlib.Core.List.{List, _++_, append-assoc, append-nil}
+use mathlib.Core.Path.{_≡_, refl, sym, ap, _∙_, subst}
+use mathlib.Core.List.{List, _++_}
 use Prim.Native.Nat.{ℕ, zero, suc, _+_, _*_, _≤_, _<_}
-use native.Mathlib.Nat.{le-antisymm}
 use native.Mathlib.Omega.{arith}
-use lib.ListN.{length, getD, set, take, drop, length-drop, length-append, drop-of-length-le, take-append-drop}
-use lib.Seq.{take-at, drop-at, drop-append-add, take-add, drop-drop, take-all, length-take-le}
+use lib.ListN.{length, set, take, drop}
+use Rattle.bitset.specs.Words.{Bytes}
 use Rattle.logic.specs.Graph.{Graph}
 use Rattle.logic.specs.Limits.{Within, maxNodes, arrowCount}
 use Rattle.seal.specs.Seal.{blockBytes, reseal}
 use Rattle.sheet.specs.Sheet.{present, sheetBytes, blockCount, lineCount, labelBlock, arrowBlock, store, graphOf}
 use Rattle.sheet.specs.Questions.{blockOf, Sound}
 use Rattle.sheet.proofs.BlockLaws.{length-store, length-labelBlock, first-block, later-block}
-use Rattle.sheet.proofs.BlockParts.{blocks-ext}
+use Rattle.sheet.proofs.BlockParts.{length-block}
+use Rattle.sheet.proofs.ReplacedBlocks.{replaced-length, block-here, block-other, Upto, upto-more, upto-all}
 use Rattle.sheet.proofs.SoundSheets.{sound-is-stored}
 use Rattle.join_sheets.specs.Joined.{joinedGraph, nodesTotal}
 use Rattle.join_sheets.specs.BesideWrites.{putBeside}
@@ -21,7 +21,6 @@ use Rattle.join_sheets.proofs.Beside.{lines-joined, rows-joined}
 -- t is the first sheet with block 0 made, u the sheet to be.
 pub record Begun (n m : ℕ) (t second u : List ℕ) : Type 0 where
   pub size : length t ≡ sheetBytes
-  pub other-size : length second ≡ sheetBytes
   pub u-size : length u ≡ sheetBytes
   pub lines : blockOf t 0 ≡ blockOf u 0
   pub rows : (b : ℕ) → 0 < b → b < blockCount → reseal (present .sums) (putBeside n n (blockOf second b) m (blockOf t b)) ≡ blockOf u b
@@ -32,49 +31,29 @@ pub record Inv (n m : ℕ) (t second l : List ℕ) (b : ℕ) : Type 0 where
   pub within : b ≤ blockCount
   pub u : List ℕ
   pub begun : Begun n m t second u
-  pub made : l ≡ take (blockBytes * b) u ++ drop (blockBytes * b) t
+  pub made : Upto (blockOf u) t l b
 
 pub one-made : (n m : ℕ) (t second u : List ℕ) → Begun n m t second u → Inv n m t second t 1
-one-made n m t second u v = record { some = omega arith; within = omega arith; u = u; begun = v; made = sym (take-append-drop blockBytes t) ∙ ap (_++ drop blockBytes t) (v .lines) }
+one-made n m t second u v = record { some = omega arith; within = omega arith; u = u; begun = v; made = record { size = v .size; done = λ j h. let z : 0 ≡ j = omega arith in subst (λ i. blockOf t i ≡ blockOf u i) z (v .lines); left = λ j h. refl } }
 
 module _ (n m : ℕ) (t second l : List ℕ) (b : ℕ) (v : Inv n m t second l b) where
-  front-length : length (take (blockBytes * b) (v .u)) ≡ blockBytes * b
-  front-length = length-take-le (blockBytes * b) (v .u) (omega (arith, v .begun .u-size, v .within))
-
-  front-is : take (blockBytes * b) l ≡ take (blockBytes * b) (v .u)
-  front-is = ap (take (blockBytes * b)) (v .made) ∙ take-at (take (blockBytes * b) (v .u)) (drop (blockBytes * b) t) (blockBytes * b) front-length
-
-  behind-is : drop (blockBytes * b) l ≡ drop (blockBytes * b) t
-  behind-is = ap (drop (blockBytes * b)) (v .made) ∙ drop-at (take (blockBytes * b) (v .u)) (drop (blockBytes * b) t) (blockBytes * b) front-length
-
-  pub made-length : length l ≡ sheetBytes
-  made-length = ap length (v .made) ∙ length-append (take (blockBytes * b) (v .u)) (drop (blockBytes * b) t) ∙ omega (arith, front-length, length-drop (blockBytes * b) t, v .begun .size, v .within)
-
   pub one-more : (k : List ℕ) (y : ℕ) → b < blockCount → y ≡ blockBytes → k ≡ reseal (present .sums) (putBeside n n (take y (drop (blockBytes * b) second)) m (take y (drop (blockBytes * b) l)))
       → Inv n m t second (take (blockBytes * b) l ++ (k ++ drop y (drop (blockBytes * b) l))) (b + 1)
   one-more k y few e q =
-      let s : blockBytes * b + blockBytes ≡ blockBytes * (b + 1) = omega arith in
-      let k-is : k ≡ blockOf (v .u) b = q ∙ rw (e, behind-is) (v .begun .rows b (v .some) few) in
-      let rest : drop y (drop (blockBytes * b) l) ≡ drop (blockBytes * (b + 1)) t = ap₂ drop e behind-is ∙ drop-drop blockBytes (blockBytes * b) t ∙ ap (λ x. drop x t) s in
+      let k-is : k ≡ blockOf (v .u) b = q ∙ rw (e, v .made .left b (omega arith)) (v .begun .rows b (v .some) few) in
       record {
         some = omega arith;
         within = omega arith;
         u = v .u;
         begun = v .begun;
-        made =
-            ap₂ _++_ front-is (ap₂ _++_ k-is rest)
-            ∙ sym (append-assoc (take (blockBytes * b) (v .u)) (blockOf (v .u) b) (drop (blockBytes * (b + 1)) t))
-            ∙ ap (_++ drop (blockBytes * (b + 1)) t) (sym (take-add (blockBytes * b) blockBytes (v .u)) ∙ ap (λ x. take x (v .u)) s);
+        made = upto-more (blockOf (v .u)) t l k b (blockBytes * b) y (v .made) few refl e (ap length k-is ∙ length-block (v .u) (v .begun .u-size) b few) k-is;
       }
 
   pub all-made : (w : List ℕ) → Begun n m t second w → blockCount ≤ b → l ≡ w
-  all-made w z h =
-      let s : b ≡ blockCount = le-antisymm (v .within) h in
-      v .made ∙ ap₂ _++_ (take-all (blockBytes * b) (v .u) (omega (arith, v .begun .u-size))) (drop-of-length-le t {i = blockBytes * b} (omega (arith, v .begun .size))) ∙ append-nil (v .u)
-      ∙ blocks-ext (v .u) w (v .begun .u-size) (z .u-size) same where
-        same : (b : ℕ) → b < blockCount → blockOf (v .u) b ≡ blockOf w b
-        same zero l = sym (v .begun .lines) ∙ z .lines
-        same (suc a) l = sym (v .begun .rows (suc a) (omega arith) l) ∙ z .rows (suc a) (omega arith) l
+  all-made w z h = upto-all (blockOf (v .u)) t l w b (v .made) h (z .u-size) same where
+    same : (b : ℕ) → b < blockCount → blockOf (v .u) b ≡ blockOf w b
+    same zero l = sym (v .begun .lines) ∙ z .lines
+    same (suc a) l = sym (v .begun .rows (suc a) (omega arith) l) ∙ z .rows (suc a) (omega arith) l
 
 -- Two stored sheets, and block 0 of the first made.
 module _ (g h : Graph) (v : Within g) (w : Within h) (few : g .n + h .n ≤ maxNodes) (first second : List ℕ) (p : first ≡ store g) (q : second ≡ store h) (n m : ℕ) (n-is : n ≡ g .n) (m-is : m ≡ h .n)
@@ -94,19 +73,14 @@ module _ (g h : Graph) (v : Within g) (w : Within h) (few : g .n + h .n ≤ maxN
 
   -- the other blocks are as they were
   later-same : (a : ℕ) → a < arrowCount → blockOf t (suc a) ≡ arrowBlock present g a
-  later-same a l =
-      let x : blockBytes * suc a ≡ length k + blockBytes * a = omega (arith, k-length) in
-      let y : blockBytes + blockBytes * a ≡ blockBytes * suc a = omega arith in
-      ap (λ z. take blockBytes (drop z t)) x ∙ ap (take blockBytes) (drop-append-add k (drop blockBytes first) (blockBytes * a) ∙ drop-drop (blockBytes * a) blockBytes first ∙ ap (λ z. drop z first) y)
-      ∙ ap (λ s. blockOf s (suc a)) p ∙ later-block present g a l
+  later-same a l = block-other first k 0 first-size k-length (omega arith) (suc a) (λ z. omega arith) ∙ ap (λ s. blockOf s (suc a)) p ∙ later-block present g a l
 
   pub begun-with : Begun n m t second (store (joinedGraph g h))
   begun-with =
       record {
-        size = length-append k (drop blockBytes first) ∙ omega (arith, k-length, length-drop blockBytes first, first-size);
-        other-size = ap length q ∙ length-store present h;
+        size = replaced-length first k 0 first-size k-length (omega arith);
         u-size = length-store present (joinedGraph g h);
-        lines = take-at k (drop blockBytes first) blockBytes k-length ∙ block-0 ∙ sym (first-block present (joinedGraph g h));
+        lines = block-here first k 0 first-size k-length (omega arith) ∙ block-0 ∙ sym (first-block present (joinedGraph g h));
         rows = rows;
       } where
         rows : (b : ℕ) → 0 < b → b < blockCount → reseal (present .sums) (putBeside n n (blockOf second b) m (blockOf t b)) ≡ blockOf (store (joinedGraph g h)) b
@@ -116,7 +90,7 @@ module _ (g h : Graph) (v : Within g) (w : Within h) (few : g .n + h .n ≤ maxN
             rw (later-same a c, q, later-block present h a c, n-is, m-is, later-block present (joinedGraph g h) a c) (rows-joined g h few v w a)
 
 -- The same of two sound sheets.
-pub begun-sound : (first second : List ℕ) → ((p : ℕ) → getD first p 0 < 256) → ((p : ℕ) → getD second p 0 < 256) → Sound first → Sound second → nodesTotal first second ≤ maxNodes
+pub begun-sound : (first second : List ℕ) → Bytes first → Bytes second → Sound first → Sound second → nodesTotal first second ≤ maxNodes
     → (n m : ℕ) → n ≡ graphOf first .n → m ≡ graphOf second .n → (k : List ℕ) → k ≡ reseal (present .sums) (set (putBeside 0 n (take blockBytes second) (lineCount present) (take blockBytes first)) 2 (n + m))
     → Begun n m (k ++ drop blockBytes first) second (store (joinedGraph (graphOf first) (graphOf second)))
 begun-sound first second small small′ s s′ few n m e e′ k made =

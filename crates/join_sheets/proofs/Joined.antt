@@ -1,6 +1,7 @@
 -- The value of an expression without 04 and 17 on the joined graph is the two values side by side, and item 8's sentence on rules.
 use mathlib.Core.Path.{_≡_, refl, sym, _∙_, ap, ap₂, fun-ext, subst}
 use mathlib.Core.Bool.{Bool, true, false, not, _&&_, _||_}
+use Rattle.logic.proofs.Bools.{both-so, so-both}
 use mathlib.Core.Logic.{_↔_}
 use Prim.Native.Nat.{ℕ, _+_, _-_, _<_}
 use native.Mathlib.Omega.{arith}
@@ -171,11 +172,4 @@ module _ (g h : Graph) where
 
   -- "A rule built only from 21, 22 and 25, in which 04 and 17 do not appear, must hold on the joined sheet exactly when it holds on both."
   pub rule-joined : (K : Expr rule) → Joinable K → T (value (joinedGraph g h) K) ↔ (T (value g K) × T (value h K))
-  rule-joined K q = (λ t. apart (value g K) (value h K) (subst T (value-joined K q) t), λ t. subst T (sym (value-joined K q)) (together (value g K) (value h K) t)) where
-    apart : (a b : Bool) → T (a && b) → T a × T b
-    apart true b t = (tt, t)
-    apart false b t = absurd t
-
-    together : (a b : Bool) → T a × T b → T (a && b)
-    together true b t = t .1
-    together false b t = absurd (t .0)
+  rule-joined K q = (λ t. both-so (value g K) (value h K) (subst T (value-joined K q) t), λ t. subst T (sym (value-joined K q)) (so-both (value g K) (value h K) (t .0) (t .1)))

@@ -2,5 +2,5 @@ pub mod QuestionLaws
 mod PartLaws
 pub mod RulesJudged
 pub mod SheetAndBook
-mod Deciding
+pub mod Deciding
 pub mod RuleRefusals

@@ -1,21 +1,21 @@
 -- 41 and the rules that hold.
-use mathlib.Core.Path.{_≡_, refl, sym, ap, ap₂, _∙_, subst}
-use mathlib.Core.Bool.{Bool, true, false, _&&_}
+use mathlib.Core.Path.{_≡_, refl, sym, ap, ap₂, _∙_}
+use mathlib.Core.Bool.{true, false}
 use mathlib.Core.List.{List, [], _∷_}
 use Prim.Native.Nat.{ℕ, suc}
 use lib.Dec.{T}
-use Rattle.answer.specs.Asked.{Asked, passed, refused, _>>_, is}
+use Rattle.answer.specs.Asked.{passed, refused, _>>_, is}
 use Rattle.answer.specs.Answers.{asked}
 use Rattle.answer.specs.declared.Refusal.{Refusal}
 use Rattle.answer.specs.declared.Answer.{Answer}
 use Rattle.answer.specs.declared.Answer.the-variants.{Done, Refused}
-use Rattle.answer.proofs.AskedLaws.{refused-not-passed, so-then, not-then}
+use Rattle.answer.proofs.AskedLaws.{refused-not-passed, so-then, not-then, is-then}
 use Rattle.logic.specs.Syntax.{Expr, rule, Edit}
 use Rattle.logic.specs.Graph.{Graph}
 use Rattle.logic.specs.Meaning.{value, holdAll}
 use Rattle.logic.specs.Steps.{run}
 use Rattle.logic.specs.Carry.{carriedBook}
-use Rattle.logic.proofs.Bools.{is-true}
+use Rattle.logic.proofs.Bools.{so, is-true, is-false, both-so, so-both}
 use Rattle.logic.proofs.Theorem.{carried}
 use Rattle.judge.specs.Questions.{askRules}
 
@@ -30,26 +30,17 @@ module _ (g : Graph) where
 
   -- 41 is not answered exactly when each rule holds.
   pub hold-asked : (rules : List (Expr rule)) (i : ℕ) → T (holdAll g rules) → askRules g rules i ≡ passed tt
-  unfolding askRules holdAll is _>>_
+  unfolding askRules holdAll
   hold-asked [] i e = refl
-  hold-asked (K ∷ rules) i e = go (value g K) e (hold-asked rules (suc i)) where
-    go : (b : Bool) → T (b && holdAll g rules) → (T (holdAll g rules) → askRules g rules (suc i) ≡ passed tt) → (is b 41 i >> askRules g rules (suc i)) ≡ passed tt
-    go true e rest = rest e
-    go false e rest = absurd e
+  hold-asked (K ∷ rules) i e = let (k, rest) = both-so (value g K) (holdAll g rules) e in so-then 41 i _ (is-true (value g K) k) ∙ hold-asked rules (suc i) rest
 
   pub asked-hold : (rules : List (Expr rule)) (i : ℕ) → askRules g rules i ≡ passed tt → T (holdAll g rules)
-  unfolding askRules holdAll is _>>_
+  unfolding askRules holdAll
   asked-hold [] i e = tt
-  asked-hold (K ∷ rules) i e = go (value g K) e (asked-hold rules (suc i)) where
-    go : (b : Bool) → (is b 41 i >> askRules g rules (suc i)) ≡ passed tt → (askRules g rules (suc i) ≡ passed tt → T (holdAll g rules)) → T (b && holdAll g rules)
-    go true e rest = rest e
-    go false e rest = refused-not-passed e
+  asked-hold (K ∷ rules) i e = let (k, rest) = is-then (value g K) 41 i _ e in so-both (value g K) (holdAll g rules) (so k) (asked-hold rules (suc i) rest)
 
   pub asked-broken : (rules : List (Expr rule)) (i q p : ℕ) → askRules g rules i ≡ refused q p → holdAll g rules ≡ false
-  asked-broken rules i q p e = go (holdAll g rules) refl where
-    go : (b : Bool) → holdAll g rules ≡ b → b ≡ false
-    go true h = refused-not-passed (sym e ∙ hold-asked rules i (subst T (sym h) tt))
-    go false h = refl
+  asked-broken rules i q p e = is-false (holdAll g rules) (λ h. refused-not-passed (sym e ∙ hold-asked rules i (so h)))
 
 -- Whether each rule holds, from the answer to 41.
 module _ (g : Graph) (rules : List (Expr rule)) (a : Answer) (judged : asked a ≡ askRules g rules 0) where

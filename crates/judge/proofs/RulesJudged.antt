@@ -5,13 +5,13 @@ use mathlib.Core.List.{List, [], _∷_, _++_, append-assoc, append-nil}
 use Prim.Native.Nat.{ℕ, _+_, _-_, _≤_, _<_}
 use native.Mathlib.Numerals.{add-one}
 use native.Mathlib.Omega.{arith}
-use lib.ListN.{length, getD, drop, length-append}
+use lib.ListN.{length, drop, length-append}
 use Rattle.answer.specs.Asked.{passed, refused}
 use Rattle.logic.specs.Syntax.{Expr, rule}
 use Rattle.logic.specs.Graph.{isNode}
 use Rattle.logic.specs.Meaning.{value}
 use Rattle.logic.specs.Limits.{maxNodes, ranges}
-use Rattle.bitset.specs.Words.{setOf}
+use Rattle.bitset.specs.Words.{Bytes, setOf}
 use Rattle.sheet.specs.Sheet.{present, graphOf}
 use Rattle.sheet.specs.Questions.{Sound}
 use Rattle.sheet.proofs.SoundSheets.{sound-is-stored}
@@ -19,7 +19,7 @@ use Rattle.text.specs.Code.{code, bookCode}
 use Rattle.text.specs.Part.{noPart}
 use Rattle.text.specs.Reading.{Limits}
 use Rattle.text.specs.Questions.{askBook}
-use Rattle.text.specs.Stands.{Stands, RulesInRange}
+use Rattle.text.specs.Stands.{Stands}
 use Rattle.text.proofs.TextSpelling.{rules-in-range, book-is-spelled}
 use Rattle.eval.specs.Evaluated.{Opened, IsTruth}
 use Rattle.text.proofs.HeadLaws.{code-some}
@@ -29,7 +29,7 @@ use Rattle.judge.specs.Judging.{RulesStand, brokenPart}
 use Rattle.judge.proofs.QuestionLaws.{rule-holds, rule-broken}
 
 -- What the evaluators ask of the sheet.
-pub opened : (sheet : List ℕ) (n all : ℕ) → ((p : ℕ) → getD sheet p 0 < 256) → Sound sheet → n ≡ graphOf sheet .n → n ≤ maxNodes → all ≡ setOf (graphOf sheet .n) (isNode (graphOf sheet)) → Opened sheet n all
+pub opened : (sheet : List ℕ) (n all : ℕ) → Bytes sheet → Sound sheet → n ≡ graphOf sheet .n → n ≤ maxNodes → all ≡ setOf (graphOf sheet .n) (isNode (graphOf sheet)) → Opened sheet n all
 opened sheet n all b s e f a = record { sound = s; count = e; few = f; nodes = a ∙ ap (λ (m : ℕ). setOf m (isNode (graphOf sheet))) (sym e); within = sound-is-stored present sheet b s .within }
 
 -- The rules of a book that was read stand in it.
@@ -53,7 +53,7 @@ pub record First (n : ℕ) (text : List ℕ) (at end : ℕ) (rules : List (Expr 
   pub some : 0 < length (code K)
 
 pub first-of : (n : ℕ) (text : List ℕ) (at end : ℕ) (rules : List (Expr rule)) → RulesStand (ranges n) text at end rules → at < end → First n text at end rules
-unfolding bookCode RulesInRange
+unfolding bookCode
 first-of n text at end [] s h = absurd (omega (arith, s .ends))
 first-of n text at end (K ∷ others) s h =
     let e : drop at text ≡ code K ++ (bookCode others ++ s .rest) = s .here ∙ append-assoc (code K) (bookCode others) (s .rest) in
@@ -111,20 +111,17 @@ module _ (sheet : List ℕ) (n : ℕ) (text : List ℕ) (end : ℕ) where
             part-same = d .part-same ∙ ap (λ (l : List (Expr rule)). brokenPart (graphOf sheet) l at) (f .are) ∙ rw (v, brokenPart) (ap (brokenPart (graphOf sheet) (f .others)) (sym (judged .ends)));
           }
 
-      pub broken-answer : b ≡ false → askRules (graphOf sheet) rules 0 ≡ refused 41 i
-      broken-answer t =
-          let f = first h in let v : value (graphOf sheet) (f .K) ≡ false = sym (judged .truth) ∙ t in
-          d .answer-same ∙ ap (λ (l : List (Expr rule)). askRules (graphOf sheet) l i) (f .are) ∙ rule-broken (graphOf sheet) _ (f .others) i v
-
-      pub broken-part : b ≡ false → brokenPart (graphOf sheet) rules 0 ≡ record { start = at; size = next - at }
+      pub broken : b ≡ false → (refused 41 i ≡ askRules (graphOf sheet) rules 0) × (record { start = at; size = next - at } ≡ brokenPart (graphOf sheet) rules 0)
       unfolding brokenPart
-      broken-part t =
+      broken t =
           let f = first h in let v : value (graphOf sheet) (f .K) ≡ false = sym (judged .truth) ∙ t in
-          let s : length (code (f .K)) ≡ next - at = omega (arith, judged .ends) in
-          d .part-same ∙ ap (λ (l : List (Expr rule)). brokenPart (graphOf sheet) l at) (f .are) ∙ rw (v, brokenPart) (ap (λ (k : ℕ). record { start = at; size = k }) s)
+          let s : length (code (f .K)) ≡ next - at = omega (arith, judged .ends) in (
+            sym (d .answer-same ∙ ap (λ (l : List (Expr rule)). askRules (graphOf sheet) l i) (f .are) ∙ rule-broken (graphOf sheet) _ (f .others) i v),
+            sym (d .part-same ∙ ap (λ (l : List (Expr rule)). brokenPart (graphOf sheet) l at) (f .are) ∙ rw (v, brokenPart) (ap (λ (k : ℕ). record { start = at; size = k }) s)),
+          )
 
-    pub all-hold : end ≤ at → askRules (graphOf sheet) rules 0 ≡ passed tt
-    all-hold h = unfold askRules in d .answer-same ∙ ap (λ (l : List (Expr rule)). askRules (graphOf sheet) l i) (none-left n text at end (d .left) (d .stand) h)
-
-    pub no-broken-part : end ≤ at → brokenPart (graphOf sheet) rules 0 ≡ noPart
-    no-broken-part h = unfold brokenPart in d .part-same ∙ ap (λ (l : List (Expr rule)). brokenPart (graphOf sheet) l at) (none-left n text at end (d .left) (d .stand) h)
+    pub none-broken : end ≤ at → (passed tt ≡ askRules (graphOf sheet) rules 0) × (noPart ≡ brokenPart (graphOf sheet) rules 0)
+    unfolding askRules brokenPart
+    none-broken h =
+        let e = none-left n text at end (d .left) (d .stand) h in
+        (sym (d .answer-same ∙ ap (λ (l : List (Expr rule)). askRules (graphOf sheet) l i) e), sym (d .part-same ∙ ap (λ (l : List (Expr rule)). brokenPart (graphOf sheet) l at) e))

@@ -5,6 +5,7 @@ ghost use mathlib.Core.List.{List};
 ghost use lib.ListN.{length};
 ghost use Rattle.answer.specs.Answers.{asked};
 ghost use Rattle.logic.specs.Syntax.{Expr, rule};
+ghost use Rattle.logic.specs.Meaning.{holdAll};
 ghost use Rattle.logic.specs.Limits.{ranges};
 ghost use Rattle.sheet.specs.Sheet.{graphOf};
 ghost use Rattle.sheet.specs.Questions.{Sound};
@@ -51,6 +52,20 @@ pub fn judge_rules(sheet: &[u8], text: &[u8], end: usize) -> Verdict
         start: 0,
         size: 0,
     }
+}
+
+// Whether each rule of a book holds on the sheet. Inner: the sheet is sound, and the book was read for its n.
+pub fn holds(sheet: &[u8], book: &[u8]) -> bool
+    requires { ⌜ Sound (now sheet) × SomeRulesStand (ranges (graphOf (now sheet) .n)) (now book) 0 (length (now book)) ⌝ }
+    ensures { λ r. ⌜ ((rules : List (Expr rule)) → RulesStand (ranges (graphOf (now (sheet .entry)) .n)) (now (book .entry)) 0 (length (now (book .entry))) rules
+        → r ≡ holdAll (graphOf (now (sheet .entry))) rules) ⌝ }
+{
+    let verdict = judge_rules(sheet, book, book.len());
+    let answer = verdict.answer;
+    let Answer::Done = answer else {
+        return false;
+    };
+    true
 }
 
 // Judges a book: for callers that want no reference inside a struct.

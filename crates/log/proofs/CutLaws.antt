@@ -10,7 +10,7 @@ use Rattle.logic.specs.Lists.{All}
 use Rattle.log.specs.Log.{cut, blocksOf}
 use Rattle.log.specs.Making.{joined}
 
--- a part behind a part
+-- a part after a part
 pub drop-take : (n m : ℕ) (l : List ℕ) → drop n (take (n + m) l) ≡ take m (drop n l)
 drop-take zero m l = rw zero-add
 drop-take (suc n) m [] = rw suc-add (sym (take-nil m))

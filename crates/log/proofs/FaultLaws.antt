@@ -1,12 +1,12 @@
 -- A log that ends badly: the first place whose question is answered with a no, and the edits before it.
 use mathlib.Core.Path.{_≡_, refl, sym, _∙_, ap}
-use mathlib.Core.Bool.{Bool, true, false, not}
-use mathlib.Core.List.{List, [], _∷_}
+use mathlib.Core.Bool.{true, false, not, cond}
+use mathlib.Core.List.{List, [], _∷_, _++_}
 use Prim.Native.Nat.{ℕ, zero, suc, _+_, _≤_, _<_}
 use native.Mathlib.Omega.{arith}
 use lib.ListN.{length, take}
 use Rattle.answer.specs.Asked.{Asked, passed, refused}
-use Rattle.log.specs.Log.{isLast, isBegun, askLogBlock, askLogEnd, Recorded, recorded}
+use Rattle.log.specs.Log.{isLast, content, isBegun, askLogBlock, askLogEnd, Recorded, recorded}
 use Rattle.log.specs.Faults.{askFrom, editsFrom}
 use Rattle.log.proofs.ReadLaws.{read-bad, gatheredThen, editsThen, read-on, each-passed}
 use Rattle.log.proofs.PassedLaws.{passes, bad-place, end-place, still-begun}
@@ -29,23 +29,20 @@ pub record Bad (number : ℕ) (g : List ℕ) (ks : List (List ℕ)) (q p m : ℕ
 pub data Somewhere (number : ℕ) (g : List ℕ) (ks : List (List ℕ)) (q p : ℕ) : Type 0 where
   after : (m : ℕ) → Bad number g ks q p m → Somewhere number g ks q p
 
--- behind a block that passed
+-- after a block that passed
 module _ (number : ℕ) (g k : List ℕ) (ks : List (List ℕ)) (f : askLogBlock (isBegun g) number k ≡ passed tt) where
   abbrev then : List ℕ
   then = gatheredThen g k
 
   begun-then : not (isLast k) ≡ isBegun then
-  begun-then = go (isLast k) refl where
-    go : (l : Bool) → isLast k ≡ l → not (isLast k) ≡ isBegun then
-    go true l = cc
-    go false l = cc (still-begun g (passes (isBegun g) number k f))
+  begun-then =
+      elim (isLast k) as (λ l. not l ≡ isBegun (cond l [] (g ++ content k))) [ true ↦ refl | false ↦ sym (still-begun g (passes (isBegun g) number k f)) ]
 
   edits-then : (es : List (List ℕ)) → editsFrom g (k ∷ es) ≡ editsThen g k (editsFrom then es)
   unfolding editsFrom
-  edits-then es = go (isLast k) refl where
-    go : (l : Bool) → isLast k ≡ l → editsFrom g (k ∷ es) ≡ editsThen g k (editsFrom then es)
-    go true l = cc
-    go false l = cc
+  edits-then es =
+      let e : List ℕ = g ++ content k in
+      elim (isLast k) as (λ l. cond l (e ∷ editsFrom [] es) (editsFrom e es) ≡ (let r = editsFrom (cond l [] e) es in cond l (e ∷ r) r)) [ true ↦ refl | false ↦ refl ]
 
   past : {q p : ℕ} → Somewhere (suc number) then ks q p → Somewhere number g (k ∷ ks) q p
   unfolding askFrom

@@ -59,10 +59,13 @@ module _ (begun : Bool) (k : List ℕ) where
       pub zeros-left : countRight (isLast k) (count k) ≡ true → fieldsRight begun k ≡ allZero (drop (4 + count k) (take 508 k))
       zeros-left m = unfold fieldsRight zerosBehind in cc
 
--- a count that is right is small
-pub count-small : (last : Bool) (c : ℕ) → countRight last c ≡ true → c ≤ 504
+-- what a right count says
+pub count-says : (last : Bool) (c : ℕ) → countRight last c ≡ true → (1 ≤ c) × (c ≤ 504) × ((eqb c 504 || last) ≡ true)
 unfolding countRight
-count-small last c e = leb-true c 504 (and-eq-true-iff (leb c 504) (eqb c 504 || last) .0 (and-eq-true-iff (leb 1 c) (leb c 504 && (eqb c 504 || last)) .0 e .1) .0)
+count-says last c e =
+    let (a, b) = and-eq-true-iff (leb 1 c) (leb c 504 && (eqb c 504 || last)) .0 e in
+    let (d, f) = and-eq-true-iff (leb c 504) (eqb c 504 || last) .0 b in
+    (leb-true 1 c a, leb-true c 504 d, f)
 
 -- what right fields say
 pub record Right (begun : Bool) (k : List ℕ) : Type 0 where
@@ -74,10 +77,7 @@ pub record Right (begun : Bool) (k : List ℕ) : Type 0 where
 pub right : (begun : Bool) (k : List ℕ) → fieldsRight begun k ≡ true → Right begun k
 unfolding fieldsRight
 right begun k e =
-    let a = and-eq-true-iff (eqb (getD k 0 0) 3) (markRight begun (getD k 1 0) && (countRight (isLast k) (count k) && zerosBehind k)) .0 e in
-    let b = and-eq-true-iff (markRight begun (getD k 1 0)) (countRight (isLast k) (count k) && zerosBehind k) .0 (a .1) in
-    let c = and-eq-true-iff (countRight (isLast k) (count k)) (zerosBehind k) .0 (b .1) in
-    record { three = eqb-true (getD k 0 0) 3 (a .0); marked = b .0; few = c .0; zeros = c .1 }
-
-pub count-fits : (begun : Bool) (k : List ℕ) → fieldsRight begun k ≡ true → count k ≤ 504
-count-fits begun k e = count-small (isLast k) (count k) (right begun k e .few)
+    let (a, r) = and-eq-true-iff (eqb (getD k 0 0) 3) (markRight begun (getD k 1 0) && (countRight (isLast k) (count k) && zerosBehind k)) .0 e in
+    let (b, t) = and-eq-true-iff (markRight begun (getD k 1 0)) (countRight (isLast k) (count k) && zerosBehind k) .0 r in
+    let (c, z) = and-eq-true-iff (countRight (isLast k) (count k)) (zerosBehind k) .0 t in
+    record { three = eqb-true (getD k 0 0) 3 a; marked = b; few = c; zeros = z }

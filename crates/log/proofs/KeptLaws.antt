@@ -2,7 +2,7 @@
 use mathlib.Core.Path.{_≡_, refl, sym, _∙_, ap}
 use mathlib.Core.Bool.{Bool}
 use mathlib.Core.List.{List, [], _∷_, _++_}
-use Prim.Native.Nat.{ℕ, _+_, _-_, _<_}
+use Prim.Native.Nat.{ℕ, _<_}
 use native.Mathlib.Omega.{arith}
 use native.Mathlib.Decide.{decLt}
 use borrow.Author.Tests.{lt-leb, lt-ltb}
@@ -30,7 +30,7 @@ unfolding kept
 kept-begun [] = refl
 kept-begun (x ∷ g) = lt-ltb 0 (length (take 4097 (x ∷ g))) (omega (arith, length-take 4097 (x ∷ g))) ∙ sym (lt-ltb 0 (length (x ∷ g)) (omega arith))
 
--- more behind what is kept
+-- more after what is kept
 pub kept-append : (g c : List ℕ) → kept (kept g ++ c) ≡ kept (g ++ c)
 unfolding kept
 kept-append g c = go (decLt (length g) 4097) where

@@ -2,7 +2,7 @@ pub mod FieldLaws
 pub mod TakeLaws
 pub mod ReadLaws
 pub mod PassedLaws
-pub mod StepLaws
+pub mod RoundLaws
 pub mod FaultLaws
 pub mod StopLaws
 pub mod CutLaws

@@ -1,11 +1,12 @@
 -- Edits cut into blocks and read back are the same edits.
-use mathlib.Core.Path.{_≡_, refl, sym, _∙_, ap, ap₂, subst}
+use mathlib.Core.Path.{_≡_, refl, _∙_, ap, ap₂}
 use mathlib.Core.Bool.{Bool, true, false, _||_, cond, or-true}
 use mathlib.Core.List.{List, [], _∷_, _++_, append-assoc}
-use Prim.Native.Nat.{ℕ, zero, suc, _+_, _-_, _≤_, _<_}
+use Prim.Native.Nat.{ℕ, zero, suc, _+_, _≤_, _<_}
 use native.Mathlib.Omega.{arith}
-use borrow.Author.Tests.{leb-true, leb-false, le-leb, lt-leb, lt-ltb, eq-eqb}
-use lib.Dec.{eqb, leb}
+use native.Mathlib.Decide.{decLt}
+use borrow.Author.Tests.{le-leb, lt-leb, lt-ltb, eq-eqb}
+use lib.Dec.{eqb}
 use lib.ListN.{length, take, drop, take-append-drop, length-append, length-drop}
 use lib.Seq.{length-take-le}
 use Rattle.answer.specs.Asked.{passed, is}
@@ -15,27 +16,16 @@ use Rattle.log.proofs.FieldLaws.{counted}
 use Rattle.log.proofs.ReadLaws.{read-last, read-more}
 use Rattle.log.proofs.MakeLaws.{block-passes, last-is, content-is}
 
--- Byte 1 of a block that is not the last, behind an edit begun or not begun.
+-- Byte 1 of a block that is not the last, after an edit begun or not begun.
 abbrev pub first : Bool → ℕ
 first begun = cond begun 0 1
 
-mark-more : (begun : Bool) → markRight begun (first begun) ≡ true
-unfolding markRight
-mark-more true = refl
-mark-more false = refl
+-- it is right there, and no last block's; two more is right, and a last block's
+mark-more : (begun : Bool) → (markRight begun (first begun) ≡ true) × ((eqb (first begun) 2 || eqb (first begun) 3) ≡ false)
+mark-more begun = unfold markRight in elim begun [ true ↦ (refl, refl) | false ↦ (refl, refl) ]
 
-mark-last : (begun : Bool) → markRight begun (first begun + 2) ≡ true
-unfolding markRight
-mark-last true = refl
-mark-last false = refl
-
-more-not-last : (begun : Bool) → (eqb (first begun) 2 || eqb (first begun) 3) ≡ false
-more-not-last true = refl
-more-not-last false = refl
-
-last-last : (begun : Bool) → (eqb (first begun + 2) 2 || eqb (first begun + 2) 3) ≡ true
-last-last true = refl
-last-last false = refl
+mark-last : (begun : Bool) → (markRight begun (first begun + 2) ≡ true) × ((eqb (first begun + 2) 2 || eqb (first begun + 2) 3) ≡ true)
+mark-last begun = unfold markRight in elim begun [ true ↦ (refl, refl) | false ↦ (refl, refl) ]
 
 -- the two shapes of an edit's blocks
 module _ (most mark : ℕ) (edit : List ℕ) where
@@ -47,16 +37,16 @@ module _ (most mark : ℕ) (edit : List ℕ) where
   unfolding editBlocks
   more-blocks h = ap (λ (y : Bool). cond y (block (mark + 2) edit ∷ []) (block mark (take 504 edit) ∷ editBlocks most 0 (drop 504 edit))) (lt-leb (length edit) 504 h)
 
--- a block read behind what is gathered
+-- a block read after what is gathered
 module _ (number : ℕ) (g : List ℕ) (begun : Bool) (b : isBegun g ≡ begun) (low : number ≤ 65534) (part : List ℕ) (rest : List (List ℕ)) where
   read-last-part : 0 < length part → length part ≤ 504
       → recorded number g (block (first begun + 2) part ∷ rest) ≡ follows (g ++ part) (recorded (suc number) [] rest)
   read-last-part h few =
       read-last number g (block (first begun + 2) part) rest
       (ap (λ x. askLogBlock x number (block (first begun + 2) part)) b
-      ∙ block-passes (first begun + 2) part few begun number low (mark-last begun)
-      (ap (λ x. countRight x (length part)) (last-last begun) ∙ counted true (length part) h few ∙ or-true (eqb (length part) 504)))
-      (last-is (first begun + 2) part ∙ last-last begun)
+      ∙ block-passes (first begun + 2) part few begun number low (mark-last begun .0)
+      (ap (λ x. countRight x (length part)) (mark-last begun .1) ∙ counted true (length part) h few ∙ or-true (eqb (length part) 504)))
+      (last-is (first begun + 2) part ∙ mark-last begun .1)
       ∙ ap (λ x. follows (g ++ x) (recorded (suc number) [] rest)) (content-is (first begun + 2) part few)
 
   read-part : length part ≡ 504 → recorded number g (block (first begun) part ∷ rest) ≡ recorded (suc number) (g ++ part) rest
@@ -64,10 +54,10 @@ module _ (number : ℕ) (g : List ℕ) (begun : Bool) (b : isBegun g ≡ begun) 
       let few : length part ≤ 504 = omega arith in
       read-more number g (block (first begun) part) rest
       (ap (λ x. askLogBlock x number (block (first begun) part)) b
-      ∙ block-passes (first begun) part few begun number low (mark-more begun)
+      ∙ block-passes (first begun) part few begun number low (mark-more begun .0)
       (counted (eqb (first begun) 2 || eqb (first begun) 3) (length part) (omega arith) few
       ∙ ap (_|| (eqb (first begun) 2 || eqb (first begun) 3)) (eq-eqb (length part) 504 h)))
-      (last-is (first begun) part ∙ more-not-last begun)
+      (last-is (first begun) part ∙ mark-more begun .1)
       ∙ ap (λ x. recorded (suc number) (g ++ x) rest) (content-is (first begun) part few)
 
 -- one edit
@@ -75,37 +65,26 @@ pub edit-read : (most number : ℕ) (g : List ℕ) (begun : Bool) (edit : List �
     → number + length (editBlocks most (first begun) edit) ≤ 65535
     → recorded number g (editBlocks most (first begun) edit ++ rest) ≡ follows (g ++ edit) (recorded (number + length (editBlocks most (first begun) edit)) [] rest)
 edit-read zero number g begun edit rest b h l fits = absurd (omega arith)
-edit-read (suc most) number g begun edit rest b h l fits =
-    go (leb (length edit) 504) refl (λ s e f d. edit-read most (suc number) (g ++ take 504 edit) true (drop 504 edit) rest s e f d) where
-      goal : List (List ℕ) → Type 0
-      goal ks = recorded number g (ks ++ rest) ≡ follows (g ++ edit) (recorded (number + length ks) [] rest)
-
-      go : (y : Bool) → leb (length edit) 504 ≡ y
-          → (isBegun (g ++ take 504 edit) ≡ true → 0 < length (drop 504 edit) → length (drop 504 edit) ≤ most → suc number + length (editBlocks most 0 (drop 504 edit)) ≤ 65535
-          → recorded (suc number) (g ++ take 504 edit) (editBlocks most 0 (drop 504 edit) ++ rest)
-          ≡ follows ((g ++ take 504 edit) ++ drop 504 edit) (recorded (suc number + length (editBlocks most 0 (drop 504 edit))) [] rest))
-          → recorded number g (editBlocks (suc most) (first begun) edit ++ rest) ≡ follows (g ++ edit) (recorded (number + length (editBlocks (suc most) (first begun) edit)) [] rest)
-      go true y on =
-          let few : length edit ≤ 504 = leb-true (length edit) 504 y in
-          let is = one-block most (first begun) edit few in
-          let low : number ≤ 65534 = omega (arith, ap length is) in
-          let e : suc number ≡ number + 1 = omega arith in
-          subst goal (sym is) (read-last-part number g begun b low edit rest h few ∙ ap (λ n. follows (g ++ edit) (recorded n [] rest)) e)
-      go false y on =
-          let many : 504 < length edit = leb-false (length edit) 504 y in
-          let is = more-blocks most (first begun) edit many in
-          let tail : List (List ℕ) = editBlocks most 0 (drop 504 edit) in
-          let full : length (take 504 edit) ≡ 504 = length-take-le 504 edit (omega arith) in
-          let low : number ≤ 65534 = omega (arith, ap length is) in
-          let e : suc number + length tail ≡ number + suc (length tail) = omega arith in
-          subst goal (sym is)
-          (read-part number g begun b low (take 504 edit) (tail ++ rest) full
-          ∙ on (lt-ltb 0 (length (g ++ take 504 edit)) (omega (arith, length-append g (take 504 edit)))) (omega (arith, length-drop 504 edit)) (omega (arith, length-drop 504 edit)) (omega (arith, ap length is))
-          ∙ ap₂ (λ x n. follows x (recorded n [] rest)) (append-assoc g (take 504 edit) (drop 504 edit) ∙ ap (g ++_) (take-append-drop 504 edit)) e)
+edit-read (suc most) number g begun edit rest b h l fits = elim (decLt 504 (length edit)) [
+  | no few ↦ (
+      let is = one-block most (first begun) edit (omega arith) in
+      let e : suc number ≡ number + 1 = omega arith in
+      rw is (read-last-part number g begun b (omega (arith, ap length is)) edit rest h (omega arith) ∙ ap (λ n. follows (g ++ edit) (recorded n [] rest)) e))
+  | yes many ↦ (
+      let is = more-blocks most (first begun) edit many in
+      let tail = editBlocks most 0 (drop 504 edit) in
+      let full : length (take 504 edit) ≡ 504 = length-take-le 504 edit (omega arith) in
+      let some : isBegun (g ++ take 504 edit) ≡ true = lt-ltb 0 (length (g ++ take 504 edit)) (omega (arith, length-append g (take 504 edit))) in
+      let e : suc number + length tail ≡ number + suc (length tail) = omega arith in
+      rw is
+      (read-part number g begun b (omega (arith, ap length is)) (take 504 edit) (tail ++ rest) full
+      ∙ edit-read most (suc number) (g ++ take 504 edit) true (drop 504 edit) rest some (omega (arith, length-drop 504 edit)) (omega (arith, length-drop 504 edit)) (omega (arith, ap length is))
+      ∙ ap₂ (λ x n. follows x (recorded n [] rest)) (append-assoc g (take 504 edit) (drop 504 edit) ∙ ap (g ++_) (take-append-drop 504 edit)) e))
+]
 
 -- all of them
 pub log-read : (number : ℕ) (edits : List (List ℕ)) → CanHold edits → number + length (logBlocks edits) ≤ 65535 → recorded number [] (logBlocks edits) ≡ record { edits = edits; ending = passed tt }
-unfolding recorded logBlocks CanHold askLogEnd is
+unfolding recorded logBlocks askLogEnd is
 log-read number [] c h = refl
 log-read number (edit ∷ edits) c h =
     let n = length-append (editBlocks (length edit) 1 edit) (logBlocks edits) in

@@ -7,11 +7,12 @@ use native.Mathlib.Omega.{arith}
 use native.Mathlib.Decide.{decLt}
 use borrow.Author.Tests.{leb-true, leb-false}
 use lib.Dec.{leb}
-use lib.ListN.{length, getD, take, drop, length-take, length-drop, drop-of-length-le, List·getD-eq-default}
-use lib.Seq.{getD-take, getD-drop}
+use lib.ListN.{length, take, drop, length-take, length-drop, drop-of-length-le}
+use lib.Seq.{getD-drop}
 use Rattle.answer.specs.Asked.{passed}
 use Rattle.logic.specs.Lists.{All}
 use Rattle.bitset.specs.Words.{Bytes}
+use Rattle.bitset.proofs.WordLaws.{part-small}
 use Rattle.log.specs.Log.{recorded, cut, blocksOf, readLog}
 use Rattle.log.specs.Making.{editBlocks, logBlocks, joined, CanHold, logOf}
 use Rattle.log.specs.Stops.{blocksTo, restOf, renumbered}
@@ -50,17 +51,11 @@ log-whole [] = tt
 log-whole (edit ∷ edits) = both-whole (editBlocks (length edit) 1 edit) (logBlocks edits) (edit-whole (length edit) 1 edit) (log-whole edits)
 
 -- blocks of bytes are cut from bytes
-part-bytes : (n : ℕ) (l : List ℕ) → Bytes l → Bytes (take n l)
-part-bytes n l b p = go (decLt p n) where
-  go : Dec (p < n) → getD (take n l) p 0 < 256
-  go (yes h) = rw (getD-take n l p 0 h) (b p)
-  go (no h) = rw (List·getD-eq-default (take n l) 0 {n = p} (omega (arith, length-take n l))) (omega arith)
-
 cut-bytes : (f : ℕ) (l : List ℕ) → Bytes l → All Bytes (cut f l)
 unfolding cut
 cut-bytes zero l b = tt
 cut-bytes (suc f) [] b = tt
-cut-bytes (suc f) (x ∷ l) b = (part-bytes 512 (x ∷ l) b, cut-bytes f (drop 512 (x ∷ l)) (λ p. rw (getD-drop 512 (x ∷ l) p 0) (b (512 + p))))
+cut-bytes (suc f) (x ∷ l) b = (part-small (x ∷ l) 512 0 b, cut-bytes f (drop 512 (x ∷ l)) (λ p. rw (getD-drop 512 (x ∷ l) p 0) (b (512 + p))))
 
 one-log : (log : List ℕ) → Bytes log → readLog log .ending ≡ passed tt → (log ≡ logOf (readLog log .edits)) × CanHold (readLog log .edits)
 unfolding blocksOf

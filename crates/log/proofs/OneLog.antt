@@ -1,7 +1,7 @@
 -- A log that ends well is the log of its edits.
 use mathlib.Core.Path.{_≡_, refl, sym, _∙_, ap, ap₂, subst}
 use mathlib.Core.Logic.{_⊎_, inl, inr, ⊎-elim}
-use mathlib.Core.Bool.{Bool, true, false, _&&_, _||_, and-eq-true-iff, or-false, or-true}
+use mathlib.Core.Bool.{Bool, true, false, _||_, and-eq-true-iff, or-false, or-true}
 use mathlib.Core.List.{List, [], _∷_, _++_, append-assoc}
 use Prim.Native.Nat.{ℕ, zero, suc, _+_, _-_, _*_, _/_, _%_, _≤_, _<_}
 use native.Mathlib.Omega.{arith}
@@ -16,8 +16,9 @@ use Rattle.logic.proofs.Bools.{true-false}
 use Rattle.bitset.specs.Words.{Bytes}
 use Rattle.seal.specs.Seal.{modulo257, sealed}
 use Rattle.seal.proofs.SealLaws.{right-sealed}
-use Rattle.log.specs.Log.{isLast, markRight, count, countRight, content, allZero, zerosBehind, isBegun, askLogBlock, askLogEnd, Recorded, recorded}
+use Rattle.log.specs.Log.{isLast, markRight, count, content, allZero, zerosBehind, isBegun, askLogBlock, askLogEnd, Recorded, recorded}
 use Rattle.log.specs.Making.{block, editBlocks, logBlocks, CanHold}
+use Rattle.log.proofs.FieldLaws.{count-says}
 use Rattle.log.proofs.PassedLaws.{Passed, passes, count-few, content-length, content-some, still-begun}
 use Rattle.log.proofs.ReadLaws.{read-bad, read-last, read-more, each-log}
 use Rattle.log.proofs.CutLaws.{drop-take}
@@ -86,13 +87,6 @@ unfolding markRight
 of-more true m a b = ⊎-elim (λ x. x) (λ x. absurd (none-of m 2 3 b .0 x)) (one-of m 0 2 a)
 of-more false m a b = ⊎-elim (λ x. x) (λ x. absurd (none-of m 2 3 b .1 x)) (one-of m 1 3 a)
 
--- its count
-all-of : (c : ℕ) → countRight false c ≡ true → c ≡ 504
-unfolding countRight
-all-of c e =
-    let a = and-eq-true-iff (leb c 504) (eqb c 504 || false) .0 (and-eq-true-iff (leb 1 c) (leb c 504 && (eqb c 504 || false)) .0 e .1) in
-    eqb-true c 504 (sym (or-false (eqb c 504)) ∙ a .1)
-
 -- how many blocks are allowed does not matter, when there are enough
 enough : (f h mark : ℕ) (e : List ℕ) → 0 < length e → length e ≤ f → length e ≤ h → editBlocks f mark e ≡ editBlocks h mark e
 unfolding editBlocks
@@ -105,13 +99,13 @@ enough (suc f) (suc h) mark e s a b = go (leb (length e) 504) refl (λ t. enough
       let many : 504 < length e = leb-false (length e) 504 y in
       more-blocks f mark e many ∙ ap (block mark (take 504 e) ∷_) (on (omega (arith, length-drop 504 e))) ∙ sym (more-blocks h mark e many)
 
--- What blocks that end well are, behind what is gathered: nothing more, or the rest of an edit and the log of others.
+-- What blocks that end well are, after what is gathered: nothing more, or the rest of an edit and the log of others.
 data Rest (begun : Bool) (g : List ℕ) (edits ks : List (List ℕ)) : Type 0 where
   none : begun ≡ false → edits ≡ [] → ks ≡ [] → Rest begun g edits ks
   edit : (part : List ℕ) (es : List (List ℕ)) → edits ≡ (g ++ part) ∷ es → 0 < length part → ks ≡ editBlocks (length part) (first begun) part ++ logBlocks es → CanHold es → Rest begun g edits ks
 
 of-rest : (edits ks : List (List ℕ)) → Rest false [] edits ks → (ks ≡ logBlocks edits) × CanHold edits
-unfolding logBlocks CanHold
+unfolding logBlocks
 of-rest edits ks (none b e k) = (k ∙ sym (ap logBlocks e), subst CanHold (sym e) tt)
 of-rest edits ks (edit part es e s k c) = (k ∙ sym (ap logBlocks e), subst CanHold (sym e) (s, c))
 
@@ -144,7 +138,7 @@ module _ (number : ℕ) (g : List ℕ) (k : List ℕ) (ks : List (List ℕ)) (by
       → Rest (isBegun g) g (((g ++ content k) ++ part) ∷ es) (k ∷ ks)
   unfolding isLast
   rest-more l part es s r h =
-      let full : c ≡ 504 = counts ∙ all-of (count k) (subst (λ (x : Bool). countRight x (count k) ≡ true) l (it .fields .few)) in
+      let full : c ≡ 504 = counts ∙ eqb-true (count k) 504 (sym (or-false _) ∙ subst (λ x. (eqb (count k) 504 || x) ≡ true) l (count-says (isLast k) (count k) (it .fields .few) .2)) in
       let size : length (content k ++ part) ≡ 504 + length part = length-append (content k) part ∙ ap (_+ length part) full in
       let n : length (content k ++ part) ≡ suc (503 + length part) = size ∙ omega arith in
       let whole : editBlocks (length (content k ++ part)) (first (isBegun g)) (content k ++ part) ≡ block (first (isBegun g)) (content k) ∷ editBlocks (length part) 0 part =

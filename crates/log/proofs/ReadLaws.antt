@@ -51,7 +51,7 @@ each-log P e b l m number g (k ∷ ks) = go (block-is number g k) (each-log P e 
   go (last f d) new on = l number g k ks f d new
   go (more f d) new on = m number g k ks f d on
 
--- The same for last and other blocks at once: what is gathered behind a block that passed, and the edits with the one that it ends.
+-- The same for last and other blocks at once: what is gathered after a block that passed, and the edits with the one that it ends.
 abbrev pub gatheredThen : (g k : List ℕ) → List ℕ
 gatheredThen g k = cond (isLast k) [] (g ++ content k)
 

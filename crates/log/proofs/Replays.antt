@@ -1,6 +1,6 @@
 -- A replay is the run of its edits; stopping and going on; block by block.
 use mathlib.Core.Path.{_≡_, refl, sym, _∙_, ap, ap₂, subst}
-use mathlib.Core.Bool.{true, false, cond}
+use mathlib.Core.Bool.{cond}
 use mathlib.Core.List.{List, [], _∷_, _++_, append-assoc}
 use Prim.Native.Nat.{ℕ, suc, _≤_, _/_}
 use lib.ListN.{length, take, drop, length-replicate, take-append-drop}
@@ -13,15 +13,15 @@ use Rattle.runs.specs.Run.{Keeps, Call, log}
 use Rattle.logic.specs.Lists.{All}
 use Rattle.runs.proofs.Demand3.{demand-3}
 use Rattle.printed.specs.Printed.{scratchBytes, printedLine, printedSheet}
-use Rattle.log.specs.Log.{isLast, content, isBegun, askLogBlock, askLogEnd, Recorded, follows, recorded, blocksOf, readLog}
+use Rattle.log.specs.Log.{content, isBegun, askLogBlock, askLogEnd, Recorded, follows, recorded, blocksOf, readLog}
 use Rattle.log.specs.Stops.{partOf, restOf}
 use Rattle.log.specs.Taken.{kept, keptBehind}
 use Rattle.log.specs.Replay.{editLines, sheetHeld, stopLine, replayLines, replaySheet}
-use Rattle.log.specs.Step.{Step, due, stopped, replayStep}
+use Rattle.log.specs.Round.{Round, due, stopped, replayRound}
 use Rattle.log.specs.Replays.{programScratch, calls, printedLog, lastSheet, written, Replays}
 use Rattle.log.proofs.ReadLaws.{read-bad, read-last, read-more, each-log}
 use Rattle.log.proofs.CutLaws.{Filled, blocks-filled}
-use Rattle.log.proofs.StepLaws.{step-bad, step-last, step-more}
+use Rattle.log.proofs.RoundLaws.{round-bad, round-last, round-more}
 use Rattle.log.proofs.KeptLaws.{kept-begun, kept-append}
 use Rattle.log.proofs.Answering.{kept-line, kept-sheet}
 use Rattle.log.proofs.Logs.{logs}
@@ -82,21 +82,11 @@ module _ (book : List ℕ) where
   stop-writes (passed u) number part sheet = refl
   stop-writes (refused q p) number part sheet = refl
 
-  module _ (number : ℕ) (part sheet : List ℕ) (k : List ℕ) (ks : List (List ℕ)) (some : length k ≡ 0 → ⊥) where
-    abbrev onward : Step → List ℕ
-    onward s = due s ++ cond (s .goesOn) (written (s .number) (s .part) (s .sheet) book ks) (s .sheet)
+  -- a round writes its line and goes on, or writes the sheet
+  abbrev onward : List (List ℕ) → Round → List ℕ
+  onward ks s = due s ++ cond (s .goesOn) (written (s .number) (s .part) (s .sheet) book ks) (s .sheet)
 
-    written-stop : (q p : ℕ) → askLogBlock (isBegun part) number k ≡ refused q p → written number part sheet book (k ∷ ks) ≡ stopLine (refused q p) ++ sheet
-    written-stop q p e = unfold written due stopped stopLine in ap onward (step-bad number part sheet book k some q p e)
-
-    written-last : askLogBlock (isBegun part) number k ≡ passed tt → isLast k ≡ true
-        → written number part sheet book (k ∷ ks) ≡ printedLine sheet book (keptBehind part k) ++ written (suc number) [] (printedSheet sheet book (keptBehind part k)) book ks
-    written-last e l = unfold written due in ap onward (step-last number part sheet book k some e l)
-
-    written-more : askLogBlock (isBegun part) number k ≡ passed tt → isLast k ≡ false → written number part sheet book (k ∷ ks) ≡ written (suc number) (keptBehind part k) sheet book ks
-    written-more e l = unfold written due in ap onward (step-more number part sheet book k some e l)
-
-  module _ (number : ℕ) (g k : List ℕ) (ks : List (List ℕ)) where
+  module _ (number : ℕ) (g k : List ℕ) where
     asked-alike : askLogBlock (isBegun (kept g)) number k ≡ askLogBlock (isBegun g) number k
     asked-alike = ap (λ b. askLogBlock b number k) (kept-begun g)
 
@@ -104,19 +94,19 @@ module _ (book : List ℕ) where
     kept-alike = unfold keptBehind in kept-append g (content k)
 
   block-by-block : (number : ℕ) (g : List ℕ) (ks : List (List ℕ)) (sheet : List ℕ) → Filled ks → written number (kept g) sheet book ks ≡ all sheet (recorded number g ks)
-  unfolding written recorded all editLines sheetHeld kept replayStep
+  unfolding written recorded all editLines sheetHeld kept replayRound due stopped stopLine
   block-by-block = each-log (λ number g ks. (sheet : List ℕ) → Filled ks → written number (kept g) sheet book ks ≡ all sheet (recorded number g ks))
       (λ number g sheet h. stop-writes (askLogEnd (isBegun (kept g)) number) number (kept g) sheet ∙ ap (λ b. stopLine (askLogEnd b number) ++ sheet) (kept-begun g))
-      (λ number g k ks q p e sheet h. written-stop number (kept g) sheet k ks (h .0) q p (asked-alike number g k ks ∙ e) ∙ ap (all sheet) (sym (read-bad number g k ks q p e)))
+      (λ number g k ks q p e sheet h. ap (onward ks) (round-bad number (kept g) sheet book k (h .0) q p (asked-alike number g k ∙ e)) ∙ ap (all sheet) (sym (read-bad number g k ks q p e)))
       (λ number g k ks e l on sheet h.
       let edit : List ℕ = g ++ content k in
-      written-last number (kept g) sheet k ks (h .0) (asked-alike number g k ks ∙ e) l
-      ∙ ap (λ x. printedLine sheet book x ++ written (suc number) [] (printedSheet sheet book x) book ks) (kept-alike number g k ks)
+      ap (onward ks) (round-last number (kept g) sheet book k (h .0) (asked-alike number g k ∙ e) l)
+      ∙ ap (λ x. printedLine sheet book x ++ written (suc number) [] (printedSheet sheet book x) book ks) (kept-alike number g k)
       ∙ ap₂ (λ x y. x ++ written (suc number) [] y book ks) (kept-line sheet book edit) (kept-sheet sheet book edit)
       ∙ ap (printedLine sheet book edit ++_) (on (printedSheet sheet book edit) (h .1))
       ∙ sym (follows-all sheet edit (recorded (suc number) [] ks)) ∙ ap (all sheet) (sym (read-last number g k ks e l)))
       (λ number g k ks e l on sheet h.
-      written-more number (kept g) sheet k ks (h .0) (asked-alike number g k ks ∙ e) l ∙ ap (λ x. written (suc number) x sheet book ks) (kept-alike number g k ks)
+      ap (onward ks) (round-more number (kept g) sheet book k (h .0) (asked-alike number g k ∙ e) l) ∙ ap (λ x. written (suc number) x sheet book ks) (kept-alike number g k)
       ∙ on sheet (h .1) ∙ ap (all sheet) (sym (read-more number g k ks e l)))
 
 module _ (sheet book bytes : List ℕ) where

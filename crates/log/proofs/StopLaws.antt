@@ -1,4 +1,4 @@
--- Stopping behind an edit's last block: what was read before it, and what is read behind it.
+-- Stopping after an edit's last block: what was read before it, and what is read after it.
 use mathlib.Core.Path.{_≡_, refl, ap}
 use mathlib.Core.Bool.{true, false}
 use mathlib.Core.List.{List, [], _∷_, _++_}

@@ -1,4 +1,4 @@
--- A block taken behind what is kept: the questions in turn, and the bytes kept then.
+-- A block taken after what is kept: the questions in turn, and the bytes kept then.
 use mathlib.Core.Path.{_≡_, sym, _∙_, ap}
 use mathlib.Core.Bool.{Bool, true, false}
 use mathlib.Core.List.{List, _++_}

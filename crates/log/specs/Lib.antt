@@ -4,6 +4,6 @@ pub mod Stops
 pub mod Faults
 pub mod Logs
 pub mod Taken
-pub mod Step
+pub mod Round
 pub mod Replay
 pub mod Replays

@@ -15,7 +15,7 @@ fieldBytes = 4
 abbrev pub contentBytes : ℕ
 contentBytes = modulo257 .bodyBytes - fieldBytes
 
--- Byte 1 is 1 in an edit's first block, 2 in its last, 3 where one block is both, else 0. An edit is begun behind its first block.
+-- Byte 1 is 1 in an edit's first block, 2 in its last, 3 where one block is both, else 0. An edit is begun after its first block.
 unfoldable pub isLast : List ℕ → Bool
 isLast k = eqb (getD k 1 0) 2 || eqb (getD k 1 0) 3
 
@@ -75,12 +75,12 @@ ends q = record { edits = []; ending = q }
 abbrev pub follows : List ℕ → Recorded → Recorded
 follows edit r = record { edits = edit ∷ r .edits; ending = r .ending }
 
--- Behind a bad block nothing is read.
+-- After a bad block nothing is read.
 unfoldable pub unlessBad : Asked (Unit {0}) → Recorded → Recorded
 unlessBad (passed u) r = r
 unlessBad (refused q p) r = ends (refused q p)
 
--- Blocks of which the first has this number, behind blocks that left so much gathered.
+-- Blocks of which the first has this number, after blocks that left so much gathered.
 unfoldable pub recorded : (number : ℕ) (gathered : List ℕ) → List (List ℕ) → Recorded
 recorded number gathered [] = ends (askLogEnd (isBegun gathered) number)
 recorded number gathered (k ∷ ks) =

@@ -4,6 +4,7 @@ use mathlib.Core.List.{List, [], _∷_, _++_}
 use Prim.Native.Nat.{ℕ, zero, suc, _+_, _-_, _<_}
 use lib.Dec.{leb}
 use lib.ListN.{length, take, drop, replicate}
+use Rattle.logic.specs.Lists.{All}
 use Rattle.bitset.specs.Words.{bytes}
 use Rattle.seal.specs.Seal.{modulo257, sealed}
 use Rattle.log.specs.Log.{contentBytes}
@@ -29,9 +30,8 @@ joined [] = []
 joined (k ∷ ks) = k ++ joined ks
 
 -- A log can hold an edit that has a byte at least.
-unfoldable pub CanHold : List (List ℕ) → Type 0
-CanHold [] = Unit {0}
-CanHold (edit ∷ edits) = (0 < length edit) × CanHold edits
+abbrev pub CanHold : List (List ℕ) → Type 0
+CanHold = All (λ edit. 0 < length edit)
 
 abbrev pub logOf : List (List ℕ) → List ℕ
 logOf edits = joined (logBlocks edits)

@@ -13,7 +13,7 @@ use Rattle.runs.specs.Demand3.{RunRight}
 use Rattle.printed.specs.Printed.{scratchBytes}
 use Rattle.log.specs.Log.{lastNumber, blocksOf, readLog}
 use Rattle.log.specs.Stops.{partOf, restOf}
-use Rattle.log.specs.Step.{Step, due, replayStep}
+use Rattle.log.specs.Round.{Round, due, replayRound}
 use Rattle.log.specs.Replay.{stopLine, replayLines, replaySheet}
 
 -- The calls of enter for edits, each with the program's scratch.
@@ -32,11 +32,11 @@ unfoldable pub lastSheet : List ℕ → List Line → List ℕ
 lastSheet sheet [] = sheet
 lastSheet sheet (l ∷ ls) = lastSheet (l .sheet) ls
 
--- What the program writes when it reads these blocks: a step for each, and one where nothing is left to read. It holds the sheet and what it keeps of one edit, and no more of the log; last it writes the sheet.
+-- What the program writes when it reads these blocks: a round for each, and one where nothing is left to read. It holds the sheet and what it keeps of one edit, and no more of the log; last it writes the sheet.
 unfoldable pub written : (number : ℕ) (part sheet book : List ℕ) → List (List ℕ) → List ℕ
-written number part sheet book [] = let s : Step = replayStep number part sheet book [] in due s ++ s .sheet
+written number part sheet book [] = let s : Round = replayRound number part sheet book [] in due s ++ s .sheet
 written number part sheet book (k ∷ ks) =
-    let s : Step = replayStep number part sheet book k in
+    let s : Round = replayRound number part sheet book k in
     due s ++ cond (s .goesOn) (written (s .number) (s .part) (s .sheet) book ks) (s .sheet)
 
 pub record Replays : Type 0 where
@@ -50,5 +50,5 @@ pub record Replays : Type 0 where
   -- In a log of at most 65,535 blocks (a part of one more may follow them), stopping after any edit it has answered and starting again from the sheet then held, with the rest of the log, ends in the same sheet.
   pub stop-and-go-on : (sheet book bytes : List ℕ) (i : ℕ) → i ≤ length (readLog bytes .edits) → length bytes / blockBytes ≤ suc lastNumber
       → replaySheet (replaySheet sheet book (partOf i bytes)) book (restOf i bytes) ≡ replaySheet sheet book bytes
-  -- Kept bytes suffice: what the steps write is the lines and the sheet.
+  -- Kept bytes suffice: what the rounds write is the lines and the sheet.
   pub block-by-block : (sheet book bytes : List ℕ) → written 0 [] sheet book (blocksOf bytes) ≡ replayLines sheet book bytes ++ replaySheet sheet book bytes

@@ -17,7 +17,7 @@ keptBytes = longestText + 1
 unfoldable pub kept : List ℕ → List ℕ
 kept edit = take keptBytes edit
 
--- What is kept behind block k, when these bytes were kept before it.
+-- What is kept after block k, when these bytes were kept before it.
 unfoldable pub keptBehind : (before k : List ℕ) → List ℕ
 keptBehind before k = kept (before ++ content k)
 

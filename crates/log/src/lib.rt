@@ -9,7 +9,7 @@ ghost use Rattle.answer.specs.Asked.{after};
 ghost use Rattle.answer.specs.Outputs.{writtenAtStart};
 ghost use Rattle.seal.specs.Seal.{blockBytes, modulo257};
 ghost use Rattle.log.specs.Log.{isLast, markRight, count, countRight, contentBytes, allZero, fieldsRight, isBegun, askLogBlock, askLogEnd};
-ghost use Rattle.log.specs.Step.{stopped, replayStep, editThen, said};
+ghost use Rattle.log.specs.Round.{stopped, replayRound, editThen, said};
 ghost use Rattle.log.specs.Taken.{keptBytes, keptBehind, askTaken, takenAsked, takenLength};
 use answer::Answer;
 use answer::Refusal;
@@ -42,8 +42,8 @@ pub struct Held {
     pub kept: usize,
 }
 
-// What a step says: whether a line is due, and the line, zeros where none is; whether to go on, and what is held then.
-pub struct Stepped {
+// What a round says: whether a line is due, and the line, zeros where none is; whether to go on, and what is held then.
+pub struct Told {
     pub prints: bool,
     pub line: [u8; printed::line::BYTES],
     pub onward: bool,
@@ -98,7 +98,7 @@ fn count_right(last: bool, c: usize) -> bool
     c == CONTENT || last
 }
 
-// Whether the body has only zeros from a place on. Inner: it is a block, and the place lies in its body or behind it.
+// Whether the body has only zeros from a place on. Inner: it is a block, and the place lies in its body or after it.
 fn zeros_from(block: &[u8], from: usize) -> bool
     requires { ⌜ (length (now block) ≡ blockBytes) × (from ≤ modulo257 .bodyBytes) ⌝ }
     ensures { λ r. ⌜ r ≡ allZero (drop from (take (modulo257 .bodyBytes) (now (block .entry)))) ⌝ }
@@ -113,7 +113,7 @@ fn zeros_from(block: &[u8], from: usize) -> bool
     true
 }
 
-// Whether a block's fields are right behind an edit begun or not begun. Inner: it is a block.
+// Whether a block's fields are right after an edit begun or not begun. Inner: it is a block.
 fn fields_right(block: &[u8], begun: bool) -> bool
     requires { ⌜ length (now block) ≡ blockBytes ⌝ }
     ensures { λ r. ⌜ r ≡ fieldsRight begun (now (block .entry)) ⌝ }
@@ -131,7 +131,7 @@ fn fields_right(block: &[u8], begun: bool) -> bool
     zeros_from(block, FIELDS + c)
 }
 
-// How many of c more bytes are kept behind n. Inner: n are kept.
+// How many of c more bytes are kept after n. Inner: n are kept.
 fn kept_of(c: usize, n: usize) -> usize
     requires { ⌜ n ≤ keptBytes ⌝ }
     ensures { λ r. ⌜ r ≡ min c (keptBytes - n) ⌝ }
@@ -140,7 +140,7 @@ fn kept_of(c: usize, n: usize) -> usize
     if c < room { c } else { room }
 }
 
-// Puts the edit bytes of a block behind the n that are kept, as many as are to be kept, and says how many are kept then.
+// Puts the edit bytes of a block after the n that are kept, as many as are to be kept, and says how many are kept then.
 // Inner: it is a block, has c edit bytes, and n are kept.
 fn keep(block: &[u8], c: usize, n: usize, edit: &mut [u8]) -> usize
     requires { ⌜ (length (now block) ≡ blockBytes) × (c ≡ count (now block)) × (c ≤ contentBytes) × (length (now edit) ≡ keptBytes) × (n ≤ keptBytes) ⌝ }
@@ -156,7 +156,7 @@ fn keep(block: &[u8], c: usize, n: usize, edit: &mut [u8]) -> usize
     n + m
 }
 
-// Takes the next block of a log, whole or cut short, behind n kept bytes of the edit begun before it; n is 0 where none is begun. Inner: the buffer has room for what is kept.
+// Takes the next block of a log, whole or cut short, after n kept bytes of the edit begun before it; n is 0 where none is begun. Inner: the buffer has room for what is kept.
 fn take_block(block: &[u8], number: usize, n: usize, edit: &mut [u8]) -> Taken
     requires { ⌜ (length (now edit) ≡ keptBytes) × (n ≤ keptBytes) ⌝ }
     ensures { λ r. ⌜ (takenAsked r ≡ askTaken (take n (now (edit .entry))) number (now (block .entry))) × (takenLength r ≤ keptBytes) ⌝ }
@@ -192,18 +192,18 @@ fn take_end(blocks: usize, n: usize) -> Answer
 }
 
 // Stops, with the line of a no, or with none at a good end.
-fn stop(answer: Answer, held: Held) -> Stepped
+fn stop(answer: Answer, held: Held) -> Told
     ensures { λ r. ⌜ ((edit sheet : List ℕ) → said r edit sheet ≡ stopped (asked answer) (held .number) (take (held .kept) edit) sheet) × (r .held .kept ≡ held .kept) ⌝ }
 {
     let Answer::Refused(_) = answer else {
-        return Stepped {
+        return Told {
             prints: false,
             line: [0u8; printed::line::BYTES],
             onward: false,
             held,
         };
     };
-    Stepped {
+    Told {
         prints: true,
         line: printed::line::line_of(answer),
         onward: false,
@@ -211,10 +211,10 @@ fn stop(answer: Answer, held: Held) -> Stepped
     }
 }
 
-// One step of a replay. What was read of the log is a block, whole or cut short, or nothing at its end. Inner: the buffer has room for what is kept.
-pub fn step(block: &[u8], held: Held, edit: &mut [u8], sheet: &mut [u8], book: &[u8]) -> Stepped
+// One round of a replay. What was read of the log is a block, whole or cut short, or nothing at its end. Inner: the buffer has room for what is kept.
+pub fn round(block: &[u8], held: Held, edit: &mut [u8], sheet: &mut [u8], book: &[u8]) -> Told
     requires { ⌜ (length (now edit) ≡ keptBytes) × (held .kept ≤ keptBytes) ⌝ }
-    ensures { λ r. ⌜ said r (now (edit .exit)) (now (sheet .exit)) ≡ replayStep (held .number) (take (held .kept) (now (edit .entry))) (now (sheet .entry)) (now (book .entry)) (now (block .entry)) ⌝ }
+    ensures { λ r. ⌜ said r (now (edit .exit)) (now (sheet .exit)) ≡ replayRound (held .number) (take (held .kept) (now (edit .entry))) (now (sheet .entry)) (now (book .entry)) (now (block .entry)) ⌝ }
     ensures { λ r. ⌜ r .held .kept ≤ keptBytes ⌝ }
     ensures { λ _. ⌜ now (edit .exit) ≡ editThen (held .number) (take (held .kept) (now (edit .entry))) (now (block .entry)) (now (edit .entry)) ⌝ }
 {
@@ -225,7 +225,7 @@ pub fn step(block: &[u8], held: Held, edit: &mut [u8], sheet: &mut [u8], book: &
     }
     match take_block(block, number, kept, edit) {
         Taken::Refused(r) => stop(Answer::Refused(r), held),
-        Taken::GoesOn(n) => Stepped {
+        Taken::GoesOn(n) => Told {
             prints: false,
             line: [0u8; printed::line::BYTES],
             onward: true,
@@ -234,7 +234,7 @@ pub fn step(block: &[u8], held: Held, edit: &mut [u8], sheet: &mut [u8], book: &
                 kept: n,
             },
         },
-        Taken::Finished(n) => Stepped {
+        Taken::Finished(n) => Told {
             prints: true,
             line: printed::enter_line(sheet, book, &edit[0..n]),
             onward: true,

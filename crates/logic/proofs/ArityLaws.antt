@@ -1,16 +1,46 @@
--- Terms by arity: what `byArity` computes, and the equations by arity of `replace`, `InRange` and `value`.
+-- Terms by arity: what `byArity` computes, and the equations by arity of `substitute`, `InRange` and `value`.
 use mathlib.Core.Path.{_≡_, refl}
 use mathlib.Core.Bool.{not, _&&_, _||_}
 use mathlib.Core.Logic.{_↔_}
-use mathlib.Core.List.{List, [], _∷_}
+use mathlib.Core.List.{List}
 use Prim.Native.Nat.{ℕ}
 use lib.Dec.{T, leb}
-use Rattle.logic.specs.Syntax.{Sort, node, arrow, Expr}
+use Rattle.logic.specs.Syntax.{Sort, node, arrow, Expr, label, arrowKind}
+use Rattle.logic.specs.Lists.{All}
 use Rattle.logic.specs.Graph.{Graph, Nodes, Pairs, isNode, anyBelow, allBelow, countBelow, implies}
 use Rattle.logic.specs.Meaning.{value}
-use Rattle.logic.specs.Carry.{replace}
+use Rattle.logic.specs.Carry.{substitute}
 use Rattle.logic.specs.Limits.{Kind, Ranges, fits, InRange}
 use Rattle.logic.specs.Arity.{Nullary, all·, none·, label·, nominal·, arrowKind·, pair·, Unary, complement·, reversed·, nodeIn·, pairIn·, notRule·, Binary, and·, or·, some·, every·, atLeast·, atMost·, union·, common·, minus·, endingIn·, subNodes·, subArrows·, both·, either·, build0, build1, build2, numbers0, numbers1, numbers2, byArity}
+
+-- A code's operands: `byArity` goes over them as its case says, `substitute` under the code.
+module _ {ℓ} (P : (s : Sort) → Expr s → Type ℓ) (leaf : (s : Sort) (b : Nullary s) → P s (build0 b)) (one : (u t : Sort) (b : Unary u t) (x : Expr u) → P u x → P t (build1 b x)) (two : (u v t : Sort) (b : Binary u v t) (x : Expr u) (y : Expr v) → P u x → P v y → P t (build2 b x y)) (f : ℕ → Expr node) (h : ℕ → Expr arrow) where
+  alike-1 : {u t : Sort} (b : Unary u t) (x : Expr u)
+      → (byArity P leaf one two (build1 b x) ≡ one u t b x (byArity P leaf one two x)) × (substitute f h (build1 b x) ≡ build1 b (substitute f h x))
+  unfolding byArity substitute build1
+  alike-1 complement· x = (refl, refl)
+  alike-1 reversed· x = (refl, refl)
+  alike-1 (nodeIn· i) x = (refl, refl)
+  alike-1 (pairIn· i j) x = (refl, refl)
+  alike-1 notRule· x = (refl, refl)
+
+  alike-2 : {u v t : Sort} (b : Binary u v t) (x : Expr u) (y : Expr v)
+      → (byArity P leaf one two (build2 b x y) ≡ two u v t b x y (byArity P leaf one two x) (byArity P leaf one two y)) × (substitute f h (build2 b x y) ≡ build2 b (substitute f h x) (substitute f h y))
+  unfolding byArity substitute build2
+  alike-2 and· x y = (refl, refl)
+  alike-2 or· x y = (refl, refl)
+  alike-2 some· x y = (refl, refl)
+  alike-2 every· x y = (refl, refl)
+  alike-2 (atLeast· m) x y = (refl, refl)
+  alike-2 (atMost· m) x y = (refl, refl)
+  alike-2 union· x y = (refl, refl)
+  alike-2 common· x y = (refl, refl)
+  alike-2 minus· x y = (refl, refl)
+  alike-2 endingIn· x y = (refl, refl)
+  alike-2 subNodes· x y = (refl, refl)
+  alike-2 subArrows· x y = (refl, refl)
+  alike-2 both· x y = (refl, refl)
+  alike-2 either· x y = (refl, refl)
 
 module _ {ℓ} (P : (s : Sort) → Expr s → Type ℓ) (leaf : (s : Sort) (b : Nullary s) → P s (build0 b)) (one : (u t : Sort) (b : Unary u t) (x : Expr u) → P u x → P t (build1 b x)) (two : (u v t : Sort) (b : Binary u v t) (x : Expr u) (y : Expr v) → P u x → P v y → P t (build2 b x y)) where
   pub byArity-0 : {s : Sort} (b : Nullary s) → byArity P leaf one two (build0 b) ≡ leaf s b
@@ -23,64 +53,25 @@ module _ {ℓ} (P : (s : Sort) → Expr s → Type ℓ) (leaf : (s : Sort) (b : 
   byArity-0 (pair· i j) = refl
 
   pub byArity-1 : {u t : Sort} (b : Unary u t) (x : Expr u) → byArity P leaf one two (build1 b x) ≡ one u t b x (byArity P leaf one two x)
-  unfolding byArity build1
-  byArity-1 complement· x = refl
-  byArity-1 reversed· x = refl
-  byArity-1 (nodeIn· i) x = refl
-  byArity-1 (pairIn· i j) x = refl
-  byArity-1 notRule· x = refl
+  byArity-1 b x = alike-1 P leaf one two label arrowKind b x .0
 
   pub byArity-2 : {u v t : Sort} (b : Binary u v t) (x : Expr u) (y : Expr v) → byArity P leaf one two (build2 b x y) ≡ two u v t b x y (byArity P leaf one two x) (byArity P leaf one two y)
-  unfolding byArity build2
-  byArity-2 and· x y = refl
-  byArity-2 or· x y = refl
-  byArity-2 some· x y = refl
-  byArity-2 every· x y = refl
-  byArity-2 (atLeast· m) x y = refl
-  byArity-2 (atMost· m) x y = refl
-  byArity-2 union· x y = refl
-  byArity-2 common· x y = refl
-  byArity-2 minus· x y = refl
-  byArity-2 endingIn· x y = refl
-  byArity-2 subNodes· x y = refl
-  byArity-2 subArrows· x y = refl
-  byArity-2 both· x y = refl
-  byArity-2 either· x y = refl
+  byArity-2 b x y = alike-2 P leaf one two label arrowKind b x y .0
 
 module _ (f : ℕ → Expr node) (h : ℕ → Expr arrow) where
-  pub replace-1 : {u t : Sort} (b : Unary u t) (x : Expr u) → replace f h (build1 b x) ≡ build1 b (replace f h x)
-  unfolding replace build1
-  replace-1 complement· x = refl
-  replace-1 reversed· x = refl
-  replace-1 (nodeIn· i) x = refl
-  replace-1 (pairIn· i j) x = refl
-  replace-1 notRule· x = refl
+  pub substitute-1 : {u t : Sort} (b : Unary u t) (x : Expr u) → substitute f h (build1 b x) ≡ build1 b (substitute f h x)
+  substitute-1 b x = alike-1 (λ s e. Expr s) (λ s. build0) (λ u t b x y. build1 b y) (λ u v t b x y z w. build2 b z w) f h b x .1
 
-  pub replace-2 : {u v t : Sort} (b : Binary u v t) (x : Expr u) (y : Expr v) → replace f h (build2 b x y) ≡ build2 b (replace f h x) (replace f h y)
-  unfolding replace build2
-  replace-2 and· x y = refl
-  replace-2 or· x y = refl
-  replace-2 some· x y = refl
-  replace-2 every· x y = refl
-  replace-2 (atLeast· m) x y = refl
-  replace-2 (atMost· m) x y = refl
-  replace-2 union· x y = refl
-  replace-2 common· x y = refl
-  replace-2 minus· x y = refl
-  replace-2 endingIn· x y = refl
-  replace-2 subNodes· x y = refl
-  replace-2 subArrows· x y = refl
-  replace-2 both· x y = refl
-  replace-2 either· x y = refl
+  pub substitute-2 : {u v t : Sort} (b : Binary u v t) (x : Expr u) (y : Expr v) → substitute f h (build2 b x y) ≡ build2 b (substitute f h x) (substitute f h y)
+  substitute-2 b x y = alike-2 (λ s e. Expr s) (λ s. build0) (λ u t b x y. build1 b y) (λ u v t b x y z w. build2 b z w) f h b x y .1
 
 -- A term is in range where its first code's numbers are and its operands are.
 module _ (r : Ranges) where
-  unfoldable pub Fit : List (Kind × ℕ) → Type 0
-  Fit [] = Unit {0}
-  Fit (n ∷ ns) = T (fits r (n .0) (n .1)) × Fit ns
+  abbrev pub Fit : List (Kind × ℕ) → Type 0
+  Fit = All (λ n. T (fits r (n .0) (n .1)))
 
   pub range-0 : {s : Sort} (b : Nullary s) → InRange r (build0 b) ↔ Fit (numbers0 b)
-  unfolding InRange build0 Fit
+  unfolding InRange build0
   range-0 all· = (λ q. tt, λ q. tt)
   range-0 none· = (λ q. tt, λ q. tt)
   range-0 (label· k) = (λ q. (q, tt), λ q. q .0)
@@ -89,7 +80,7 @@ module _ (r : Ranges) where
   range-0 (pair· i j) = (λ q. (q .0, (q .1, tt)), λ q. (q .0, q .1 .0))
 
   pub range-1 : {u t : Sort} (b : Unary u t) (x : Expr u) → InRange r (build1 b x) ↔ (Fit (numbers1 b) × InRange r x)
-  unfolding InRange build1 Fit
+  unfolding InRange build1
   range-1 complement· x = (λ q. (tt, q), λ q. q .1)
   range-1 reversed· x = (λ q. (tt, q), λ q. q .1)
   range-1 (nodeIn· i) x = (λ q. ((q .0, tt), q .1), λ q. (q .0 .0, q .1))
@@ -97,7 +88,7 @@ module _ (r : Ranges) where
   range-1 notRule· x = (λ q. (tt, q), λ q. q .1)
 
   pub range-2 : {u v t : Sort} (b : Binary u v t) (x : Expr u) (y : Expr v) → InRange r (build2 b x y) ↔ (Fit (numbers2 b) × (InRange r x × InRange r y))
-  unfolding InRange build2 Fit
+  unfolding InRange build2
   range-2 and· x y = (λ q. (tt, q), λ q. q .1)
   range-2 or· x y = (λ q. (tt, q), λ q. q .1)
   range-2 some· x y = (λ q. (tt, q), λ q. q .1)

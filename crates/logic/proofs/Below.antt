@@ -1,13 +1,14 @@
 -- The numbers below n that are in a set: whether one is, whether all are, how many are; and the set without one of them.
 use mathlib.Core.Path.{_≡_, refl, sym, _∙_, ap, ap₂}
-use mathlib.Core.Bool.{Bool, true, false, not, _&&_, _||_, cond, and-eq-true-iff, and-true, and-false, or-true, or-false, and-or-distrib-right}
+use mathlib.Core.Bool.{Bool, true, false, not, _&&_, _||_, cond, and-eq-true-iff, and-true, or-true, or-false, and-or-distrib-right}
 use Prim.Native.Nat.{ℕ, zero, suc, _+_, _≤_, _<_}
 use native.Mathlib.Decide.{decLt}
 use native.Mathlib.Numerals.{add-one}
 use native.Mathlib.Omega.{arith}
 use lib.Dec.{leb, eqb}
-use borrow.Author.Tests.{le-leb, eq-eqb, ne-eqb}
+use borrow.Author.Tests.{le-leb, eq-eqb, ne-eqb, not-true, not-false}
 use Rattle.logic.specs.Graph.{Nodes, anyBelow, allBelow, countBelow, implies}
+use Rattle.logic.proofs.Bools.{true-false, is-false}
 
 -- sets with the same members below n
 pub any-cong : (n : ℕ) (v u : Nodes) → ((i : ℕ) → i < n → v i ≡ u i) → anyBelow n v ≡ anyBelow n u
@@ -26,12 +27,6 @@ count-cong zero v u h = refl
 count-cong (suc n) v u h = ap₂ (λ b c. cond b (suc c) c) (h n (omega arith)) (count-cong n v u (λ i l. h i (omega arith)))
 
 -- one is
-pub any-none : (n : ℕ) (v : Nodes) → ((i : ℕ) → i < n → v i ≡ false) → anyBelow n v ≡ false
-unfolding anyBelow
-any-none zero v h = refl
-any-none (suc n) v h = ap₂ _||_ (any-none n v (λ i l. h i (omega arith))) (h n (omega arith))
-
--- this one is
 pub any-found : (n : ℕ) (v : Nodes) → anyBelow n v ≡ true → (i : ℕ) × (i < n) × (v i ≡ true)
 unfolding anyBelow
 any-found zero v h = let z : _≡_ {A = ℕ} 0 1 = cc in absurd (omega arith)
@@ -39,20 +34,6 @@ any-found (suc n) v h = go (any-found n v) (anyBelow n v) refl (v n) refl h wher
   go : (anyBelow n v ≡ true → (i : ℕ) × (i < n) × (v i ≡ true)) → (a : Bool) → anyBelow n v ≡ a → (b : Bool) → v n ≡ b → (a || b) ≡ true → (i : ℕ) × (i < suc n) × (v i ≡ true)
   go rest true e b f h = let (i, l, t) = rest e in (i, omega arith, t)
   go rest false e b f h = (n, omega arith, f ∙ h)
-
-pub any-one : (n : ℕ) (v : Nodes) (i : ℕ) → i < n → v i ≡ true → anyBelow n v ≡ true
-unfolding anyBelow
-any-one zero v i l e = absurd (omega arith)
-any-one (suc n) v i l e = go (decLt i n) (any-one n v i) where
-  go : Dec (i < n) → (i < n → v i ≡ true → anyBelow n v ≡ true) → (anyBelow n v || v n) ≡ true
-  go (yes k) r = ap (_|| v n) (r k e)
-  go (no k) r = let q : n ≡ i = omega arith in ap (anyBelow n v ||_) (ap v q ∙ e) ∙ or-true (anyBelow n v)
-
-pub any-not : (n : ℕ) (v : Nodes) → anyBelow n v ≡ false → (i : ℕ) → i < n → v i ≡ false
-any-not n v h i l = go (v i) refl where
-  go : (b : Bool) → v i ≡ b → v i ≡ false
-  go true e = let z : _≡_ {A = ℕ} 0 1 = cc (sym (any-one n v i l e) ∙ h) in absurd (omega arith)
-  go false e = e
 
 pub any-and : (n : ℕ) (v : Nodes) (c : Bool) → anyBelow n (λ i. v i && c) ≡ (anyBelow n v && c)
 unfolding anyBelow
@@ -89,6 +70,19 @@ none-outside n v u = sym (all-not-any n (λ i. implies (v i) (u i)) (λ i. v i &
   go true false = refl
   go false y = refl
 
+-- so none is when all are in the complement, and one is when not all are
+pub any-none : (n : ℕ) (v : Nodes) → ((i : ℕ) → i < n → v i ≡ false) → anyBelow n v ≡ false
+any-none n v h = not-true _ (sym (all-not-any n (λ i. not (v i)) v (λ i l. refl)) ∙ all-true n (λ i. not (v i)) (λ i l. ap not (h i l)))
+
+pub all-stop : (v : Nodes) (n i : ℕ) → i < n → v i ≡ false → allBelow n v ≡ false
+all-stop v n i l e = is-false (allBelow n v) (λ t. true-false (all-each n v t i l) e)
+
+pub any-one : (n : ℕ) (v : Nodes) (i : ℕ) → i < n → v i ≡ true → anyBelow n v ≡ true
+any-one n v i l e = not-false _ (sym (all-not-any n (λ i. not (v i)) v (λ i l. refl)) ∙ all-stop (λ i. not (v i)) n i l (ap not e))
+
+pub any-not : (n : ℕ) (v : Nodes) → anyBelow n v ≡ false → (i : ℕ) → i < n → v i ≡ false
+any-not n v h i l = is-false (v i) (λ t. true-false (any-one n v i l t) h)
+
 -- all are, taken one by one
 module _ (v : Nodes) where
   pub all-none : allBelow 0 v ≡ true
@@ -96,14 +90,6 @@ module _ (v : Nodes) where
 
   pub all-next : (i : ℕ) → allBelow i v ≡ true → v i ≡ true → allBelow (i + 1) v ≡ true
   all-next i e t = unfold allBelow in ap (λ x. allBelow x v) (add-one i) ∙ ap₂ _&&_ e t
-
-  pub all-stop : (n i : ℕ) → i < n → v i ≡ false → allBelow n v ≡ false
-  unfolding allBelow
-  all-stop zero i h e = absurd (omega arith)
-  all-stop (suc n) i h e = go (decLt i n) (λ l. all-stop n i l e) where
-    go : Dec (i < n) → (i < n → allBelow n v ≡ false) → allBelow (suc n) v ≡ false
-    go (yes l) r = ap (_&& v n) (r l)
-    go (no l) r = let q : n ≡ i = omega arith in ap (allBelow n v &&_) (ap v q ∙ e) ∙ and-false (allBelow n v)
 
   pub all-end : (n i : ℕ) → i ≤ n → n ≤ i → allBelow i v ≡ true → allBelow n v ≡ true
   all-end n i h l e = let q : n ≡ i = omega arith in ap (λ x. allBelow x v) q ∙ e

@@ -26,6 +26,11 @@ pub and-true-false : (a b : Bool) → (a && b) ≡ false → a ≡ true → b �
 and-true-false true b h e = h
 and-true-false false b h e = true-false e refl
 
+-- what holds only where b does
+pub and-only : (b x : Bool) → (b ≡ false → x ≡ false) → (b && x) ≡ x
+and-only true x h = refl
+and-only false x h = sym (h refl)
+
 pub so : {b : Bool} → b ≡ true → T b
 so e = subst T (sym e) tt
 

@@ -1,27 +1,21 @@
 -- The sentences of item 6 on closed nodes, and the laws of closing and opening.
-use mathlib.Core.Path.{_≡_, refl, sym, _∙_, ap, subst, fun-ext}
+use mathlib.Core.Path.{_≡_, refl, sym, _∙_, ap, subst}
 use mathlib.Core.Bool.{Bool, true, false, not, _&&_, _||_, cond, and-eq-true-iff, and-false}
-use Prim.Native.Nat.{ℕ, _≤_, _<_}
+use Prim.Native.Nat.{ℕ, _<_}
 use native.Mathlib.Omega.{arith}
 use native.Mathlib.Decide.{decLt}
 use lib.Dec.{eqb, ltb}
-use borrow.Author.Tests.{eqb-true, eq-eqb, ne-eqb, not-true, not-false}
-use Rattle.logic.specs.Syntax.{node, arrow, Expr, nominal, pair, nodeIn, pairIn, Edit, finish, addLabel, takeLabel, addArrow, takeArrow, choose}
+use borrow.Author.Tests.{eqb-true, eqb-false, not-true, not-false}
+use Rattle.logic.specs.Syntax.{node, arrow, Expr, nominal, pair, nodeIn, pairIn, Edit}
 use Rattle.logic.specs.Graph.{Graph, isNode, anyBelow}
 use Rattle.logic.specs.Meaning.{value}
 use Rattle.logic.specs.Steps.{update, run}
 use Rattle.logic.specs.Limits.{Within, NodesIn, labelCount, arrowCount}
 use Rattle.logic.specs.Closing.{withUse, closeNode, openNode, hasLabel, hasArrow, isOnly, canClose}
+use Rattle.logic.proofs.Bools.{or-left-false, or-right-false}
+use Rattle.logic.proofs.Tables.{update-all, update-same, update-other, update-back}
 use Rattle.logic.proofs.Below.{any-found, any-not, any-one}
-use Rattle.logic.proofs.Inside.{value-in, no-node, cond-both}
-
-or-left-false : (a b : Bool) → (a || b) ≡ false → a ≡ false
-or-left-false true b h = h
-or-left-false false b h = refl
-
-or-right-false : (a b : Bool) → (a || b) ≡ false → b ≡ false
-or-right-false true b h = let z : _≡_ {A = ℕ} 0 1 = cc in absurd (omega arith)
-or-right-false false b h = h
+use Rattle.logic.proofs.Inside.{value-in, no-node, run-nodes}
 
 -- "Every node expression has only nodes in use as its value, 01 and 05 included": `value-in` of proofs/Inside, at node expressions.
 pub only-in-use : (g : Graph) → Within g → (E : Expr node) → NodesIn g (value g E)
@@ -61,30 +55,7 @@ module _ (g : Graph) (w : Within g) where
 
 -- "no step of an edit changes them"
 pub run-inUse : (Z : Edit) (g : Graph) → (run Z g) .inUse ≡ g .inUse
-unfolding run
-run-inUse finish g = refl
-run-inUse (addLabel k E Z) g = run-inUse Z _
-run-inUse (takeLabel k E Z) g = run-inUse Z _
-run-inUse (addArrow a R Z) g = run-inUse Z _
-run-inUse (takeArrow a R Z) g = run-inUse Z _
-run-inUse (choose K P Q Z) g = run-inUse Z _ ∙ cond-both (λ h. h .inUse ≡ g .inUse) (value g K) (run P g) (run Q g) (run-inUse P g) (run-inUse Q g)
-
-update-both : {A : Type 0} (P : A → Type 0) (f : ℕ → A) (k : ℕ) (v : A) (x : ℕ) → P v → P (f x) → P (update f k v x)
-update-both P f k v x p q = unfold update in cond-both P (eqb x k) v (f x) p q
-
-update-same : {A : Type 0} (f : ℕ → A) (k : ℕ) (v : A) → update f k v k ≡ v
-update-same f k v = unfold update in ap (λ b. cond b v (f k)) (eq-eqb k k refl)
-
-update-other : {A : Type 0} (f : ℕ → A) (k : ℕ) (v : A) (x : ℕ) → eqb x k ≡ false → update f k v x ≡ f x
-update-other f k v x e = unfold update in ap (λ b. cond b v (f x)) e
-
--- a table with its own value put in is itself, whatever was put in before
-update-back : {A : Type 0} (f : ℕ → A) (k : ℕ) (u v : A) → f k ≡ v → update (update f k u) k v ≡ f
-unfolding update
-update-back f k u v h = fun-ext (λ x. go x (eqb x k) refl) where
-  go : (x : ℕ) (b : Bool) → eqb x k ≡ b → cond b v (cond b u (f x)) ≡ f x
-  go x true e = sym h ∙ ap f (sym (eqb-true x k e))
-  go x false e = refl
+run-inUse = run-nodes (λ n u. u)
 
 -- Closing then opening a node gives the graph back, and opening then closing.
 pub close-open : (g : Graph) (i : ℕ) → g .inUse i ≡ true → openNode (closeNode g i) i ≡ g
@@ -124,37 +95,24 @@ module _ (g : Graph) (w : Within g) (i : ℕ) where
   pub close-within : canClose g i ≡ true → Within (closeNode g i)
   unfolding canClose closeNode isOnly
   close-within c =
+      let none : (hasLabel g i || hasArrow g i || isOnly g i) ≡ false = not-true _ c in
+      let neither : (hasLabel g i || hasArrow g i) ≡ false = or-left-false (hasLabel g i || hasArrow g i) (isOnly g i) none in
+      let bare = no-label (or-left-false (hasLabel g i) (hasArrow g i) neither) in
+      let free = no-arrow (or-right-false (hasLabel g i) (hasArrow g i) neither) in
+      let (j, l, e) = any-found (g .n) (λ j. g .inUse j && not (eqb j i)) (not-false _ (or-right-false (hasLabel g i || hasArrow g i) (isOnly g i) none)) in
+      let (used, other) = and-eq-true-iff (g .inUse j) (not (eqb j i)) .0 e in
       record {
-        some-node = other;
+        some-node = any-one (g .n) (update (g .inUse) i false) j l (update-other (g .inUse) i false j (eqb-false j i (not-true _ other)) ∙ used);
         few-nodes = w .few-nodes;
-        use-below = unused;
-        labels-in = λ k x h. closed-or x h (λ e. subst (λ y. g .labelled k y ≡ false) (sym e) (no-label bare k)) (w .labels-in k x);
+        use-below = λ x l. update-all (λ v. v ≡ false) (g .inUse) i false x (w .use-below x l) refl;
+        labels-in = λ k x h. closed-or x h (λ e. subst (λ y. g .labelled k y ≡ false) (sym e) (bare k)) (w .labels-in k x);
         arrows-in = λ a. record {
-          starts = λ x y h. closed-or x h (λ e. subst (λ z. g .joined a z y ≡ false) (sym e) (no-arrow free a y .0)) (w .arrows-in a .starts x y);
-          ends = λ x y h. closed-or y h (λ e. subst (λ z. g .joined a x z ≡ false) (sym e) (no-arrow free a x .1)) (w .arrows-in a .ends x y);
+          starts = λ x y h. closed-or x h (λ e. subst (λ z. g .joined a z y ≡ false) (sym e) (free a y .0)) (w .arrows-in a .starts x y);
+          ends = λ x y h. closed-or y h (λ e. subst (λ z. g .joined a x z ≡ false) (sym e) (free a x .1)) (w .arrows-in a .ends x y);
         };
         no-more-labels = w .no-more-labels;
         no-more-arrows = w .no-more-arrows;
-      } where
-        none : (hasLabel g i || hasArrow g i || isOnly g i) ≡ false
-        none = not-true _ c
-
-        bare : hasLabel g i ≡ false
-        bare = or-left-false (hasLabel g i) (hasArrow g i) (or-left-false (hasLabel g i || hasArrow g i) (isOnly g i) none)
-
-        free : hasArrow g i ≡ false
-        free = or-right-false (hasLabel g i) (hasArrow g i) (or-left-false (hasLabel g i || hasArrow g i) (isOnly g i) none)
-
-        unused : (x : ℕ) → g .n ≤ x → update (g .inUse) i false x ≡ false
-        unused x l = update-both (λ v. v ≡ false) (g .inUse) i false x refl (w .use-below x l)
-
-        other : anyBelow (g .n) (update (g .inUse) i false) ≡ true
-        other =
-            let (j, l, e) = any-found (g .n) (λ j. g .inUse j && not (eqb j i)) (not-false _ (or-right-false (hasLabel g i || hasArrow g i) (isOnly g i) none)) in
-            any-one (g .n) (update (g .inUse) i false) j l (stays j (and-eq-true-iff (g .inUse j) (not (eqb j i)) .0 e .0) (not-true _ (and-eq-true-iff (g .inUse j) (not (eqb j i)) .0 e .1)))
-          where
-            stays : (j : ℕ) → g .inUse j ≡ true → eqb j i ≡ false → update (g .inUse) i false j ≡ true
-            stays j e f = update-other (g .inUse) i false j f ∙ e
+      }
 
   -- Opening a node below n does.
   pub open-within : i < g .n → Within (openNode g i)
@@ -163,7 +121,7 @@ module _ (g : Graph) (w : Within g) (i : ℕ) where
       record {
         some-node = any-one (g .n) (update (g .inUse) i true) i l (update-same (g .inUse) i true);
         few-nodes = w .few-nodes;
-        use-below = λ x u. update-other (g .inUse) i true x (ne-eqb x i (λ e. absurd (omega arith))) ∙ w .use-below x u;
+        use-below = λ x u. update-other (g .inUse) i true x (λ e. absurd (omega arith)) ∙ w .use-below x u;
         labels-in = λ k x h. w .labels-in k x (was x h);
         arrows-in = λ a. record { starts = λ x y h. w .arrows-in a .starts x y (was x h); ends = λ x y h. w .arrows-in a .ends x y (was y h) };
         no-more-labels = w .no-more-labels;

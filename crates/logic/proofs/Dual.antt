@@ -10,6 +10,7 @@ use Rattle.logic.specs.Syntax.{node, arrow, Expr, all, complement, some,
 use Rattle.logic.specs.Graph.{Graph, Nodes, isNode, anyBelow, countBelow, implies}
 use Rattle.logic.specs.Meaning.{value}
 use Rattle.logic.specs.Limits.{Within}
+use Rattle.logic.proofs.Bools.{and-only}
 use Rattle.logic.proofs.Below.{any-cong, all-not-any, any-and, count-cong, one-or-more, leave, count-leave}
 use Rattle.logic.proofs.Inside.{value-in}
 
@@ -40,10 +41,7 @@ at-most-is-not-at-least g m R E = fun-ext (λ i. go (isNode g i) (countBelow (g 
 -- Within the limits 0A 1 R E is 08 R E.
 pub at-least-one-is-some : (g : Graph) → Within g → (R : Expr arrow) (E : Expr node) → value g (atLeast 1 R E) ≡ value g (some R E)
 unfolding value
-at-least-one-is-some g w R E = fun-ext (λ i. ap (isNode g i &&_) (one-or-more (g .n) _) ∙ go (isNode g i) (value g (some R E) i) (value-in g w (some R E) i)) where
-  go : (b v : Bool) → (b ≡ false → v ≡ false) → (b && v) ≡ v
-  go true v h = refl
-  go false v h = sym (h refl)
+at-least-one-is-some g w R E = fun-ext (λ i. ap (isNode g i &&_) (one-or-more (g .n) _) ∙ and-only (isNode g i) (value g (some R E) i) (value-in g w (some R E) i))
 
 -- 0A 0 R E is 01,
 pub at-least-none : (g : Graph) (R : Expr arrow) (E : Expr node) → value g (atLeast 0 R E) ≡ value g all

@@ -1,16 +1,17 @@
 -- On a graph within the limits no value reaches beyond the graph's nodes, taking away is the difference of Definition 3.2,
 -- and an edit leaves a graph within the limits.
 use mathlib.Core.Path.{_≡_, refl, _∙_, ap, fun-ext}
-use mathlib.Core.Bool.{Bool, true, false, not, _&&_, _||_, cond, and-false}
-use Prim.Native.Nat.{ℕ, _≤_, _<_}
+use mathlib.Core.Bool.{Bool, true, false, not, _&&_, _||_, and-false}
+use Prim.Native.Nat.{ℕ, _≤_}
 use native.Mathlib.Omega.{arith}
-use lib.Dec.{T, ltb, eqb, ltb→lt, eqb→eq}
+use lib.Dec.{T, ltb, ltb→lt}
 use borrow.Author.Tests.{le-ltb}
 use Rattle.logic.specs.Syntax.{Sort, node, arrow, rule, Expr, all, none, label, nominal, complement, and, or, some, every, atLeast, atMost, arrowKind, reversed, union, common, minus, endingIn, pair, subNodes, subArrows, nodeIn, pairIn, both, either, notRule, Edit, finish, addLabel, takeLabel, addArrow, takeArrow, choose}
 use Rattle.logic.specs.Graph.{Graph, Nodes, Pairs, isNode}
 use Rattle.logic.specs.Meaning.{Value, value}
 use Rattle.logic.specs.Steps.{update, relabel, rejoin, run}
 use Rattle.logic.specs.Limits.{NodesIn, PairsIn, Within, Ranges, EditInRange, labelCount, arrowCount}
+use Rattle.logic.proofs.Tables.{cond-both, update-all, update-other}
 use Rattle.logic.proofs.Below.{any-none, any-found}
 
 -- what is no node of the graph is in no value of any sort
@@ -71,62 +72,44 @@ module _ (g : Graph) (w : Within g) where
 pub taken-arrow : (g : Graph) (a : ℕ) (R : Expr arrow) (Z : Edit) → run (takeArrow a R Z) g ≡ run Z (rejoin g a (λ i j. g .joined a i j && not (value g R i j)))
 taken-arrow g a R Z = unfold run in refl
 
--- what holds of each entry of a table and of v holds of the table with v at k
-update-all : {A : Type 0} (P : A → Type 0) (f : ℕ → A) (k : ℕ) (v : A) → ((x : ℕ) → P (f x)) → P v → (x : ℕ) → P (update f k v x)
-unfolding update
-update-all P f k v h p x = go (eqb x k) where
-  go : (b : Bool) → P (cond b v (f x))
-  go true = p
-  go false = h x
-
--- and beyond k nothing changes
-update-beyond : {A : Type 0} (P : A → Type 0) (f : ℕ → A) (k m : ℕ) (v : A) → T (ltb k m) → ((x : ℕ) → m ≤ x → P (f x)) → (x : ℕ) → m ≤ x → P (update f k v x)
-unfolding update
-update-beyond P f k m v b h x l = go (eqb x k) (eqb→eq x k) (ltb→lt k m b) where
-  go : (c : Bool) → (T c → x ≡ k) → k < m → P (cond c v (f x))
-  go true e s = let q : x ≡ k = e tt in absurd (omega arith)
-  go false e s = h x l
-
 module _ (g : Graph) (w : Within g) where
-  pub relabel-within : (k : ℕ) (v : Nodes) → T (ltb k labelCount) → NodesIn g v → Within (relabel g k v)
+  -- other labels and arrows
+  tables-within : (l : ℕ → Nodes) (j : ℕ → Pairs) → ((k : ℕ) → NodesIn g (l k)) → ((a : ℕ) → PairsIn g (j a))
+      → ((k i : ℕ) → labelCount ≤ k → l k i ≡ false) → ((a i k : ℕ) → arrowCount ≤ a → j a i k ≡ false) → Within (record { n = g .n; inUse = g .inUse; labelled = l; joined = j })
   unfolding isNode
-  relabel-within k v b h =
+  tables-within l j labels arrows few-labels few-arrows =
       record {
         some-node = w .some-node;
         few-nodes = w .few-nodes;
         use-below = w .use-below;
-        labels-in = update-all (NodesIn g) (g .labelled) k v (w .labels-in) h;
-        arrows-in = λ a. record { starts = w .arrows-in a .starts; ends = w .arrows-in a .ends };
-        no-more-labels = λ x i l. update-beyond (λ u. (i : ℕ) → u i ≡ false) (g .labelled) k labelCount v b (λ x l i. w .no-more-labels x i l) x l i;
-        no-more-arrows = w .no-more-arrows;
+        labels-in = labels;
+        arrows-in = λ a. record { starts = arrows a .starts; ends = arrows a .ends };
+        no-more-labels = few-labels;
+        no-more-arrows = few-arrows;
       }
+
+  pub relabel-within : (k : ℕ) (v : Nodes) → T (ltb k labelCount) → NodesIn g v → Within (relabel g k v)
+  relabel-within k v b h =
+      tables-within (update (g .labelled) k v) (g .joined) (λ x. update-all (NodesIn g) (g .labelled) k v x (w .labels-in x) h) (w .arrows-in)
+      (λ x i l. ap (λ u. u i) (update-other (g .labelled) k v x (λ e. absurd (omega (arith, ltb→lt k labelCount b)))) ∙ w .no-more-labels x i l) (w .no-more-arrows)
 
   pub rejoin-within : (a : ℕ) (v : Pairs) → T (ltb a arrowCount) → PairsIn g v → Within (rejoin g a v)
-  unfolding isNode
   rejoin-within a v b h =
-      record {
-        some-node = w .some-node;
-        few-nodes = w .few-nodes;
-        use-below = w .use-below;
-        labels-in = w .labels-in;
-        arrows-in = λ x. let q : PairsIn g (update (g .joined) a v x) = update-all (PairsIn g) (g .joined) a v (w .arrows-in) h x in record { starts = q .starts; ends = q .ends };
-        no-more-labels = w .no-more-labels;
-        no-more-arrows = λ x i j l. update-beyond (λ u. (i j : ℕ) → u i j ≡ false) (g .joined) a arrowCount v b (λ x l i j. w .no-more-arrows x i j l) x l i j;
-      }
-
-pub cond-both : {A : Type 0} (P : A → Type 0) (b : Bool) (x y : A) → P x → P y → P (cond b x y)
-cond-both P true x y p q = p
-cond-both P false x y p q = q
+      tables-within (g .labelled) (update (g .joined) a v) (w .labels-in) (λ x. update-all (PairsIn g) (g .joined) a v x (w .arrows-in x) h) (w .no-more-labels)
+      (λ x i j l. ap (λ u. u i j) (update-other (g .joined) a v x (λ e. absurd (omega (arith, ltb→lt a arrowCount b)))) ∙ w .no-more-arrows x i j l)
 
 -- An edit changes no nodes,
-pub run-n : (Z : Edit) (g : Graph) → (run Z g) .n ≡ g .n
+pub run-nodes : {A : Type 0} (f : ℕ → Nodes → A) (Z : Edit) (g : Graph) → f (run Z g .n) (run Z g .inUse) ≡ f (g .n) (g .inUse)
 unfolding run
-run-n finish g = refl
-run-n (addLabel k E Z) g = run-n Z _
-run-n (takeLabel k E Z) g = run-n Z _
-run-n (addArrow a R Z) g = run-n Z _
-run-n (takeArrow a R Z) g = run-n Z _
-run-n (choose K P Q Z) g = run-n Z _ ∙ cond-both (λ h. h .n ≡ g .n) (value g K) (run P g) (run Q g) (run-n P g) (run-n Q g)
+run-nodes f finish g = refl
+run-nodes f (addLabel k E Z) g = run-nodes f Z _
+run-nodes f (takeLabel k E Z) g = run-nodes f Z _
+run-nodes f (addArrow a R Z) g = run-nodes f Z _
+run-nodes f (takeArrow a R Z) g = run-nodes f Z _
+run-nodes f (choose K P Q Z) g = run-nodes f Z _ ∙ cond-both (λ h. f (h .n) (h .inUse) ≡ f (g .n) (g .inUse)) (value g K) (run P g) (run Q g) (run-nodes f P g) (run-nodes f Q g)
+
+pub run-n : (Z : Edit) (g : Graph) → (run Z g) .n ≡ g .n
+run-n = run-nodes (λ n u. n)
 
 -- and keeps a graph within the limits.
 pub run-within : (r : Ranges) (Z : Edit) → EditInRange r Z → (g : Graph) → Within g → Within (run Z g)

@@ -8,22 +8,22 @@ use Rattle.logic.specs.Syntax.{Sort, node, arrow, rule, Expr, label, com
 use Rattle.logic.specs.Graph.{Graph, isNode}
 use Rattle.logic.specs.Meaning.{value, holdAll}
 use Rattle.logic.specs.Steps.{update, relabel, rejoin, run}
-use Rattle.logic.specs.Carry.{replace, putLabel, putArrow, carry, carriedBook, followedBy}
+use Rattle.logic.specs.Carry.{substitute, putLabel, putArrow, carry, carriedBook, followedBy}
 use Rattle.logic.specs.Arity.{Nullary, all·, none·, label·, nominal·, arrowKind·, pair·, build0, byArity}
-use Rattle.logic.proofs.ArityLaws.{replace-1, replace-2, value-1, value-2}
+use Rattle.logic.proofs.ArityLaws.{substitute-1, substitute-2, value-1, value-2}
 
 -- the graph on which label k is f k and arrow a is h a, as g has them
 abbrev through : Graph → (ℕ → Expr node) → (ℕ → Expr arrow) → Graph
 through g f h = record { n = g .n; inUse = g .inUse; labelled = λ k. value g (f k); joined = λ a. value g (h a) }
 
 module _ (g : Graph) (f : ℕ → Expr node) (h : ℕ → Expr arrow) where
-  value-replace : {s : Sort} (e : Expr s) → value g (replace f h e) ≡ value (through g f h) e
-  unfolding value replace build0 isNode
-  value-replace e = byArity (λ s e. value g (replace f h e) ≡ value (through g f h) e) (λ s b. leaf b)
-      (λ u t b x p. rw (replace-1 f h b x) (value-1 g _ _ b (replace f h x) x p))
-      (λ u v t b x y p q. rw (replace-2 f h b x y) (value-2 g _ _ b (replace f h x) x (replace f h y) y p q))
+  value-substitute : {s : Sort} (e : Expr s) → value g (substitute f h e) ≡ value (through g f h) e
+  unfolding value substitute build0 isNode
+  value-substitute e = byArity (λ s e. value g (substitute f h e) ≡ value (through g f h) e) (λ s b. leaf b)
+      (λ u t b x p. rw (substitute-1 f h b x) (value-1 g _ _ b (substitute f h x) x p))
+      (λ u v t b x y p q. rw (substitute-2 f h b x y) (value-2 g _ _ b (substitute f h x) x (substitute f h y) y p q))
       e where
-        leaf : {s : Sort} (b : Nullary s) → value g (replace f h (build0 b)) ≡ value (through g f h) (build0 b)
+        leaf : {s : Sort} (b : Nullary s) → value g (substitute f h (build0 b)) ≡ value (through g f h) (build0 b)
         leaf all· = refl
         leaf none· = refl
         leaf (label· k) = refl
@@ -31,32 +31,28 @@ module _ (g : Graph) (f : ℕ → Expr node) (h : ℕ → Expr arrow) where
         leaf (arrowKind· a) = refl
         leaf (pair· i j) = refl
 
+of-cond : {A B : Type 0} (f : A → B) (b : Bool) (x y : A) → f (cond b x y) ≡ cond b (f x) (f y)
+of-cond f true x y = refl
+of-cond f false x y = refl
+
 -- to update a table of expressions is to update the table of their values
 value-update : (g : Graph) {s : Sort} (f : ℕ → Expr s) (k : ℕ) (F : Expr s) → (λ x. value g (update f k F x)) ≡ update (λ x. value g (f x)) k (value g F)
-unfolding update
-value-update g f k F = fun-ext (λ x. go x (eqb x k)) where
-  go : (x : ℕ) (b : Bool) → value g (cond b F (f x)) ≡ cond b (value g F) (value g (f x))
-  go x true = refl
-  go x false = refl
+value-update g f k F = unfold update in fun-ext (λ x. of-cond (value g) (eqb x k) F (f x))
 
 -- a rule in which label k is replaced by F says what the rule says where label k is F
 value-putLabel : (g : Graph) (k : ℕ) (F : Expr node) (K : Expr rule) → value g (putLabel k F K) ≡ value (relabel g k (value g F)) K
 unfolding putLabel value
-value-putLabel g k F K = value-replace g (update label k F) arrowKind K ∙ ap (λ l. value (record { n = g .n; inUse = g .inUse; labelled = l; joined = g .joined }) K) (value-update g label k F)
+value-putLabel g k F K = value-substitute g (update label k F) arrowKind K ∙ ap (λ l. value (record { n = g .n; inUse = g .inUse; labelled = l; joined = g .joined }) K) (value-update g label k F)
 
 value-putArrow : (g : Graph) (a : ℕ) (S : Expr arrow) (K : Expr rule) → value g (putArrow a S K) ≡ value (rejoin g a (value g S)) K
 unfolding putArrow value
-value-putArrow g a S K = value-replace g label (update arrowKind a S) K ∙ ap (λ l. value (record { n = g .n; inUse = g .inUse; labelled = g .labelled; joined = l }) K) (value-update g arrowKind a S)
+value-putArrow g a S K = value-substitute g label (update arrowKind a S) K ∙ ap (λ l. value (record { n = g .n; inUse = g .inUse; labelled = g .labelled; joined = l }) K) (value-update g arrowKind a S)
 
 -- (not x or p) and (x or q) is p where x holds, else q
 choice : (x p q : Bool) → ((not x || p) && (x || q)) ≡ cond x p q
 choice true true q = refl
 choice true false q = refl
 choice false p q = refl
-
-cond-run : (x : Bool) (g h : Graph) (K : Expr rule) → cond x (value g K) (value h K) ≡ value (cond x g h) K
-cond-run true g h K = refl
-cond-run false g h K = refl
 
 -- Theorem 4.2: the carried rule says of a sheet what the rule says of the sheet that the edit leaves.
 pub carried : (Z : Edit) (K : Expr rule) (g : Graph) → value g (carry Z K) ≡ value (run Z g) K
@@ -69,7 +65,7 @@ carried (takeArrow a R Z) K g = value-putArrow g a (minus (arrowKind a) R) (carr
 carried (choose K₁ P Q Z) K g =
     choice (value g K₁) (value g (carry P (carry Z K))) (value g (carry Q (carry Z K)))
     ∙ ap₂ (cond (value g K₁)) (carried P (carry Z K) g) (carried Q (carry Z K) g)
-    ∙ cond-run (value g K₁) (run P g) (run Q g) (carry Z K)
+    ∙ sym (of-cond (λ h. value h (carry Z K)) (value g K₁) (run P g) (run Q g))
     ∙ carried Z K (cond (value g K₁) (run P g) (run Q g))
 
 -- So does the carried book.

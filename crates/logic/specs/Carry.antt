@@ -5,39 +5,39 @@ use Rattle.logic.specs.Syntax.{Sort, node, arrow, rule, Expr, all, none,
 use Rattle.logic.specs.Steps.{update}
 
 -- Every 03 k replaced by f k and every 11 a by h a, at once: what is put in is not replaced inside.
-unfoldable pub replace : (f : ℕ → Expr node) (h : ℕ → Expr arrow) {s : Sort} → Expr s → Expr s
-replace f h all = all
-replace f h none = none
-replace f h (label k) = f k
-replace f h (nominal i) = nominal i
-replace f h (complement E) = complement (replace f h E)
-replace f h (and E F) = and (replace f h E) (replace f h F)
-replace f h (or E F) = or (replace f h E) (replace f h F)
-replace f h (some R E) = some (replace f h R) (replace f h E)
-replace f h (every R E) = every (replace f h R) (replace f h E)
-replace f h (atLeast m R E) = atLeast m (replace f h R) (replace f h E)
-replace f h (atMost m R E) = atMost m (replace f h R) (replace f h E)
-replace f h (arrowKind a) = h a
-replace f h (reversed R) = reversed (replace f h R)
-replace f h (union R S) = union (replace f h R) (replace f h S)
-replace f h (common R S) = common (replace f h R) (replace f h S)
-replace f h (minus R S) = minus (replace f h R) (replace f h S)
-replace f h (endingIn R E) = endingIn (replace f h R) (replace f h E)
-replace f h (pair i j) = pair i j
-replace f h (subNodes E F) = subNodes (replace f h E) (replace f h F)
-replace f h (subArrows R S) = subArrows (replace f h R) (replace f h S)
-replace f h (nodeIn i E) = nodeIn i (replace f h E)
-replace f h (pairIn i j R) = pairIn i j (replace f h R)
-replace f h (both K L) = both (replace f h K) (replace f h L)
-replace f h (either K L) = either (replace f h K) (replace f h L)
-replace f h (notRule K) = notRule (replace f h K)
+unfoldable pub substitute : (f : ℕ → Expr node) (h : ℕ → Expr arrow) {s : Sort} → Expr s → Expr s
+substitute f h all = all
+substitute f h none = none
+substitute f h (label k) = f k
+substitute f h (nominal i) = nominal i
+substitute f h (complement E) = complement (substitute f h E)
+substitute f h (and E F) = and (substitute f h E) (substitute f h F)
+substitute f h (or E F) = or (substitute f h E) (substitute f h F)
+substitute f h (some R E) = some (substitute f h R) (substitute f h E)
+substitute f h (every R E) = every (substitute f h R) (substitute f h E)
+substitute f h (atLeast m R E) = atLeast m (substitute f h R) (substitute f h E)
+substitute f h (atMost m R E) = atMost m (substitute f h R) (substitute f h E)
+substitute f h (arrowKind a) = h a
+substitute f h (reversed R) = reversed (substitute f h R)
+substitute f h (union R S) = union (substitute f h R) (substitute f h S)
+substitute f h (common R S) = common (substitute f h R) (substitute f h S)
+substitute f h (minus R S) = minus (substitute f h R) (substitute f h S)
+substitute f h (endingIn R E) = endingIn (substitute f h R) (substitute f h E)
+substitute f h (pair i j) = pair i j
+substitute f h (subNodes E F) = subNodes (substitute f h E) (substitute f h F)
+substitute f h (subArrows R S) = subArrows (substitute f h R) (substitute f h S)
+substitute f h (nodeIn i E) = nodeIn i (substitute f h E)
+substitute f h (pairIn i j R) = pairIn i j (substitute f h R)
+substitute f h (both K L) = both (substitute f h K) (substitute f h L)
+substitute f h (either K L) = either (substitute f h K) (substitute f h L)
+substitute f h (notRule K) = notRule (substitute f h K)
 
 -- Every 03 k replaced by F; every 11 a replaced by S.
 unfoldable pub putLabel : ℕ → Expr node → Expr rule → Expr rule
-putLabel k F K = replace (update label k F) arrowKind K
+putLabel k F K = substitute (update label k F) arrowKind K
 
 unfoldable pub putArrow : ℕ → Expr arrow → Expr rule → Expr rule
-putArrow a S K = replace label (update arrowKind a S) K
+putArrow a S K = substitute label (update arrowKind a S) K
 
 -- The rule carried back through the edit. Of 35, T carries through P the rule that was carried through Z:
 -- document 01's own wording, through P with its end replaced by Z, is `carry-choose` in proofs/Theorem.

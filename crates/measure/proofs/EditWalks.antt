@@ -19,7 +19,7 @@ use Rattle.ends.proofs.Behind.{size-code}
 use Rattle.ends.proofs.FirstSteps.{IsChoose, as-finish, as-choose, edit-inside, four}
 use Rattle.measure.specs.State.{Holds}
 use Rattle.measure.specs.Pruned.{pruned}
-use Rattle.measure.specs.EditMeasures.{EditRoom, StepRoom, Held, StepOf, Pushed, Joined, StepMeasured, Prefixed, Backed, PutBefore, EndBefore}
+use Rattle.measure.specs.EditMeasures.{EditRoom, StepRoom, Held, StepOf, Pushed, ChoiceHeld, StepMeasured, Prefixed, Backed, PutBefore, EndBefore}
 use Rattle.measure.proofs.Held.{holds-is}
 use Rattle.measure.proofs.Firsts.{back-choose, pruned-choose}
 use Rattle.measure.proofs.Puts.{head-of, end-tail}
@@ -208,7 +208,7 @@ module _ {text : List ℕ} {at first second : ℕ} (m : getD text at 0 ≡ 0x35)
   -- the state, and the text
   module _ (rules : ℕ) {state state₂ other₁ other₂ out out₁ out₂ : List ℕ} {pos q p : ℕ} (k : Kept 130 state other₁) (b₂ : (Y : Edit) → EditAt text second Y → Backed rules Y state out pos state₂ out₁ q)
       (b₁ : (Y : Edit) → EditAt text first Y → Backed rules Y other₁ out₁ q other₂ out₂ p) where
-    pub choice-measured : {state₃ : List ℕ} → ((K : Tree) → At text (at + 1) K → Joined rules K other₂ state₂ state₃) → (Z : Edit) → EditAt text at Z → StepMeasured rules Z state state₃
+    pub choice-measured : {state₃ : List ℕ} → ((K : Tree) → At text (at + 1) K → ChoiceHeld rules K other₂ state₂ state₃) → (Z : Edit) → EditAt text at Z → StepMeasured rules Z state state₃
     choice-measured j Z h =
         let w = parted Z h in
         let c = w .parts in

@@ -8,7 +8,7 @@ use Rattle.tree.specs.Tree.{Tree, name, leaf, one, two, size, under}
 use Rattle.tree.specs.Sizes.{Measure, measure, beyond, capped, cappedMeasure}
 use Rattle.ends.specs.Shapes.{shapeOf, cell, Formed, At, Some}
 use Rattle.measure.specs.State.{Holds, added, Scanned}
-use Rattle.ends.proofs.TreePlaces.{IsName, IsLeaf, IsOne, IsTwo, tag-at, as-one, as-two, as-any}
+use Rattle.ends.proofs.TreePlaces.{IsName, IsLeaf, tag-at, as-one, as-two, as-any}
 use Rattle.ends.proofs.NameCells.{named-lt}
 use Rattle.measure.proofs.Held.{holds-same, holds-is, holds-rise, holds-touch, risen, marked, added-name, added-leaf, added-one, added-two, added-capped}
 
@@ -18,49 +18,27 @@ module _ (text : List ℕ) (at w v : ℕ) where
 
   module _ (l₀ l₁ : List ℕ) (long : length l₀ ≡ 130) (low : v ≤ beyond) (rose : l₁ ≡ set l₀ 129 (max (getD l₀ 129 0) v)) where
     risen-held : (M : Measure) → Holds l₀ M → Holds l₁ (risen v M)
-    risen-held M h = subst (λ (l : List ℕ). Holds l (risen v M)) (sym rose) (holds-rise l₀ M v long low h)
-
-    long₁ : length l₁ ≡ 130
-    long₁ = ap length rose ∙ length-set l₀ 129 (max (getD l₀ 129 0) v) ∙ long
+    risen-held M h = rw rose (holds-rise l₀ M v long low h)
 
     pub name-scanned : (t : Tree) → IsName text at t → (i : ℕ) → i ≡ cell (getD text at 0) (getD text (at + 1) 0) → (l₂ : List ℕ)
         → l₂ ≡ set (set l₁ i (capped (getD l₁ i 0 + w))) (64 + i) (max (getD l₁ (64 + i) 0) v) → Scanned at w v t (at + 2) l₀ l₂
     unfolding size
-    name-scanned t q i e l₂ f = subst (λ (u : Tree). Scanned at w v u (at + 2) l₀ l₂) (sym (q .is)) (record {
+    name-scanned t q i e l₂ f = rw (q .is) (record {
       ends = refl;
-      state = λ M h. holds-is (added-name w v (q .c) (q .k) M) (subst (λ (l : List ℕ). Holds l (marked (q .c) (q .k) w v (risen v M)))
-          (sym (f ∙ ap (λ (j : ℕ). set (set l₁ j (capped (getD l₁ j 0 + w))) (64 + j) (max (getD l₁ (64 + j) 0) v)) (e ∙ ap₂ cell (q .reads-c) (q .reads-k))))
-          (holds-touch l₁ (risen v M) (q .c) (q .k) w v long₁ low (q .named) (risen-held M h)));
+      state = λ M h. holds-is (added-name w v (q .c) (q .k) M)
+          (rw (f, e, q .reads-c, q .reads-k) (holds-touch l₁ (risen v M) (q .c) (q .k) w v (ap length rose ∙ length-set l₀ 129 (max (getD l₀ 129 0) v) ∙ long) low (q .named) (risen-held M h)));
     })
 
     pub leaf-scanned : (t : Tree) → IsLeaf text at t → (next s : ℕ) → s ≡ shapeOf (getD text at 0) → next ≡ at + s % 4 → Scanned at w v t next l₀ l₁
     unfolding size
-    leaf-scanned t q next s e f = subst (λ (u : Tree). Scanned at w v u next l₀ l₁) (sym (q .is)) (record {
+    leaf-scanned t q next s e f = rw (q .is) (record {
       ends = f ∙ ap (λ (x : ℕ). at + x % 4) e ∙ ap (λ (x : ℕ). at + x) (sym (q .head));
       state = λ M h. holds-is (added-leaf w v (q .h) M) (risen-held M h);
     })
 
-  -- the level below, cut
-  module _ (below : ℕ) (down : below ≡ capped (under v 2)) where
-    lower : {l : List ℕ} (E M : Measure) → Holds l (added w below E M) → Holds l (added w (under v 2) E M)
-    lower E M h = holds-same (ap (λ (x : ℕ). cappedAt x) down ∙ added-capped w (under v 2) E M) h where
-      cappedAt : ℕ → Measure
-      cappedAt x = cappedMeasure (added w x E M)
-
-    one-scanned : (t : Tree) (q : IsOne text at t) (first next : ℕ) (l l′ : List ℕ) → first ≡ at + shapeOf (getD text at 0) % 4 → Scanned first w below (q .x) next l l′ → Scanned at w v t next l l′
-    unfolding size
-    one-scanned t q first next l l′ g a = subst (λ (u : Tree). Scanned at w v u next l l′) (sym (q .is)) (record {
-      ends = omega (arith, a .ends, g, q .head);
-      state = λ M h. holds-is (added-one w v (q .h) (q .x) M) (lower (measure (q .x)) M (a .state M h));
-    })
-
-    two-scanned : (t : Tree) (q : IsTwo text at t) (first second next : ℕ) (l l₁ l₂ : List ℕ) → first ≡ at + shapeOf (getD text at 0) % 4
-        → Scanned first w below (q .x) second l l₁ → Scanned second w below (q .y) next l₁ l₂ → Scanned at w v t next l l₂
-    unfolding size
-    two-scanned t q first second next l l₁ l₂ g a b = subst (λ (u : Tree). Scanned at w v u next l l₂) (sym (q .is)) (record {
-      ends = omega (arith, a .ends, b .ends, g, q .head);
-      state = λ M h. holds-is (added-two w v (q .h) (q .x) (q .y) M) (lower (measure (q .y)) (added w (under v 2) (measure (q .x)) M) (b .state _ (lower (measure (q .x)) M (a .state M h))));
-    })
+-- the level below, cut
+lower : (w v below : ℕ) → below ≡ capped (under v 2) → {l : List ℕ} (E M : Measure) → Holds l (added w below E M) → Holds l (added w (under v 2) E M)
+lower w v below e E M h = holds-same (ap (λ (x : ℕ). cappedMeasure (added w x E M)) e ∙ added-capped w (under v 2) E M) h
 
 -- The loop's invariant looks forward: whatever stands at the start, a part of it stands at `p`, and scanning the part finishes the whole.
 module _ (text : List ℕ) (at w v : ℕ) (l₀ : List ℕ) where
@@ -120,6 +98,7 @@ module _ (text : List ℕ) (at w v : ℕ) (l₀ : List ℕ) (p level : ℕ) (l :
     )
 
     pub turn-one : s < 8 → l′ ≡ l → p′ ≡ p + s % 4 → (p < p′) × Scanning text at w v l₀ p′ below l′
+    unfolding size
     turn-one short same f =
         let g : p′ ≡ p + shapeOf (getD text p 0) % 4 = f ∙ ap (λ (x : ℕ). p + x % 4) e in
         onward (omega (arith, f, first-operand .on)) (ap length same ∙ r .long) (λ u h.
@@ -127,10 +106,11 @@ module _ (text : List ℕ) (at w v : ℕ) (l₀ : List ℕ) (p level : ℕ) (l :
         record {
           what = q .x;
           stands = subst (λ (n : ℕ). At text n (q .x)) (sym g) (q .first);
-          whole = λ next l″ a. one-scanned text p w level below down u q p′ next l l″ g (subst (λ (k : List ℕ). Scanned p′ w below (q .x) next k l″) same a);
+          whole = λ next l″ a. rw (q .is) (record { ends = omega (arith, a .ends, g, q .head); state = λ M m. holds-is (added-one w level (q .h) (q .x) M) (lower w level below down (measure (q .x)) M (a .state M (rw same m))) });
         })
 
     pub turn-two : 8 ≤ s → (next : ℕ) (l₁ : List ℕ) → l′ ≡ l₁ → p′ ≡ next → length l₁ ≡ length l → ((x : Tree) → At text (p + s % 4) x → Scanned (p + s % 4) w below x next l l₁) → (p < p′) × Scanning text at w v l₀ p′ below l′
+    unfolding size
     turn-two wide next l₁ same f long scanned =
         let g : p + s % 4 ≡ p + shapeOf (getD text p 0) % 4 = ap (λ (x : ℕ). p + x % 4) e in
         onward (omega (arith, f, first-operand .on, scanned (first-operand .here .what) (first-operand .here .stands) .ends)) (ap length same ∙ long ∙ r .long) (λ u h.
@@ -139,5 +119,9 @@ module _ (text : List ℕ) (at w v : ℕ) (l₀ : List ℕ) (p level : ℕ) (l :
         record {
           what = q .y;
           stands = q .second p′ (f ∙ a .ends ∙ ap (λ (n : ℕ). n + size (q .x)) g);
-          whole = λ end l″ b. two-scanned text p w level below down u q (p + s % 4) next end l l₁ l″ g a (subst (λ (n : ℕ). Scanned n w below (q .y) end l₁ l″) f (subst (λ (k : List ℕ). Scanned p′ w below (q .y) end k l″) same b));
+          whole = λ end l″ b. rw (q .is) (record {
+            ends = omega (arith, a .ends, b .ends, f, g, q .head);
+            state = λ M m. holds-is (added-two w level (q .h) (q .x) (q .y) M)
+                (lower w level below down (measure (q .y)) (added w (under level 2) (measure (q .x)) M) (b .state _ (rw same (lower w level below down (measure (q .x)) M (a .state M m)))));
+          });
         })

@@ -4,26 +4,26 @@ use mathlib.Core.Bool.{Bool, true, false, cond}
 use mathlib.Core.List.{List, _++_, append-assoc}
 use Prim.Native.Nat.{ℕ, suc, _+_, _*_, _-_, _≤_, _<_}
 use native.Mathlib.Omega.{arith}
-use native.Mathlib.Nat.{mul-le-mul}
 use borrow.Author.Tests.{eq-eqb, ne-eqb}
 use lib.Dec.{eqb}
 use lib.ListN.{length, getD, set}
 use Rattle.logic.specs.Syntax.{Edit}
+use Rattle.logic.proofs.Tables.{cond-both}
 use Rattle.text.specs.Code.{editCode}
 use Rattle.tree.specs.Tree.{Tree, size, under}
 use Rattle.tree.specs.Sizes.{Measure, measure, substituted, back, beyond, capped}
 use Rattle.tree.specs.Stack.{touched}
 use Rattle.tree.proofs.TreeLaws.{size-is}
+use Rattle.tree.proofs.Measured.{under-under}
 use Rattle.tree.proofs.Capped.{capped-under}
 use Rattle.ends.specs.Shapes.{cell, At}
 use Rattle.ends.specs.Edits.{behindStep}
-use Rattle.ends.proofs.NameCells.{named-lt}
 use Rattle.ends.proofs.FirstSteps.{editTag, editNumber, editTree, stepCode, IsStep}
 use Rattle.measure.specs.State.{Holds, added, Scanned}
 use Rattle.measure.specs.EditMeasures.{Held, StepMeasured, Prefixed, PutBefore}
 use Rattle.measure.specs.Pruned.{pruned}
 use Rattle.measure.proofs.Puts.{head-of}
-use Rattle.measure.proofs.Held.{holds-same, holds-is, holds-lower, holds-longer, lowered, longer, together, twice}
+use Rattle.measure.proofs.Held.{holds-same, holds-is, holds-lower, holds-longer, lowered, longer, together}
 use Rattle.measure.proofs.Firsts.{back-step, pruned-step}
 
 module _ (text : List ℕ) (at : ℕ) (Z : Edit) (q : IsStep text at Z) where
@@ -40,17 +40,15 @@ module _ (text : List ℕ) (at : ℕ) (Z : Edit) (q : IsStep text at Z) where
   pub step-cell : (x i : ℕ) → x ≡ touched (getD text at 0) → i ≡ cell x (getD text (at + 1) 0) → i ≡ cell c k
   step-cell x i e f = f ∙ ap₂ cell (e ∙ ap touched (q .reads-op)) (q .reads-k)
 
-  pub step-low : (x i : ℕ) → x ≡ touched (getD text at 0) → i ≡ cell x (getD text (at + 1) 0) → i < 64
-  step-low x i e f = omega (arith, named-lt c k (q .named), step-cell x i e f)
-
   -- the level of the step's expression
   level : (D d v : ℕ) → d ≡ capped (under (capped D) 2) → v ≡ cond (eqb (getD text at 0) 0x32) (capped (under d 2)) d → v ≡ capped (under D (suc more))
+  unfolding under
   level D d v e f = go (eqb (editTag Z) 0x32) (f ∙ ap (λ (x : ℕ). cond (eqb x 0x32) (capped (under d 2)) d) (q .reads-op)) where
     e′ : d ≡ capped (under D 2)
     e′ = e ∙ capped-under D 2
 
     go : (b : Bool) → v ≡ cond b (capped (under d 2)) d → v ≡ capped (under D (suc (cond b 2 1)))
-    go true p = p ∙ twice D d e′
+    go true p = p ∙ ap (λ (u : ℕ). capped (under u 2)) e′ ∙ capped-under (under D 2) 2 ∙ ap capped (under-under D 2 2)
     go false p = p ∙ e′
 
   pub step-measured : (l₀ l₁ l₂ l₃ : List ℕ) (x i d w v next m y : ℕ) → length l₀ ≡ 130 → length l₂ ≡ 130
@@ -111,13 +109,8 @@ module _ (text : List ℕ) (at : ℕ) (Z : Edit) (q : IsStep text at Z) where
   pub step-fits : (l₀ : List ℕ) (i w : ℕ) → Held l₀ → i ≡ cell c k → w ≡ getD l₀ i 0 → w ≤ beyond
   step-fits l₀ i w h j e = omega (arith, e ∙ ap (λ (u : ℕ). getD l₀ u 0) j ∙ h .holds .count-at c k (q .named))
 
-  pub step-product : (w m n : ℕ) → w ≤ beyond → m ≤ 2 → n ≤ 4096 → w * (m + n) ≤ beyond * 4098
-  step-product w m n a b c = mul-le-mul a (let e : m + n ≤ 4098 = omega arith in e)
-
 pub low-level : (b : Bool) (x d v : ℕ) → d ≡ capped x → v ≡ cond b (capped (under d 2)) d → v ≤ beyond
-low-level true x d v e f = omega (arith, f)
-low-level false x d v e f = omega (arith, f, e)
+low-level b x d v e f = rw f (cond-both (λ (u : ℕ). u ≤ beyond) b _ _ (omega arith) (omega arith))
 
 pub few : (b : Bool) (m : ℕ) → m ≡ cond b 2 1 → m ≤ 2
-few true m e = omega (arith, e)
-few false m e = omega (arith, e)
+few b m e = rw e (cond-both (λ (u : ℕ). u ≤ 2) b _ _ (omega arith) (omega arith))

@@ -77,5 +77,5 @@ pub record Merged (t l l′ : List ℕ) : Type 0 where
   pub tall : getD l′ levelsCell 0 ≡ capped (max (getD t levelsCell 0) (getD l levelsCell 0) + 2)
 
 -- the numbers of a choice on K
-pub record Joined (rules : ℕ) (K : Tree) (t l l′ : List ℕ) : Type 0 where
+pub record ChoiceHeld (rules : ℕ) (K : Tree) (t l l′ : List ℕ) : Type 0 where
   pub holds : (T U : Measure) → Holds t T → Holds l U → Holds l′ (chosen rules (measure K) T U)

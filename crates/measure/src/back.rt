@@ -12,7 +12,7 @@ ghost use Rattle.ends.specs.Shapes.{At, Some};
 ghost use Rattle.ends.specs.Edits.{EditAt, SomeEdit};
 ghost use Rattle.ends.specs.Kept.{Kept};
 ghost use Rattle.measure.specs.State.{numbers};
-ghost use Rattle.measure.specs.EditMeasures.{EditRoom, StepRoom, Held, StepMeasured, Prefixed, Backed, Pushed, Joined};
+ghost use Rattle.measure.specs.EditMeasures.{EditRoom, StepRoom, Held, StepMeasured, Prefixed, Backed, Pushed, ChoiceHeld};
 use super::keep;
 use super::numbers;
 use super::scan;
@@ -74,9 +74,9 @@ fn push(text: &[u8], at: usize, stack: &mut [u16], top: usize) -> usize
 
 // The two ways of a 35 together, with its rule at `at`, which stands twice for each rule of the book: 25 26 27 K T 26 K U.
 // Inner: the text was read before.
-fn join_ways(text: &[u8], at: usize, rules: usize, t: &[usize], state: &mut [usize])
+fn choose_ways(text: &[u8], at: usize, rules: usize, t: &[usize], state: &mut [usize])
     requires { ⌜ Some (now text) at × (length (now text) ≤ longestText) × (rules ≤ mostRules) × (length (now t) ≡ numbers) × (length (now state) ≡ numbers) ⌝ }
-    ensures { λ r. ⌜ ((K : Tree) → At (now (text .entry)) at K → Joined rules K (now (t .entry)) (now (state .entry)) (now (state .exit))) ⌝ }
+    ensures { λ r. ⌜ ((K : Tree) → At (now (text .entry)) at K → ChoiceHeld rules K (now (t .entry)) (now (state .entry)) (now (state .exit))) ⌝ }
 {
     numbers::merge(t, state);
     let next = scan::scan(text, at, 2 * rules, 4, state);
@@ -112,7 +112,7 @@ fn one_back(
     way.at = first;
     way.pos = q;
     let p = back(text, rules, way, stack, &mut other, out);
-    join_ways(text, at + 1, rules, &other, state);
+    choose_ways(text, at + 1, rules, &other, state);
     keep::put_before(text, at, first, out, p)
 }
 

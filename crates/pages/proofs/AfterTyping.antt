@@ -6,12 +6,12 @@ use Prim.Native.Nat.{ℕ, zero, suc, _<_}
 use native.Mathlib.Omega.{arith}
 use mathlib.Core.Bool.{Bool, _&&_, cond}
 use borrow.Author.Tests.{ne-eqb}
-use lib.ListN.{getD}
 use Rattle.answer.specs.Asked.{passed, after}
+use Rattle.answer.proofs.AskedLaws.{then-passed}
 use Rattle.logic.specs.Graph.{Graph, isNode}
 use Rattle.logic.specs.Limits.{Within, maxNodes}
 use Rattle.logic.specs.Steps.{update}
-use Rattle.bitset.specs.Words.{setOf}
+use Rattle.bitset.specs.Words.{Bytes, setOf}
 use Rattle.sheet.specs.Sheet.{present, store, graphOf, block, labelBlock, arrowBlock, blockCount}
 use Rattle.sheet.specs.Questions.{blockOf, askSheet, Sound}
 use Rattle.sheet.proofs.SoundSheets.{sound-is-stored}
@@ -20,7 +20,7 @@ use Rattle.store.proofs.StoredPasses.{stored-passes}
 use Rattle.store.proofs.StoredReads.{read-back}
 use Rattle.pages.specs.Typed.{Block, arrows, labels, askPage, marked, typed, askType, typedSheet}
 use Rattle.pages.specs.Prints.{pageOf}
-use Rattle.pages.proofs.TypeLaws.{both-passed, head-named}
+use Rattle.pages.proofs.TypeLaws.{head-named}
 use Rattle.pages.proofs.RightLines.{typed-alike, typed-within}
 use Rattle.pages.proofs.PageAccepted.{Right, accepted-right, accepted-page}
 
@@ -39,12 +39,12 @@ other-arrows g page (arrows a) c d =
     ap (λ (x : Bool). block (present .sums) (2 ∷ suc c ∷ 0 ∷ []) maxNodes (λ i. setOf (g .n) (cond x (λ i j. isNode g i && marked g page i j) (g .joined c) i))) (ne-eqb c a (λ e. d (ap suc e)))
 other-arrows g page labels c d = refl
 
-module _ (sheet page : List ℕ) (are-bytes : (p : ℕ) → getD sheet p 0 < 256) (b : Block) (done : askType sheet page ≡ passed b) where
+module _ (sheet page : List ℕ) (are-bytes : Bytes sheet) (b : Block) (done : askType sheet page ≡ passed b) where
   abbrev g : Graph
   g = graphOf sheet
 
   asked : Sound sheet × (askPage g page ≡ passed b)
-  asked = unfold askType in both-passed (askSheet sheet) (askPage g page) b done
+  asked = unfold askType in let p = then-passed (askSheet sheet) (askPage g page) b done in (p .1, p .2)
 
   within : Within g
   within = sound-is-stored present sheet are-bytes (asked .0) .within

@@ -2,15 +2,14 @@
 use mathlib.Core.Path.{_≡_, refl, sym, _∙_, ap, ap₂}
 use mathlib.Core.Bool.{Bool, cond}
 use mathlib.Core.List.{List, [], _∷_}
-use Prim.Native.Nat.{ℕ, suc, _<_}
+use Prim.Native.Nat.{ℕ, suc}
 use borrow.Author.Tests.{eq-eqb}
 use lib.Dec.{ltb}
-use lib.ListN.{getD}
 use Rattle.answer.specs.Asked.{passed}
 use Rattle.logic.specs.Graph.{Graph, Nodes}
 use Rattle.logic.specs.Limits.{Within, maxNodes, labelCount}
 use Rattle.logic.specs.Steps.{update, rejoin}
-use Rattle.bitset.specs.Words.{setOf}
+use Rattle.bitset.specs.Words.{Bytes, setOf}
 use Rattle.sheet.specs.Sheet.{present, store, graphOf, block, labelBlock, arrowBlock, lineCount, relabelAll}
 use Rattle.sheet.specs.Questions.{blockOf, Sound}
 use Rattle.sheet.proofs.SoundSheets.{sound-is-stored}
@@ -32,23 +31,16 @@ module _ (g h : Graph) (e : Alike h g) where
   same-labels =
       sym (ap₂ (λ (m : ℕ) (u : Nodes). block (present .sums) (1 ∷ 0 ∷ m ∷ []) (lineCount present) (λ k. setOf m (cond (ltb k labelCount) (g .labelled k) u))) (e .nodes) (e .in-use))
 
-module _ (first second page : List ℕ) (first-bytes : (p : ℕ) → getD first p 0 < 256) (second-bytes : (p : ℕ) → getD second p 0 < 256) (sound : Sound second) (e : Alike (graphOf second) (graphOf first)) (b : Block) (printed : Printed first page b) where
+  same-block : Within g → (b : Block) → HasBlock b → blockOf (store (typed h (pageOf g b) b)) (blockNumber b) ≡ blockOf (store g) (blockNumber b)
+  same-block w (arrows a) l = ap (λ x. blockOf (store x) (suc a)) (arrows-into g w h e a) ∙ later-block present (rejoin h a (g .joined a)) a l ∙ same-arrows a ∙ sym (later-block present g a l)
+  same-block w labels l = ap (λ x. blockOf (store x) 0) (labels-into g w h e) ∙ first-block present (relabelAll h (g .labelled)) ∙ same-labels ∙ sym (first-block present g)
+
+module _ (first second page : List ℕ) (first-bytes : Bytes first) (second-bytes : Bytes second) (sound : Sound second) (e : Alike (graphOf second) (graphOf first)) (b : Block) (printed : Printed first page b) where
   pub accepted : askType second page ≡ passed b
   accepted = ap (askType second) (printed .is-page) ∙ page-accepted first second first-bytes (printed .sound) sound e b (printed .block)
 
   pub becomes : blockOf (typedSheet second page) (blockNumber b) ≡ blockOf first (blockNumber b)
   becomes =
-      ap (λ t. blockOf t (blockNumber b)) (sheet-after second page second-bytes b accepted ∙ ap (λ p. store (typed (graphOf second) p b)) (printed .is-page)) ∙ same b (printed .block)
-      ∙ ap (λ t. blockOf t (blockNumber b)) (sym (sound-is-stored present first first-bytes (printed .sound) .stored)) where
-        g : Graph
-        g = graphOf first
-
-        h : Graph
-        h = graphOf second
-
-        within : Within g
-        within = sound-is-stored present first first-bytes (printed .sound) .within
-
-        same : (c : Block) → HasBlock c → blockOf (store (typed h (pageOf g c) c)) (blockNumber c) ≡ blockOf (store g) (blockNumber c)
-        same (arrows a) l = ap (λ x. blockOf (store x) (suc a)) (arrows-into g within h e a) ∙ later-block present (rejoin h a (g .joined a)) a l ∙ same-arrows g h e a ∙ sym (later-block present g a l)
-        same labels l = ap (λ x. blockOf (store x) 0) (labels-into g within h e) ∙ first-block present (relabelAll h (g .labelled)) ∙ same-labels g h e ∙ sym (first-block present g)
+      let o = sound-is-stored present first first-bytes (printed .sound) in
+      ap (λ t. blockOf t (blockNumber b)) (sheet-after second page second-bytes b accepted ∙ ap (λ p. store (typed (graphOf second) p b)) (printed .is-page))
+      ∙ same-block (graphOf first) (graphOf second) e (o .within) b (printed .block) ∙ ap (λ t. blockOf t (blockNumber b)) (sym (o .stored))

@@ -1,13 +1,13 @@
 -- Lines written byte by byte, compared, and their marks.
-use mathlib.Core.Path.{_≡_, refl, sym, _∙_, ap, ap₂}
-use mathlib.Core.Bool.{Bool, true, _&&_, cond}
+use mathlib.Core.Path.{_≡_, sym, _∙_, ap, ap₂}
+use mathlib.Core.Bool.{true, _&&_}
 use mathlib.Core.List.{List, [], _∷_, _++_, append-assoc, append-nil}
-use Prim.Native.Nat.{ℕ, zero, suc, _+_, _≤_, _<_}
+use Prim.Native.Nat.{ℕ, suc, _+_, _≤_, _<_}
 use native.Mathlib.Numerals.{add-one}
 use native.Mathlib.Omega.{arith}
 use native.Mathlib.Decide.{decLt}
 use borrow.Author.Tests.{lt-ltb, le-ltb}
-use lib.Dec.{eqb, ltb}
+use lib.Dec.{eqb}
 use lib.ListN.{length, getD, set, take, drop, replicate, length-append, length-set, length-drop, drop-of-length-le}
 use borrow.Rule.Slice.PartMut.{postOf, post-is}
 use lib.Seq.{drop-cons, take-suc-set, take-at, set-split, length-take-le}
@@ -32,11 +32,7 @@ same-end a b i h k = unfold sameBytes in ap₂ sameBytes (drop-of-length-le a h)
 
 -- a line shows only what a set has below n
 square-cong : (n : ℕ) (v w : Nodes) (j : ℕ) → ((i : ℕ) → i < n → v i ≡ w i) → square n v j ≡ square n w j
-unfolding square
-square-cong n v w j h = go (decLt j n) where
-  go : Dec (j < n) → _≡_ {A = ℕ} (cond (ltb j n) (cond (v j) 0x23 0x2E) 0x20) (cond (ltb j n) (cond (w j) 0x23 0x2E) 0x20)
-  go (yes l) = ap (λ (b : Bool). cond {A = ℕ} (ltb j n) (cond b 0x23 0x2E) 0x20) (h j l)
-  go (no l) = rw (le-ltb j n (omega arith))
+square-cong n v w j h = unfold square in elim (decLt j n) [ yes l ↦ rw (h j l) | no l ↦ rw (le-ltb j n (omega arith)) ]
 
 pub setLine-cong : (n x : ℕ) (v w : Nodes) → ((i : ℕ) → i < n → v i ≡ w i) → setLine n x v ≡ setLine n x w
 setLine-cong n x v w h = unfold setLine squares in simp (square-cong n v w)

@@ -1,26 +1,26 @@
 -- A page is accepted exactly when some graph within the limits, of as many nodes and with the same nodes in use, prints it.
-use mathlib.Core.Path.{_≡_, refl, sym, _∙_, ap, ap₂}
+use mathlib.Core.Path.{_≡_, refl, sym, _∙_, ap, ap₂, subst}
 use mathlib.Core.Bool.{true, false, and-false}
+use mathlib.Core.Logic.{⊎-elim}
 use mathlib.Core.List.{List, _++_}
 use Prim.Native.Nat.{ℕ, zero, suc, _+_, _*_, _/_, _%_, _≤_, _<_}
 use native.Mathlib.Omega.{arith}
-use native.Mathlib.Decide.{decLt}
+use native.Mathlib.Nat.{eq-or-lt-of-le}
 use lib.Dec.{eqb}
 use lib.ListN.{length}
-use Rattle.answer.specs.Asked.{Asked, passed, refused, _>>=_, _>>_, is}
-use Rattle.answer.proofs.AskedLaws.{passed-same, bind-passed, is-yes}
+use Rattle.answer.specs.Asked.{passed, _>>=_, _>>_, is}
+use Rattle.answer.proofs.AskedLaws.{passed-same, bind-passed, then-passed, is-then}
 use Rattle.logic.specs.Graph.{Graph}
-use Rattle.logic.specs.Limits.{Within, maxNodes}
+use Rattle.logic.specs.Limits.{Within}
 use Rattle.seal.specs.Seal.{sameBytes}
 use Rattle.seal.proofs.SealLaws.{same-refl, same-is}
 use Rattle.decimal.specs.Digits.{digits}
 use Rattle.sheet.specs.Sheet.{chunks}
-use Rattle.sheet.proofs.SoundSheets.{both-yes}
 use Rattle.sheet.proofs.ChunkLaws.{chunks-same}
 use Rattle.pages.specs.Page.{headLine, setLine, arrowPage, labelPageLines, labelPage}
 use Rattle.pages.specs.Typed.{pageLine, Block, arrows, labels, headOf, linesOf, headIs, headNumber, askHead, lineRight, askLines, askPage, typed}
 use Rattle.pages.specs.Prints.{setAt, pageLines, pageOf, HasBlock, Alike, Prints}
-use Rattle.pages.proofs.TypeLaws.{both-passed, head-same, head-says, head-named, names-labels, names-arrows}
+use Rattle.pages.proofs.TypeLaws.{head-same, head-says, head-named, names-labels, names-arrows}
 use Rattle.pages.proofs.RightLines.{line-right, typed-alike, typed-within, typed-line}
 use Rattle.pages.proofs.PageParts.{page-is, length-page, page-head, parts}
 
@@ -35,11 +35,8 @@ module _ (g : Graph) (b : Block) (page : List ℕ) where
   unfolding askLines
   right-all zero x e y l u = absurd (omega arith)
   right-all (suc m) x e y l u =
-      let r : (is (lineRight g b x (pageLine page (suc x))) 51 (suc x) ≡ passed tt) × (askLines g b page m (suc x) ≡ passed tt) = both-yes _ _ e in
-      go (r .0) (right-all m (suc x) (r .1) y) (decLt x y) where
-        go : is (lineRight g b x (pageLine page (suc x))) 51 (suc x) ≡ passed tt → (suc x ≤ y → y < suc x + m → lineRight g b y (pageLine page (suc y)) ≡ true) → Dec (x < y) → lineRight g b y (pageLine page (suc y)) ≡ true
-        go p q (yes k) = q (omega arith) (omega arith)
-        go p q (no k) = let z : x ≡ y = omega arith in ap (λ y. lineRight g b y (pageLine page (suc y))) (sym z) ∙ is-yes (lineRight g b x (pageLine page (suc x))) 51 (suc x) p
+      let (r, s) = is-then (lineRight g b x (pageLine page (suc x))) 51 (suc x) (askLines g b page m (suc x)) e in
+      ⊎-elim (λ z. subst (λ y. lineRight g b y (pageLine page (suc y)) ≡ true) z r) (λ k. right-all m (suc x) s y k (omega arith)) (eq-or-lt-of-le l)
 
 -- a page that is accepted: its head, and its lines
 pub record Right (g : Graph) (page : List ℕ) (b : Block) : Type 0 where
@@ -50,9 +47,9 @@ pub accepted-right : (g : Graph) (page : List ℕ) (b : Block) → askPage g pag
 unfolding askPage
 accepted-right g page b e =
     let h = bind-passed (askHead (g .n) page) (λ a. askLines g a page (linesOf (g .n) a) 0 >> passed a) b e in
-    let l = both-passed (askLines g (h .0) page (linesOf (g .n) (h .0)) 0) (passed (h .0)) b (h .2) in
-    let same : h .0 ≡ b = passed-same (l .1) in
-    record { head = h .1 ∙ ap passed same; lines = ap (λ c. askLines g c page (linesOf (g .n) c) 0) (sym same) ∙ l .0 }
+    let l = then-passed (askLines g (h .0) page (linesOf (g .n) (h .0)) 0) (passed (h .0)) b (h .2) in
+    let same : h .0 ≡ b = passed-same (l .2) in
+    record { head = h .1 ∙ ap passed same; lines = ap (λ c. askLines g c page (linesOf (g .n) c) 0) (sym same) ∙ l .1 }
 
 pub right-accepted : (g : Graph) (page : List ℕ) (b : Block) → Right g page b → askPage g page ≡ passed b
 right-accepted g page b r = unfold askPage _>>=_ _>>_ in rw (r .head, r .lines)
@@ -81,10 +78,9 @@ module _ (h : Graph) where
 -- what a graph alike prints is accepted
 pub printed-right : (g h : Graph) → Within h → Alike g h → (b : Block) → HasBlock b → Right g (pageOf h b) b
 printed-right g h w e b l =
-    let few : g .n ≤ maxNodes = omega (arith, e .nodes, w .few-nodes) in
     record {
       head = ap (λ m. askHead m (pageOf h b)) (sym (e .nodes)) ∙ printed-head h b l;
-      lines = all-right g b (pageOf h b) (linesOf (g .n) b) 0 (λ y k u. line-right g few b y (omega arith) _ (record { graph = h; within = w; alike = e; is-line = refl }));
+      lines = all-right g b (pageOf h b) (linesOf (g .n) b) 0 (λ y k u. line-right g b y (omega arith) _ (record { graph = h; within = w; alike = e; is-line = refl }));
     }
 
 -- An accepted page is the page of the graph with its marks.

@@ -3,12 +3,11 @@ use mathlib.Core.Path.{_≡_, refl, sym, _∙_, ap, ap₂}
 use mathlib.Core.List.{List, [], _∷_, _++_, append-assoc}
 use Prim.Native.Nat.{ℕ, _+_, _-_, _*_, _≤_}
 use native.Mathlib.Omega.{arith}
-use lib.ListN.{length, take, drop, replicate, length-append, length-drop, length-replicate}
+use lib.ListN.{length, take, drop, length-append, length-drop, length-replicate}
 use lib.Seq.{take-at, drop-append-add, length-take-le, drop-drop}
 use borrow.Rule.Slice.PartMut.{putMid, post-is}
 use Rattle.answer.specs.Outputs.{writtenAtStart}
 use Rattle.logic.specs.Graph.{Nodes}
-use Rattle.decimal.specs.Digits.{digits}
 use Rattle.decimal.proofs.DigitLaws.{digits-length}
 use Rattle.sheet.specs.Sheet.{chunks}
 use Rattle.sheet.proofs.ChunkLaws.{length-chunks, chunks-more}

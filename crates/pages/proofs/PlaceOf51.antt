@@ -1,16 +1,16 @@
 -- The place of 51 is 0 for a page's length or head, else the first line that no graph with the same nodes in use has there.
-use mathlib.Core.Path.{_≡_, refl, sym, _∙_, ap, ap₂}
+use mathlib.Core.Path.{_≡_, refl, sym, _∙_, ap, ap₂, subst}
 use mathlib.Core.Bool.{Bool, true, false, _&&_, cond}
 use mathlib.Core.List.{List}
 use mathlib.Core.Logic.{⊎-elim}
 use Prim.Native.Nat.{ℕ, zero, suc, _+_, _*_, _%_, _≤_, _<_}
 use native.Mathlib.Omega.{arith}
-use native.Mathlib.Decide.{decLt}
+use native.Mathlib.Nat.{eq-or-lt-of-le}
 use lib.Dec.{eqb, ltb}
 use lib.ListN.{length, getD}
 use lib.Seq.{getD-take}
 use Rattle.answer.specs.Asked.{Asked, passed, refused, _>>=_, _>>_, is}
-use Rattle.answer.proofs.AskedLaws.{refused-not-passed, bind-refused}
+use Rattle.answer.proofs.AskedLaws.{refused-not-passed, bind-refused, then-refused}
 use Rattle.logic.specs.Graph.{Graph}
 use Rattle.logic.specs.Limits.{Within, arrowCount}
 use Rattle.seal.specs.Seal.{sameBytes}
@@ -76,12 +76,9 @@ module _ (g : Graph) (page : List ℕ) where
           below = omega (arith, s .below);
           number-is = s .number-is;
           place-is = s .place-is;
-          right = λ y l u. here y l u (decLt x y);
+          right = λ y l u. ⊎-elim (λ z. subst (λ y. lineRight g b y (pageLine page (suc y)) ≡ true) z r) (λ k. s .right y k u) (eq-or-lt-of-le l);
           wrong = s .wrong;
-        } where
-          here : (y : ℕ) → x ≤ y → y < s .line → Dec (x < y) → lineRight g b y (pageLine page (suc y)) ≡ true
-          here y l u (yes k) = s .right y (omega arith) u
-          here y l u (no k) = let z : x ≡ y = omega arith in ap (λ y. lineRight g b y (pageLine page (suc y))) (sym z) ∙ r
+        }
 
     go : (o : Bool) → lineRight g b x (pageLine page (suc x)) ≡ o → (is o 51 (suc x) >> askLines g b page m (suc x)) ≡ refused q p → (askLines g b page m (suc x) ≡ refused q p → Stopped b m (suc x) q p) → Stopped b (suc m) x q p
     go true r e next = more r (next e)
@@ -93,7 +90,7 @@ module _ (g : Graph) (page : List ℕ) where
   unfolding askPage _>>=_ _>>_
   place-of-51 w q p e = ⊎-elim
       (λ h. let r = head-refused q p h in (r .0, at-head (r .1) (no-head q p h)))
-      (λ h. by-lines (h .0) (h .1) (h .2))
+      (λ h. at-first (h .0) (h .1) (stopped (h .0) (linesOf (g .n) (h .0)) 0 q p (then-refused _ (h .0) (h .2))))
       (bind-refused (askHead (g .n) page) (λ b. askLines g b page (linesOf (g .n) b) 0 >> passed b) e) where
         at-first : (b : Block) → askHead (g .n) page ≡ passed b → Stopped b (linesOf (g .n) b) 0 q p → (q ≡ 51) × Place g page p
         at-first b h s = (
@@ -102,12 +99,6 @@ module _ (g : Graph) (page : List ℕ) where
             head = h;
             there = omega (arith, s .below);
             before = λ y l. right-line g page w b (head-named (g .n) page b h .0) y (omega (arith, s .below)) (s .right y (omega arith) l);
-            wrong = λ i. let o : _≡_ {A = ℕ} 0 1 = cc (line-right g (w .few-nodes) b (s .line) (omega (arith, s .below)) (pageLine page (suc (s .line))) i, s .wrong) in omega arith;
+            wrong = λ i. let o : _≡_ {A = ℕ} 0 1 = cc (line-right g b (s .line) (omega (arith, s .below)) (pageLine page (suc (s .line))) i, s .wrong) in omega arith;
           }),
         )
-
-        by-lines : (b : Block) → askHead (g .n) page ≡ passed b → (askLines g b page (linesOf (g .n) b) 0 >> passed b) ≡ refused q p → (q ≡ 51) × Place g page p
-        by-lines b h e = at-first b h (stopped b (linesOf (g .n) b) 0 q p (ends (askLines g b page (linesOf (g .n) b) 0) e)) where
-          ends : (l : Asked (Unit {0})) → (l >> passed b) ≡ refused q p → l ≡ refused q p
-          ends (passed u) e = refused-not-passed (sym e)
-          ends (refused n m) e = cc

@@ -1,7 +1,7 @@
 -- Printing, by its questions.
 use mathlib.Core.Path.{_≡_, sym, _∙_, ap, ap₂}
 use mathlib.Core.List.{List, _++_, append-assoc, append-nil}
-use Prim.Native.Nat.{ℕ, _+_, _-_, _*_, _≤_, _<_}
+use Prim.Native.Nat.{ℕ, _+_, _-_, _≤_, _<_}
 use native.Mathlib.Omega.{arith}
 use borrow.Author.Tests.{lt-ltb, le-ltb}
 use lib.ListN.{length, take, drop, length-append, length-drop}
@@ -11,16 +11,12 @@ use Rattle.answer.specs.declared.Answer.{Answer}
 use Rattle.answer.specs.declared.Answer.the-variants.{Done, Refused}
 use Rattle.answer.specs.declared.Refusal.{Refusal}
 use Rattle.answer.specs.Answers.{refusalNumber, refusalPlace, asked}
-use Rattle.answer.specs.Asked.{passed, refused, _>>_, is}
+use Rattle.answer.specs.Asked.{refused, _>>_, is}
 use Rattle.answer.specs.Outputs.{askRoom, writtenAtStart}
-use Rattle.answer.proofs.OutputLaws.{room-short, room-enough}
-use Rattle.logic.specs.Graph.{Graph}
-use Rattle.sheet.specs.Sheet.{graphOf, lineOf}
+use Rattle.sheet.specs.Sheet.{graphOf}
 use Rattle.sheet.specs.Questions.{askSheet}
-use Rattle.sheet.proofs.ChunkLaws.{length-chunks}
-use Rattle.pages.specs.Page.{headLine, setLine, rowLines, arrowPage, labelPageLines, labelLines, labelPage}
+use Rattle.pages.specs.Page.{arrowPage, labelPage}
 use Rattle.pages.specs.Print.{askPrintArrow, askPrintLabels}
-use Rattle.pages.proofs.PageLaws.{length-headLine, length-setLine}
 
 -- A sheet that is refused or sound, as printing asks it.
 module _ (sheet : List ℕ) (a : Answer) (check : asked a ≡ askSheet sheet) (room : ℕ) where

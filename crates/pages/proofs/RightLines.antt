@@ -4,6 +4,7 @@ use mathlib.Core.Bool.{Bool, true, false, _&&_, cond, and-false}
 use mathlib.Core.List.{List, [], _∷_, _++_}
 use Prim.Native.Nat.{ℕ, zero, suc, _+_, _≤_, _<_}
 use native.Mathlib.Omega.{arith}
+use native.Mathlib.Decide.{decLt}
 use borrow.Author.Tests.{lt-ltb, le-ltb, eq-eqb}
 use lib.Dec.{eqb, ltb, lt→ltb}
 use lib.ListN.{length, getD, List·getD-append}
@@ -11,7 +12,7 @@ use lib.Seq.{getD-append-add}
 use Rattle.logic.specs.Graph.{Graph, Nodes, Pairs, isNode}
 use Rattle.logic.specs.Limits.{maxNodes, labelCount, arrowCount, NodesIn, PairsIn, Within}
 use Rattle.logic.specs.Steps.{update}
-use Rattle.logic.proofs.Inside.{rejoin-within}
+use Rattle.logic.proofs.Inside.{no-node, rejoin-within}
 use Rattle.seal.specs.Seal.{sameBytes}
 use Rattle.seal.proofs.SealLaws.{same-refl, same-is}
 use Rattle.decimal.specs.Digits.{digits}
@@ -44,14 +45,11 @@ module _ (n x : ℕ) where
       ∙ singles (square n v) maxNodes 0 j h ∙ ap (square n v) z
 
   -- shows whether the set has it
-  shows : (b : Bool) → eqb (cond b 0x23 0x2E) 0x23 ≡ b
-  shows true = refl
-  shows false = refl
-
   pub marks-of-line : n ≤ maxNodes → (v : Nodes) (j : ℕ) → j < n → marks (setLine n x v) j ≡ v j
   unfolding square
   marks-of-line few v j h =
-      ap (λ b. eqb b 0x23) (square-at v j (omega arith)) ∙ ap (λ (b : Bool). eqb (cond b (cond (v j) 0x23 0x2E) 0x20) 0x23) (lt-ltb j n h) ∙ shows (v j)
+      ap (λ b. eqb b 0x23) (square-at v j (omega arith)) ∙ ap (λ (b : Bool). eqb (cond b (cond (v j) 0x23 0x2E) 0x20) 0x23) (lt-ltb j n h)
+      ∙ elim (v j) as (λ b. eqb (cond b 0x23 0x2E) 0x23 ≡ b) [ true ↦ refl | false ↦ refl ]
 
 -- sets of nodes in use
 pub nodes-kept : (g : Graph) (v : Nodes) → NodesIn g v → (i : ℕ) → (isNode g i && v i) ≡ v i
@@ -71,14 +69,17 @@ same-node g h e i = unfold isNode in sym (ap₂ (λ m (u : Nodes). ltb i m && u 
 module _ (g : Graph) (x : ℕ) where
   shown-own : Within g → (b : Block) (j : ℕ) → setShown g b x (setAt g b x) j ≡ setAt g b x j
   shown-own w (arrows a) j = pairs-kept g (g .joined a) (w .arrows-in a) x j
-  shown-own w labels j = go (ltb x labelCount) where
-    go : (c : Bool) → cond c (isNode g j && cond c (g .labelled x) (g .inUse) j) (g .inUse j) ≡ cond c (g .labelled x) (g .inUse) j
-    go true = nodes-kept g (g .labelled x) (w .labels-in x) j
-    go false = refl
+  shown-own w labels j =
+      elim (ltb x labelCount) as (λ c. cond c (isNode g j && cond c (g .labelled x) (g .inUse) j) (g .inUse j) ≡ cond c (g .labelled x) (g .inUse) j)
+      [ true ↦ nodes-kept g (g .labelled x) (w .labels-in x) j | false ↦ refl ]
 
-  shown-cong : (b : Block) (v w : Nodes) (j : ℕ) → v j ≡ w j → setShown g b x v j ≡ setShown g b x w j
-  shown-cong (arrows a) v w j e = ap (λ b. isNode g x && (isNode g j && b)) e
-  shown-cong labels v w j e = ap (λ b. cond (ltb x labelCount) (isNode g j && b) (g .inUse j)) e
+  -- by the nodes that are marked
+  of-nodes : (v w : Nodes) (j : ℕ) → (j < g .n → v j ≡ w j) → (isNode g j && v j) ≡ (isNode g j && w j)
+  of-nodes v w j h = elim (decLt j (g .n)) [ yes l ↦ ap (isNode g j &&_) (h l) | no l ↦ rw (no-node g j (omega arith)) ]
+
+  shown-cong : (b : Block) (v w : Nodes) (j : ℕ) → (j < g .n → v j ≡ w j) → setShown g b x v j ≡ setShown g b x w j
+  shown-cong (arrows a) v w j h = ap (isNode g x &&_) (of-nodes v w j h)
+  shown-cong labels v w j h = ap (λ b. cond (ltb x labelCount) b (g .inUse j)) (of-nodes v w j h)
 
   module _ (h : Graph) (e : Alike g h) where
     shown-alike : (b : Block) (v : Nodes) (j : ℕ) → setShown g b x v j ≡ setShown h b x v j
@@ -89,15 +90,20 @@ module _ (g : Graph) (x : ℕ) where
     pub alike-line : (b : Block) → x < linesOf (g .n) b → pageLine (pageOf h b) (suc x) ≡ setLine (g .n) x (setAt h b x)
     alike-line b l = page-line h b x (subst (λ m. x < linesOf m b) (sym (e .nodes)) l) ∙ ap (λ m. setLine m x (setAt h b x)) (e .nodes)
 
+-- What a line of a graph alike shows by its marks is the set that the graph has there.
+pub shown-printed : (g h : Graph) → Alike g h → Within h → (b : Block) (x : ℕ) → x < linesOf (g .n) b → (j : ℕ) → setShown g b x (marks (pageLine (pageOf h b) (suc x))) j ≡ setAt h b x j
+shown-printed g h e w b x l j =
+    shown-cong g x b _ (setAt h b x) j (λ k. ap (λ t. marks t j) (alike-line g x h e b l) ∙ marks-of-line (g .n) x (omega (arith, e .nodes, w .few-nodes)) (setAt h b x) j k)
+    ∙ shown-alike g x h e b (setAt h b x) j ∙ shown-own h x w b j
+
 -- A LINE OF A GRAPH ALIKE IS RIGHT.
-pub line-right : (g : Graph) → g .n ≤ maxNodes → (b : Block) (x : ℕ) → x < linesOf (g .n) b → (line : List ℕ) → IsLine g b x line → lineRight g b x line ≡ true
+pub line-right : (g : Graph) (b : Block) (x : ℕ) → x < linesOf (g .n) b → (line : List ℕ) → IsLine g b x line → lineRight g b x line ≡ true
 unfolding lineRight
-line-right g few b x l line s =
-    let h = s .graph in
-    let v = setAt h b x in
-    ap (λ t. sameBytes t (setLine (g .n) x (setShown g b x (marks t)))) (s .is-line ∙ alike-line g x h (s .alike) b l)
-    ∙ ap (sameBytes (setLine (g .n) x v)) (setLine-cong (g .n) x (setShown g b x (marks (setLine (g .n) x v))) v (λ j k. shown-cong g x b (marks (setLine (g .n) x v)) v j (marks-of-line (g .n) x few v j k) ∙ shown-alike g x h (s .alike) b v j ∙ shown-own h x (s .within) b j))
-    ∙ same-refl (setLine (g .n) x v)
+line-right g b x l line s =
+    let t : line ≡ setLine (g .n) x (setAt (s .graph) b x) = s .is-line ∙ alike-line g x (s .graph) (s .alike) b l in
+    ap (sameBytes line)
+    (setLine-cong (g .n) x _ (setAt (s .graph) b x) (λ j k. ap (λ p. setShown g b x (marks p) j) (s .is-line) ∙ shown-printed g (s .graph) (s .alike) (s .within) b x l j) ∙ sym t)
+    ∙ same-refl line
 
 -- the graph with a page's marks
 module _ (g : Graph) (page : List ℕ) where
@@ -130,10 +136,8 @@ module _ (g : Graph) (page : List ℕ) where
   typed-set : (b : Block) (x j : ℕ) → setAt (typed g page b) b x j ≡ setShown g b x (marks (pageLine page (suc x))) j
   unfolding typed update
   typed-set (arrows a) x j = ap (λ (c : Bool). cond c (λ i k. isNode g i && marked g page i k) (g .joined a) x j) (eq-eqb a a refl)
-  typed-set labels x j = go (ltb x labelCount) where
-    go : (c : Bool) → cond c (λ i. c && marked g page x i) (g .inUse) j ≡ cond c (marked g page x j) (g .inUse j)
-    go true = refl
-    go false = refl
+  typed-set labels x j =
+      elim (ltb x labelCount) as (λ c. cond c (λ i. c && marked g page x i) (g .inUse) j ≡ cond c (marked g page x j) (g .inUse j)) [ true ↦ refl | false ↦ refl ]
 
   -- a line that is right is its line
   pub typed-line : (b : Block) (x : ℕ) → lineRight g b x (pageLine page (suc x)) ≡ true → pageLine page (suc x) ≡ setLine (g .n) x (setAt (typed g page b) b x)

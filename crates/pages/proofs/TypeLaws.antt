@@ -29,12 +29,6 @@ use Rattle.pages.specs.Typed.{pageLine, marks, Block, arrows, labels, he
 use Rattle.pages.specs.Prints.{HasBlock}
 use Rattle.pages.proofs.LineLaws.{setLine-word, nodes-used}
 
--- two questions that have passed
-pub both-passed : {A : Type 0} (x : Asked (Unit {0})) (r : Asked A) (v : A) → (x >> r) ≡ passed v → (x ≡ passed tt) × (r ≡ passed v)
-unfolding _>>_
-both-passed (passed u) r v e = (refl, e)
-both-passed (refused q p) r v e = refused-not-passed e
-
 -- the head, by the page's length
 module _ (n : ℕ) (page : List ℕ) (b : Block) where
   pub head-other : length page ≢ 64 * linesOf n b + 64 → headIs n page b ≡ false
@@ -70,10 +64,7 @@ module _ (n : ℕ) (page : List ℕ) where
     no-such-kind l = by-tests false false other (ap (_&& headIs n page (arrows kind)) (le-ltb kind arrowCount l))
 
     pub no-whole-head : length page < 64 → refused 51 0 ≡ askHead n page
-    no-whole-head l = go (decLt kind arrowCount) where
-      go : Dec (kind < arrowCount) → refused 51 0 ≡ askHead n page
-      go (yes k) = names-none k (head-other n page (arrows kind) (λ e. omega arith))
-      go (no k) = no-such-kind (omega arith)
+    no-whole-head l = elim (decLt kind arrowCount) [ yes k ↦ names-none k (head-other n page (arrows kind) (λ e. omega arith)) | no k ↦ no-such-kind (omega arith) ]
 
   -- a head that names a block is that block's, and there is such a block
   pub head-named : (b : Block) → askHead n page ≡ passed b → HasBlock b × (headIs n page b ≡ true)

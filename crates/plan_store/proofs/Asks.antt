@@ -39,12 +39,9 @@ pub record StoreIs (t : List ℕ) : Type 0 where
   pub head : headRight (take blockBytes t) ≡ true
   pub places : (i : ℕ) → i < planCount → placeRight t i ≡ true
 
--- the first of two questions refuses, or passes
+-- the first of two questions refuses
 pub first-stops : (x y : Asked (Unit {0})) {a : Answer} {r : Refusal} → a ≡ Refused r → asked a ≡ x → asked a ≡ (x >> y)
 first-stops x y e s = unfold _>>_ in rw (← s, e)
-
-pub first-passes : (x y : Asked (Unit {0})) → x ≡ passed tt → (x >> y) ≡ y
-first-passes x y e = unfold _>>_ in rw e
 
 module _ (t : List ℕ) where
   pub store-short : (length t ≡ storeBytes → ⊥) → refused 55 0 ≡ askStore t

@@ -11,19 +11,16 @@ use lib.Bits.{bitOr}
 use lib.Dec.{eqb}
 use lib.ListN.{length, getD, take, set}
 use lib.Seq.{take-suc-set, take-suc, take-all}
-use Rattle.logic.proofs.Below.{all-true, all-each, all-next, all-stop}
-use Rattle.bitset.specs.Words.{wordAt}
+use Rattle.logic.proofs.Below.{all-each, all-next, all-stop}
+use Rattle.bitset.specs.Words.{Bytes, wordAt}
 use Rattle.bitset.proofs.ZeroBytes.{high-zero, zero-high}
 use Rattle.sheet.specs.Masks.{zerosAt}
 use Rattle.sheet.proofs.MaskLaws.{or-zero, zero-or}
-use Rattle.sheet.proofs.ZeroLaws.{same-test}
+use Rattle.sheet.proofs.ZeroLaws.{same-test, zeros-are}
 
 -- bytes that are zero, one by one
 pub zeros-each : (s : List ℕ) (at m : ℕ) → zerosAt s at m ≡ true → (j : ℕ) → j < m → getD s (at + j) 0 ≡ 0
 zeros-each s at m e j l = unfold zerosAt in eqb-true _ _ (all-each m (λ j. eqb (getD s (at + j) 0) 0) e j l)
-
-pub zeros-all : (s : List ℕ) (at m : ℕ) → ((j : ℕ) → j < m → getD s (at + j) 0 ≡ 0) → zerosAt s at m ≡ true
-zeros-all s at m h = unfold zerosAt in all-true m (λ j. eqb (getD s (at + j) 0) 0) (λ j l. eq-eqb _ _ (h j l))
 
 pub zeros-next : (s : List ℕ) (at m : ℕ) → zerosAt s at m ≡ true → getD s (at + m) 0 ≡ 0 → zerosAt s at (m + 1) ≡ true
 zeros-next s at m e z = unfold zerosAt in all-next _ m e (eq-eqb _ _ z)
@@ -39,14 +36,14 @@ pub record Zero (s : List ℕ) (at j all : ℕ) : Type 0 where
 
 module _ (s : List ℕ) (at : ℕ) where
   pub zero-none : Zero s at 0 0
-  zero-none = unfold zerosAt in record { none = λ e. zeros-all s at (8 * 0) (λ j l. absurd (omega arith)); some = λ e. refl }
+  zero-none = unfold zerosAt in record { none = λ e. zeros-are s at (8 * 0) (λ j l. absurd (omega arith)); some = λ e. refl }
 
-  pub zero-more : ((p : ℕ) → getD s p 0 < 256) → (j all : ℕ) → at + 8 * (j + 1) ≤ length s → Zero s at j all → Zero s at (j + 1) (bitOr all (wordAt s (at + 8 * j)))
+  pub zero-more : Bytes s → (j all : ℕ) → at + 8 * (j + 1) ≤ length s → Zero s at j all → Zero s at (j + 1) (bitOr all (wordAt s (at + 8 * j)))
   zero-more small j all fits z =
       record {
-        none = λ e. zeros-all s at (8 * (j + 1)) (λ i l. by e i l (decLt i (8 * j)));
+        none = λ e. zeros-are s at (8 * (j + 1)) (λ i l. by e i l (decLt i (8 * j)));
         some = λ e. zero-or all (wordAt s (at + 8 * j))
-            (z .some (zeros-all s at (8 * j) (λ i l. zeros-each s at (8 * (j + 1)) e i (omega arith))))
+            (z .some (zeros-are s at (8 * j) (λ i l. zeros-each s at (8 * (j + 1)) e i (omega arith))))
             (omega (arith, zero-high s small (at + 8 * j) (omega arith) 0 (λ i k l. word e i l)));
       } where
         word : zerosAt s at (8 * (j + 1)) ≡ true → (i : ℕ) → i < 8 → getD s (at + 8 * j + i) 0 ≡ 0

@@ -11,10 +11,10 @@ use lib.Seq.{take-set-lt}
 use Rattle.seal.specs.Seal.{blockBytes, modulo257, sealRight, sealed, reseal}
 use Rattle.seal.proofs.SealLaws.{two-and-zeros, right-sealed, sealed-right, length-sealed, getD-sealed}
 use Rattle.sheet.specs.Masks.{zerosAt}
-use Rattle.sheet.proofs.ZeroLaws.{same-test}
+use Rattle.sheet.proofs.ZeroLaws.{same-test, zeros-are}
 use Rattle.plan_store.specs.Store.{headBlock}
 use Rattle.plan_store.specs.Questions.{headRight}
-use Rattle.plan_store.proofs.ByteLoops.{zeros-each, zeros-all, zeros-next, zeros-not}
+use Rattle.plan_store.proofs.ByteLoops.{zeros-each, zeros-next, zeros-not}
 
 -- the four questions of a head
 pub record HeadIs (k : List ℕ) : Type 0 where
@@ -33,7 +33,7 @@ module _ (k : List ℕ) where
       record { sums = a .0; four = eqb-true _ _ (b .0); low = ltb-true _ _ (d .0); zeros = zeros-each k 2 506 (d .1) }
 
   pub head-holds : HeadIs k → headRight k ≡ true
-  head-holds h = unfold headRight in ap₂ _&&_ (h .sums) (ap₂ _&&_ (eq-eqb _ _ (h .four)) (ap₂ _&&_ (lt-ltb _ _ (h .low)) (zeros-all k 2 506 (h .zeros))))
+  head-holds h = unfold headRight in ap₂ _&&_ (h .sums) (ap₂ _&&_ (eq-eqb _ _ (h .four)) (ap₂ _&&_ (lt-ltb _ _ (h .low)) (zeros-are k 2 506 (h .zeros))))
 
   -- by the first that is not so
   pub not-four : (getD k 0 0 ≡ 4 → ⊥) → false ≡ headRight k
@@ -53,7 +53,7 @@ module _ (k : List ℕ) where
     words-zeros : zerosAt k 2 504 ≡ zerosAt k 2 506
     words-zeros =
         same-test (zerosAt k 2 504) (zerosAt k 2 506) (λ e. zeros-next k 2 505 (zeros-next k 2 504 e x) y)
-        (λ e. zeros-all k 2 504 (λ j l. zeros-each k 2 506 e j (omega arith)))
+        (λ e. zeros-are k 2 504 (λ j l. zeros-each k 2 506 e j (omega arith)))
 
     pub words-not-zero : zerosAt k 2 504 ≡ false → false ≡ headRight k
     words-not-zero e = unzeroed (sym words-zeros ∙ e)

@@ -6,10 +6,11 @@ use Prim.Native.Nat.{ℕ, _+_, _-_, _/_, _%_, _<_}
 use native.Mathlib.Omega.{arith}
 use native.Mathlib.Decide.{decLt}
 use lib.Dec.{lit≤}
-use lib.ListN.{length, getD, take, drop, set, List·getD-eq-default}
+use lib.ListN.{length, getD, take, drop, set}
 use lib.Seq.{length-take-le, getD-take, getD-set-same, getD-set-other, take-set-lt, drop-set-add}
 use Rattle.answer.specs.Asked.{refused, _>>_}
-use Rattle.bitset.specs.Words.{member}
+use Rattle.bitset.specs.Words.{Bytes, member}
+use Rattle.bitset.proofs.WordLaws.{part-small}
 use Rattle.seal.specs.Seal.{blockBytes, modulo257}
 use Rattle.seal.proofs.SealNoticed.{change-noticed}
 use Rattle.sheet.specs.Sheet.{sheetBytes}
@@ -21,28 +22,22 @@ use Rattle.plan_store.specs.Questions.{isPassed, headRight, placeRight, 
 use Rattle.plan_store.proofs.ByteLoops.{zeros-not}
 use Rattle.plan_store.proofs.StoreHead.{head-told}
 use Rattle.plan_store.proofs.Asks.{store-told, store-head, store-place}
-use Rattle.plan_store.proofs.StoreLaws.{place-small, place-sound, place-zero}
+use Rattle.plan_store.proofs.StoreLaws.{place-sound, place-zero}
 use Rattle.plan_store.proofs.StorePlaces.{place-byte}
 
-module _ (t : List ℕ) (small : (p : ℕ) → getD t p 0 < 256) (sound : SoundStore t) (x : ℕ) (byte : x < 256) where
+module _ (t : List ℕ) (small : Bytes t) (sound : SoundStore t) (x : ℕ) (byte : x < 256) where
   n : length t ≡ storeBytes
   n = store-told t sound .size
 
   abbrev head : List ℕ
   head = take blockBytes t
 
-  head-small : (q : ℕ) → getD head q 0 < 256
-  head-small q = go (decLt q blockBytes) where
-    go : Dec (q < blockBytes) → getD head q 0 < 256
-    go (yes l) = omega (arith, getD-take blockBytes t q 0 l, small q)
-    go (no l) = omega (arith, List·getD-eq-default head 0 {n = q} (omega (arith, length-take-le blockBytes t (omega (arith, n)))))
-
   in-head : (p : ℕ) → p < blockBytes → (x ≡ getD t p 0 → ⊥) → headRight (take blockBytes (set t p x)) ≡ false
   unfolding headRight
   in-head p l other =
       rw (
         take-set-lt blockBytes t p x l,
-        change-noticed modulo257 (lit≤ tt) head (length-take-le blockBytes t (omega (arith, n))) head-small (head-told head (store-told t sound .head) .sums) p x l byte (λ e. other (e ∙ getD-take blockBytes t p 0 l)),
+        change-noticed modulo257 (lit≤ tt) head (length-take-le blockBytes t (omega (arith, n))) (part-small t blockBytes 0 small) (head-told head (store-told t sound .head) .sums) p x l byte (λ e. other (e ∙ getD-take blockBytes t p 0 l)),
       )
 
   -- a byte of a place
@@ -57,7 +52,7 @@ module _ (t : List ℕ) (small : (p : ℕ) → getD t p 0 < 256) (sound : SoundS
     unfolding placeRight
     in-place = rw (getD-set-other t (placeStart i + q) 1 x 0 (λ e. omega arith)) (go (member (getD t 1 0) i) refl) where
       go : (b : Bool) → member (getD t 1 0) i ≡ b → cond b (isPassed (askSheet (placeIn s i))) (zerosAt s (placeStart i) sheetBytes) ≡ false
-      go true e = rw (place-set, sheets.every-change (placeIn t i) (place-small t small sound i l) (place-sound t small sound i l e) q x u byte (λ d. other (d ∙ place-byte t n i q l u)))
+      go true e = rw (place-set, sheets.every-change (placeIn t i) (part-small t sheetBytes (placeStart i) small) (place-sound t small sound i l e) q x u byte (λ d. other (d ∙ place-byte t n i q l u)))
       go false e = zeros-not s (placeStart i) sheetBytes q u (λ d. other (sym (getD-set-same t (placeStart i + q) x 0 (omega (arith, n))) ∙ d ∙ sym (place-zero t small sound i l e q u)))
 
   pub every-change : (p : ℕ) → p < storeBytes → (x ≡ getD t p 0 → ⊥) → askStore (set t p x) ≡ refused 55 0

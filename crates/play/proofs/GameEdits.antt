@@ -10,11 +10,10 @@ use lib.ListN.{length, take, drop, getD, take-append-drop, drop-of-length-le}
 use lib.Seq.{drop-cons, drop-drop, take-append-seam}
 use borrow.Author.Tests.{eq-eqb, ne-eqb}
 use Rattle.answer.specs.Asked.{Asked, passed, refused, _>>=_, _>>_, after, outcome}
-use Rattle.answer.specs.Answers.{asked, refusalNumber, refusalPlace}
+use Rattle.answer.specs.Answers.{asked}
 use Rattle.answer.specs.declared.Refusal.{Refusal}
 use Rattle.answer.specs.declared.Answer.{Answer}
 use Rattle.answer.specs.declared.Answer.the-variants.{Done, Refused}
-use Rattle.answer.proofs.AnswerLaws.{learned, not-learned}
 use Rattle.answer.proofs.AskedLaws.{passed-same, bind-passed}
 use Rattle.logic.specs.Syntax.{Expr, rule, Edit, finish}
 use Rattle.logic.specs.Carry.{carriedBook}
@@ -27,6 +26,7 @@ use Rattle.text.proofs.TextSpelling.{edit-is-spelled}
 use Rattle.text.proofs.StandingLaws.{behind, within}
 use Rattle.ends.specs.Edits.{EditAt}
 use Rattle.ends.proofs.FirstSteps.{edit-inside}
+use Rattle.judge.proofs.SheetAndBook.{done-learned, refused-asked}
 use Rattle.carry.specs.Carrying.{askCarried}
 use Rattle.play.specs.Questions.{total, cut, askEdits, askFits, firstRefused}
 use Rattle.play.specs.Standing.{EditsStand}
@@ -49,14 +49,16 @@ module _ {A B : Type 0} {ask : A → Asked B} {all : List A → Asked (Unit {0})
 
     walk-stops : {r : Refusal} → b ≡ Refused r → (asked b ≡ all list) × (i ≡ firstRefused ask list)
     unfolding _>>_ firstRefused after
-    walk-stops {r} e =
-        let stop : firstRefused ask (x ∷ xs) ≡ 0 = rw (not-learned (ask x) (refusalNumber r) (refusalPlace r) (sym (ap asked e) ∙ read)) in
+    walk-stops e =
+        let z = refused-asked read e in
+        let stop : firstRefused ask (x ∷ xs) ≡ 0 = rw z in
         (rw (next-asked, e), omega (arith, w .first, ap (firstRefused ask) here))
 
     walk-passes : b ≡ Done → Walk ask all list (i + 1) xs
     unfolding _>>_ firstRefused after
     walk-passes e =
-        let on : firstRefused ask (x ∷ xs) ≡ suc (firstRefused ask xs) = rw (learned (ask x) (sym (ap asked e) ∙ read) .is) in
+        let q = done-learned read e in
+        let on : firstRefused ask (x ∷ xs) ≡ suc (firstRefused ask xs) = rw (q .is) in
         record { questions = next-asked ∙ rw e; first = omega (arith, w .first, ap (firstRefused ask) here) }
 
 -- What is left of the sum of the lengths: one length and the others, or nothing.

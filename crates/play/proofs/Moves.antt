@@ -2,9 +2,9 @@
 use mathlib.Core.Path.{_≡_, sym, ap, ap₂, _∙_}
 use mathlib.Core.Bool.{Bool, true, false, not, and-true}
 use mathlib.Core.List.{List, [], _∷_, _++_, append-nil}
-use Prim.Native.Nat.{ℕ, suc, _+_, _-_, _<_}
+use Prim.Native.Nat.{ℕ, suc, _+_, _-_}
 use native.Mathlib.Omega.{arith}
-use lib.ListN.{length, take, drop, getD, drop-of-length-le}
+use lib.ListN.{length, take, drop, drop-of-length-le}
 use lib.Seq.{take-length}
 use Rattle.logic.specs.Syntax.{Expr, rule, Edit}
 use Rattle.logic.specs.Graph.{Graph}
@@ -12,6 +12,7 @@ use Rattle.logic.specs.Meaning.{value, holdAll}
 use Rattle.logic.specs.Steps.{run}
 use Rattle.logic.specs.Limits.{ranges}
 use Rattle.logic.proofs.Inside.{run-within}
+use Rattle.bitset.specs.Words.{Bytes}
 use Rattle.sheet.specs.Sheet.{present, sheetBytes, graphOf}
 use Rattle.sheet.specs.Questions.{Sound}
 use Rattle.sheet.proofs.BlockLaws.{length-store}
@@ -21,8 +22,8 @@ use Rattle.text.specs.Stands.{EditStands}
 use Rattle.write.specs.Laid.{laid}
 use Rattle.write.proofs.Laying.{laid-fits}
 use Rattle.apply.specs.Made.{Made}
-use Rattle.game.specs.Game.{Game, mayLeave}
-use Rattle.game.specs.Search.{sideOf, goesWell, chosen}
+use Rattle.game.specs.Game.{Game}
+use Rattle.game.specs.Search.{goesWell, chosen}
 use Rattle.game.proofs.Chosen.{isCannot, well-over, well-more}
 use Rattle.play.specs.declared.search.Found.{Found}
 use Rattle.play.specs.Standing.{OnCopy, outcomeOf}
@@ -31,15 +32,7 @@ use Rattle.play.specs.Standing.{OnCopy, outcomeOf}
 pub one-holds : (g : Graph) (K : Expr rule) → holdAll g (K ∷ []) ≡ value g K
 one-holds g K = unfold holdAll in and-true (value g K)
 
--- Whether a side may leave a graph.
-module _ (G : Game) (h : Graph) {ours : Bool} where
-  pub may-ours : ours ≡ true → mayLeave G (sideOf ours) h ≡ holdAll h (G .book)
-  may-ours e = unfold mayLeave in ap (λ (b : Bool). mayLeave G (sideOf b) h) e
-
-  pub may-theirs : ours ≡ false → mayLeave G (sideOf ours) h ≡ true
-  may-theirs e = unfold mayLeave in ap (λ (b : Bool). mayLeave G (sideOf b) h) e
-
-module _ (sheet : List ℕ) (small : (p : ℕ) → getD sheet p 0 < 256) (sound : Sound sheet) where
+module _ (sheet : List ℕ) (small : Bytes sheet) (sound : Sound sheet) where
   pub sheet-length : length sheet ≡ sheetBytes
   sheet-length = ap length (sound-is-stored present sheet small sound .stored) ∙ length-store present (graphOf sheet)
 

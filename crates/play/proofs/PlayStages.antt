@@ -4,7 +4,7 @@ use mathlib.Core.Bool.{true, false, _&&_}
 use mathlib.Core.List.{List}
 use Prim.Native.Nat.{ℕ, _-_, _≤_}
 use native.Mathlib.Omega.{arith}
-use lib.Dec.{eqb, leb}
+use lib.Dec.{leb}
 use lib.ListN.{length, take, drop}
 use borrow.Author.Tests.{eqb-true, leb-true}
 use Rattle.answer.specs.Asked.{Asked, passed, refused, _>>=_, _>>_, is, after, outcome}
@@ -12,32 +12,25 @@ use Rattle.answer.specs.Answers.{asked, refusalNumber, refusalPlace}
 use Rattle.answer.specs.declared.Refusal.{Refusal}
 use Rattle.answer.specs.declared.Answer.{Answer}
 use Rattle.answer.specs.declared.Answer.the-variants.{Refused}
-use Rattle.answer.proofs.AnswerLaws.{Learned, not-learned}
+use Rattle.answer.proofs.AnswerLaws.{Learned}
 use Rattle.answer.proofs.AskedLaws.{passed-same, is-then, bind-passed, then-passed, outcome-bind}
 use Rattle.logic.specs.Syntax.{Expr, rule, Edit}
 use Rattle.logic.specs.Carry.{carriedBook}
 use Rattle.logic.specs.Limits.{ranges}
 use Rattle.sheet.specs.Sheet.{graphOf}
-use Rattle.sheet.specs.Questions.{askSheet, Sound}
+use Rattle.sheet.specs.Questions.{Sound}
 use Rattle.text.specs.Reading.{Limits, textLimits}
 use Rattle.text.specs.Questions.{askBook, askEdit, askRule}
 use Rattle.judge.specs.Questions.{askSheetAndBook}
+use Rattle.judge.proofs.SheetAndBook.{refused-asked, sheet-sound, book-passed}
 use Rattle.ends.specs.Books.{SomeBook}
-use Rattle.ends.proofs.RulePlaces.{book-passed}
+use Rattle.ends.proofs.RulePlaces as ends
 use Rattle.game.specs.Game.{Game}
 use Rattle.logic.proofs.Bools.{and-left, and-right}
 use Rattle.carry.specs.Carrying.{askCarried}
 use Rattle.play.specs.Questions.{mostEdits, mostMoves, inRange, total, listsRight, askAims, cut, askEdits, askFits, askGame, firstRefused, faultyEdit}
 use Rattle.play.specs.Standing.{EditsAt, SomeEdits}
 use Rattle.play.proofs.GameEdits.{edits-stand}
-
--- What 62 asks, by the ranges.
-module _ (edits lengths : List ℕ) (d moves : ℕ) where
-  pub out-of-range : inRange (length lengths) d moves ≡ false → false ≡ listsRight edits lengths d moves
-  out-of-range e = unfold listsRight in rw e
-
-  pub by-filling : inRange (length lengths) d moves ≡ true → eqb (total lengths) (length edits) ≡ listsRight edits lengths d moves
-  by-filling e = unfold listsRight in rw e
 
 -- Lists and moves in their ranges, and lengths that fill the edits.
 module _ (edits lengths : List ℕ) (d moves : ℕ) (ok : listsRight edits lengths d moves ≡ true) where
@@ -56,24 +49,16 @@ module _ (edits lengths : List ℕ) (d moves : ℕ) (ok : listsRight edits lengt
   pub filled : total lengths ≡ length edits
   filled = unfold listsRight in eqb-true (total lengths) (length edits) (and-right (inRange (length lengths) d moves) _ ok)
 
--- An answer that refuses tells that the questions do.
-refuses : {A : Type 0} (q : Asked A) (a : Answer) → asked a ≡ outcome q → {r : Refusal} → a ≡ Refused r → q ≡ refused (refusalNumber r) (refusalPlace r)
-refuses q a s {r} e = not-learned q (refusalNumber r) (refusalPlace r) (sym (ap asked e) ∙ s)
-
 -- Sheet, book and goal.
 module _ (sheet book goal : List ℕ) where
   abbrev limits : Limits
   limits = textLimits (graphOf sheet .n)
 
-  pub sheet-stops : (a : Answer) {r : Refusal} → asked a ≡ askSheet sheet → a ≡ Refused r → asked a ≡ outcome (askAims sheet book goal)
-  sheet-stops a s e = unfold askAims askSheetAndBook outcome _>>=_ _>>_ in rw (← s, e)
+  pub both-stop : {a : Answer} {r : Refusal} → askSheetAndBook sheet book ≡ refused (refusalNumber r) (refusalPlace r) → a ≡ Refused r → asked a ≡ outcome (askAims sheet book goal)
+  both-stop q e = unfold askAims outcome _>>=_ in rw (q, e)
 
-  module _ (sound : Sound sheet) where
-    pub book-stops : (a : Answer) → asked a ≡ outcome (askBook limits book) → {r : Refusal} → a ≡ Refused r → asked a ≡ outcome (askAims sheet book goal)
-    book-stops a s e = unfold askAims askSheetAndBook outcome _>>=_ _>>_ in rw (sound, refuses (askBook limits book) a s e, e)
-
-    pub goal-last : Learned (askBook limits book) → (a : Answer) → asked a ≡ outcome (askRule limits goal) → asked a ≡ outcome (askAims sheet book goal)
-    goal-last B a s = unfold askAims askSheetAndBook _>>=_ _>>_ in rw (sound, B .is) (s ∙ sym (outcome-bind (askRule limits goal) (λ aim. (B .what, aim))))
+  pub goal-last : {n : ℕ} → n ≡ graphOf sheet .n → Learned (askSheetAndBook sheet book) → (a : Answer) → asked a ≡ outcome (askRule (textLimits n) goal) → asked a ≡ outcome (askAims sheet book goal)
+  goal-last count B a s = unfold askAims _>>=_ in rw (B .is) (rw count at s ∙ sym (outcome-bind (askRule limits goal) (λ aim. (B .what, aim))))
 
   -- What is known of them once they have passed.
   pub record AimsRead (aims : List (Expr rule) × Expr rule) : Type 0 where
@@ -82,12 +67,11 @@ module _ (sheet book goal : List ℕ) where
     pub goal-is : askRule limits goal ≡ passed (aims .1)
 
   pub aims-read : (aims : List (Expr rule) × Expr rule) → askAims sheet book goal ≡ passed aims → AimsRead aims
-  unfolding askAims askSheetAndBook
+  unfolding askAims
   aims-read aims e =
-      let (rules, both, goes) = bind-passed (askSheet sheet >> askBook limits book) _ aims e in
-      let (u, sound, read) = then-passed (askSheet sheet) (askBook limits book) rules both in
+      let (rules, both, goes) = bind-passed (askSheetAndBook sheet book) _ aims e in
       let (aim, goal-read, same) = bind-passed (askRule limits goal) _ aims goes in
-      record { sound = sound; book-is = read ∙ ap (λ x. passed (x .0)) (passed-same same); goal-is = goal-read ∙ ap (λ x. passed (x .1)) (passed-same same) }
+      record { sound = sheet-sound _ _ both; book-is = book-passed _ _ both ∙ ap (λ x. passed (x .0)) (passed-same same); goal-is = goal-read ∙ ap (λ x. passed (x .1)) (passed-same same) }
 
 module _ (sheet book goal edits lengths : List ℕ) (d moves : ℕ) where
   abbrev reads : Limits
@@ -108,12 +92,12 @@ module _ (sheet book goal edits lengths : List ℕ) (d moves : ℕ) where
 
   module _ (ok : listsRight edits lengths d moves ≡ true) where
     pub aims-stop : (a : Answer) → asked a ≡ outcome (askAims sheet book goal) → {r : Refusal} → a ≡ Refused r → Asks (asked a) 0
-    aims-stop a s e = unfold askGame faultyEdit is _>>_ _>>=_ outcome after in let z = refuses (askAims sheet book goal) a s e in (rw (ok, z, e), rw (ok, z))
+    aims-stop a s e = unfold askGame faultyEdit is _>>_ _>>=_ outcome after in let z = refused-asked {q = askAims sheet book goal} s e in (rw (ok, z, e), rw (ok, z))
 
     module _ (A : Learned (askAims sheet book goal)) where
       pub edits-stop : (a : Answer) → asked a ≡ outcome (askEdits reads (cut edits lengths)) → (edit : ℕ) → edit ≡ firstRefused (askEdit reads) (cut edits lengths) → {r : Refusal} → a ≡ Refused r → Asks (asked a) edit
       unfolding askGame faultyEdit is _>>_ _>>=_ outcome after
-      edits-stop a s edit f e = let z = refuses (askEdits reads (cut edits lengths)) a s e in (rw (ok, A .is, z, e), rw (ok, A .is, z) f)
+      edits-stop a s edit f e = let z = refused-asked {q = askEdits reads (cut edits lengths)} s e in (rw (ok, A .is, z, e), rw (ok, A .is, z) f)
 
       module _ (E : Learned (askEdits reads (cut edits lengths))) where
         pub fits-last : (a : Answer) → asked a ≡ askFits (A .what .0) (take d (E .what)) → (edit : ℕ) → edit ≡ firstRefused (λ Z. askCarried (carriedBook Z (A .what .0))) (take d (E .what)) → Asks (asked a) edit
@@ -129,7 +113,7 @@ module _ (sheet book goal edits lengths : List ℕ) (d moves : ℕ) where
       edits-at = let s = edits-stand (graphOf sheet .n) edits lengths (E .what) (E .is) in record { limits = ranges (graphOf sheet .n); stand = s .stand; enough = omega (arith, s .many, enough edits lengths d moves ok) }
 
       pub both-read : (rules : List (Expr rule)) → askBook reads book ≡ passed rules → SomeBook book × SomeEdits edits d
-      both-read rules B = (record { what = rules; is = book-passed reads B }, record { what = E .what; are = edits-at })
+      both-read rules B = (record { what = rules; is = ends.book-passed reads B }, record { what = E .what; are = edits-at })
 
   -- All have passed.
   pub record Passed (G : Game) : Type 0 where

@@ -2,22 +2,23 @@
 use mathlib.Core.Path.{_≡_, sym, ap, _∙_, subst}
 use mathlib.Core.Bool.{Bool, true, false}
 use mathlib.Core.List.{List, [], _∷_}
-use Prim.Native.Nat.{ℕ, zero, suc, _+_, _-_, _≤_}
+use Prim.Native.Nat.{ℕ, zero, suc, _+_, _-_}
 use native.Mathlib.Omega.{arith}
 use lib.ListN.{length, take, drop, length-drop}
 use lib.Seq.{length-take-le}
 use Rattle.answer.specs.Asked.{Asked, passed, _>>=_, after, outcome}
-use Rattle.answer.specs.Answers.{asked, refusalNumber, refusalPlace}
+use Rattle.answer.specs.Answers.{asked}
 use Rattle.answer.specs.declared.Refusal.{Refusal}
 use Rattle.answer.specs.declared.Answer.{Answer}
 use Rattle.answer.specs.declared.Answer.the-variants.{Done, Refused}
-use Rattle.answer.proofs.AnswerLaws.{Learned, learned, not-learned}
+use Rattle.answer.proofs.AnswerLaws.{Learned}
 use Rattle.logic.specs.Syntax.{Edit}
 use Rattle.logic.specs.Limits.{Ranges, ranges}
 use Rattle.sheet.specs.Sheet.{graphOf}
 use Rattle.text.specs.Code.{editCode}
 use Rattle.text.specs.Reading.{textLimits}
 use Rattle.judge.proofs.RulesJudged.{read-book-stands}
+use Rattle.judge.proofs.SheetAndBook.{done-learned, refused-asked}
 use Rattle.game.specs.Game.{Game, editsOf, Outcome, answer}
 use Rattle.game.specs.Search.{sideOf, chosen}
 use Rattle.game.proofs.Chosen.{chosen-answer}
@@ -27,7 +28,7 @@ use Rattle.play.specs.Questions.{askGame, askPlay, faultyEdit, outcomeNu
 use Rattle.play.specs.Standing.{EditsStand, countOf, startOf, EditsAt, GameStands, outcomeOf}
 use Rattle.play.proofs.GameEdits.{edits-stand}
 use Rattle.play.proofs.Goal.{goal-stands}
-use Rattle.play.proofs.PlayStages.{enough, some-moves, gameOf, Passed, all-passed, edits-at}
+use Rattle.play.proofs.PlayStages.{enough, gameOf, Passed, all-passed, edits-at}
 
 -- The first of the edits that stand there stand there.
 first-stand : (r : Ranges) (text : List ℕ) (m at : ℕ) (Zs : List Edit) → EditsStand r text at Zs → EditsStand r text at (take m Zs)
@@ -48,26 +49,18 @@ module _ (sheet book goal edits lengths : List ℕ) (d moves : ℕ) where
     -- A question stops.
     pub game-stops : {r : Refusal} → a ≡ Refused r → (edit : ℕ) → edit ≡ faultyEdit sheet book goal edits lengths d moves → Says (asked a) noOutcome edit
     unfolding askPlay _>>=_ outcome after
-    game-stops {r} e edit f =
-        let q = not-learned (askGame sheet book goal edits lengths d moves) (refusalNumber r) (refusalPlace r) (sym (ap asked e) ∙ s) in
-        (rw (q, e), (rw q, rw q f))
+    game-stops e edit f = let q = refused-asked {q = askGame sheet book goal edits lengths d moves} s e in (rw (q, e), (rw q, rw q f))
 
     -- All pass.
     module _ (e : a ≡ Done) where
       abbrev read : Learned (askGame sheet book goal edits lengths d moves)
-      read = learned (askGame sheet book goal edits lengths d moves) (sym (ap asked e) ∙ s)
+      read = done-learned s e
 
       pub known : Passed sheet book goal edits lengths d moves (read .what)
       known = all-passed sheet book goal edits lengths d moves (read .what) (read .is)
 
       pub texts-stand : EditsAt edits d (known .edits-read .what)
       texts-stand = edits-at sheet book goal edits lengths d moves (known .ok) (known .edits-read)
-
-      pub no-fewer : d ≤ length lengths
-      no-fewer = enough edits lengths d moves (known .ok)
-
-      pub one-move : 1 ≤ moves
-      one-move = some-moves edits lengths d moves (known .ok)
 
       module _ (second : ℕ) (later : (Zs : List Edit) (t : EditsAt edits d Zs) → EditsStand (t .limits) edits second (drop d Zs)) where
         abbrev lists : Lists
@@ -86,7 +79,7 @@ module _ (sheet book goal edits lengths : List ℕ) (d moves : ℕ) where
                 | false ↦ later Zs (edits-at sheet book goal edits lengths d moves (known .ok) (known .edits-read))
               ];
               counted = λ (ours : Bool). elim ours as (λ b. countOf lists b ≡ length (editsOf (gameOf sheet book goal edits lengths d moves (known .book-read .what) (known .goal-read .what) Zs) (sideOf b))) [
-                | true ↦ sym (length-take-le d Zs (omega (arith, t .many, no-fewer)))
+                | true ↦ sym (length-take-le d Zs (omega (arith, t .many, enough edits lengths d moves (known .ok))))
                 | false ↦ ap (λ (k : ℕ). k - d) (sym (t .many)) ∙ sym (length-drop d Zs)
               ];
             })

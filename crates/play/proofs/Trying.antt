@@ -14,7 +14,7 @@ use Rattle.logic.specs.Limits.{ranges}
 use Rattle.logic.proofs.Inside.{run-n}
 use Rattle.sheet.specs.Sheet.{graphOf}
 use Rattle.text.specs.Stands.{EditStands}
-use Rattle.game.specs.Game.{Game, pass, edit, editsOf, leaves, mayLeave, canMake, allowed, cannot, first}
+use Rattle.game.specs.Game.{Game, pass, edit, editsOf, leaves, mayLeave, canMake, legal, cannot, first}
 use Rattle.game.specs.Search.{sideOf, goesWell, serves, chosen}
 use Rattle.game.proofs.Chosen.{chosen-edit, chosen-last, no-pass, pass-serves}
 use Rattle.play.specs.declared.search.Lists.{Lists}
@@ -27,12 +27,9 @@ pub record Trying (edits : List ℕ) (ours : Bool) (m n : ℕ) (g : Graph) (G : 
   pub none : (j : ℕ) → j < i → serves G m ours g (edit j) ≡ false
   pub some-made : made ≡ anyBelow i (canMake G (sideOf ours) g)
 
--- A game that stands for the n of a sheet stands for that of a sheet with as many nodes.
-pub as-many : (n k : ℕ) (book goal edits : List ℕ) (lists : Lists) (G : Game) → k ≡ n → GameStands n book goal edits lists G → GameStands k book goal edits lists G
-as-many n k book goal edits lists G e s = subst (λ (x : ℕ). GameStands x book goal edits lists G) (sym e) s
-
-pub copy-n : {sheet copy : List ℕ} {at next : ℕ} {Z : Edit} → OnCopy at Z next sheet copy → graphOf copy .n ≡ graphOf sheet .n
-copy-n {sheet} {Z = Z} o = ap (λ (g : Graph). g .n) (o .graph) ∙ run-n Z (graphOf sheet)
+-- A game that stands for the n of a sheet stands for that of a copy on which an edit was made.
+pub copy-stands : {sheet copy book goal edits : List ℕ} {at next : ℕ} {Z : Edit} {lists : Lists} {G : Game} → OnCopy at Z next sheet copy → GameStands (graphOf sheet .n) book goal edits lists G → GameStands (graphOf copy .n) book goal edits lists G
+copy-stands {sheet} {Z = Z} o s = rw (o .graph, run-n Z (graphOf sheet)) s
 
 module _ (book goal edits : List ℕ) (lists : Lists) (ours : Bool) (m : ℕ) (sheet : List ℕ) (G : Game) (s : GameStands (graphOf sheet .n) book goal edits lists G) where
   abbrev g : Graph
@@ -70,7 +67,7 @@ module _ (book goal edits : List ℕ) (lists : Lists) (ours : Bool) (m : ℕ) (s
       can-make = unfold canMake in ap₂ _&&_ (lt-ltb i (length ofSide) below) (ap (mayLeave G (sideOf ours)) (sym left-here)) ∙ sym may
 
       serves-if : (well : Bool) → well ≡ goesWell G m ours (graphOf copy) → serves G m ours g (edit i) ≡ (can && well)
-      serves-if well w = unfold serves allowed in ap₂ _&&_ can-make (ap (goesWell G m ours) (sym left-here) ∙ sym w)
+      serves-if well w = unfold serves legal in ap₂ _&&_ can-make (ap (goesWell G m ours) (sym left-here) ∙ sym w)
 
       -- It did not serve.
       one-more : (made′ : Bool) → made′ ≡ (made || can) → serves G m ours g (edit i) ≡ false → Tried (i + 1) next made′

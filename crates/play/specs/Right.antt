@@ -12,7 +12,7 @@ use Rattle.logic.specs.Carry.{carriedBook}
 use Rattle.sheet.specs.Sheet.{graphOf}
 use Rattle.judge.specs.Questions.{askRules}
 use Rattle.game.specs.Game.{Game, dispatcher, canMake, Outcome, answer}
-use Rattle.game.specs.Play.{Right}
+use Rattle.game.specs.Strategies.{Right}
 use Rattle.carry.specs.Carrying.{askCarried}
 use Rattle.play.specs.Questions.{askGame, askPlay}
 

@@ -9,7 +9,7 @@ ghost use Rattle.answer.specs.Asked.{outcome};
 ghost use Rattle.logic.specs.Syntax.{Expr, rule, Edit};
 ghost use Rattle.logic.specs.Carry.{carriedBook};
 ghost use Rattle.text.specs.Reading.{longestText, textLimits};
-ghost use Rattle.text.specs.Questions.{askEdit, askRule};
+ghost use Rattle.text.specs.Questions.{askEdit};
 ghost use Rattle.ends.specs.Edits.{EditAt, SomeEdit};
 ghost use Rattle.ends.specs.Books.{BookIs, SomeBook};
 ghost use Rattle.carry.specs.Carrying.{askCarried};
@@ -80,23 +80,6 @@ fn lists_right(edits: &[u8], lengths: &[usize], dispatchers: usize, moves: usize
     fill(lengths, edits.len())
 }
 
-// Is the goal one rule? 11 to 16. Where rule 1 would start is behind rule 0, or the goal's end where that cannot be read.
-fn check_goal(goal: &[u8], n: usize) -> Answer
-    ensures { λ r. ⌜ asked r ≡ outcome (askRule (textLimits n) (now (goal .entry))) ⌝ }
-{
-    if goal.len() > Text::LONGEST {
-        return Answer::Refused(Refusal::BookLength { place: 0 });
-    }
-    if goal.len() == 0 {
-        return Answer::Refused(Refusal::BookEnds { place: 0 });
-    }
-    let end = Text::rule_start(goal, n, 1);
-    if end < goal.len() {
-        return Answer::Refused(Refusal::BookRules { place: end });
-    }
-    Text::check_book(goal, n)
-}
-
 // Sheet, book and goal: 1 to 4, 11 to 16 of the book and of the goal.
 fn check_aims(sheet: &[u8], book: &[u8], goal: &[u8]) -> Answer
     ensures { λ r. ⌜ asked r ≡ outcome (askAims (now (sheet .entry)) (now (book .entry)) (now (goal .entry))) ⌝ }
@@ -110,7 +93,7 @@ fn check_aims(sheet: &[u8], book: &[u8], goal: &[u8]) -> Answer
     let Answer::Done = rules else {
         return rules;
     };
-    check_goal(goal, n)
+    Text::check_rule(goal, n)
 }
 
 // Are the texts of the edits edits? 21 to 26 of each in turn. Inner: their lengths fill `edits`.

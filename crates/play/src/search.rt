@@ -1,19 +1,16 @@
 // The search of a game: the side to move tries its edits in turn, each on a copy of the sheet, and the other side goes on from there.
 ghost use mathlib.Core.Path.{_≡_};
-ghost use mathlib.Core.List.{List};
 ghost use Prim.Native.Nat.{_-_, _<_};
 ghost use lib.ListN.{length};
-ghost use Rattle.logic.specs.Syntax.{Expr, rule, Edit};
+ghost use Rattle.logic.specs.Syntax.{Edit};
 ghost use Rattle.logic.specs.Limits.{ranges};
 ghost use Rattle.sheet.specs.Sheet.{sheetBytes, graphOf};
 ghost use Rattle.sheet.specs.Questions.{Sound};
 ghost use Rattle.text.specs.Stands.{EditStands, SomeEditStands};
 ghost use Rattle.judge.specs.Judging.{RulesStand, SomeRulesStand};
-ghost use Rattle.logic.specs.Meaning.{holdAll};
 ghost use Rattle.game.specs.Game.{Game, mayLeave};
 ghost use Rattle.game.specs.Search.{sideOf, goesWell, chosen};
 ghost use Rattle.play.specs.Standing.{countOf, startOf, GameStands, SomeGame, OnCopy, outcomeOf};
-use answer::Answer;
 use sheet::Sheet;
 
 // The edits of both sides stand one behind the other: how many the dispatcher has, where the disruption's start, and how many those are.
@@ -49,29 +46,16 @@ fn start_of(lists: Lists, ours: bool) -> usize
     lists.second
 }
 
-// Whether each rule of a book holds on the sheet. Inner, as all below: the sheet is sound, and the texts were read for its n.
-fn holds(sheet: &[u8], book: &[u8]) -> bool
-    requires { ⌜ Sound (now sheet) × SomeRulesStand (ranges (graphOf (now sheet) .n)) (now book) 0 (length (now book)) ⌝ }
-    ensures { λ r. ⌜ ((rules : List (Expr rule)) → RulesStand (ranges (graphOf (now (sheet .entry)) .n)) (now (book .entry)) 0 (length (now (book .entry))) rules
-        → r ≡ holdAll (graphOf (now (sheet .entry))) rules) ⌝ }
-{
-    let verdict = judge::judge_rules(sheet, book, book.len());
-    let answer = verdict.answer;
-    let Answer::Done = answer else {
-        return false;
-    };
-    true
-}
-
-// Whether a side may leave this sheet. Enter would answer done exactly when the book holds on the sheet that the steps leave (Theorem 4.2), once 31 and
-// 32 have been asked: so the dispatcher's edit is made on the copy first, and nothing is carried back.
+// Whether a side may leave this sheet. Inner, as all below: the sheet is sound, and the texts were read for its n. Enter would answer done exactly when
+// the book holds on the sheet that the steps leave (Theorem 4.2), once 31 and 32 have been asked: so the dispatcher's edit is made on the copy first,
+// and nothing is carried back.
 fn may_leave(sheet: &[u8], book: &[u8], ours: bool) -> bool
     requires { ⌜ Sound (now sheet) × SomeRulesStand (ranges (graphOf (now sheet) .n)) (now book) 0 (length (now book)) ⌝ }
     ensures { λ r. ⌜ ((G : Game) → RulesStand (ranges (graphOf (now (sheet .entry)) .n)) (now (book .entry)) 0 (length (now (book .entry))) (G .book)
         → r ≡ mayLeave G (sideOf ours) (graphOf (now (sheet .entry)))) ⌝ }
 {
     if ours {
-        return holds(sheet, book);
+        return judge::holds(sheet, book);
     }
     true
 }
@@ -138,7 +122,7 @@ fn goes_well(
         → r ≡ goesWell G moves ours (graphOf (now (sheet .entry)))) ⌝ }
 {
     if moves == 0 {
-        let reached = holds(sheet, goal);
+        let reached = judge::holds(sheet, goal);
         if ours {
             return reached;
         }

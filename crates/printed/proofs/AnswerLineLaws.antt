@@ -4,7 +4,7 @@ use mathlib.Core.List.{List, [], _∷_, _++_}
 use Prim.Native.Nat.{ℕ}
 use native.Mathlib.Omega.{arith}
 use lib.ListN.{length, set, take, drop, replicate}
-use Rattle.answer.specs.Asked.{Asked, passed, refused, askedNumber, askedPlace}
+use Rattle.answer.specs.Asked.{Asked, askedNumber, askedPlace}
 use Rattle.answer.proofs.Refusals.{Refuses, passes, refuses, number-by, place-by}
 use Rattle.decimal.specs.Digits.{digits}
 use Rattle.decimal.proofs.DigitLaws.{Left, said-digits}

@@ -24,11 +24,11 @@ use Rattle.apply.specs.Apply.{appliedSheet}
 use Rattle.runs.specs.Enter.{enterSheet}
 use Rattle.bitset.specs.Words.{Bytes}
 use Rattle.judge.proofs.QuestionLaws.{hold-asked, asked-hold}
-use Rattle.game.specs.Game.{Side, dispatcher, disruption, Game, Move, pass, edit, editsOf, leaves, mayLeave, canMake, allowed, Outcome, answer}
-use Rattle.game.specs.Play.{Plan, since, Play, Course, ended, wrong, course, Fair, Won, Broken, Wins, CanFollow, SomeBreaks, Begins, Right}
+use Rattle.game.specs.Game.{Side, dispatcher, disruption, Game, Move, pass, edit, editsOf, leaves, mayLeave, canMake, legal, Outcome, answer}
+use Rattle.game.specs.Strategies.{Strategy, continued, Replies, Course, ended, wrong, course, Legal, Won, Broken, Wins, AlwaysLegal, SomeBreaks, Begins, Right}
 use Rattle.logic.proofs.Bools.{both-so, so-both, true-false, so, is-true, is-false}
 use Rattle.game.proofs.Search.{edit-below}
-use Rattle.game.proofs.Plans.{plan-moves, play-moves, first-fair, won-fair}
+use Rattle.game.proofs.Strategies.{dispatcher-moves, disruption-moves, first-legal, won-legal}
 use Rattle.play.specs.Questions.{cut, askGame, askPlay}
 use Rattle.play.proofs.Goal.{goal-read}
 use Rattle.play.proofs.PlayStages.{all-passed}
@@ -59,7 +59,7 @@ module _ (nodes : ℕ) (book : List ℕ) (texts : List (List ℕ)) (G : Game) (s
         (ap (_&& true) (lt-ltb i (length (G .disruptions)) below), subst (Made nodes G disruption i sheet) (sym n) (b .applied i below))
 
     makes : (s : Side) (i : ℕ) → canMake G s g i ≡ true → (next : List ℕ) × Makes lent s sheet i next
-    unfolding Makes allowed
+    unfolding Makes legal
     makes dispatcher i c =
         let b = by-calls sheet k in
         let l = edit-below G dispatcher g i c in
@@ -72,12 +72,12 @@ module _ (nodes : ℕ) (book : List ℕ) (texts : List (List ℕ)) (G : Game) (s
 
     -- So is a move one of the game, and leaves its graph.
     pub record OfGame (s : Side) (x : Move) (next : List ℕ) : Type 0 where
-      pub may : allowed G s g x ≡ true
+      pub may : legal G s g x ≡ true
       pub held : Held nodes next
       pub graph : graphOf next ≡ leaves G s g x
 
     of-game : (s : Side) (x : Move) (next : List ℕ) → Moves lent s sheet x next → OfGame s x next
-    unfolding Moves allowed leaves
+    unfolding Moves legal leaves
     of-game s (edit i) next m = let (c, d) = can s i next m in record { may = c; held = d .held; graph = d .graph }
     of-game s pass next (none, n) = record {
       may = ap not (any-none (length (editsOf G s)) (canMake G s g) (λ i l. is-false (canMake G s g i) (λ c. let (other, m) = makes s i c in none i other m)));
@@ -85,34 +85,34 @@ module _ (nodes : ℕ) (book : List ℕ) (texts : List (List ℕ)) (G : Game) (s
       graph = ap graphOf n;
     }
 
-    by-call : (s : Side) (x : Move) → allowed G s g x ≡ true → (next : List ℕ) × Moves lent s sheet x next
-    unfolding Moves allowed
+    by-call : (s : Side) (x : Move) → legal G s g x ≡ true → (next : List ℕ) × Moves lent s sheet x next
+    unfolding Moves legal
     by-call s (edit i) a = makes s i a
     by-call s pass a =
         (sheet, ((λ i other m. let c = can s i other m .0 in true-false a (ap not (any-one (length (editsOf G s)) (canMake G s g) i (edit-below G s g i c) c))), refl))
 
   -- A course by calls is one of the game,
-  pub record AsGame (m : ℕ) (s : Side) (sheet : List ℕ) (p : Plan) (q : Play) (last : List ℕ) : Type 0 where
+  pub record AsGame (m : ℕ) (s : Side) (sheet : List ℕ) (p : Strategy) (q : Replies) (last : List ℕ) : Type 0 where
     pub held : Held nodes last
     pub ends : course G m s (graphOf sheet) p q ≡ ended (graphOf last)
 
-  as-game : (m : ℕ) (s : Side) (sheet : List ℕ) → Held nodes sheet → (p : Plan) (q : Play) (last : List ℕ) → Calls lent m s sheet p q last → AsGame m s sheet p q last
+  as-game : (m : ℕ) (s : Side) (sheet : List ℕ) → Held nodes sheet → (p : Strategy) (q : Replies) (last : List ℕ) → Calls lent m s sheet p q last → AsGame m s sheet p q last
   unfolding Calls course
   as-game zero s sheet k p q last e = record { held = subst (Held nodes) (sym e) k; ends = ap (λ t. ended (graphOf t)) (sym e) }
   as-game (suc m) dispatcher sheet k p q last (next, move, rest) =
       let o = of-game sheet k dispatcher (p []) next move in
-      let r = as-game m disruption next (o .held) (since p (p [])) q last rest in
-      record { held = r .held; ends = plan-moves G m (graphOf sheet) p q (o .may) ∙ ap (λ h. course G m disruption h (since p (p [])) q) (sym (o .graph)) ∙ r .ends }
+      let r = as-game m disruption next (o .held) (continued p (p [])) q last rest in
+      record { held = r .held; ends = dispatcher-moves G m (graphOf sheet) p q (o .may) ∙ ap (λ h. course G m disruption h (continued p (p [])) q) (sym (o .graph)) ∙ r .ends }
   as-game (suc m) disruption sheet k p [] last c = absurd c
   as-game (suc m) disruption sheet k p (x ∷ q) last (next, move, rest) =
       let o = of-game sheet k disruption x next move in
-      let r = as-game m dispatcher next (o .held) (since p x) q last rest in
-      record { held = r .held; ends = play-moves G m (graphOf sheet) p x q (o .may) ∙ ap (λ h. course G m dispatcher h (since p x) q) (sym (o .graph)) ∙ r .ends }
+      let r = as-game m dispatcher next (o .held) (continued p x) q last rest in
+      record { held = r .held; ends = disruption-moves G m (graphOf sheet) p x q (o .may) ∙ ap (λ h. course G m dispatcher h (continued p x) q) (sym (o .graph)) ∙ r .ends }
 
   -- and each of the game that ends is one by calls: a move, and what follows it.
   module _ (sheet : List ℕ) (k : Held nodes sheet) (s : Side) (x : Move) (rest : Graph → Course) (h : Graph) (then : List ℕ → List ℕ → Type 0)
       (others : (next : List ℕ) → Held nodes next → rest (graphOf next) ≡ ended h → (last : List ℕ) × then next last) where
-    one-more : (b : Bool) → allowed G s (graphOf sheet) x ≡ b → (elim b as (λ c. Course) [ true ↦ rest (leaves G s (graphOf sheet) x) | false ↦ wrong s ]) ≡ ended h
+    one-more : (b : Bool) → legal G s (graphOf sheet) x ≡ b → (elim b as (λ c. Course) [ true ↦ rest (leaves G s (graphOf sheet) x) | false ↦ wrong s ]) ≡ ended h
         → (last : List ℕ) × ((next : List ℕ) × Moves lent s sheet x next × then next last)
     one-more false a c = let z : _≡_ {A = ℕ} 0 1 = cc in absurd (omega arith)
     one-more true a c =
@@ -121,50 +121,50 @@ module _ (nodes : ℕ) (book : List ℕ) (texts : List (List ℕ)) (G : Game) (s
         let (last, t) = others next (o .held) (ap rest (o .graph) ∙ c) in
         (last, (next, move, t))
 
-  as-calls : (m : ℕ) (s : Side) (sheet : List ℕ) → Held nodes sheet → (p : Plan) (q : Play) (h : Graph) → course G m s (graphOf sheet) p q ≡ ended h → (last : List ℕ) × Calls lent m s sheet p q last
+  as-calls : (m : ℕ) (s : Side) (sheet : List ℕ) → Held nodes sheet → (p : Strategy) (q : Replies) (h : Graph) → course G m s (graphOf sheet) p q ≡ ended h → (last : List ℕ) × Calls lent m s sheet p q last
   unfolding Calls course
   as-calls zero s sheet k p q h e = (sheet, refl)
   as-calls (suc m) dispatcher sheet k p q h e =
-      one-more sheet k dispatcher (p []) (λ f. course G m disruption f (since p (p [])) q) h (λ next last. Calls lent m disruption next (since p (p [])) q last)
-      (λ next held c. as-calls m disruption next held (since p (p [])) q h c) (allowed G dispatcher (graphOf sheet) (p [])) refl e
+      one-more sheet k dispatcher (p []) (λ f. course G m disruption f (continued p (p [])) q) h (λ next last. Calls lent m disruption next (continued p (p [])) q last)
+      (λ next held c. as-calls m disruption next held (continued p (p [])) q h c) (legal G dispatcher (graphOf sheet) (p [])) refl e
   as-calls (suc m) disruption sheet k p [] h e = let z : _≡_ {A = ℕ} 0 1 = cc in absurd (omega arith)
   as-calls (suc m) disruption sheet k p (x ∷ q) h e =
-      one-more sheet k disruption x (λ f. course G m dispatcher f (since p x) q) h (λ next last. Calls lent m dispatcher next (since p x) q last)
-      (λ next held c. as-calls m dispatcher next held (since p x) q h c) (allowed G disruption (graphOf sheet) x) refl e
+      one-more sheet k disruption x (λ f. course G m dispatcher f (continued p x) q) h (λ next last. Calls lent m dispatcher next (continued p x) q last)
+      (λ next held c. as-calls m dispatcher next held (continued p x) q h c) (legal G disruption (graphOf sheet) x) refl e
 
-  -- A plan that can be followed by calls says no move that cannot be made, and the other way round.
-  module _ (sheet : List ℕ) (k : Held nodes sheet) (x : Move) (rest : Graph → Course) (others : (next : List ℕ) → Held nodes next → Moves lent disruption sheet x next → Fair (rest (graphOf next))) where
-    fair-move : (b : Bool) → allowed G disruption (graphOf sheet) x ≡ b → Fair (elim b as (λ c. Course) [ true ↦ rest (leaves G disruption (graphOf sheet) x) | false ↦ wrong disruption ])
-    fair-move false a = tt
-    fair-move true a =
+  -- A strategy that can be followed by calls says no move that cannot be made, and the other way round.
+  module _ (sheet : List ℕ) (k : Held nodes sheet) (x : Move) (rest : Graph → Course) (others : (next : List ℕ) → Held nodes next → Moves lent disruption sheet x next → Legal (rest (graphOf next))) where
+    legal-move : (b : Bool) → legal G disruption (graphOf sheet) x ≡ b → Legal (elim b as (λ c. Course) [ true ↦ rest (leaves G disruption (graphOf sheet) x) | false ↦ wrong disruption ])
+    legal-move false a = tt
+    legal-move true a =
         let (next, move) = by-call sheet k disruption x a in
         let o = of-game sheet k disruption x next move in
-        subst (λ f. Fair (rest f)) (o .graph) (others next (o .held) move)
+        subst (λ f. Legal (rest f)) (o .graph) (others next (o .held) move)
 
-  follow-fair : (m : ℕ) (s : Side) (sheet : List ℕ) → Held nodes sheet → (p : Plan) → Follows lent m s sheet p → (q : Play) → Fair (course G m s (graphOf sheet) p q)
+  follow-legal : (m : ℕ) (s : Side) (sheet : List ℕ) → Held nodes sheet → (p : Strategy) → Follows lent m s sheet p → (q : Replies) → Legal (course G m s (graphOf sheet) p q)
   unfolding Follows course
-  follow-fair zero s sheet k p f q = tt
-  follow-fair (suc m) dispatcher sheet k p (next, move, f) q =
+  follow-legal zero s sheet k p f q = tt
+  follow-legal (suc m) dispatcher sheet k p (next, move, f) q =
       let o = of-game sheet k dispatcher (p []) next move in
-      subst Fair (sym (plan-moves G m (graphOf sheet) p q (o .may) ∙ ap (λ h. course G m disruption h (since p (p [])) q) (sym (o .graph))))
-      (follow-fair m disruption next (o .held) (since p (p [])) f q)
-  follow-fair (suc m) disruption sheet k p f [] = tt
-  follow-fair (suc m) disruption sheet k p f (x ∷ q) =
-      fair-move sheet k x (λ h. course G m dispatcher h (since p x) q) (λ next held move. follow-fair m dispatcher next held (since p x) (f x next move) q)
-      (allowed G disruption (graphOf sheet) x) refl
+      subst Legal (sym (dispatcher-moves G m (graphOf sheet) p q (o .may) ∙ ap (λ h. course G m disruption h (continued p (p [])) q) (sym (o .graph))))
+      (follow-legal m disruption next (o .held) (continued p (p [])) f q)
+  follow-legal (suc m) disruption sheet k p f [] = tt
+  follow-legal (suc m) disruption sheet k p f (x ∷ q) =
+      legal-move sheet k x (λ h. course G m dispatcher h (continued p x) q) (λ next held move. follow-legal m dispatcher next held (continued p x) (f x next move) q)
+      (legal G disruption (graphOf sheet) x) refl
 
-  fair-follow : (m : ℕ) (s : Side) (sheet : List ℕ) → Held nodes sheet → (p : Plan) → CanFollow G m s (graphOf sheet) p → Follows lent m s sheet p
+  legal-follow : (m : ℕ) (s : Side) (sheet : List ℕ) → Held nodes sheet → (p : Strategy) → AlwaysLegal G m s (graphOf sheet) p → Follows lent m s sheet p
   unfolding Follows
-  fair-follow zero s sheet k p f = tt
-  fair-follow (suc m) dispatcher sheet k p f =
-      let a = first-fair G m (graphOf sheet) p f in
+  legal-follow zero s sheet k p f = tt
+  legal-follow (suc m) dispatcher sheet k p f =
+      let a = first-legal G m (graphOf sheet) p f in
       let (next, move) = by-call sheet k dispatcher (p []) a in
       let o = of-game sheet k dispatcher (p []) next move in
-      let rest = fair-follow m disruption next (o .held) (since p (p [])) (λ q. subst Fair (plan-moves G m (graphOf sheet) p q a ∙ ap (λ h. course G m disruption h (since p (p [])) q) (sym (o .graph))) (f q)) in
+      let rest = legal-follow m disruption next (o .held) (continued p (p [])) (λ q. subst Legal (dispatcher-moves G m (graphOf sheet) p q a ∙ ap (λ h. course G m disruption h (continued p (p [])) q) (sym (o .graph))) (f q)) in
       (next, move, rest)
-  fair-follow (suc m) disruption sheet k p f = λ x next move.
+  legal-follow (suc m) disruption sheet k p f = λ x next move.
       let o = of-game sheet k disruption x next move in
-      fair-follow m dispatcher next (o .held) (since p x) (λ q. subst Fair (play-moves G m (graphOf sheet) p x q (o .may) ∙ ap (λ h. course G m dispatcher h (since p x) q) (sym (o .graph))) (f (x ∷ q)))
+      legal-follow m dispatcher next (o .held) (continued p x) (λ q. subst Legal (disruption-moves G m (graphOf sheet) p x q (o .may) ∙ ap (λ h. course G m dispatcher h (continued p x) q) (sym (o .graph))) (f (x ∷ q)))
 
   -- Judge, of the goal.
   module _ (goal : List ℕ) (read : askBook (textLimits nodes) goal ≡ passed (G .goal ∷ [])) where
@@ -189,14 +189,14 @@ module _ (nodes : ℕ) (book : List ℕ) (texts : List (List ℕ)) (G : Game) (s
         go true = ((λ t. absurd t), (λ e. refused-not-passed (sym e)))
         go false = ((λ t. refl), (λ e. tt))
 
-    module _ (sheet : List ℕ) (k : Held nodes sheet) (m : ℕ) (p : Plan) where
-      abbrev Comes : Play → Course
+    module _ (sheet : List ℕ) (k : Held nodes sheet) (m : ℕ) (p : Strategy) where
+      abbrev Comes : Replies → Course
       Comes q = course G m dispatcher (graphOf sheet) p q
 
-      won-judged : (q : Play) (last : List ℕ) → Calls lent m dispatcher sheet p q last → Won G (Comes q) ↔ (askJudge last goal ≡ passed tt)
+      won-judged : (q : Replies) (last : List ℕ) → Calls lent m dispatcher sheet p q last → Won G (Comes q) ↔ (askJudge last goal ≡ passed tt)
       won-judged q last c = let a = as-game m dispatcher sheet k p q last c in subst (λ x. Won G x ↔ (askJudge last goal ≡ passed tt)) (sym (a .ends)) (judged last (a .held))
 
-      each-course : (q : Play) (h : Graph) → Comes q ≡ ended h → (last : List ℕ) × Calls lent m dispatcher sheet p q last × (graphOf last ≡ h)
+      each-course : (q : Replies) (h : Graph) → Comes q ≡ ended h → (last : List ℕ) × Calls lent m dispatcher sheet p q last × (graphOf last ≡ h)
       each-course q h e =
           let (last, c) = as-calls m dispatcher sheet k p q h e in
           let a = as-game m dispatcher sheet k p q last c in
@@ -207,11 +207,11 @@ module _ (nodes : ℕ) (book : List ℕ) (texts : List (List ℕ)) (G : Game) (s
       wins-won w q = go (Comes q) refl where
         go : (x : Course) → Comes q ≡ x → Won G (Comes q)
         go (ended h) e = let (last, c, same) = each-course q h e in won-judged q last c .1 (w .wins q last c)
-        go (wrong dispatcher) e = absurd (subst Fair e (follow-fair m dispatcher sheet k p (w .follows) q))
+        go (wrong dispatcher) e = absurd (subst Legal e (follow-legal m dispatcher sheet k p (w .follows) q))
         go (wrong disruption) e = subst (Won G) (sym e) tt
 
       won-wins : Wins G m dispatcher (graphOf sheet) p → WinsByCalls lent m sheet goal p
-      won-wins w = record { follows = fair-follow m dispatcher sheet k p (λ q. won-fair G (Comes q) (w q)); wins = λ q last c. won-judged q last c .0 (w q) }
+      won-wins w = record { follows = legal-follow m dispatcher sheet k p (λ q. won-legal G (Comes q) (w q)); wins = λ q last c. won-judged q last c .0 (w q) }
 
       broken-breaks : BrokenByCalls lent m sheet goal p → SomeBreaks G m dispatcher (graphOf sheet) p
       broken-breaks (q, last, c, e) = let a = as-game m dispatcher sheet k p q last c in (q, subst (Broken G) (sym (a .ends)) (judged-broken last (a .held) .1 e))
@@ -230,7 +230,7 @@ module _ (nodes : ℕ) (book : List ℕ) (texts : List (List ℕ)) (G : Game) (s
       ends = λ m p q last c. as-game m dispatcher sheet k p q last c .ends;
       won = λ m p q last c. won-judged sheet k m p q last c;
       each = λ m p q h e. each-course sheet k m p q h e;
-      follows = λ m p. ((λ f. follow-fair m dispatcher sheet k p f), (λ f. fair-follow m dispatcher sheet k p f));
+      follows = λ m p. ((λ f. follow-legal m dispatcher sheet k p f), (λ f. legal-follow m dispatcher sheet k p f));
       wins = λ m p. ((λ w. wins-won sheet k m p w), (λ w. won-wins sheet k m p w));
       broken = λ m p. ((λ b. broken-breaks sheet k m p b), (λ b. breaks-broken sheet k m p b));
     }

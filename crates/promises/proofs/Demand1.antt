@@ -9,29 +9,9 @@ use Rattle.answer.specs.Outputs.{writtenLength, writtenOutput}
 use Rattle.apply.specs.Apply.{askApply, appliedSheet}
 use Rattle.carry.specs.Carrying.{askCarry, carryAnswer, carryOutput}
 use Rattle.runs.proofs.Leaves.{leaves}
-use Rattle.promises.specs.Demand1.{SheetFirst, Demand1}
-use Rattle.promises.proofs.SheetFirst as first
+use Rattle.promises.specs.Demand1.{Demand1}
+use Rattle.promises.proofs.SheetFirst.{sheet-first}
 use Rattle.promises.proofs.Lines.{lines}
-
-sheet-first : SheetFirst
-sheet-first = record {
-  check = first.check-first;
-  label-bit = first.label-bit-first;
-  arrow-bit = first.arrow-bit-first;
-  judge = first.judge-first;
-  apply = first.apply-first;
-  enter = first.enter-first;
-  print-arrow = first.print-arrow-first;
-  print-labels = first.print-labels-first;
-  type-page = first.type-page-first;
-  close-node = first.close-first;
-  open-node = first.open-first;
-  keep = first.keep-first;
-  return = first.return-first;
-  join-first = first.join-first;
-  join-second = first.join-second;
-  play = first.play-first;
-}
 
 apply-stays : (sheet edit : List ℕ) (q p : ℕ) → askApply sheet edit ≡ refused q p → appliedSheet sheet edit ≡ sheet
 apply-stays sheet edit q p e = unfold appliedSheet after in rw e

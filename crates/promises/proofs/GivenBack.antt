@@ -21,7 +21,7 @@ use Rattle.plan_store.proofs.StoreIsBytes.{FewNodes, storeOf-small}
 use Rattle.bitset.specs.Words.{Bytes}
 use Rattle.logic.specs.Lists.{All}
 use Rattle.promises.specs.StoreCalls.{StoreCall, blank, keep, return, drop, KeepsBytes, storeAfter, storeAtEnd, Kept, nothing, some, told, lastKept, heldIn, GivesBack}
-use Rattle.promises.proofs.HistoryBytes.{n-bytes, plans-bytes}
+use Rattle.promises.proofs.EventBytes.{n-bytes, plans-bytes}
 
 -- What a value holds under a name.
 keptOf : Plan → Kept

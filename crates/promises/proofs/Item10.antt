@@ -5,23 +5,24 @@ use mathlib.Core.List.{List, [], _∷_, _++_, map, map-append, concat, concat-eq
 use Prim.Native.Nat.{ℕ, _≤_}
 use native.Mathlib.Omega.{arith}
 use lib.ListN.{length, take, drop}
-use Rattle.answer.specs.Asked.{Asked, passed, refused, _>>=_, _>>_, is, after, outcome}
+use Rattle.answer.specs.Asked.{Asked, passed, refused, _>>_, is, after, outcome}
 use Rattle.logic.specs.Syntax.{Expr, rule, Edit}
 use Rattle.logic.specs.Carry.{carriedBook}
 use Rattle.sheet.specs.Sheet.{graphOf}
-use Rattle.sheet.specs.Questions.{askSheet}
 use Rattle.text.specs.Code.{code, bookCode}
 use Rattle.text.specs.Reading.{longestCarried, textLimits}
-use Rattle.text.specs.Questions.{readRules, askBook, askEdit}
+use Rattle.text.specs.Questions.{readRules, askBook}
 use Rattle.text.proofs.TextSpelling.{book-is-spelled}
-use Rattle.judge.specs.Questions.{askSheetAndBook}
-use Rattle.runs.specs.Scratch.{longestRule, askScratch, upToBroken, overwritten, writings}
+use Rattle.judge.specs.Questions.{askSheetAndBook, askRules}
+use Rattle.runs.specs.Scratch.{longestRule, upToBroken, overwritten, writings}
 use Rattle.runs.proofs.ScratchLaws.{passed-fits, length-stays, rest-stays, last-at-start, longest-written, Broken, broken-at, all-written}
 use Rattle.apply.specs.Apply.{afterSteps}
 use Rattle.runs.specs.Enter.{StepsAndCarried, askBefore41, askEnter, enterAnswer, enterSheet, enterScratch}
 use Rattle.runs.specs.Leaves.{ScratchWritten}
-use Rattle.answer.proofs.AskedLaws.{then-passed}
-use Rattle.runs.proofs.Leaves.{Passed33, passed-33, leaves}
+use Rattle.judge.proofs.SheetAndBook.{book-passed}
+use Rattle.answer.proofs.AskedLaws.{passed-same, after-on, after-ends}
+use Rattle.runs.proofs.OneCall.{Passed33, passed-33, answers-41}
+use Rattle.runs.proofs.Leaves.{leaves}
 use Rattle.runs.proofs.Unmoved.{any-room-asks, unmoved}
 use Rattle.promises.specs.Item10.{Written, Item10}
 
@@ -40,6 +41,9 @@ module _ (sheet book edit scratch : List ℕ) where
   module _ (s : ScratchWritten sheet book edit scratch) where
     known : Passed33 sheet book edit (length scratch) (s .what)
     known = passed-33 sheet book edit (length scratch) (s .what) (s .passes)
+
+    to-41 : answer ≡ askRules (graphOf sheet) (s .what .carried) 0
+    to-41 = answers-41 sheet book edit (length scratch) (s .what) (s .passes)
 
     left : (before : List (Expr rule)) (last : Expr rule) (unwritten : List (Expr rule))
         → s .what .carried ≡ before ++ (last ∷ unwritten) → upToBroken (graphOf sheet) (s .what .carried) ≡ before ++ (last ∷ []) → Written sheet book edit scratch
@@ -64,12 +68,12 @@ module _ (sheet book edit scratch : List ℕ) where
   unfolding left
   after-41 p e =
       let s : ScratchWritten sheet book edit scratch = leaves .scratch-written sheet book edit scratch p (inr e) in
-      let b : Broken (graphOf sheet) (s .what .carried) 0 p = broken-at (graphOf sheet) (s .what .carried) 0 41 p (sym (known s .answer) ∙ e) in
+      let b : Broken (graphOf sheet) (s .what .carried) 0 p = broken-at (graphOf sheet) (s .what .carried) 0 41 p (sym (to-41 s) ∙ e) in
       (left s (b .before) (b .last) (b .others) (b .rules-are) (b .written), omega (arith, b .place-is))
 
   some-rule : (rules : List (Expr rule)) (Z : Edit) → askSheetAndBook sheet book ≡ passed rules → carriedBook Z rules ≡ [] → book ≡ []
-  unfolding askSheetAndBook bookCode
-  some-rule [] Z read e = let (u, sound, r) = then-passed (askSheet sheet) (askBook (textLimits (graphOf sheet .n)) book) [] read in book-is-spelled (textLimits (graphOf sheet .n)) book [] r .spells .text-is
+  unfolding bookCode
+  some-rule [] Z read e = book-is-spelled (textLimits (graphOf sheet .n)) book [] (book-passed sheet book read) .spells .text-is
   some-rule (K ∷ rules) Z read e = let z : _≡_ {A = ℕ} 0 1 = cc in absurd (omega arith)
 
   after-done : book ≢ [] → answer ≡ passed tt → (w : Written sheet book edit scratch) × (w .unwritten ≡ [])
@@ -82,34 +86,26 @@ module _ (sheet book edit scratch : List ℕ) where
     go (inl none) = absurd (some (some-rule (known s .rules) (s .what .steps) (known s .read) (sym (known s .carried-are) ∙ none)))
     go (inr (before, last, are)) =
         let rules : s .what .carried ≡ before ++ (last ∷ []) = are ∙ concat-eq-append before last in
-        (left s before last [] rules (all-written (graphOf sheet) (s .what .carried) 0 (sym (known s .answer) ∙ e) ∙ rules), refl)
+        (left s before last [] rules (all-written (graphOf sheet) (s .what .carried) 0 (sym (to-41 s) ∙ e) ∙ rules), refl)
 
   same-length : length (enterScratch sheet book edit scratch) ≡ length scratch
-  unfolding enterScratch after
+  unfolding enterScratch
   same-length = go (askBefore41 sheet book edit (length scratch)) refl where
-    go : (a : Asked StepsAndCarried) → askBefore41 sheet book edit (length scratch) ≡ a → length (after a (λ c. writings (graphOf sheet) (c .carried) scratch) scratch) ≡ length scratch
+    go : (a : Asked StepsAndCarried) → askBefore41 sheet book edit (length scratch) ≡ a → length (enterScratch sheet book edit scratch) ≡ length scratch
+    go (refused n p) e = ap length (after-ends e _ scratch)
     go (passed c) e =
-        length-stays (map code (upToBroken (graphOf sheet) (c .carried))) scratch
+        ap length (after-on e _ scratch) ∙ length-stays (map code (upToBroken (graphOf sheet) (c .carried))) scratch
         (omega (arith, longest-written (graphOf sheet) (c .carried), passed-fits (c .carried) (length scratch) (passed-33 sheet book edit (length scratch) c e .fits)))
-    go (refused n p) e = refl
 
 empty-book : (sheet edit scratch : List ℕ) → enterScratch sheet [] edit scratch ≡ scratch
-unfolding enterScratch askBefore41 askSheetAndBook askBook readRules upToBroken overwritten after is _>>=_ _>>_
-empty-book sheet edit scratch = go (askSheet sheet) (askEdit (textLimits (graphOf sheet .n)) edit) where
-  size : List (Expr rule) → Edit → Asked StepsAndCarried
-  size rules Z = askScratch (carriedBook Z rules) (length scratch) >> passed (record { steps = Z; carried = carriedBook Z rules })
-
-  left : Asked StepsAndCarried → List ℕ
-  left a = after a (λ c. writings (graphOf sheet) (c .carried) scratch) scratch
-
-  sized : (Z : Edit) (q : Asked (Unit {0})) → left (q >> passed (record { steps = Z; carried = [] })) ≡ scratch
-  sized Z (passed u) = refl
-  sized Z (refused n p) = refl
-
-  go : (q : Asked (Unit {0})) (r : Asked Edit) → left ((q >> askBook (textLimits (graphOf sheet .n)) []) >>= (λ rules. r >>= size rules)) ≡ scratch
-  go (passed u) (passed Z) = sized Z (askScratch [] (length scratch))
-  go (passed u) (refused n p) = refl
-  go (refused n p) r = refl
+unfolding enterScratch askBook readRules upToBroken overwritten _>>_ is
+empty-book sheet edit scratch = go (askBefore41 sheet [] edit (length scratch)) refl where
+  go : (a : Asked StepsAndCarried) → askBefore41 sheet [] edit (length scratch) ≡ a → enterScratch sheet [] edit scratch ≡ scratch
+  go (refused n p) e = after-ends e _ scratch
+  go (passed c) e =
+      let k = passed-33 sheet [] edit (length scratch) c e in
+      let none : k .rules ≡ [] = passed-same (sym (book-passed sheet [] (k .read))) in
+      after-on e _ scratch ∙ ap (λ rules. writings (graphOf sheet) rules scratch) (k .carried-are ∙ ap (carriedBook (c .steps)) none)
 
 pub item-10 : Item10
 item-10 = record {

@@ -1,12 +1,12 @@
 -- Item 12 of document 02 is kept: small sheets are matched with small graphs.
 use mathlib.Core.Path.{_≡_, refl, sym, _∙_, ap, ap₂, subst}
 use mathlib.Core.Logic.{_↔_}
-use mathlib.Core.Bool.{Bool, true, false, not, _&&_}
+use mathlib.Core.Bool.{Bool, true, false, not, _&&_, and-eq-true-iff}
 use mathlib.Core.List.{List, [], _∷_}
 use Prim.Native.Nat.{ℕ}
 use native.Mathlib.Omega.{arith}
 use lib.Dec.{T, leb}
-use Rattle.answer.specs.Asked.{passed, is}
+use Rattle.answer.specs.Asked.{passed}
 use Rattle.logic.specs.Syntax.{Expr, rule, Edit}
 use Rattle.logic.specs.Graph.{Graph}
 use Rattle.logic.specs.Meaning.{value, holdAll}
@@ -23,14 +23,13 @@ use Rattle.text.specs.Reading.{textLimits}
 use Rattle.text.specs.Questions.{askBook, askEdit}
 use Rattle.apply.specs.Apply.{afterSteps}
 use Rattle.runs.specs.Run.{Keeps}
-use Rattle.answer.proofs.AskedLaws.{passed-same, bind-passed, then-passed}
+use Rattle.answer.proofs.AskedLaws.{passed-same, is-then, bind-passed}
 use Rattle.runs.proofs.Runs.{steps-within, keeps}
 use Rattle.count_small.specs.Small.{Small}
 use Rattle.count_small.specs.Names.{rulesOnlyFirst, editOnlyFirst}
 use Rattle.count_small.specs.Exactly.{Exactly}
 use Rattle.count_small.specs.Questions.{mostSmall, Texts, askCount, countsOf}
 use Rattle.count_small.specs.Examples.{cases}
-use Rattle.count_small.proofs.Numbering.{and-both}
 use Rattle.count_small.proofs.Matched.{matched}
 use Rattle.count_small.proofs.ExactCounts.{SmallAnd}
 use Rattle.count_small.proofs.CountsRight.{counted-graphs, total-is}
@@ -84,7 +83,7 @@ module _ (n : ℕ) (book : List ℕ) (rules : List (Expr rule)) (book-read : ask
     there : (g : Graph) → Graphs g → Sheets (store g) × (graphOf (store g) ≡ g)
     there g (s, p) =
         let same : graphOf (store g) ≡ g = read-back g (s .within) in
-        let (x, y) = and-both (test b (holdAll g rules)) (test c (holdAll (run Z g) rules)) p in
+        let (x, y) = and-eq-true-iff (test b (holdAll g rules)) (test c (holdAll (run Z g) rules)) .0 p in
         let sheet : SmallSheet n (store g) = record { are-bytes = store-small g (omega (arith, s .within .few-nodes)); sound = stored-passes g (s .within); small = subst (Small n) (sym same) s } in
         ((sheet, before g s .0 x, subst (λ h. Said c (Keeps book (store (run Z h)))) (sym same) (next g s .0 y)), same)
 
@@ -101,11 +100,10 @@ module _ (n : ℕ) (book edit : List ℕ) (t : Texts) (h : askCount n book edit 
   texts-read : (askBook (textLimits n) book ≡ passed (t .rules)) × (askEdit (textLimits n) edit ≡ passed (t .edit))
   unfolding askCount
   texts-read =
-      let (u, range, more) = then-passed (is (leb 1 n && leb n mostSmall) 61 0) _ t h in
+      let (range, more) = is-then (leb 1 n && leb n mostSmall) 61 0 _ h in
       let (rules, book-read, rest) = bind-passed (askBook (textLimits n) book) _ t more in
       let (Z, edit-read, last) = bind-passed (askEdit (textLimits n) edit) _ t rest in
-      let (v, named, e) = then-passed (is (rulesOnlyFirst rules && editOnlyFirst Z) 61 0) _ t last in
-      let same : record { rules = rules; edit = Z } ≡ t = passed-same e in
+      let same = passed-same (is-then (rulesOnlyFirst rules && editOnlyFirst Z) 61 0 _ last .1) in
       (book-read ∙ ap (λ x. passed (x .rules)) same, edit-read ∙ ap (λ x. passed (x .edit)) same)
 
   counts-right : Counted n book (t .edit) (countsOf n book edit)

@@ -15,14 +15,14 @@ use Rattle.log.specs.Replays.{written}
 use Rattle.log.proofs.CutLaws.{blocks-take}
 use Rattle.log.proofs.Logs.{logs}
 use Rattle.log.proofs.Answering.{kept-line, kept-sheet}
-use Rattle.log.proofs.StepLaws.{no-further}
+use Rattle.log.proofs.RoundLaws.{no-further}
 use Rattle.log.proofs.FaultLaws.{Bad, Somewhere, after, ends-badly, first-bad, ends-well}
 use Rattle.log.proofs.Replays.{replays}
 use Rattle.promises.specs.Item4.{Faulty, Item4}
 
-by-steps : (input : List ℕ) → replayed input ≡ cond (leb (logStart input) (length input)) (written 0 [] (sheetIn input) (bookIn input) (blocksOf (logIn input))) earlyLine
+by-rounds : (input : List ℕ) → replayed input ≡ cond (leb (logStart input) (length input)) (written 0 [] (sheetIn input) (bookIn input) (blocksOf (logIn input))) earlyLine
 unfolding replayed
-by-steps input = ap (λ x. cond (leb (logStart input) (length input)) x earlyLine) (sym (replays .block-by-block (sheetIn input) (bookIn input) (logIn input)))
+by-rounds input = ap (λ x. cond (leb (logStart input) (length input)) x earlyLine) (sym (replays .block-by-block (sheetIn input) (bookIn input) (logIn input)))
 
 module _ (bytes : List ℕ) (q p : ℕ) where
   of-bad : Bad 0 [] (blocksOf bytes) q p p → Faulty bytes q p
@@ -50,7 +50,7 @@ pub item-4 : Item4
 item-4 = record {
   logs = logs;
   replays = replays;
-  by-steps = by-steps;
+  by-rounds = by-rounds;
   no-further = λ number part sheet book block h. no-further number part sheet book block h;
   whole-line = kept-line;
   whole-sheet = kept-sheet;

@@ -9,21 +9,19 @@ use native.Mathlib.Decide.{decLt}
 use lib.Dec.{ltb}
 use lib.ListN.{length, getD}
 use borrow.Author.Tests.{lt-ltb, le-ltb}
-use Rattle.answer.specs.Asked.{Asked, passed, refused, after}
+use Rattle.answer.specs.Asked.{Asked, passed, refused}
 use Rattle.answer.specs.declared.Answer.the-variants.{Done, Refused}
 use Rattle.answer.specs.declared.Refusal.the-variants.{BlockHead, NotZero}
 use Rattle.logic.specs.Syntax.{Edit}
 use Rattle.logic.specs.Graph.{Graph, Nodes, isNode, anyBelow}
-use Rattle.logic.specs.Limits.{Within, labelCount, arrowCount, maxNodes}
-use Rattle.logic.proofs.Below.{any-cong, any-one}
+use Rattle.logic.specs.Limits.{labelCount, arrowCount, maxNodes}
+use Rattle.logic.proofs.Below.{any-cong}
 use Rattle.logic.proofs.Bools.{true-false, is-false}
 use Rattle.logic.proofs.Closing.{closed-none, nominal-empty, pair-empty-from, pair-empty-to, node-in-false, pair-in-false-from, pair-in-false-to, run-inUse, only-in-use}
 use Rattle.logic.proofs.Theorem.{carried}
 use Rattle.seal.specs.Seal.{blockBytes, Form, sealRight}
 use Rattle.sheet.specs.Sheet.{present, former, blockCount, sheetBytes, bitIn, usedIn, blank, graphIn, graphOf}
 use Rattle.sheet.specs.Questions.{blockOf, headRight, free, zeroRight, askBlocks, askSheet, SoundIn}
-use Rattle.text.specs.Reading.{textLimits}
-use Rattle.text.specs.Questions.{askEdit}
 use Rattle.store.specs.Converted.{converted}
 use Rattle.sheet.proofs.BlockParts.{block-bit, byte-2, used-0}
 use Rattle.sheet.proofs.BlockLaws.{labels-fit, label-lines, rows-fit}
@@ -31,34 +29,33 @@ use Rattle.sheet.proofs.FreeBits.{guarded, label-closed, arrow-end, arrow-start
 use Rattle.sheet.proofs.SheetQuestionLaws.{ask-3, ask-4, right-length, block-next, block-stop}
 use Rattle.sheet.proofs.SoundSheets.{sound-is-stored, one-sheet}
 use Rattle.store.proofs.StoredReads.{read-back}
+use Rattle.store.proofs.StoredPasses.{blank-within}
 use Rattle.store.proofs.ConvertedLaws.{converted-reads}
-use Rattle.apply.specs.Apply.{afterSteps, askApply, appliedSheet}
-use Rattle.runs.specs.Enter.{askEnter, enterSheet}
+use Rattle.apply.specs.Apply.{askApply, appliedSheet}
+use Rattle.runs.specs.Enter.{enterAnswer, enterSheet}
+use Rattle.answer.proofs.AskedLaws.{after-ends}
+use Rattle.runs.proofs.Leaves.{leaves}
+use Rattle.runs.proofs.Demand3.{entered-applied}
 use Rattle.bitset.specs.Words.{Bytes}
 use Rattle.runs.proofs.After.{applied-is, applied-read, after-graph}
 use Rattle.close_node.proofs.CloseStages.{found, close-already, close-kept, open-already}
-use Rattle.promises.proofs.EnteredJoined.{entered, enter-leaves}
-use Rattle.promises.proofs.History.{history-right}
+use Rattle.promises.proofs.Events.{events-right}
 use Rattle.promises.specs.Item6.{Closed, UpTo4, Item6}
 
 -- The nodes in use after apply and after enter: the same after a refusal, and those of the steps after done.
 module _ (sheet : List ℕ) (bytes : Bytes sheet) where
-  uses-after : (edit : List ℕ) (Z : Edit) → askSheet sheet ≡ passed tt → askEdit (textLimits (graphOf sheet .n)) edit ≡ passed Z → graphOf (afterSteps Z sheet) .inUse ≡ graphOf sheet .inUse
-  uses-after edit Z s f = ap (λ (g : Graph). g .inUse) (after-graph sheet bytes s edit Z f) ∙ run-inUse Z (graphOf sheet)
-
   applied-uses : (edit : List ℕ) → graphOf (appliedSheet sheet edit) .inUse ≡ graphOf sheet .inUse
-  unfolding appliedSheet after
+  unfolding appliedSheet
   applied-uses edit = go (askApply sheet edit) refl where
     go : (x : Asked Edit) → askApply sheet edit ≡ x → graphOf (appliedSheet sheet edit) .inUse ≡ graphOf sheet .inUse
-    go (passed Z) e = let (s, f) = applied-read sheet edit Z e in cc (applied-is sheet edit Z e, uses-after edit Z s f)
-    go (refused q p) e = cc
+    go (passed Z) e = let (s, f) = applied-read sheet edit Z e in ap (λ t. graphOf t .inUse) (applied-is sheet edit Z e) ∙ ap (λ (g : Graph). g .inUse) (after-graph sheet bytes s edit Z f) ∙ run-inUse Z (graphOf sheet)
+    go (refused q p) e = ap (λ t. graphOf t .inUse) (after-ends e _ sheet)
 
   entered-uses : (book edit : List ℕ) (room : ℕ) → graphOf (enterSheet sheet book edit room) .inUse ≡ graphOf sheet .inUse
-  unfolding enterSheet after
-  entered-uses book edit room = go (askEnter sheet book edit room) refl where
-    go : (x : Asked Edit) → askEnter sheet book edit room ≡ x → graphOf (enterSheet sheet book edit room) .inUse ≡ graphOf sheet .inUse
-    go (passed Z) e = let s = entered sheet book edit room Z e in cc (enter-leaves sheet book edit room Z e, uses-after edit Z (s .sound) (s .edit-read))
-    go (refused q p) e = cc
+  entered-uses book edit room = go (enterAnswer sheet book edit room) refl where
+    go : (x : Asked (Unit {0})) → enterAnswer sheet book edit room ≡ x → graphOf (enterSheet sheet book edit room) .inUse ≡ graphOf sheet .inUse
+    go (passed u) e = ap (λ t. graphOf t .inUse) (entered-applied sheet book edit room bytes e) ∙ applied-uses edit
+    go (refused q p) e = ap (λ t. graphOf t .inUse) (leaves .sheet-stays sheet book edit room q p e)
 
 -- Question 4 of block b, once all before it has passed.
 module _ (t : List ℕ) where
@@ -128,30 +125,15 @@ module _ (t : List ℕ) where
 closed-nodes : (g : Graph) (i j : ℕ) → Closed g i ⊎ Closed g j → (isNode g i ≡ false) ⊎ (isNode g j ≡ false)
 closed-nodes g i j = ⊎-elim (λ x. inl (closed-none g i x)) (λ y. inr (closed-none g j y))
 
--- A blank sheet's graph is within the limits.
-blank-within : (n : ℕ) → 1 ≤ n → n ≤ maxNodes → Within (blank n)
-blank-within n l u = record {
-  some-node = any-one n (λ i. ltb i n) 0 (omega arith) (lt-ltb 0 n (omega arith));
-  few-nodes = u;
-  use-below = λ i m. le-ltb i n m;
-  labels-in = λ k i h. refl;
-  arrows-in = λ a. record { starts = λ i j h. refl; ends = λ i j h. refl };
-  no-more-labels = λ k i m. refl;
-  no-more-arrows = λ a i j m. refl;
-}
-
 all-in-use : (f : Form) (card : List ℕ) (i : ℕ) → graphIn (former f) card .inUse i ≡ ltb i (graphIn (former f) card .n)
 all-in-use f card i = unfold graphIn in refl
 
 converted-uses : (f : Form) (card : List ℕ) → Bytes card → SoundIn (former f) card → (i : ℕ) → graphOf (converted f card) .inUse i ≡ ltb i (graphOf (converted f card) .n)
 converted-uses f card small sound i = rw (converted-reads f card small sound) (all-in-use f card i)
 
-held : (t : List ℕ) (i : ℕ) → graphOf t .inUse i ≡ bitIn t 400 i
-held t i = unfold graphIn in refl
-
 pub item-6 : Item6
 item-6 = record {
-  in-use-at-400 = held;
+  in-use-at-400 = λ t i. unfold graphIn in refl;
   part-of-the-graph = one-sheet present;
   steps-keep-them = run-inUse;
   apply-keeps-them = λ sheet edit bytes. applied-uses sheet bytes edit;
@@ -173,10 +155,10 @@ item-6 = record {
       answers-4 sheet (suc a) (omega arith) u (wrong sheet (suc a) _ (λ z. arrow-clear sheet a z i j (closed-nodes (graphOf sheet) i j c)) e);
   blank-in-use = λ n i l u. ap (λ (g : Graph). g .inUse i) (read-back (blank n) (blank-within n l u));
   converted-in-use = converted-uses;
-  histories = history-right;
+  histories = events-right;
   still-exact = carried;
-  close-closed = λ sheet book i rules bytes q c. let d = close-already sheet book i (found sheet book i (record { what = rules; is = q })) bytes c in (sym (d .0), sym (d .1));
-  open-open = λ sheet book i rules bytes q c. let d = open-already sheet book i (found sheet book i (record { what = rules; is = q })) bytes c in (sym (d .0), sym (d .1));
+  close-closed = λ sheet book i rules bytes q c. let d = close-already sheet book i (found sheet book i rules q) bytes c in (sym (d .0), sym (d .1));
+  open-open = λ sheet book i rules bytes q c. let d = open-already sheet book i (found sheet book i rules q) bytes c in (sym (d .0), sym (d .1));
   none-in-use-3 = answers-3;
-  close-54 = λ sheet book i rules q c k. let d = close-kept sheet book i (found sheet book i (record { what = rules; is = q })) c k in (sym (d .0), sym (d .1));
+  close-54 = λ sheet book i rules q c k. let d = close-kept sheet book i (found sheet book i rules q) c k in (sym (d .0), sym (d .1));
 }

@@ -22,31 +22,27 @@ use Rattle.join_edits.proofs.JoinedPasses.{Joins}
 use Rattle.promises.specs.Chained.{Applies}
 use Rattle.promises.proofs.JoinedReading.{ReadFor, from-both, from-joined}
 
--- What Q's steps leave after P's is what the joined steps leave.
-pub after-both : (sheet : List ℕ) → Bytes sheet → Sound sheet → (p : List ℕ) (P : Edit) → askEdit (textLimits (graphOf sheet .n)) p ≡ passed P → (Q : Edit) → afterSteps Q (afterSteps P sheet) ≡ afterSteps (followedBy P Q) sheet
-after-both sheet bytes sound p P p-read Q = ap (λ g. store (run Q g)) (after-graph sheet bytes sound p P p-read) ∙ ap store (sym (run-followedBy P Q (graphOf sheet)))
-
 module _ {p q joined : List ℕ} (j : Joins p q joined) (sheet : List ℕ) (bytes : Bytes sheet) where
-  pub few : Sound sheet → graphOf sheet .n ≤ maxNodes
+  few : Sound sheet → graphOf sheet .n ≤ maxNodes
   few s = sound-is-stored present sheet bytes s .within .few-nodes
 
   -- Both edits read for the sheet's n: each is carried out, and the two leave what the joined steps leave.
   module _ (s : Sound sheet) (r : ReadFor j (graphOf sheet .n)) where
-    pub first-applies : askApply sheet p ≡ passed (j .P)
+    first-applies : askApply sheet p ≡ passed (j .P)
     first-applies = applies sheet p (j .P) s (r .p-read)
 
     first-leaves : appliedSheet sheet p ≡ afterSteps (j .P) sheet
     first-leaves = applied-is sheet p (j .P) first-applies
 
-    pub second-applies : askApply (appliedSheet sheet p) q ≡ passed (j .Q)
+    second-applies : askApply (appliedSheet sheet p) q ≡ passed (j .Q)
     second-applies =
         ap (λ t. askApply t q) first-leaves
         ∙ applies (afterSteps (j .P) sheet) q (j .Q) (after-sound sheet bytes s p (j .P) (r .p-read)) (subst (λ n. askEdit (textLimits n) q ≡ passed (j .Q)) (sym (after-n sheet bytes s p (j .P) (r .p-read))) (r .q-read))
 
-    pub two-leave : appliedSheet (appliedSheet sheet p) q ≡ afterSteps (followedBy (j .P) (j .Q)) sheet
+    two-leave : appliedSheet (appliedSheet sheet p) q ≡ afterSteps (followedBy (j .P) (j .Q)) sheet
     two-leave =
         applied-is (appliedSheet sheet p) q (j .Q) second-applies ∙ ap (afterSteps (j .Q)) first-leaves
-        ∙ after-both sheet bytes s p (j .P) (r .p-read) (j .Q)
+        ∙ ap (λ g. store (run (j .Q) g)) (after-graph sheet bytes s p (j .P) (r .p-read)) ∙ ap store (sym (run-followedBy (j .P) (j .Q) (graphOf sheet)))
 
   -- Where the joined edit is carried out, both are, and it leaves the same sheet;
   joined-read : (Z : Edit) → askApply sheet joined ≡ passed Z → Sound sheet × ReadFor j (graphOf sheet .n)

@@ -59,9 +59,6 @@ module _ (first second : List ℕ) (v : Within (graphOf first)) (w : Within (gra
   is-sound : Sound (joinedSheet first second)
   is-sound = ap askSheet (joined-is first second e) ∙ stored-passes (joinedGraph g h) within
 
-  is-within : Within (graphOf (joinedSheet first second))
-  is-within = subst Within (sym reads) within
-
   kept : (book : List ℕ) (n : ℕ) (rules : List (Expr rule)) → askBook (textLimits n) book ≡ passed rules → JoinableBook rules → Keeps book (joinedSheet first second) ↔ (Keeps book first × Keeps book second)
   kept book n rules r q = (
     (λ k. let t = book-joined g h rules q .0 (subst (λ x. T (holdAll x rules)) reads (keeps-these book (joinedSheet first second) rules (alike (joinedSheet first second)) k)) in (

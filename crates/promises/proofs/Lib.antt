@@ -1,12 +1,12 @@
 pub mod GivenBack
-pub mod HistoryBytes
+pub mod EventBytes
 pub mod CarriedJoined
 pub mod Chained
 pub mod Course
 pub mod Demand1
 pub mod Demand2
 pub mod EnteredJoined
-pub mod History
+pub mod Events
 pub mod Item1
 pub mod Item2
 pub mod Item3
@@ -29,7 +29,7 @@ pub mod Promises
 pub mod Ranges
 pub mod JoinedReading
 pub mod Returns
-pub mod HistoryRuns
+pub mod EventRuns
 pub mod SheetFirst
 pub mod JoinedCarriedOut
-pub mod HistorySteps
+pub mod EventKept

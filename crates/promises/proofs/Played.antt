@@ -4,11 +4,10 @@ use mathlib.Core.Logic.{_↔_}
 use mathlib.Core.List.{List, [], _∷_}
 use Prim.Native.Nat.{ℕ, zero, suc, _+_, _≤_, _<_}
 use native.Mathlib.Omega.{arith}
-use borrow.Author.Tests.{le-leb}
 use lib.Dec.{T}
 use lib.ListN.{length, getD, take, drop, length-drop}
 use lib.Seq.{getD-take, getD-drop, length-take-le}
-use Rattle.answer.specs.Asked.{passed, _>>_, is, outcome}
+use Rattle.answer.specs.Asked.{passed, outcome}
 use Rattle.logic.specs.Syntax.{Expr, rule, Edit, finish}
 use Rattle.logic.specs.Steps.{run}
 use Rattle.logic.specs.Carry.{carriedBook}
@@ -17,19 +16,16 @@ use Rattle.sheet.specs.Sheet.{graphIn, graphOf}
 use Rattle.store.proofs.StoredBytes.{store-small}
 use Rattle.text.specs.Reading.{Limits, textLimits}
 use Rattle.text.specs.Questions.{askBook, askEdit}
-use Rattle.judge.specs.Questions.{askSheetAndBook}
 use Rattle.runs.specs.Scratch.{longestRule, askScratch}
 use Rattle.apply.specs.Apply.{afterSteps, askApply}
-use Rattle.runs.specs.Clerk.{Fed}
-use Rattle.runs.specs.Enter.{askEnter, enterAnswer}
+use Rattle.runs.specs.Enter.{enterAnswer}
 use Rattle.runs.specs.Run.{Given}
-use Rattle.answer.proofs.AskedLaws.{passed-same, bind-passed, outcome-passed, then-on, is-so}
+use Rattle.answer.proofs.AskedLaws.{passed-same, bind-passed}
 use Rattle.judge.proofs.QuestionLaws.{hold-asked, asked-hold}
-use Rattle.runs.proofs.OneCall.{enter-asks, when-passed}
 use Rattle.runs.proofs.After.{applied-is, applies, after-sound, after-graph, after-n}
-use Rattle.runs.proofs.Demand3.{demand-3}
+use Rattle.runs.proofs.ScratchLaws.{long-enough}
+use Rattle.runs.proofs.Demand3.{demand-3, entered-hold}
 use Rattle.game.specs.Game.{Side, dispatcher, disruption, Game, editsOf, leaves, canMake}
-use Rattle.carry.specs.Carrying.{askCarried}
 use Rattle.play.specs.Questions.{cut, askEdits}
 use Rattle.play.proofs.GameEdits.{edits-stand}
 use Rattle.play.proofs.PlayStages.{Passed, all-passed, enough, gameOf}
@@ -49,10 +45,6 @@ each-read l (t ∷ ts) Zs e i h =
           → askEdit l (getD (t ∷ ts) i []) ≡ passed (getD (Z ∷ Ys) i finish)
       go Z Ys r rest zero h = r
       go Z Ys r rest (suc i) h = rest i (omega arith)
-
--- A carried book that fits, and a scratch that is long enough.
-long-enough : (carried : List (Expr rule)) (room : ℕ) → askCarried carried ≡ passed tt → longestRule carried ≤ room → askScratch carried room ≡ passed tt
-long-enough carried room e h = unfold askScratch in then-on e _ ∙ is-so _ _ (le-leb (longestRule carried) room h)
 
 -- The sheet that the steps of an edit leave is one that the game may come to.
 module _ (nodes : ℕ) (sheet : List ℕ) (k : Held nodes sheet) (text : List ℕ) (Z : Edit) (read : askEdit (textLimits nodes) text ≡ passed Z) where
@@ -123,28 +115,15 @@ module _ (sheet book goal edits lengths : List ℕ) (d moves : ℕ) (G : Game) (
 
     can-make : (i : ℕ) (l : i < length (take d Zs)) (room : ℕ) → longestRule (carriedBook (getD (take d Zs) i finish) rules) ≤ room
         → T (canMake read dispatcher (graphOf held) i) ↔ (enterAnswer held book (getD texts i []) room ≡ passed tt)
+    unfolding askScratch
     can-make i l room h =
         let carried : List (Expr rule) = carriedBook (getD (take d Zs) i finish) rules in
         let m = made-entered read (graphOf held) i l in
-        let w = demand-3 .entered-when (for-enter i l) room (long-enough carried room (each-fits rules (take d Zs) (p .fit) i l) h) in
+        let w = demand-3 .entered-when (for-enter i l) room (long-enough carried (each-fits rules (take d Zs) (p .fit) i l) (longestRule carried) room h) in
         ((λ t. w .1 (asked-hold (graphOf held) carried 0 (m .0 t))), (λ e. m .1 (hold-asked (graphOf held) carried 0 (w .0 e))))
 
-    -- Enter that answers done had room for each carried rule.
-    had-room : (i : ℕ) → i < length (take d Zs) → (room : ℕ) → enterAnswer held book (getD texts i []) room ≡ passed tt → askScratch (carriedBook (getD (take d Zs) i finish) rules) room ≡ passed tt
-    unfolding askSheetAndBook _>>_
-    had-room i l room e =
-        let given = for-enter i l in
-        let call : Fed = record { edit = getD texts i []; room = room } in
-        let read-both : askSheetAndBook held book ≡ passed rules = ap (_>> askBook (textLimits (graphOf held .n)) book) (k .sound) ∙ given .book-read in
-        let (Z, a) = outcome-passed (askEnter held book (getD texts i []) room) e in
-        let w = when-passed rules (graphOf held) call Z (sym (enter-asks held book rules call read-both) ∙ a) in
-        let same : Z ≡ getD (take d Zs) i finish = passed-same (sym (w .edit-read) ∙ given .edit-read) in
-        subst (λ Y. askScratch (carriedBook Y rules) room ≡ passed tt) same (w .fits)
-
     made-if : (i : ℕ) → i < length (take d Zs) → (room : ℕ) → enterAnswer held book (getD texts i []) room ≡ passed tt → T (canMake read dispatcher (graphOf held) i)
-    made-if i l room e =
-        let carried : List (Expr rule) = carriedBook (getD (take d Zs) i finish) rules in
-        made-entered read (graphOf held) i l .1 (hold-asked (graphOf held) carried 0 (demand-3 .entered-when (for-enter i l) room (had-room i l room e) .0 e))
+    made-if i l room e = made-entered read (graphOf held) i l .1 (hold-asked (graphOf held) (carriedBook (getD (take d Zs) i finish) rules) 0 (entered-hold (for-enter i l) room e))
 
     by-calls-read : ByCalls nodes book texts read held
     unfolding outcome

@@ -11,7 +11,7 @@ use Rattle.judge.specs.Questions.{askJudge}
 use Rattle.apply.specs.Apply.{askApply, appliedSheet}
 use Rattle.runs.specs.Enter.{enterAnswer, enterSheet}
 use Rattle.game.specs.Game.{Side, dispatcher, disruption, Game, Move, pass, edit, Outcome, cannot, first}
-use Rattle.game.specs.Play.{Plan, since, Play, ended, course, Won, Wins, CanFollow, SomeBreaks}
+use Rattle.game.specs.Strategies.{Strategy, continued, Replies, ended, course, Won, Wins, AlwaysLegal, SomeBreaks}
 use Rattle.promises.specs.Played.{Held}
 
 -- The book, and the texts of the edits, the first so many of them the dispatcher's.
@@ -36,46 +36,46 @@ unfoldable pub Moves : Lent → Side → (sheet : List ℕ) → Move → (next :
 Moves l s sheet (edit i) next = Makes l s sheet i next
 Moves l s sheet pass next = ((i : ℕ) (other : List ℕ) → ¬ Makes l s sheet i other) × (next ≡ sheet)
 
--- Plan against play with so many moves left, this side to move on this sheet, ends on the last: `course` (game/specs/Play.antt) by calls.
-unfoldable pub Calls : Lent → ℕ → Side → (sheet : List ℕ) → Plan → Play → (last : List ℕ) → Type 0
+-- Strategy against replies with so many moves left, this side to move on this sheet, ends on the last: `course` (game/specs/Strategies.antt) by calls.
+unfoldable pub Calls : Lent → ℕ → Side → (sheet : List ℕ) → Strategy → Replies → (last : List ℕ) → Type 0
 Calls l zero s sheet p q last = last ≡ sheet
-Calls l (suc m) dispatcher sheet p q last = (next : List ℕ) × Moves l dispatcher sheet (p []) next × Calls l m disruption next (since p (p [])) q last
+Calls l (suc m) dispatcher sheet p q last = (next : List ℕ) × Moves l dispatcher sheet (p []) next × Calls l m disruption next (continued p (p [])) q last
 Calls l (suc m) disruption sheet p [] last = ⊥
-Calls l (suc m) disruption sheet p (x ∷ q) last = (next : List ℕ) × Moves l disruption sheet x next × Calls l m dispatcher next (since p x) q last
+Calls l (suc m) disruption sheet p (x ∷ q) last = (next : List ℕ) × Moves l disruption sheet x next × Calls l m dispatcher next (continued p x) q last
 
--- The plan can be followed by calls, whatever moves the disruption makes.
-unfoldable pub Follows : Lent → ℕ → Side → (sheet : List ℕ) → Plan → Type 0
+-- The strategy can be followed by calls, whatever moves the disruption makes.
+unfoldable pub Follows : Lent → ℕ → Side → (sheet : List ℕ) → Strategy → Type 0
 Follows l zero s sheet p = Unit {0}
-Follows l (suc m) dispatcher sheet p = (next : List ℕ) × Moves l dispatcher sheet (p []) next × Follows l m disruption next (since p (p []))
-Follows l (suc m) disruption sheet p = (x : Move) (next : List ℕ) → Moves l disruption sheet x next → Follows l m dispatcher next (since p x)
+Follows l (suc m) dispatcher sheet p = (next : List ℕ) × Moves l dispatcher sheet (p []) next × Follows l m disruption next (continued p (p []))
+Follows l (suc m) disruption sheet p = (x : Move) (next : List ℕ) → Moves l disruption sheet x next → Follows l m dispatcher next (continued p x)
 
--- It wins by calls: it can be followed, and whatever the disruption plays, judge says done of the goal on the sheet that the course ends on.
-pub record WinsByCalls (l : Lent) (m : ℕ) (sheet goal : List ℕ) (p : Plan) : Type 0 where
+-- It wins by calls: it can be followed, and whatever the disruption replies, judge says done of the goal on the sheet that the course ends on.
+pub record WinsByCalls (l : Lent) (m : ℕ) (sheet goal : List ℕ) (p : Strategy) : Type 0 where
   pub follows : Follows l m dispatcher sheet p
-  pub wins : (q : Play) (last : List ℕ) → Calls l m dispatcher sheet p q last → askJudge last goal ≡ passed tt
+  pub wins : (q : Replies) (last : List ℕ) → Calls l m dispatcher sheet p q last → askJudge last goal ≡ passed tt
 
--- Some play of the disruption against it leaves the goal broken: judge answers 41.
-abbrev pub BrokenByCalls : Lent → ℕ → (sheet goal : List ℕ) → Plan → Type 0
-BrokenByCalls l m sheet goal p = (q : Play) × (last : List ℕ) × Calls l m dispatcher sheet p q last × (askJudge last goal ≡ refused 41 0)
+-- Some replies of the disruption to it leave the goal broken: judge answers 41.
+abbrev pub BrokenByCalls : Lent → ℕ → (sheet goal : List ℕ) → Strategy → Type 0
+BrokenByCalls l m sheet goal p = (q : Replies) × (last : List ℕ) × Calls l m dispatcher sheet p q last × (askJudge last goal ≡ refused 41 0)
 
 -- Of a game G that was read for this sheet, with this goal and what else is lent.
 pub record OverBytes (sheet goal : List ℕ) (lent : Lent) (G : Game) : Type 0 where
   -- A course by calls ends on a sound sheet of as many nodes, whose graph is the one that the game ends on: each of its moves can be made there.
-  pub held : (m : ℕ) (p : Plan) (q : Play) (last : List ℕ) → Calls lent m dispatcher sheet p q last → Held (graphOf sheet .n) last
-  pub ends : (m : ℕ) (p : Plan) (q : Play) (last : List ℕ) → Calls lent m dispatcher sheet p q last → course G m dispatcher (graphOf sheet) p q ≡ ended (graphOf last)
+  pub held : (m : ℕ) (p : Strategy) (q : Replies) (last : List ℕ) → Calls lent m dispatcher sheet p q last → Held (graphOf sheet .n) last
+  pub ends : (m : ℕ) (p : Strategy) (q : Replies) (last : List ℕ) → Calls lent m dispatcher sheet p q last → course G m dispatcher (graphOf sheet) p q ≡ ended (graphOf last)
   -- The dispatcher has won exactly when judge says done of the goal there.
-  pub won : (m : ℕ) (p : Plan) (q : Play) (last : List ℕ) → Calls lent m dispatcher sheet p q last → Won G (course G m dispatcher (graphOf sheet) p q) ↔ (askJudge last goal ≡ passed tt)
+  pub won : (m : ℕ) (p : Strategy) (q : Replies) (last : List ℕ) → Calls lent m dispatcher sheet p q last → Won G (course G m dispatcher (graphOf sheet) p q) ↔ (askJudge last goal ≡ passed tt)
   -- Each course of the game that ends is such a course by calls.
-  pub each : (m : ℕ) (p : Plan) (q : Play) (h : Graph) → course G m dispatcher (graphOf sheet) p q ≡ ended h
+  pub each : (m : ℕ) (p : Strategy) (q : Replies) (h : Graph) → course G m dispatcher (graphOf sheet) p q ≡ ended h
       → (last : List ℕ) × Calls lent m dispatcher sheet p q last × (graphOf last ≡ h)
-  -- So what plans and plays come to by calls is what they come to in the game.
-  pub follows : (m : ℕ) (p : Plan) → Follows lent m dispatcher sheet p ↔ CanFollow G m dispatcher (graphOf sheet) p
-  pub wins : (m : ℕ) (p : Plan) → WinsByCalls lent m sheet goal p ↔ Wins G m dispatcher (graphOf sheet) p
-  pub broken : (m : ℕ) (p : Plan) → BrokenByCalls lent m sheet goal p ↔ SomeBreaks G m dispatcher (graphOf sheet) p
+  -- So what strategies and replies come to by calls is what they come to in the game.
+  pub follows : (m : ℕ) (p : Strategy) → Follows lent m dispatcher sheet p ↔ AlwaysLegal G m dispatcher (graphOf sheet) p
+  pub wins : (m : ℕ) (p : Strategy) → WinsByCalls lent m sheet goal p ↔ Wins G m dispatcher (graphOf sheet) p
+  pub broken : (m : ℕ) (p : Strategy) → BrokenByCalls lent m sheet goal p ↔ SomeBreaks G m dispatcher (graphOf sheet) p
 
--- Some plan that begins with this move wins by calls.
+-- Some strategy that begins with this move wins by calls.
 abbrev pub BeginsByCalls : Lent → ℕ → (sheet goal : List ℕ) → Move → Type 0
-BeginsByCalls l m sheet goal x = (p : Plan) × (p [] ≡ x) × WinsByCalls l m sheet goal p
+BeginsByCalls l m sheet goal x = (p : Strategy) × (p [] ≡ x) × WinsByCalls l m sheet goal p
 
 -- An outcome of so many moves, by calls.
 pub record StatedByCalls (sheet goal : List ℕ) (l : Lent) (m : ℕ) (x : Outcome) : Type 0 where
@@ -84,4 +84,4 @@ pub record StatedByCalls (sheet goal : List ℕ) (l : Lent) (m : ℕ) (x : Outco
   -- or a pass;
   pub first-pass : (x ≡ first pass) ↔ BeginsByCalls l m sheet goal pass
   -- 'can't' exactly when, however the dispatcher plays, some play of the disruption leaves the goal broken."
-  pub cannot-when : (x ≡ cannot) ↔ ((p : Plan) → Follows l m dispatcher sheet p → BrokenByCalls l m sheet goal p)
+  pub cannot-when : (x ≡ cannot) ↔ ((p : Strategy) → Follows l m dispatcher sheet p → BrokenByCalls l m sheet goal p)

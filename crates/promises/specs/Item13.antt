@@ -26,5 +26,5 @@ pub record Item13 : Type 0 where
   -- dispatcher plays, some play of the disruption (none where it has no move) leaves the goal broken": what play answers, over such courses of calls,
   pub stated : (sheet book goal edits lengths : List ℕ) (dispatchers moves : ℕ) (x : Outcome) → askPlay sheet book goal edits lengths dispatchers moves ≡ passed x → Bytes sheet
       → StatedByCalls sheet goal (lentTo book edits lengths dispatchers) moves x
-  -- and on graphs, with a plan to follow and a play against it.
+  -- and on graphs, with a strategy to follow and replies to it.
   pub right : PlayRight

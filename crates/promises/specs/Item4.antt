@@ -12,7 +12,7 @@ use Rattle.printed.specs.Printed.{printedLine, printedSheet}
 use Rattle.log.specs.Log.{lastNumber, blocksOf, readLog}
 use Rattle.log.specs.Logs.{Logs}
 use Rattle.log.specs.Taken.{kept}
-use Rattle.log.specs.Step.{replayStep}
+use Rattle.log.specs.Round.{replayRound}
 use Rattle.log.specs.Faults.{askPlace, editsIn}
 use Rattle.log.specs.Replay.{editLines, sheetHeld, replayLines, replaySheet, logStart, sheetIn, bookIn, logIn, replayed}
 use Rattle.log.specs.Replays.{written, Replays}
@@ -34,11 +34,11 @@ pub record Item4 : Type 0 where
   pub logs : Logs
   -- "In a log of at most 65,535 blocks, stopping after any edit it has answered and starting again .. ends in the same sheet"; and the promises of runs.
   pub replays : Replays
-  -- "The replay reads sheet and book as `enter` does, then the log": all that is printed for an input is what the steps write, each as `log::step` makes it, from block 0 on with nothing kept.
-  pub by-steps : (input : List ℕ)
+  -- "The replay reads sheet and book as `enter` does, then the log": all that is printed for an input is what the rounds write, each as `log::round` makes it, from block 0 on with nothing kept.
+  pub by-rounds : (input : List ℕ)
       → replayed input ≡ cond (leb (logStart input) (length input)) (written 0 [] (sheetIn input) (bookIn input) (blocksOf (logIn input))) earlyLine
   -- Nothing is read after a block "when its number passes 65,534".
-  pub no-further : (number : ℕ) (part sheet book block : List ℕ) → lastNumber < number → replayStep number part sheet book block .goesOn ≡ false
+  pub no-further : (number : ℕ) (part sheet book block : List ℕ) → lastNumber < number → replayRound number part sheet book block .goesOn ≡ false
   -- "For each edit it prints the line of number and place that `enter` would on the sheet then held", and the sheet is the one that `enter` leaves: what is kept of an edit of any length answers as the whole edit does.
   pub whole-line : (sheet book edit : List ℕ) → printedLine sheet book (kept edit) ≡ printedLine sheet book edit
   pub whole-sheet : (sheet book edit : List ℕ) → printedSheet sheet book (kept edit) ≡ printedSheet sheet book edit

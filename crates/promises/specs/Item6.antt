@@ -23,7 +23,7 @@ use Rattle.runs.specs.Enter.{enterSheet}
 use Rattle.bitset.specs.Words.{Bytes}
 use Rattle.runs.specs.Run.{Keeps}
 use Rattle.close_node.specs.Questions.{askNode, askClose, askOpen, closedSheet, openedSheet}
-use Rattle.promises.specs.History.{Event, HistoryRight}
+use Rattle.promises.specs.Events.{Event, EventsRight}
 
 -- A node is closed when it is not in use.
 abbrev pub Closed : Graph → ℕ → Type 0
@@ -64,7 +64,7 @@ pub record Item6 : Type 0 where
   pub converted-in-use : (f : Form) (card : List ℕ) → Bytes card → SoundIn (former f) card → (i : ℕ) → graphOf (converted f card) .inUse i ≡ ltb i (graphOf (converted f card) .n)
   -- "called with a run's sheet and book, each, when done, ends that run, and its sheet opens the next under that book; so that the book is kept
   -- through all of them"
-  pub histories : (book sheet : List ℕ) (events : List Event) → Bytes sheet → Keeps book sheet → HistoryRight book sheet events
+  pub histories : (book sheet : List ℕ) (events : List Event) → Bytes sheet → Keeps book sheet → EventsRight book sheet events
   -- "Carrying back is unchanged and still exact for a sheet with any set of nodes in use."
   pub still-exact : (Z : Edit) (K : Expr rule) (g : Graph) → value g (carry Z K) ≡ value (run Z g) K
   -- "Closing a closed node or opening an open one is done unjudged and changes nothing", once sheet, book and range have passed

@@ -2,7 +2,7 @@ pub mod Chained
 pub mod Course
 pub mod Demand1
 pub mod Demand2
-pub mod History
+pub mod Events
 pub mod Item1
 pub mod Item2
 pub mod Item3

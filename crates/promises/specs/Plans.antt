@@ -1,4 +1,4 @@
--- Histories with plans (item 7 of document 02): keep, return and drop between the other calls, under one book, on a sheet and a store that only these
+-- Events with plans (item 7 of document 02): keep, return and drop between the other calls, under one book, on a sheet and a store that only these
 -- calls write. proofs/Plans proves `planned-right`.
 use mathlib.Core.Path.{_≡_}
 use mathlib.Core.List.{List, [], _∷_}
@@ -10,31 +10,31 @@ use Rattle.runs.specs.Clerk.{Line}
 use Rattle.runs.specs.Run.{Keeps, enterLine}
 use Rattle.runs.specs.Demand3.{RunRight}
 use Rattle.logic.specs.Lists.{All}
-use Rattle.promises.specs.History.{Event, entering, closing, opening, leaves, Run, onto, ends, logs}
+use Rattle.promises.specs.Events.{Event, entering, closing, opening, leaves, Run, onto, ends, logs}
 
 -- A call: enter, close or open; keep the sheet under a name, return to the one kept there, drop it.
-pub data Step : Type 0 where
-  making : (e : Event) → Step
-  keeping returning dropping : (name : ℕ) → Step
+pub data PlanEvent : Type 0 where
+  making : (e : Event) → PlanEvent
+  keeping returning dropping : (name : ℕ) → PlanEvent
 
 pub record State : Type 0 where
   pub sheet : List ℕ
   pub store : List ℕ
 
 -- What it leaves.
-abbrev pub left : (book : List ℕ) → State → Step → State
+abbrev pub left : (book : List ℕ) → State → PlanEvent → State
 left book x (making e) = record { sheet = leaves book (x .sheet) e; store = x .store }
 left book x (keeping name) = record { sheet = x .sheet; store = keptStore (x .sheet) (x .store) name }
 left book x (returning name) = record { sheet = returnedSheet (x .sheet) (x .store) name book; store = x .store }
 left book x (dropping name) = record { sheet = x .sheet; store = droppedStore (x .store) name }
 
 -- The sheets after each call, the runs, what enter answers and leaves.
-unfoldable pub sheetsThrough : (book : List ℕ) → State → List Step → List (List ℕ)
+unfoldable pub sheetsThrough : (book : List ℕ) → State → List PlanEvent → List (List ℕ)
 sheetsThrough book x [] = []
 sheetsThrough book x (c ∷ cs) = left book x c .sheet ∷ sheetsThrough book (left book x c) cs
 
 -- "and a new run opens there"
-unfoldable pub runsThrough : (book : List ℕ) → State → List Step → List Run
+unfoldable pub runsThrough : (book : List ℕ) → State → List PlanEvent → List Run
 runsThrough book x [] = record { opens = x .sheet; calls = [] } ∷ []
 runsThrough book x (making (entering c) ∷ cs) = onto (x .sheet) c (runsThrough book (left book x (making (entering c))) cs)
 runsThrough book x (making (closing node) ∷ cs) = ends (askClose (x .sheet) book node) (x .sheet) (runsThrough book (left book x (making (closing node))) cs)
@@ -43,7 +43,7 @@ runsThrough book x (keeping name ∷ cs) = runsThrough book (left book x (keepin
 runsThrough book x (returning name ∷ cs) = ends (askReturn (x .sheet) (x .store) name book) (x .sheet) (runsThrough book (left book x (returning name)) cs)
 runsThrough book x (dropping name ∷ cs) = runsThrough book (left book x (dropping name)) cs
 
-unfoldable pub linesThrough : (book : List ℕ) → State → List Step → List Line
+unfoldable pub linesThrough : (book : List ℕ) → State → List PlanEvent → List Line
 linesThrough book x [] = []
 linesThrough book x (making (entering c) ∷ cs) = enterLine book (x .sheet) c ∷ linesThrough book (left book x (making (entering c))) cs
 linesThrough book x (making (closing node) ∷ cs) = linesThrough book (left book x (making (closing node))) cs
@@ -52,7 +52,7 @@ linesThrough book x (keeping name ∷ cs) = linesThrough book (left book x (keep
 linesThrough book x (returning name ∷ cs) = linesThrough book (left book x (returning name)) cs
 linesThrough book x (dropping name ∷ cs) = linesThrough book (left book x (dropping name)) cs
 
-pub record PlannedRight (book : List ℕ) (x : State) (calls : List Step) : Type 0 where
+pub record PlannedRight (book : List ℕ) (x : State) (calls : List PlanEvent) : Type 0 where
   -- After each call the sheet keeps the book.
   pub kept : All (Keeps book) (sheetsThrough book x calls)
   -- Each run opens on a sheet that keeps the book, and all that demand 3 says of runs holds of it.

@@ -2,11 +2,11 @@
 use input::Got;
 use libc::STDOUT_FILENO;
 use log::Held;
-use log::Stepped;
+use log::Told;
 use sheet::Sheet;
 
-// Writes the line of a step, where one is due.
-fn write_due(s: Stepped) {
+// Writes the line of a round, where one is due.
+fn write_due(s: Told) {
     if s.prints {
         let line = s.line;
         io::write_all(STDOUT_FILENO, &line);
@@ -20,7 +20,7 @@ fn replay_log(sheet: &mut [u8], book: &[u8]) {
     let mut held = Held { number: 0, kept: 0 };
     loop {
         let got = input::read_up_to(&mut block);
-        let s = log::step(&block[0..got], held, &mut edit, sheet, book);
+        let s = log::round(&block[0..got], held, &mut edit, sheet, book);
         write_due(s);
         if !s.onward {
             return;

@@ -7,14 +7,18 @@ use native.Mathlib.Omega.{arith}
 use lib.Dec.{T, leb, leb→le}
 use borrow.Author.Tests.{ne-eqb, le-leb, lt-ltb}
 use Rattle.answer.specs.Asked.{passed, _>>=_}
-use Rattle.logic.specs.Syntax.{Sort, node, arrow, rule, Expr, all, none, label, nominal, complement, and, or, some, every, atLeast, atMost, arrowKind, reversed, union, common, minus, endingIn, pair, subNodes, subArrows, nodeIn, pairIn, both, either, notRule}
+use Rattle.logic.specs.Syntax.{Sort, node, arrow, rule, Expr, atLeast, atMost}
 use Rattle.logic.specs.Limits.{maxNodes, ranges, InRange}
+use Rattle.logic.specs.Arity.{build1, build2}
+use Rattle.logic.proofs.ArityLaws.{range-1, range-2}
+use Rattle.logic.proofs.Bools.{both-so}
 use Rattle.text.specs.Code.{bookCode}
 use Rattle.text.specs.Reading.{textLimits}
 use Rattle.text.specs.Questions.{askBook}
 use Rattle.text.proofs.TextSpelling.{EachAllowed, book-is-spelled}
 use Rattle.rewrite_counts.specs.Rewritten.{leastRewritten, mostRewritten, rewritten, rewrittenBook, askRewritten}
-use Rattle.rewrite_counts.proofs.Wider.{both-so, former-of-now, former-below, book-wider}
+use Rattle.rewrite_counts.proofs.ByRewriting.{byRewriting}
+use Rattle.rewrite_counts.proofs.Wider.{former-of-now, former-below, book-wider}
 
 least-kept : (m : ℕ) (R R′ : Expr arrow) (E E′ : Expr node) → T (leb 1 m && leb m maxNodes) → R′ ≡ R → E′ ≡ E → leastRewritten m R′ E′ ≡ atLeast m R E
 unfolding leastRewritten
@@ -29,32 +33,12 @@ most-kept m R R′ E E′ h r e = unfold mostRewritten in let to : m ≤ 59 = le
 module _ (n : ℕ) where
   -- A term whose counts are in the ranges of now is not changed.
   pub kept : {s : Sort} (e : Expr s) → InRange (ranges n) e → rewritten e ≡ e
-  unfolding InRange rewritten
-  kept all h = refl
-  kept none h = refl
-  kept (label k) h = refl
-  kept (nominal i) h = refl
-  kept (complement E) h = ap complement (kept E h)
-  kept (and E F) h = ap₂ and (kept E (h .0)) (kept F (h .1))
-  kept (or E F) h = ap₂ or (kept E (h .0)) (kept F (h .1))
-  kept (some R E) h = ap₂ some (kept R (h .0)) (kept E (h .1))
-  kept (every R E) h = ap₂ every (kept R (h .0)) (kept E (h .1))
-  kept (atLeast m R E) h = least-kept m R (rewritten R) E (rewritten E) (h .0) (kept R (h .1)) (kept E (h .2))
-  kept (atMost m R E) h = most-kept m R (rewritten R) E (rewritten E) (h .0) (kept R (h .1)) (kept E (h .2))
-  kept (arrowKind a) h = refl
-  kept (reversed R) h = ap reversed (kept R h)
-  kept (union R S) h = ap₂ union (kept R (h .0)) (kept S (h .1))
-  kept (common R S) h = ap₂ common (kept R (h .0)) (kept S (h .1))
-  kept (minus R S) h = ap₂ minus (kept R (h .0)) (kept S (h .1))
-  kept (endingIn R E) h = ap₂ endingIn (kept R (h .0)) (kept E (h .1))
-  kept (pair i j) h = refl
-  kept (subNodes E F) h = ap₂ subNodes (kept E (h .0)) (kept F (h .1))
-  kept (subArrows R S) h = ap₂ subArrows (kept R (h .0)) (kept S (h .1))
-  kept (nodeIn i E) h = ap (nodeIn i) (kept E (h .1))
-  kept (pairIn i j R) h = ap (pairIn i j) (kept R (h .2))
-  kept (both K L) h = ap₂ both (kept K (h .0)) (kept L (h .1))
-  kept (either K L) h = ap₂ either (kept K (h .0)) (kept L (h .1))
-  kept (notRule K) h = ap notRule (kept K h)
+  unfolding InRange
+  kept = byRewriting (λ s e e′. InRange (ranges n) e → e′ ≡ e) (λ s b h. refl)
+      (λ u t b x x′ p h. ap (build1 b) (p (range-1 (ranges n) b x .0 h .1)))
+      (λ u v t b _ _ x x′ y y′ p q h. let i = range-2 (ranges n) b x y .0 h .1 in ap₂ (build2 b) (p (i .0)) (q (i .1)))
+      (λ m R R′ E E′ p q h. least-kept m R R′ E E′ (h .0) (p (h .1)) (q (h .2)))
+      (λ m R R′ E E′ p q h. most-kept m R R′ E E′ (h .0) (p (h .1)) (q (h .2)))
 
   each-kept : (rules : List (Expr rule)) → EachAllowed (textLimits n) rules → rewrittenBook rules ≡ rules
   each-kept [] h = refl

@@ -1,3 +1,4 @@
+pub mod ByRewriting
 pub mod Trees
 pub mod RewriterTurns
 pub mod ToCome

@@ -20,32 +20,26 @@ use Rattle.rewrite_counts.specs.Trees.{headInPlace, rewrittenTree}
 use Rattle.rewrite_counts.proofs.Trees.{tree-rewritten}
 use Rattle.rewrite_counts.proofs.Rewriting.{rewritten-from}
 
-no-larger : (t : Tree) → size (rewrittenTree t) ≤ size t
-unfolding size rewrittenTree headInPlace
-no-larger (name c k) = omega arith
-no-larger (leaf h) = omega arith
-no-larger (one h x) = omega (arith, no-larger x)
-no-larger (two [] x y) = omega (arith, no-larger x, no-larger y)
-no-larger (two (c ∷ h) x y) = go (eqb (headInPlace (c ∷ h)) 0) (no-larger x) (no-larger y) where
-  go : (b : Bool) → size (rewrittenTree x) ≤ size x → size (rewrittenTree y) ≤ size y → size (cond b (two (c ∷ h) (rewrittenTree x) (rewrittenTree y)) (leaf (headInPlace (c ∷ h) ∷ []))) ≤ size (two (c ∷ h) x y)
-  go true a b = omega arith
-  go false a b = omega arith
+no-more : (t : Tree) → (size (rewrittenTree t) ≤ size t) × (height (rewrittenTree t) ≤ height t)
+unfolding size height rewrittenTree headInPlace
+no-more (name c k) = (omega arith, omega arith)
+no-more (leaf h) = (omega arith, omega arith)
+no-more (one h x) = let q = no-more x in (omega arith, omega arith)
+no-more (two [] x y) = let q = no-more x in let r = no-more y in (omega arith, omega arith)
+no-more (two (c ∷ h) x y) = let q = no-more x in let r = no-more y in go (eqb (headInPlace (c ∷ h)) 0) (q .0) (r .0) (q .1) (r .1) where
+  anew : Bool → Tree
+  anew b = cond b (two (c ∷ h) (rewrittenTree x) (rewrittenTree y)) (leaf (headInPlace (c ∷ h) ∷ []))
 
-no-higher : (t : Tree) → height (rewrittenTree t) ≤ height t
-unfolding height rewrittenTree
-no-higher (name c k) = omega arith
-no-higher (leaf h) = omega arith
-no-higher (one h x) = omega (arith, no-higher x)
-no-higher (two h x y) = go (eqb (headInPlace h) 0) (no-higher x) (no-higher y) where
-  go : (b : Bool) → height (rewrittenTree x) ≤ height x → height (rewrittenTree y) ≤ height y → height (cond b (two h (rewrittenTree x) (rewrittenTree y)) (leaf (headInPlace h ∷ []))) ≤ height (two h x y)
-  go true a b = omega arith
-  go false a b = omega arith
+  go : (b : Bool) → size (rewrittenTree x) ≤ size x → size (rewrittenTree y) ≤ size y → height (rewrittenTree x) ≤ height x → height (rewrittenTree y) ≤ height y
+      → (size (anew b) ≤ size (two (c ∷ h) x y)) × (height (anew b) ≤ height (two (c ∷ h) x y))
+  go true p q r s = (omega arith, omega arith)
+  go false p q r s = (omega arith, omega arith)
 
 pub no-longer : {s : Sort} (e : Expr s) → length (code (rewritten e)) ≤ length (code e)
-no-longer e = omega (arith, no-larger (tree e), ap size (tree-rewritten e), size-code e, size-code (rewritten e))
+no-longer e = omega (arith, no-more (tree e) .0, ap size (tree-rewritten e), size-code e, size-code (rewritten e))
 
 pub no-deeper : {s : Sort} (e : Expr s) → levels (rewritten e) ≤ levels e
-no-deeper e = omega (arith, no-higher (tree e), ap height (tree-rewritten e), height-tree e, height-tree (rewritten e))
+no-deeper e = omega (arith, no-more (tree e) .1, ap height (tree-rewritten e), height-tree e, height-tree (rewritten e))
 
 pub book-no-longer : (rules : List (Expr rule)) → length (bookCode (rewrittenBook rules)) ≤ length (bookCode rules)
 unfolding bookCode

@@ -1,22 +1,25 @@
 -- A rewritten book holds on a sheet exactly where the stored book did, rule by rule.
 use mathlib.Core.Path.{_≡_, refl, sym, _∙_, ap, ap₂, fun-ext}
-use mathlib.Core.Bool.{Bool, true, false, not, _&&_, _||_, cond, and-true, and-false}
+use mathlib.Core.Bool.{Bool, true, false, _&&_, cond, and-true, and-false}
 use mathlib.Core.List.{List, [], _∷_, map}
 use Prim.Native.Nat.{ℕ, zero, suc, _≤_, _<_}
 use native.Mathlib.Omega.{arith}
 use lib.Dec.{leb, ltb, eqb}
 use borrow.Author.Tests.{eqb-true, leb-false, ltb-false, le-leb, lt-leb}
 use Rattle.answer.specs.Asked.{passed, _>>=_}
-use Rattle.logic.specs.Syntax.{Sort, node, arrow, rule, Expr, all, none, label, nominal, complement, and, or, some, every, atLeast, atMost, arrowKind, reversed, union, common, minus, endingIn, pair, subNodes, subArrows, nodeIn, pairIn, both, either, notRule}
-use Rattle.logic.specs.Graph.{Graph, Nodes, isNode, anyBelow, allBelow, countBelow, implies}
+use Rattle.logic.specs.Syntax.{Sort, node, arrow, rule, Expr, all, none, atLeast, atMost}
+use Rattle.logic.specs.Graph.{Graph, Nodes, isNode, countBelow}
 use Rattle.logic.specs.Meaning.{value}
 use Rattle.logic.specs.Limits.{maxNodes, Within}
+use Rattle.logic.specs.Arity.{atLeast·, atMost·, build2}
+use Rattle.logic.proofs.ArityLaws.{value-1, value-2}
 use Rattle.logic.proofs.Dual.{at-least-none}
 use Rattle.text.specs.Code.{bookCode}
 use Rattle.text.specs.Reading.{formerLimits}
 use Rattle.text.specs.Questions.{askBook}
 use Rattle.rewrite_counts.specs.Rewritten.{leastRewritten, mostRewritten, rewritten, rewrittenBook, askRewritten}
 use Rattle.rewrite_counts.specs.OnSheet.{OnSheet}
+use Rattle.rewrite_counts.proofs.ByRewriting.{byRewriting}
 use Rattle.rewrite_counts.proofs.Wider.{former-below, book-wider}
 use Rattle.rewrite_counts.proofs.RewrittenPasses.{rewritten-passes}
 
@@ -47,32 +50,12 @@ module _ (g : Graph) (few : g .n ≤ maxNodes) where
     go false h = fun-ext (λ i. sym (ap (isNode g i &&_) (le-leb _ m (omega (arith, h refl, count-most (g .n) (λ j. value g R i j && value g E j)))) ∙ and-true (isNode g i)))
 
   pub same-value : {s : Sort} (e : Expr s) → value g (rewritten e) ≡ value g e
-  unfolding rewritten value
-  same-value all = refl
-  same-value none = refl
-  same-value (label k) = refl
-  same-value (nominal i) = refl
-  same-value (complement E) = λ t i. isNode g i && not (same-value E t i)
-  same-value (and E F) = λ t i. same-value E t i && same-value F t i
-  same-value (or E F) = λ t i. same-value E t i || same-value F t i
-  same-value (some R E) = λ t i. anyBelow (g .n) (λ j. same-value R t i j && same-value E t j)
-  same-value (every R E) = λ t i. isNode g i && allBelow (g .n) (λ j. implies (same-value R t i j) (same-value E t j))
-  same-value (atLeast m R E) = least-value m (rewritten R) (rewritten E) ∙ (λ t i. isNode g i && leb m (countBelow (g .n) (λ j. same-value R t i j && same-value E t j)))
-  same-value (atMost m R E) = most-value m (rewritten R) (rewritten E) ∙ (λ t i. isNode g i && leb (countBelow (g .n) (λ j. same-value R t i j && same-value E t j)) m)
-  same-value (arrowKind a) = refl
-  same-value (reversed R) = λ t i j. same-value R t j i
-  same-value (union R S) = λ t i j. same-value R t i j || same-value S t i j
-  same-value (common R S) = λ t i j. same-value R t i j && same-value S t i j
-  same-value (minus R S) = λ t i j. same-value R t i j && not (same-value S t i j)
-  same-value (endingIn R E) = λ t i j. same-value R t i j && same-value E t j
-  same-value (pair i j) = refl
-  same-value (subNodes E F) = λ t. allBelow (g .n) (λ i. implies (same-value E t i) (same-value F t i))
-  same-value (subArrows R S) = λ t. allBelow (g .n) (λ i. allBelow (g .n) (λ j. implies (same-value R t i j) (same-value S t i j)))
-  same-value (nodeIn i E) = λ t. same-value E t i
-  same-value (pairIn i j R) = λ t. same-value R t i j
-  same-value (both K L) = λ t. same-value K t && same-value L t
-  same-value (either K L) = λ t. same-value K t || same-value L t
-  same-value (notRule K) = λ t. not (same-value K t)
+  unfolding build2
+  same-value = byRewriting (λ s e e′. value g e′ ≡ value g e) (λ s b. refl)
+      (λ u t b x x′ p. value-1 g (g .labelled) (g .joined) b x′ x p)
+      (λ u v t b _ _ x x′ y y′ p q. value-2 g (g .labelled) (g .joined) b x′ x y′ y p q)
+      (λ m R R′ E E′ p q. least-value m R′ E′ ∙ value-2 g (g .labelled) (g .joined) (atLeast· m) R′ R E′ E p q)
+      (λ m R R′ E E′ p q. most-value m R′ E′ ∙ value-2 g (g .labelled) (g .joined) (atMost· m) R′ R E′ E p q)
 
   pub same-truth : (rules : List (Expr rule)) → map (value g) (rewrittenBook rules) ≡ map (value g) rules
   same-truth [] = refl

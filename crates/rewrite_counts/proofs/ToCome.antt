@@ -10,14 +10,15 @@ use lib.Seq.{take-at}
 use borrow.Author.Tests.{eq-eqb, ne-eqb}
 use Rattle.answer.specs.Outputs.{writtenAtStart}
 use Rattle.logic.specs.Syntax.{rule, Expr}
+use Rattle.logic.specs.Lists.{All}
 use Rattle.text.specs.Code.{bookCode}
 use Rattle.text.proofs.StandingLaws.{behind}
 use Rattle.tree.specs.Tree.{Tree, name, leaf, one, two, treeCode}
 use Rattle.tree.proofs.TreeLaws.{size-is}
-use Rattle.ends.specs.Shapes.{At, Some}
+use Rattle.ends.specs.Shapes.{Formed, At, Some}
 use Rattle.ends.specs.Books.{BookIs}
 use Rattle.ends.proofs.TreePlaces.{size-pos}
-use Rattle.ends.proofs.Pending.{headOf, partsOf, texts, texts-append, AllFormed, Pending, First, first, turn}
+use Rattle.ends.proofs.Pending.{headOf, partsOf, texts, texts-append, Pending, First, first, turn}
 use Rattle.write.specs.Laid.{Wrote}
 use Rattle.write.proofs.Laying.{length-laid, wrote-none, wrote-more, wrote-as}
 use Rattle.write.proofs.Rules.{at-start}
@@ -61,9 +62,9 @@ to-come-first text rules b =
 
 -- nothing to come at the end, something before it
 pub to-come-end : {text whole done : List ℕ} {p : ℕ} → ToCome text whole done p → length text ≤ p → done ≡ whole
-unfolding texts AllFormed
+unfolding texts
 to-come-end {text} {whole} {done} {p} l h = go (l .parts) (l .pending .formed) (l .ends) (l .is) where
-  go : (parts : List Tree) → AllFormed parts → p + length (texts treeCode parts) ≡ length text → done ++ texts anew parts ≡ whole → done ≡ whole
+  go : (parts : List Tree) → All Formed parts → p + length (texts treeCode parts) ≡ length text → done ++ texts anew parts ≡ whole → done ≡ whole
   go [] f e i = sym (append-nil done) ∙ i
   go (t ∷ more) f e i = absurd (omega (arith, size-pos t (f .0), size-is t, length-append (treeCode t) (texts treeCode more)))
 
@@ -124,7 +125,6 @@ module _ {text whole done : List ℕ} {p : ℕ} (l : ToCome text whole done p) (
       }
 
   drops : (byte next : ℕ) → Turned text p (f .t) byte next → (byte ≡ 0 → ⊥) → Next text whole done p byte next
-  unfolding AllFormed
   drops byte next u nz =
       let t = f .t in
       let n = u .dropped nz in
@@ -134,7 +134,7 @@ module _ {text whole done : List ℕ} {p : ℕ} (l : ToCome text whole done p) (
       ∙ ap (done ++_) (ap (_++ texts anew later) (sym (anew-dropped t (λ z. nz (u .byte-is ∙ z)) ∙ ap (_∷ []) (sym (u .byte-is)))) ∙ sym (split-is anew))
       ∙ l .is in
       let e : next ≡ p + length (treeCode t) = omega (arith, n, size-is t) in
-      let formed : AllFormed (t ∷ later) = subst AllFormed (f .is) (l .pending .formed) in
+      let formed : All Formed (t ∷ later) = subst (All Formed) (f .is) (l .pending .formed) in
       record {
         bytes = byte ∷ [];
         left = record {
@@ -156,10 +156,7 @@ module _ {text whole done : List ℕ} {p : ℕ} (l : ToCome text whole done p) (
       }
 
   turned : (byte next : ℕ) → Turned text p (f .t) byte next → Next text whole done p byte next
-  turned byte next u = go (decLt 0 byte) where
-    go : Dec (0 < byte) → Next text whole done p byte next
-    go (yes k) = drops byte next u (λ z. omega arith)
-    go (no k) = stays byte next u (omega arith)
+  turned byte next u = elim (decLt 0 byte) [ yes k ↦ drops byte next u (λ z. omega arith) | no k ↦ stays byte next u (omega arith) ]
 
   pub tree-here : Some text p
   tree-here = record { what = f .t; stands = f .at }

@@ -1,13 +1,16 @@
 -- What is in range is in any wider range, and a book or an edit that passes by ranges passes by any wider ones.
 use mathlib.Core.Path.{_≡_}
-use mathlib.Core.Bool.{Bool, true, _&&_}
-use mathlib.Core.List.{List, [], _∷_}
+use mathlib.Core.List.{List}
 use Prim.Native.Nat.{ℕ, _≤_}
 use native.Mathlib.Omega.{arith}
 use lib.Dec.{T, leb, leb→le, le→leb, ltb→lt, lt→ltb}
 use Rattle.answer.specs.Asked.{passed}
-use Rattle.logic.specs.Syntax.{Sort, rule, Expr, all, none, label, nominal, complement, and, or, some, every, atLeast, atMost, arrowKind, reversed, union, common, minus, endingIn, pair, subNodes, subArrows, nodeIn, pairIn, both, either, notRule, Edit, finish, addLabel, takeLabel, addArrow, takeArrow, choose}
+use Rattle.logic.specs.Syntax.{Sort, rule, Expr, Edit, finish, addLabel, takeLabel, addArrow, takeArrow, choose}
 use Rattle.logic.specs.Limits.{maxNodes, Kind, labelNumber, arrowNumber, nodeNumber, leastCount, mostCount, Ranges, ranges, formerRanges, fits, InRange, EditInRange}
+use Rattle.logic.specs.Arity.{numbers0, numbers1, numbers2, byArity}
+use Rattle.logic.proofs.ArityLaws.{Fit, range-0, range-1, range-2}
+use Rattle.logic.proofs.ListLaws.{all-so}
+use Rattle.logic.proofs.Bools.{so-both, both-so}
 use Rattle.text.specs.Reading.{limitsBy}
 use Rattle.text.specs.Questions.{askBook, askEdit}
 use Rattle.text.proofs.TextSpelling.{EachAllowed, book-is-spelled, spelled-book-passes, edit-is-spelled, spelled-edit-passes}
@@ -17,36 +20,14 @@ Wider r r′ = (k : Kind) (x : ℕ) → T (fits r k x) → T (fits r′ k x)
 
 module _ {r r′ : Ranges} (w : Wider r r′) where
   in-wider : {s : Sort} (e : Expr s) → InRange r e → InRange r′ e
-  unfolding InRange
-  in-wider all h = tt
-  in-wider none h = tt
-  in-wider (label k) h = w labelNumber k h
-  in-wider (nominal i) h = w nodeNumber i h
-  in-wider (complement E) h = in-wider E h
-  in-wider (and E F) h = (in-wider E (h .0), in-wider F (h .1))
-  in-wider (or E F) h = (in-wider E (h .0), in-wider F (h .1))
-  in-wider (some R E) h = (in-wider R (h .0), in-wider E (h .1))
-  in-wider (every R E) h = (in-wider R (h .0), in-wider E (h .1))
-  in-wider (atLeast m R E) h = (w leastCount m (h .0), in-wider R (h .1), in-wider E (h .2))
-  in-wider (atMost m R E) h = (w mostCount m (h .0), in-wider R (h .1), in-wider E (h .2))
-  in-wider (arrowKind a) h = w arrowNumber a h
-  in-wider (reversed R) h = in-wider R h
-  in-wider (union R S) h = (in-wider R (h .0), in-wider S (h .1))
-  in-wider (common R S) h = (in-wider R (h .0), in-wider S (h .1))
-  in-wider (minus R S) h = (in-wider R (h .0), in-wider S (h .1))
-  in-wider (endingIn R E) h = (in-wider R (h .0), in-wider E (h .1))
-  in-wider (pair i j) h = (w nodeNumber i (h .0), w nodeNumber j (h .1))
-  in-wider (subNodes E F) h = (in-wider E (h .0), in-wider F (h .1))
-  in-wider (subArrows R S) h = (in-wider R (h .0), in-wider S (h .1))
-  in-wider (nodeIn i E) h = (w nodeNumber i (h .0), in-wider E (h .1))
-  in-wider (pairIn i j R) h = (w nodeNumber i (h .0), w nodeNumber j (h .1), in-wider R (h .2))
-  in-wider (both K L) h = (in-wider K (h .0), in-wider L (h .1))
-  in-wider (either K L) h = (in-wider K (h .0), in-wider L (h .1))
-  in-wider (notRule K) h = in-wider K h
+  in-wider = byArity (λ s e. InRange r e → InRange r′ e) (λ s b h. range-0 r′ b .1 (fit (numbers0 b) (range-0 r b .0 h)))
+      (λ u t b x p h. let q = range-1 r b x .0 h in range-1 r′ b x .1 (fit (numbers1 b) (q .0), p (q .1)))
+      (λ u v t b x y p o h. let q = range-2 r b x y .0 h in range-2 r′ b x y .1 (fit (numbers2 b) (q .0), (p (q .1 .0), o (q .1 .1)))) where
+        fit : (ns : List (Kind × ℕ)) → Fit r ns → Fit r′ ns
+        fit = all-so (λ n. w (n .0) (n .1))
 
   each-wider : (rules : List (Expr rule)) → EachAllowed (limitsBy r) rules → EachAllowed (limitsBy r′) rules
-  each-wider [] h = tt
-  each-wider (K ∷ Ks) h = (record { numbers-fit = in-wider K (h .0 .numbers-fit); levels-fit = h .0 .levels-fit }, each-wider Ks (h .1))
+  each-wider = all-so (λ K a. record { numbers-fit = in-wider K (a .numbers-fit); levels-fit = a .levels-fit })
 
   pub book-wider : (t : List ℕ) (rules : List (Expr rule)) → askBook (limitsBy r) t ≡ passed rules → askBook (limitsBy r′) t ≡ passed rules
   book-wider t rules h =
@@ -69,32 +50,24 @@ module _ {r r′ : Ranges} (w : Wider r r′) where
       spelled-edit-passes (limitsBy r′) t Z
       (record { text-is = s .text-is; short = s .short; within = record { numbers-fit = edit-in-wider Z (s .within .numbers-fit); levels-fit = s .within .levels-fit } })
 
-so-both : (a b : Bool) → T a → T b → T (a && b)
-so-both true true h k = tt
+-- The former ranges are wider,
+pub former-of-now : (n : ℕ) → Wider (ranges n) (formerRanges n)
+former-of-now n labelNumber x h = h
+former-of-now n arrowNumber x h = h
+former-of-now n nodeNumber x h = h
+former-of-now n leastCount x h = so-both (leb 0 x) (leb x 255) (le→leb 0 x (omega arith)) (le→leb x 255 (omega (arith, leb→le x maxNodes (both-so (leb 1 x) (leb x maxNodes) h .1))))
+former-of-now n mostCount x h = le→leb x 255 (omega (arith, leb→le x 59 h))
 
-pub both-so : (a b : Bool) → T (a && b) → T a × T b
-both-so true true h = (tt, tt)
+-- and so are those of more nodes.
+more-nodes : (n from to most : ℕ) → n ≤ maxNodes → Wider (record { nodes = n; leastFrom = from; leastTo = to; mostTo = most }) (record { nodes = maxNodes; leastFrom = from; leastTo = to; mostTo = most })
+more-nodes n from to most l labelNumber x h = h
+more-nodes n from to most l arrowNumber x h = h
+more-nodes n from to most l nodeNumber x h = lt→ltb x maxNodes (omega (arith, ltb→lt x n h))
+more-nodes n from to most l leastCount x h = h
+more-nodes n from to most l mostCount x h = h
 
-module _ (n : ℕ) where
-  -- the former ranges are wider,
-  pub former-of-now : Wider (ranges n) (formerRanges n)
-  former-of-now labelNumber x h = h
-  former-of-now arrowNumber x h = h
-  former-of-now nodeNumber x h = h
-  former-of-now leastCount x h = so-both (leb 0 x) (leb x 255) (le→leb 0 x (omega arith)) (le→leb x 255 (omega (arith, leb→le x maxNodes (both-so (leb 1 x) (leb x maxNodes) h .1))))
-  former-of-now mostCount x h = le→leb x 255 (omega (arith, leb→le x 59 h))
+pub former-below : (n : ℕ) → n ≤ maxNodes → Wider (formerRanges n) (formerRanges maxNodes)
+former-below n l = more-nodes n _ _ _ l
 
-  -- and so are those of more nodes
-  pub former-below : n ≤ maxNodes → Wider (formerRanges n) (formerRanges maxNodes)
-  former-below l labelNumber x h = h
-  former-below l arrowNumber x h = h
-  former-below l nodeNumber x h = lt→ltb x maxNodes (omega (arith, ltb→lt x n h))
-  former-below l leastCount x h = h
-  former-below l mostCount x h = h
-
-  pub now-below : n ≤ maxNodes → Wider (ranges n) (ranges maxNodes)
-  now-below l labelNumber x h = h
-  now-below l arrowNumber x h = h
-  now-below l nodeNumber x h = lt→ltb x maxNodes (omega (arith, ltb→lt x n h))
-  now-below l leastCount x h = h
-  now-below l mostCount x h = h
+pub now-below : (n : ℕ) → n ≤ maxNodes → Wider (ranges n) (ranges maxNodes)
+now-below n l = more-nodes n _ _ _ l

@@ -77,10 +77,10 @@ combined-wide n p q h =
       go true b c = refl
       go false b c = refl
 
-module _ {n k : ℕ} {v w : Pairs} {a b r : List ℕ} where
-  pub rows-combined : (c : ℕ) → n ≤ 64 → n ≤ k → Rows n v a → Rows n w b → Changed k a r (λ i. combined (arrowOperation c) (getD a i 0) (getD b i 0)) → Rows n (λ i j. arrowOperation c (v i j) (w i j)) r
-  rows-combined c h e p q f =
-      record { row = λ i l. f .row i (omega arith) ∙ ap₂ (combined (arrowOperation c)) (p .row i l) (q .row i l) ∙ combined-sets (arrowOperation c) (arrow-operation-none c) n (v i) (w i) h }
+-- 13, 14, 15: the second relation's words, read from rows or from the sheet
+pub rows-combined : {n k : ℕ} {v : Pairs} {a r : List ℕ} {word : ℕ → ℕ} (w : Pairs) (c : ℕ) → n ≤ 64 → n ≤ k → Rows n v a → ((i : ℕ) → i < n → word i ≡ setOf n (w i)) → Changed k a r (λ i. combined (arrowOperation c) (getD a i 0) (word i)) → Rows n (λ i j. arrowOperation c (v i j) (w i j)) r
+rows-combined {n} {v = v} w c h e p q f =
+    record { row = λ i l. f .row i (omega arith) ∙ ap₂ (combined (arrowOperation c)) (p .row i l) (q i l) ∙ combined-sets (arrowOperation c) (arrow-operation-none c) n (v i) (w i) h }
 
 module _ {n : ℕ} {v : Pairs} {a r : List ℕ} where
   pub rows-ending : (w : Nodes) (e : ℕ) → n ≤ 64 → Rows n v a → e ≡ setOf n w → Masked n a e r → Rows n (λ i j. v i j && w j) r
@@ -144,15 +144,6 @@ rows-pair n nodes out i j k x o e h f = record { row = λ s l. ap (λ (y : List 
   go s l false d =
       getD-set-other (replicate 64 0) k s x 0 (λ z. eqb-false s i d (z ∙ e)) ∙ zeros-at 64 s ∙ sym (setOf-none n)
       ∙ setOf-cong n _ _ (λ t z. ap (_&& (nodes t && eqb t j)) (sym (ap (nodes s &&_) d ∙ and-false (nodes s))))
-
--- 13, 14, 15 with an arrow of the sheet
-pub rows-combined-kind : {n m k : ℕ} {v : Pairs} {a r : List ℕ} (w : Pairs) (c : ℕ) → n ≡ m → n ≤ 64 → n ≤ k → Rows n v a → Changed k a r (λ i. combined (arrowOperation c) (getD a i 0) (setOf m (w i))) → Rows n (λ i j. arrowOperation c (v i j) (w i j)) r
-rows-combined-kind {n} {m} {k} {v} w c q h e p f =
-    record {
-      row = λ i l.
-          f .row i (omega arith) ∙ ap₂ (combined (arrowOperation c)) (p .row i l) (ap (λ (z : ℕ). setOf z (w i)) (sym q))
-          ∙ combined-sets (arrowOperation c) (arrow-operation-none c) n (v i) (w i) h;
-    }
 
 -- 13, 15 with one pair
 pub rows-paired : (c n : ℕ) (nodes : Nodes) (v : Pairs) (a : List ℕ) (i j k x y : ℕ) → (c ≡ 0x14 → ⊥) → n ≤ 64 → length a ≡ 64 → k ≡ i → i < 64 → Rows n v a

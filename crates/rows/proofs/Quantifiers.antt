@@ -10,7 +10,7 @@ use Rattle.logic.specs.Graph.{Nodes, Pairs, anyBelow, allBelow, countBelow, imp
 use Rattle.logic.proofs.Below.{none-outside, count-cong, one-or-more}
 use Rattle.bitset.specs.Words.{setOf, member, combined}
 use Rattle.bitset.proofs.SetLaws.{setOf-lt, setOf-cong, setOf-member-lt, setOf-none, member-setOf, combined-sets}
-use Rattle.rows.specs.Operations.{quantified, enough, least, looked, answered, Among}
+use Rattle.rows.specs.Operations.{quantified, enough, least, looked, answered, turn, Among}
 
 -- An end is a node.
 pub quantified-is : (c m n : ℕ) (nodes v w : Nodes) → ((j : ℕ) → nodes j ≡ false → v j ≡ false) → quantified c m n v w ≡ answered c (enough (least c m) n v (λ j. looked c (nodes j) (w j)))
@@ -73,28 +73,38 @@ one-wanted c m l h = go (eqb c 0x08) refl where
   go true e = refl
   go false e = rw (eq-eqb c 0x09 (omega (arith, eqb-false c 0x08 e)))
 
--- What the code looks at and answers is what it means, of the nodes within.
-module _ (c m n all within e : ℕ) (p : Pairs) (ends : (i j : ℕ) → member all j ≡ false → p i j ≡ false) where
+-- What the code looks at and answers is what it means, of the nodes within: for the rows of v or, turned, for its columns.
+module _ (c m n all within e : ℕ) (v : Pairs) (among : Among all v) (turned b : Bool) (t : turned ≡ b) where
   abbrev looked-at : Nodes
   looked-at j = looked c (member all j) (member e j)
 
-  answer-is : setOf n (λ i. member within i && answered c (enough (least c m) n (p i) looked-at)) ≡ setOf n (λ i. member within i && quantified c m n (p i) (member e))
-  answer-is = setOf-cong n _ _ (λ i l. ap (member within i &&_) (sym (quantified-is c m n (member all) (p i) (member e) (ends i))))
+  ends : (b : Bool) (i j : ℕ) → member all j ≡ false → turn b v i j ≡ false
+  ends true i j h = among .starts j i h
+  ends false i j h = among .ends i j h
 
-  module _ (k f x r : ℕ) (h : n ≤ 64) (q : k ≡ least c m) (s : f ≡ setOf n looked-at)
-      (a : (u : Nodes) → r ≡ setOf n u → x ≡ setOf n (λ i. member within i && answered c (u i))) where
-    pub by-columns : r ≡ setOf n (λ i. enough k n (p i) (member f)) → x ≡ setOf n (λ i. member within i && quantified c m n (p i) (member e))
+  answer-is : setOf n (λ i. member within i && answered c (enough (least c m) n (turn b v i) looked-at)) ≡ setOf n (λ i. member within i && quantified c m n (turn turned v i) (member e))
+  answer-is =
+      setOf-cong n _ _ (λ i l. ap (member within i &&_) (sym (quantified-is c m n (member all) (turn b v i) (member e) (ends b i))))
+      ∙ ap (λ (x : Bool). setOf n (λ i. member within i && quantified c m n (turn x v i) (member e))) (sym t)
+
+  module _ (h : n ≤ 64) (within-low : within < 2 ^ n) (all-low : all < 2 ^ n) (e-low : e < 2 ^ n) (k f x r : ℕ) (q : k ≡ least c m)
+      (looks : (n : ℕ) (nodes w : Nodes) → n ≤ 64 → all ≡ setOf n nodes → e ≡ setOf n w → f ≡ setOf n (λ i. looked c (nodes i) (w i)))
+      (a : (n : ℕ) (p : Nodes) → n ≤ 64 → within < 2 ^ n → r ≡ setOf n p → x ≡ setOf n (λ i. member within i && answered c (p i))) where
+    s : f ≡ setOf n looked-at
+    s = looks n (member all) (member e) h (sym (setOf-member-lt n all all-low)) (sym (setOf-member-lt n e e-low))
+
+    pub by-columns : (f ≡ setOf n (member f) → r ≡ setOf n (λ i. enough k n (turn b v i) (member f))) → x ≡ setOf n (λ i. member within i && quantified c m n (turn turned v i) (member e))
     by-columns d =
-        a (λ i. enough (least c m) n (p i) looked-at)
-        (d ∙ ap (λ (y : ℕ). setOf n (λ i. enough y n (p i) (member f))) q
-        ∙ setOf-cong n _ _ (λ i l. ap (leb (least c m)) (count-cong n _ _ (λ j o. ap (p i j &&_) (ap (λ (y : ℕ). member y j) s ∙ member-setOf n looked-at j o)))))
+        a n (λ i. enough (least c m) n (turn b v i) looked-at) h within-low
+        (d (sym (setOf-member-lt n f (set-small n looked-at s))) ∙ ap (λ (y : ℕ). setOf n (λ i. enough y n (turn b v i) (member f))) q
+        ∙ setOf-cong n _ _ (λ i l. ap (leb (least c m)) (count-cong n _ _ (λ j o. ap (turn b v i j &&_) (ap (λ (y : ℕ). member y j) s ∙ member-setOf n looked-at j o)))))
         ∙ answer-is
 
-    pub by-rows : r ≡ setOf n (λ i. member within i && enough k n (p i) looked-at) → x ≡ setOf n (λ i. member within i && quantified c m n (p i) (member e))
+    pub by-rows : ((w : Nodes) → f ≡ setOf n w → r ≡ setOf n (λ i. member within i && enough k n (turn b v i) w)) → x ≡ setOf n (λ i. member within i && quantified c m n (turn turned v i) (member e))
     by-rows d =
-        a (λ i. member within i && enough (least c m) n (p i) looked-at)
-        (d ∙ ap (λ (y : ℕ). setOf n (λ i. member within i && enough y n (p i) looked-at)) q)
-        ∙ setOf-cong n _ _ (λ i l. go (member within i) (enough (least c m) n (p i) looked-at))
+        a n (λ i. member within i && enough (least c m) n (turn b v i) looked-at) h within-low
+        (d looked-at s ∙ ap (λ (y : ℕ). setOf n (λ i. member within i && enough y n (turn b v i) looked-at)) q)
+        ∙ setOf-cong n _ _ (λ i l. go (member within i) (enough (least c m) n (turn b v i) looked-at))
         ∙ answer-is where
           go : (b y : Bool) → (b && answered c (b && y)) ≡ (b && answered c y)
           go true y = refl

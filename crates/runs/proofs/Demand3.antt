@@ -20,15 +20,17 @@ use Rattle.text.specs.Reading.{textLimits}
 use Rattle.text.specs.Questions.{askBook}
 use Rattle.judge.specs.Questions.{askSheetAndBook, askRules}
 use Rattle.runs.specs.Scratch.{askScratch}
-use Rattle.apply.specs.Apply.{afterSteps}
-use Rattle.runs.specs.Enter.{askEnter, enterAnswer, enterSheet}
+use Rattle.apply.specs.Apply.{afterSteps, appliedSheet}
+use Rattle.runs.specs.Enter.{askBefore41, askEnter, enterAnswer, enterSheet}
 use Rattle.runs.specs.Clerk.{Fed, rulesOf, clerkLog, clerk}
 use Rattle.bitset.specs.Words.{Bytes}
 use Rattle.runs.specs.Run.{Keeps, Call, fed, log, enteredAfterEach, madeInOrder, Given}
 use Rattle.logic.specs.Lists.{All}
 use Rattle.runs.specs.Demand3.{RunRight, Demand3}
-use Rattle.answer.proofs.AskedLaws.{outcome-passed}
-use Rattle.runs.proofs.OneCall.{askSteps, enter-asks, Entered, when-passed, so-passed}
+use Rattle.answer.proofs.AskedLaws.{outcome-passed, bind-passed}
+use Rattle.judge.proofs.SheetAndBook.{sheet-sound, book-passed}
+use Rattle.runs.proofs.OneCall.{askSteps, enter-asks, Entered, when-passed, so-passed, passed-33}
+use Rattle.runs.proofs.After.{applied-is, applies}
 use Rattle.runs.proofs.Runs.{steps-within, Kept, keeps, kept-each, log-clerk, alone-each}
 
 module _ {book edit sheet : List ℕ} (i : Given book edit sheet) where
@@ -84,12 +86,19 @@ module _ {book edit sheet : List ℕ} (i : Given book edit sheet) where
       let w : Entered (i .rules) (graphOf sheet) (call room) Z = when-passed (i .rules) (graphOf sheet) (call room) Z (sym (asks room) ∙ a) in
       let same : Z ≡ i .steps = cc in subst (Entered (i .rules) (graphOf sheet) (call room)) same w
 
+  pub entered-hold : (room : ℕ) → enterAnswer sheet book edit room ≡ passed tt → T (holdAll (graphOf sheet) (carriedBook (i .steps) (i .rules)))
+  entered-hold room e = subst T (sym (hold-carried (i .steps) (i .rules) (graphOf sheet))) (done-with room e .hold)
+
   entered-iff : (room : ℕ) → askScratch (carriedBook (i .steps) (i .rules)) room ≡ passed tt → (enterAnswer sheet book edit room ≡ passed tt) ↔ T (holdAll (graphOf sheet) (carriedBook (i .steps) (i .rules)))
   unfolding outcome
   entered-iff room fits = (
-    λ e. subst T (sym (hold-carried (i .steps) (i .rules) (graphOf sheet))) (done-with room e .hold),
+    entered-hold room,
     λ h. ap outcome (asks room ∙ so-passed (i .rules) (graphOf sheet) (call room) (i .steps) (record { edit-read = i .edit-read; fits = fits; hold = subst T (hold-carried (i .steps) (i .rules) (graphOf sheet)) h })),
   )
+
+  -- So it is entered exactly when the sheet that its steps leave keeps the book.
+  pub entered-keeps : (room : ℕ) → askScratch (carriedBook (i .steps) (i .rules)) room ≡ passed tt → (enterAnswer sheet book edit room ≡ passed tt) ↔ Keeps book (afterSteps (i .steps) sheet)
+  entered-keeps room fits = let w = entered-iff room fits in ((λ e. carried-keeps (w .0 e)), (λ k. w .1 (kept-after k)))
 
   leaves : (room : ℕ) → enterAnswer sheet book edit room ≡ passed tt → enterSheet sheet book edit room ≡ afterSteps (i .steps) sheet
   unfolding enterSheet after
@@ -125,3 +134,32 @@ demand-3 =
       enter-answers = λ i. answers i;
       every-run = run-right;
     }
+
+-- Where 1 to 33 have passed, sheet, book and edit are given, and the scratch is long enough.
+pub record GivenRoom (sheet book edit : List ℕ) (room : ℕ) : Type 0 where
+  pub given : Given book edit sheet
+  pub fits : askScratch (carriedBook (given .steps) (given .rules)) room ≡ passed tt
+
+module _ (sheet book edit : List ℕ) (room : ℕ) (bytes : Bytes sheet) where
+  pub given-room : outcome (askBefore41 sheet book edit room) ≡ passed tt → GivenRoom sheet book edit room
+  given-room e =
+      let (c, asked) = outcome-passed (askBefore41 sheet book edit room) e in
+      let p = passed-33 sheet book edit room c asked in
+      record {
+        given = record { are-bytes = bytes; sound = sheet-sound sheet book (p .read); rules = p .rules; book-read = book-passed sheet book (p .read); steps = c .steps; edit-read = p .edit-read };
+        fits = subst (λ carried. askScratch carried room ≡ passed tt) (p .carried-are) (p .fits);
+      }
+
+  -- So of an edit that is entered: it leaves what it leaves when it is carried out alone, a sheet that keeps the book.
+  module _ (e : enterAnswer sheet book edit room ≡ passed tt) where
+    pub entered-given : GivenRoom sheet book edit room
+    unfolding askEnter outcome
+    entered-given =
+        let (Z, asked) = outcome-passed (askEnter sheet book edit room) e in
+        given-room (ap outcome (bind-passed (askBefore41 sheet book edit room) _ Z asked .1))
+
+    pub entered-applied : enterSheet sheet book edit room ≡ appliedSheet sheet edit
+    entered-applied = let i = entered-given .given in leaves i room e ∙ sym (applied-is sheet edit (i .steps) (applies sheet edit (i .steps) (i .sound) (i .edit-read)))
+
+    pub entered-kept : Keeps book (enterSheet sheet book edit room)
+    entered-kept = let g = entered-given in subst (Keeps book) (sym (leaves (g .given) room e)) (entered-keeps (g .given) room (g .fits) .0 e)

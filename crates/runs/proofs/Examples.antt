@@ -12,7 +12,7 @@ use Rattle.logic.specs.Syntax.{Expr, rule, Edit}
 use Rattle.logic.specs.Graph.{Graph, isNode, anyBelow, allBelow, countBelow}
 use Rattle.logic.specs.Meaning.{value}
 use Rattle.logic.specs.Steps.{update, run}
-use Rattle.logic.specs.Carry.{replace, putLabel, putArrow, carry, carriedBook}
+use Rattle.logic.specs.Carry.{substitute, putLabel, putArrow, carry, carriedBook}
 use Rattle.logic.specs.Limits.{Within}
 use Rattle.bitset.specs.Words.{setOf, bytes}
 use Rattle.logic.specs.Arity.{byArity}
@@ -79,7 +79,7 @@ unfolding enteredOnT enterSheet enterScratch askEnter resultOf
 on-graph book edit room = λ t. resultOf (read-back sheetT T-within t) (carried-of sheetT book edit room T-within t) (carried-of sheetT book edit (length (scratchOf room)) T-within t) room
 
 pub examples : calls enteredOnT ≡ results
-unfolding calls results two resultOf askOf sheetT storeIn block labelBlock arrowBlock chunks setOf bytes sealed stored sumsFrom value isNode anyBelow allBelow countBelow update run replace putLabel putArrow carry code bookCode levels byArity bookLevels longest askCarried askScratch upToBroken overwritten whole readRules askBook askOne askRules after outcome _>>=_ _>>_ is codes choice follow reading._>>=_
+unfolding calls results two resultOf askOf sheetT storeIn block labelBlock arrowBlock chunks setOf bytes sealed stored sumsFrom value isNode anyBelow allBelow countBelow update run substitute putLabel putArrow carry code bookCode levels byArity bookLevels longest askCarried askScratch upToBroken overwritten whole readRules askBook askOne askRules after outcome _>>=_ _>>_ is codes choice follow reading._>>=_
 examples = (λ t. calls (λ book edit room. on-graph book edit room t)) ∙ refl
 
 -- Example 8 with any scratch that holds its carried rule, of 12 bytes.
@@ -90,7 +90,7 @@ judged-of : Graph → Asked StepsAndCarried → Asked (Unit {0})
 judged-of g a = outcome (a >>= (λ c. askRules g (c .carried) 0 >> passed (c .steps)))
 
 judged-8 : (room : ℕ) → 12 ≤ room → judged-of sheetT (askOf sheetT B edit-8 room) ≡ refused 41 0
-unfolding judged-of askOf sheetT value isNode anyBelow allBelow countBelow update replace putLabel putArrow carry code bookCode levels byArity bookLevels longest askCarried askScratch whole readRules askBook askOne askRules outcome _>>=_ _>>_ is codes choice follow reading._>>=_
+unfolding judged-of askOf sheetT value isNode anyBelow allBelow countBelow update substitute putLabel putArrow carry code bookCode levels byArity bookLevels longest askCarried askScratch whole readRules askBook askOne askRules outcome _>>=_ _>>_ is codes choice follow reading._>>=_
 judged-8 room h = rw (le-leb 12 room h)
 
 pub example-8 : (room : ℕ) → 12 ≤ room → enterAnswer (store sheetT) B edit-8 room ≡ refused 41 0

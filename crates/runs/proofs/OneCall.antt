@@ -16,11 +16,11 @@ use Rattle.text.specs.Reading.{textLimits}
 use Rattle.text.specs.Questions.{askBook, askEdit}
 use Rattle.judge.specs.Questions.{askSheetAndBook, askRules}
 use Rattle.runs.specs.Scratch.{askScratch}
-use Rattle.runs.specs.Enter.{StepsAndCarried, askBefore41, askEnter, enterSheet}
+use Rattle.runs.specs.Enter.{StepsAndCarried, askBefore41, askEnter, enterAnswer, enterSheet}
 use Rattle.runs.specs.Clerk.{Fed, Line, clerkCopy, clerkAsks, clerkGraph, clerkLine}
 use Rattle.logic.specs.Meaning.{holdAll}
 use Rattle.runs.specs.Run.{Call, fed, enterLine}
-use Rattle.answer.proofs.AskedLaws.{bind-passed, then-passed}
+use Rattle.answer.proofs.AskedLaws.{passed-same, bind-on, bind-passed, then-passed, outcome-bind, bind-bind, then-bind}
 use Rattle.judge.proofs.QuestionLaws.{hold-asked, asked-hold, ask-carried}
 
 -- When sheet and book have passed, enter asks on the sheet's graph what the clerk asks.
@@ -31,37 +31,20 @@ askSteps rules g c = do
   askRules (run Z g) rules 0
   passed Z
 
+-- The questions of enter in one row.
+pub in-order : (sheet book edit : List ℕ) (room : ℕ) → askEnter sheet book edit room ≡ (askSheetAndBook sheet book >>= (λ rules. askEdit (textLimits (graphOf sheet .n)) edit >>= (λ Z. askScratch (carriedBook Z rules) room >> (askRules (graphOf sheet) (carriedBook Z rules) 0 >> passed Z))))
+unfolding askEnter askBefore41 _>>=_
+in-order sheet book edit room = simp (bind-bind, then-bind)
+
 pub enter-asks : (sheet book : List ℕ) (rules : List (Expr rule)) (c : Fed) → askSheetAndBook sheet book ≡ passed rules → askEnter sheet book (c .edit) (c .room) ≡ askSteps rules (graphOf sheet) c
-unfolding askEnter askBefore41 askSteps _>>=_ _>>_
-enter-asks sheet book rules c e = ap (λ q. (q >>= size) >>= judged) e ∙ go (askEdit (textLimits (graphOf sheet .n)) (c .edit)) where
-  size : List (Expr rule) → Asked StepsAndCarried
-  size rules = askEdit (textLimits (graphOf sheet .n)) (c .edit) >>= (λ Z. askScratch (carriedBook Z rules) (c .room) >> passed (record { steps = Z; carried = carriedBook Z rules }))
-
-  judged : StepsAndCarried → Asked Edit
-  judged k = askRules (graphOf sheet) (k .carried) 0 >> passed (k .steps)
-
-  sized : (Z : Edit) (q : Asked (Unit {0})) → ((q >> passed (record { steps = Z; carried = carriedBook Z rules })) >>= judged) ≡ (q >> (askRules (run Z (graphOf sheet)) rules 0 >> passed Z))
-  sized Z (passed u) = ap (_>> passed Z) (ask-carried Z rules (graphOf sheet) 0)
-  sized Z (refused n p) = refl
-
-  go : (q : Asked Edit) → ((q >>= (λ Z. askScratch (carriedBook Z rules) (c .room) >> passed (record { steps = Z; carried = carriedBook Z rules }))) >>= judged) ≡ (q >>= (λ Z. askScratch (carriedBook Z rules) (c .room) >> (askRules (run Z (graphOf sheet)) rules 0 >> passed Z)))
-  go (passed Z) = sized Z (askScratch (carriedBook Z rules) (c .room))
-  go (refused n p) = refl
+unfolding askSteps
+enter-asks sheet book rules c e =
+    in-order sheet book (c .edit) (c .room) ∙ bind-on e _
+    ∙ (λ t. askEdit (textLimits (graphOf sheet .n)) (c .edit) >>= (λ Z. askScratch (carriedBook Z rules) (c .room) >> (ask-carried Z rules (graphOf sheet) 0 t >> passed Z)))
 
 pub clerk-asks : (rules : List (Expr rule)) (g : Graph) (c : Fed) → clerkAsks rules g c ≡ (askSteps rules g c >>= (λ Z. passed (run Z g)))
-unfolding clerkAsks clerkCopy askSteps _>>=_ _>>_
-clerk-asks rules g c = go (askEdit (textLimits (g .n)) (c .edit)) where
-  judged : (Z : Edit) (q : Asked (Unit {0})) → (q >> passed (run Z g)) ≡ ((q >> passed Z) >>= (λ Z. passed (run Z g)))
-  judged Z (passed u) = refl
-  judged Z (refused n p) = refl
-
-  sized : (Z : Edit) (q : Asked (Unit {0})) → ((q >> passed (run Z g)) >>= (λ copy. askRules copy rules 0 >> passed copy)) ≡ ((q >> (askRules (run Z g) rules 0 >> passed Z)) >>= (λ Z. passed (run Z g)))
-  sized Z (passed u) = judged Z (askRules (run Z g) rules 0)
-  sized Z (refused n p) = refl
-
-  go : (q : Asked Edit) → ((q >>= (λ Z. askScratch (carriedBook Z rules) (c .room) >> passed (run Z g))) >>= (λ copy. askRules copy rules 0 >> passed copy)) ≡ ((q >>= (λ Z. askScratch (carriedBook Z rules) (c .room) >> (askRules (run Z g) rules 0 >> passed Z))) >>= (λ Z. passed (run Z g)))
-  go (passed Z) = sized Z (askScratch (carriedBook Z rules) (c .room))
-  go (refused n p) = refl
+unfolding clerkAsks clerkCopy askSteps _>>=_
+clerk-asks rules g c = simp (bind-bind, then-bind)
 
 -- What is known of an edit that has passed them all.
 pub record Entered (rules : List (Expr rule)) (g : Graph) (c : Fed) (Z : Edit) : Type 0 where
@@ -80,13 +63,16 @@ when-passed rules g c Z e =
 pub so-passed : (rules : List (Expr rule)) (g : Graph) (c : Fed) (Z : Edit) → Entered rules g c Z → askSteps rules g c ≡ passed Z
 so-passed rules g c Z k = unfold askSteps _>>=_ _>>_ in rw (k .edit-read, k .fits, hold-asked (run Z g) rules 0 (k .hold))
 
--- What the clerk's log then says, by what was asked.
-pub clerk-line : (rules : List (Expr rule)) (g : Graph) (c : Fed) → clerkLine rules g c ≡ record { edit = c .edit; answer = outcome (askSteps rules g c); sheet = store (after (askSteps rules g c) (λ Z. run Z g) g) }
-unfolding clerkGraph _>>=_ after outcome
-clerk-line rules g c = ap (λ q. record { edit = c .edit; answer = outcome q; sheet = store (after q (λ h. h) g) }) (clerk-asks rules g c) ∙ go (askSteps rules g c) where
-  go : (q : Asked Edit) → _≡_ {A = Line} (record { edit = c .edit; answer = outcome (q >>= (λ Z. passed (run Z g))); sheet = store (after (q >>= (λ Z. passed (run Z g))) (λ h. h) g) }) (record { edit = c .edit; answer = outcome q; sheet = store (after q (λ Z. run Z g) g) })
+-- The clerk's graph after a call, and what his log then says, by what was asked.
+pub graph-after : (rules : List (Expr rule)) (g : Graph) (c : Fed) → clerkGraph rules g c ≡ after (askSteps rules g c) (λ Z. run Z g) g
+unfolding clerkGraph _>>=_ after
+graph-after rules g c = ap (λ q. after q (λ copy. copy) g) (clerk-asks rules g c) ∙ go (askSteps rules g c) where
+  go : (q : Asked Edit) → after (q >>= (λ Z. passed (run Z g))) (λ copy. copy) g ≡ after q (λ Z. run Z g) g
   go (passed Z) = refl
   go (refused n p) = refl
+
+pub clerk-line : (rules : List (Expr rule)) (g : Graph) (c : Fed) → clerkLine rules g c ≡ record { edit = c .edit; answer = outcome (askSteps rules g c); sheet = store (after (askSteps rules g c) (λ Z. run Z g) g) }
+clerk-line rules g c = λ t. record { edit = c .edit; answer = (ap outcome (clerk-asks rules g c) ∙ outcome-bind (askSteps rules g c) (λ Z. run Z g)) t; sheet = store (graph-after rules g c t) }
 
 -- A sheet that stores a graph passes, and its book is read for the graph's n.
 pub asked-of-stored : (g : Graph) (book : List ℕ) → Within g → askSheetAndBook (store g) book ≡ askBook (textLimits (g .n)) book
@@ -105,3 +91,27 @@ enter-line g book rules c w e =
     go : (q : Asked Edit) → line g q ≡ record { edit = c .edit; answer = outcome q; sheet = store (after q (λ Z. run Z g) g) }
     go (passed Z) = refl
     go (refused n p) = refl
+
+-- What is known when 1 to 33 have passed.
+pub record Passed33 (sheet book edit : List ℕ) (room : ℕ) (c : StepsAndCarried) : Type 0 where
+  pub rules : List (Expr rule)
+  pub read : askSheetAndBook sheet book ≡ passed rules
+  pub edit-read : askEdit (textLimits (graphOf sheet .n)) edit ≡ passed (c .steps)
+  pub carried-are : c .carried ≡ carriedBook (c .steps) rules
+  pub fits : askScratch (c .carried) room ≡ passed tt
+
+pub passed-33 : (sheet book edit : List ℕ) (room : ℕ) (c : StepsAndCarried) → askBefore41 sheet book edit room ≡ passed c → Passed33 sheet book edit room c
+unfolding askBefore41
+passed-33 sheet book edit room c e =
+    let (rules, read, e₁) = bind-passed (askSheetAndBook sheet book) _ c e in
+    let (Z, edit-read, e₂) = bind-passed (askEdit (textLimits (graphOf sheet .n)) edit) _ c e₁ in
+    let (u, fits, e₃) = then-passed (askScratch (carriedBook Z rules) room) _ c e₂ in
+    subst (Passed33 sheet book edit room) (passed-same e₃) (record { rules = rules; read = read; edit-read = edit-read; carried-are = refl; fits = fits })
+
+-- The answer is then that to 41 of the carried rules.
+pub answers-41 : (sheet book edit : List ℕ) (room : ℕ) (c : StepsAndCarried) → askBefore41 sheet book edit room ≡ passed c → enterAnswer sheet book edit room ≡ askRules (graphOf sheet) (c .carried) 0
+unfolding askEnter outcome _>>_
+answers-41 sheet book edit room c e = ap outcome (bind-on e _) ∙ go (askRules (graphOf sheet) (c .carried) 0) where
+  go : (r : Asked (Unit {0})) → outcome (r >> passed (c .steps)) ≡ r
+  go (passed u) = refl
+  go (refused n p) = refl

@@ -3,7 +3,7 @@ use mathlib.Core.Path.{_≡_, refl, sym, _∙_, ap, ap₂, subst}
 use mathlib.Core.List.{List, [], _∷_, _++_, map}
 use Prim.Native.Nat.{ℕ}
 use lib.Dec.{T}
-use Rattle.answer.specs.Asked.{Asked, passed, refused, _>>=_, _>>_, after, outcome}
+use Rattle.answer.specs.Asked.{Asked, passed, refused, _>>_, after, outcome}
 use Rattle.logic.specs.Syntax.{Expr, rule, Edit}
 use Rattle.logic.specs.Graph.{Graph}
 use Rattle.logic.specs.Steps.{run}
@@ -20,7 +20,7 @@ use Rattle.runs.specs.Clerk.{Fed, clerkGraph, clerkLine, clerkLog}
 use Rattle.logic.specs.Meaning.{holdAll}
 use Rattle.runs.specs.Run.{Keeps, Call, fed, log, entered, enteredAfterEach, madeInOrder}
 use Rattle.logic.specs.Lists.{All}
-use Rattle.runs.proofs.OneCall.{askSteps, Entered, when-passed, clerk-asks, clerk-line, enter-line}
+use Rattle.runs.proofs.OneCall.{askSteps, Entered, when-passed, graph-after, clerk-line, enter-line}
 
 -- The steps of an edit in range leave a graph within the limits, with the same nodes.
 pub steps-within : (g : Graph) (edit : List ℕ) (Z : Edit) → Within g → askEdit (textLimits (g .n)) edit ≡ passed Z → Within (run Z g)
@@ -55,17 +55,10 @@ module _ (book : List ℕ) (rules : List (Expr rule)) where
         hold = subst (λ h. T (holdAll h rules)) (sym (read-back g (k .within))) (k .hold);
       }
 
-  -- The clerk's graph after a call.
-  graph-after : (g : Graph) (c : Fed) → clerkGraph rules g c ≡ after (askSteps rules g c) (λ Z. run Z g) g
-  unfolding clerkGraph _>>=_ after
-  graph-after g c = ap (λ q. after q (λ copy. copy) g) (clerk-asks rules g c) ∙ go (askSteps rules g c) where
-    go : (q : Asked Edit) → after (q >>= (λ Z. passed (run Z g))) (λ copy. copy) g ≡ after q (λ Z. run Z g) g
-    go (passed Z) = refl
-    go (refused n p) = refl
-
+  -- After a call of the clerk his graph still keeps it.
   pub still-kept : (g : Graph) (c : Fed) → Kept g → Kept (clerkGraph rules g c)
   unfolding after
-  still-kept g c k = subst Kept (sym (graph-after g c)) (go (askSteps rules g c) refl) where
+  still-kept g c k = subst Kept (sym (graph-after rules g c)) (go (askSteps rules g c) refl) where
     go : (q : Asked Edit) → askSteps rules g c ≡ q → Kept (after q (λ Z. run Z g) g)
     go (passed Z) e =
         let i : Entered rules g c Z = when-passed rules g c Z e in
@@ -93,7 +86,7 @@ module _ (book : List ℕ) (rules : List (Expr rule)) where
   entered-one : (opening : List ℕ) (edits : List (List ℕ)) (g : Graph) (c : Fed) → Kept g → madeInOrder opening edits ≡ store g → madeInOrder opening (entered edits (clerkLine rules g c)) ≡ store (clerkGraph rules g c)
   unfolding after outcome
   entered-one opening edits g c k e =
-      ap (λ l. madeInOrder opening (entered edits l)) (clerk-line rules g c) ∙ go (askSteps rules g c) refl ∙ ap store (sym (graph-after g c)) where
+      ap (λ l. madeInOrder opening (entered edits l)) (clerk-line rules g c) ∙ go (askSteps rules g c) refl ∙ ap store (sym (graph-after rules g c)) where
         go : (q : Asked Edit) → askSteps rules g c ≡ q → madeInOrder opening (after (outcome q) (λ u. edits ++ (c .edit ∷ [])) edits) ≡ store (after q (λ Z. run Z g) g)
         go (passed Z) f =
             made-last opening edits (c .edit)

@@ -8,7 +8,7 @@ use lib.ListN.{length, take, drop, length-append, length-drop}
 use lib.Seq.{take-append-seam, drop-append-add, drop-drop}
 use Rattle.answer.specs.Asked.{passed, refused, Asked, _>>_, is}
 use Rattle.answer.specs.Outputs.{writtenAtStart}
-use Rattle.answer.proofs.AskedLaws.{refused-not-passed, is-then}
+use Rattle.answer.proofs.AskedLaws.{refused-not-passed, is-so, is-not, is-yes, is-then, then-on, then-ends, then-passed}
 use Rattle.logic.specs.Syntax.{rule, Expr}
 use Rattle.logic.specs.Graph.{Graph}
 use Rattle.logic.specs.Meaning.{value}
@@ -17,12 +17,12 @@ use Rattle.judge.proofs.QuestionLaws.{rule-holds, rule-broken}
 use Rattle.runs.specs.Scratch.{longest, longestRule, upToBroken, overwritten, askScratch}
 use mathlib.Core.Logic.{_≢_}
 use lib.Dec.{leb}
-use borrow.Author.Tests.{leb-true, leb-false}
+use borrow.Author.Tests.{leb-true, leb-false, le-leb, lt-leb}
 use Rattle.text.specs.Code.{bookCode, bookLevels, code}
 use Rattle.text.specs.Reading.{longestCarried, deepestCarried}
 use Rattle.carry.specs.Carrying.{askCarried}
-use Rattle.carry.proofs.CarriedSizes.{sized, no-31, no-32, no-33, all-so}
-use Rattle.answer.proofs.Refusals.{Refuses, is-refuses, asked-refuses}
+use Rattle.carry.proofs.CarriedSizes.{sized}
+use Rattle.answer.proofs.Refusals.{Refuses, is-refuses, asked-refuses, wider}
 
 -- no rule is longer than the book
 pub longest-short : (rules : List (Expr rule)) → longestRule rules ≤ length (bookCode rules)
@@ -42,41 +42,40 @@ module _ (carried : List (Expr rule)) (room : ℕ) where
   scratch-is = unfold askCarried askScratch sized _>>_ in refl
 
   pub passed-fits : askScratch carried room ≡ passed tt → longestRule carried ≤ room
-  unfolding askCarried askScratch is _>>_
-  passed-fits = go (leb (length (bookCode carried)) longestCarried) (leb (bookLevels carried) deepestCarried) (leb (longestRule carried) room) (leb-true (longestRule carried) room) where
-    go : (a b c : Bool) → (c ≡ true → longestRule carried ≤ room) → ((is a 31 0 >> is b 32 0) >> is c 33 (longestRule carried)) ≡ passed tt → longestRule carried ≤ room
-    go true true true t e = t refl
-    go true true false t e = let z : _≡_ {A = ℕ} 0 1 = cc in absurd (omega arith)
-    go true false c t e = let z : _≡_ {A = ℕ} 0 1 = cc in absurd (omega arith)
-    go false b c t e = let z : _≡_ {A = ℕ} 0 1 = cc in absurd (omega arith)
+  passed-fits e = unfold askScratch in let (u, asked, fits) = then-passed (askCarried carried) _ tt e in leb-true _ room (is-yes _ 33 _ fits)
+
+-- What 31 and 32 can be refused with; once they have passed, 33 by the length that is needed and the room.
+pub carried-refuses : (carried : List (Expr rule)) → Refuses 31 32 0 (askCarried carried)
+carried-refuses carried = unfold askCarried in asked-refuses _ (omega arith) (omega arith) (omega arith) (λ e. is-refuses _ (omega arith) (omega arith) (omega arith))
+
+module _ (carried : List (Expr rule)) (e : askCarried carried ≡ passed tt) where
+  pub carried-short : length (bookCode carried) ≤ longestCarried
+  carried-short = unfold askCarried in leb-true _ longestCarried (is-then _ 31 0 _ e .0)
+
+  module _ (needed room : ℕ) where
+    pub long-enough : needed ≤ room → (askCarried carried >> is (leb needed room) 33 needed) ≡ passed tt
+    long-enough l = then-on e _ ∙ is-so 33 needed (le-leb needed room l)
+
+    pub too-short : room < needed → (askCarried carried >> is (leb needed room) 33 needed) ≡ refused 33 needed
+    too-short l = then-on e _ ∙ is-not 33 needed (lt-leb needed room l)
 
 -- Where 33 is not answered, the answer is that of a room in which every carried book fits.
 pub any-room : (carried : List (Expr rule)) (room : ℕ) → ((p : ℕ) → askScratch carried room ≢ refused 33 p) → askScratch carried room ≡ askScratch carried longestCarried
-any-room carried room not-33 =
-    split (length (bookCode carried)) longestCarried
-    (λ short. split (bookLevels carried) deepestCarried
-    (λ shallow. split (longestRule carried) room
-    (λ l. both (all-so _ _ _ _ short shallow l) (all-so _ _ _ _ short shallow (omega (arith, longest-short carried))))
-    (λ l. absurd (not-33 _ (scratch-is carried room ∙ no-33 _ _ _ _ short shallow l))))
-    (λ d. both (no-32 _ _ _ _ short d) (no-32 _ _ _ _ short d)))
-    (λ d. both (no-31 _ _ _ _ d) (no-31 _ _ _ _ d)) where
-      sizedIn : ℕ → Asked (Unit {0})
-      sizedIn r = sized (length (bookCode carried)) (bookLevels carried) (longestRule carried) r
-
-      both : {a : Asked (Unit {0})} → sizedIn room ≡ a → sizedIn longestCarried ≡ a → askScratch carried room ≡ askScratch carried longestCarried
-      both e f = scratch-is carried room ∙ e ∙ sym (scratch-is carried longestCarried ∙ f)
+unfolding askScratch
+any-room carried room not-33 = go (askCarried carried) refl where
+  go : (x : Asked (Unit {0})) → askCarried carried ≡ x → askScratch carried room ≡ askScratch carried longestCarried
+  go (refused q p) e = then-ends e _ ∙ sym (then-ends e _)
+  go (passed u) e =
+      split (longestRule carried) room (λ l. long-enough carried e _ room l ∙ sym (long-enough carried e (longestRule carried) longestCarried (omega (arith, longest-short carried, carried-short carried e))))
+      (λ l. absurd (not-33 _ (too-short carried e _ room l)))
 
 -- What a scratch can be refused with: 31 and 32, place 0, and 33, whose place is the length of a rule of a book that 31 has let pass.
-carried-refuses : (carried : List (Expr rule)) → Refuses 31 33 longestCarried (askCarried carried)
-carried-refuses carried = unfold askCarried in asked-refuses _ (omega arith) (omega arith) (omega arith) (λ e. is-refuses _ (omega arith) (omega arith) (omega arith))
-
 pub scratch-refuses : (carried : List (Expr rule)) (room : ℕ) → Refuses 31 33 longestCarried (askScratch carried room)
-unfolding askScratch askCarried _>>_
+unfolding askScratch _>>_
 scratch-refuses carried room = go (askCarried carried) refl (carried-refuses carried) where
-  go : (x : Asked (Unit {0})) → askCarried carried ≡ x → Refuses 31 33 longestCarried x → Refuses 31 33 longestCarried (x >> is (leb (longestRule carried) room) 33 (longestRule carried))
-  go (passed u) e h =
-      is-refuses _ (omega arith) (omega arith) (omega (arith, longest-short carried, leb-true (length (bookCode carried)) longestCarried (is-then _ _ _ _ e .0)))
-  go (refused q p) e h = h
+  go : (x : Asked (Unit {0})) → askCarried carried ≡ x → Refuses 31 32 0 x → Refuses 31 33 longestCarried (x >> is (leb (longestRule carried) room) 33 (longestRule carried))
+  go (passed u) e h = is-refuses _ (omega arith) (omega arith) (omega (arith, longest-short carried, carried-short carried e))
+  go (refused q p) e h = wider (omega arith) (omega arith) (omega arith) h
 
 -- What writings leave in a buffer: the last text at its start, and the bytes of before from the longest text on.
 -- One text.

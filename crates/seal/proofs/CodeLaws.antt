@@ -9,7 +9,7 @@ use borrow.Author.Tests.{eqb-true, eqb-false, eq-eqb, ne-eqb}
 use lib.Dec.{eqb}
 use lib.ListN.{length, getD, take, drop, drop-of-length-le, set, replicate, length-replicate}
 use lib.Seq.{drop-cons, sets-eq}
-use Rattle.bitset.specs.Words.{bytes, wordAt}
+use Rattle.bitset.specs.Words.{Bytes, bytes, wordAt}
 use Rattle.bitset.proofs.WordLaws.{sumOfBytes, loaded}
 use Rattle.seal.specs.Seal.{blockBytes, modulo255, modulo257, sums, stored, sameBytes, sealOf, sealRight}
 use Rattle.seal.specs.Lanes.{total, weighed}
@@ -38,7 +38,7 @@ last-four k h =
     ∙ ap (getD k 510 0 ∷_) (drop-cons k 511 0 (omega arith) ∙ ap (getD k 511 0 ∷_) (drop-of-length-le k {i = 512} (omega arith)))))
 
 module _ (k : List ℕ) (h : length k ≡ blockBytes) where
-  seal-of : (body : List ℕ) → ((p : ℕ) → getD k p 0 < 256) → (s t : ℕ) → s < 257 → t < 257 → s ≡ sums modulo257 body .s → t ≡ sums modulo257 body .t
+  seal-of : (body : List ℕ) → Bytes k → (s t : ℕ) → s < 257 → t < 257 → s ≡ sums modulo257 body .s → t ≡ sums modulo257 body .t
       → sealOf modulo257 body k ≡ (eqb (getD k 508 0 + getD k 509 0 * 256) s && eqb (getD k 510 0 + getD k 511 0 * 256) t)
   unfolding sealOf sameBytes stored bytes
   seal-of body small s t l m e f =
@@ -46,7 +46,7 @@ module _ (k : List ℕ) (h : length k ≡ blockBytes) where
       ∙ ap (λ (r : Bool). eqb (getD k 508 0) (s % 256) && (eqb (getD k 509 0) (s / 256 % 256) && r)) (two-bytes (getD k 510 0) (getD k 511 0) t true (small 510) (small 511) (omega arith) ∙ and-true _)
       ∙ two-bytes (getD k 508 0) (getD k 509 0) s _ (small 508) (small 509) (omega arith)
 
-  pub right-257 : ((p : ℕ) → getD k p 0 < 256) → (s t : ℕ) → s < 257 → t < 257 → s ≡ sums modulo257 (take 508 k) .s → t ≡ sums modulo257 (take 508 k) .t
+  pub right-257 : Bytes k → (s t : ℕ) → s < 257 → t < 257 → s ≡ sums modulo257 (take 508 k) .s → t ≡ sums modulo257 (take 508 k) .t
       → sealRight modulo257 k ≡ (eqb (getD k 508 0 + getD k 509 0 * 256) s && eqb (getD k 510 0 + getD k 511 0 * 256) t)
   right-257 = unfold sealRight in seal-of (take 508 k)
 
@@ -70,20 +70,12 @@ module _ (k : List ℕ) (h : length k ≡ blockBytes) where
       ∙ sets-eq vs k 508 (omega arith) ∙ ap (λ y. take 508 k ++ vs ++ y) (drop-of-length-le k {i = 512} (omega arith)) ∙ append-nil (take 508 k ++ vs)
 
   -- the check bytes of a block that is right say its sums
-  module _ (small : (p : ℕ) → getD k p 0 < 256) (right : sealRight modulo257 k ≡ true) where
-    pub check-bytes : (getD k 508 0 + getD k 509 0 * 256 ≡ sums modulo257 (take 508 k) .s) × (getD k 510 0 + getD k 511 0 * 256 ≡ sums modulo257 (take 508 k) .t)
-    check-bytes =
-        let s : ℕ = sums modulo257 (take 508 k) .s in
-        let t : ℕ = sums modulo257 (take 508 k) .t in
-        let both = and-eq-true-iff _ _ .0 (sym (right-257 small s t (s-low modulo257 (take 508 k)) (t-low modulo257 (take 508 k)) refl refl) ∙ right) in
-        (eqb-true _ _ (both .0), eqb-true _ _ (both .1))
-
--- the four check bytes as one number, and two numbers below 65,536 in one
-check-number : (k : List ℕ) → length k ≡ blockBytes → ((p : ℕ) → getD k p 0 < 256) → (r : ℕ) → r ≡ wordAt k 504 → r / 0x100000000 ≡ getD k 508 0 + getD k 509 0 * 256 + 0x10000 * (getD k 510 0 + getD k 511 0 * 256)
-check-number k h small r e = unfold sumOfBytes in omega (arith, e, loaded k 504 (sumOfBytes k 504) (omega (arith, h)) refl, small 504, small 505, small 506, small 507)
-
-both-halves : (x y s t : ℕ) → x < 0x10000 → s < 0x10000 → eqb (x + 0x10000 * y) (s + 0x10000 * t) ≡ (eqb x s && eqb y t)
-both-halves x y s t h l = both-eqb x y s t (x + 0x10000 * y) (s + 0x10000 * t) (λ e f. omega arith) (λ e. (omega arith, omega arith))
+  pub check-bytes : Bytes k → sealRight modulo257 k ≡ true → (getD k 508 0 + getD k 509 0 * 256 ≡ sums modulo257 (take 508 k) .s) × (getD k 510 0 + getD k 511 0 * 256 ≡ sums modulo257 (take 508 k) .t)
+  check-bytes small right =
+      let s : ℕ = sums modulo257 (take 508 k) .s in
+      let t : ℕ = sums modulo257 (take 508 k) .t in
+      let both = and-eq-true-iff _ _ .0 (sym (right-257 small s t (s-low modulo257 (take 508 k)) (t-low modulo257 (take 508 k)) refl refl) ∙ right) in
+      (eqb-true _ _ (both .0), eqb-true _ _ (both .1))
 
 -- the sums of 2, the number of an arrow's block and zeros
 total-zeros : (n : ℕ) → (total (replicate n 0) ≡ 0) × (weighed (replicate n 0) ≡ 0)
@@ -111,8 +103,12 @@ module _ (b : ℕ) (few : b ≤ 16) where
       sym (mod-eq-of-lt low) ∙ sym (add-mul-mod-self-right (245 - 7 * b) (3 + 2 * b) 257) ∙ ap (_% 257) e ∙ sym (sums-weighed modulo257 body)
 
   -- the check bytes as one number
-  pub bare-right : (k : List ℕ) → length k ≡ blockBytes → ((p : ℕ) → getD k p 0 < 256) → (r : ℕ) → r ≡ wordAt k 504 → eqb (r / 0x100000000) (2 + b + 0x10000 * (245 - 7 * b)) ≡ sealOf modulo257 body k
+  pub bare-right : (k : List ℕ) → length k ≡ blockBytes → Bytes k → (r : ℕ) → r ≡ wordAt k 504 → eqb (r / 0x100000000) (2 + b + 0x10000 * (245 - 7 * b)) ≡ sealOf modulo257 body k
   bare-right k h small r e =
-      ap (λ (v : ℕ). eqb v (2 + b + 0x10000 * (245 - 7 * b))) (check-number k h small r e)
-      ∙ both-halves (getD k 508 0 + getD k 509 0 * 256) (getD k 510 0 + getD k 511 0 * 256) (2 + b) (245 - 7 * b) (omega (arith, small 508, small 509)) (omega arith)
+      let x : ℕ = getD k 508 0 + getD k 509 0 * 256 in
+      let y : ℕ = getD k 510 0 + getD k 511 0 * 256 in
+      let n : r / 0x100000000 ≡ x + 0x10000 * y = unfold sumOfBytes in omega (arith, e, loaded k 504 (sumOfBytes k 504) (omega (arith, h)) refl, small 504, small 505, small 506, small 507) in
+      let low : x < 0x10000 = omega (arith, small 508, small 509) in
+      ap (λ (v : ℕ). eqb v (2 + b + 0x10000 * (245 - 7 * b))) n
+      ∙ both-eqb x y (2 + b) (245 - 7 * b) (x + 0x10000 * y) (2 + b + 0x10000 * (245 - 7 * b)) (λ e f. omega arith) (λ e. (omega arith, omega arith))
       ∙ sym (seal-of k h body small (2 + b) (245 - 7 * b) (omega arith) (omega arith) bare-s bare-t)

@@ -6,7 +6,7 @@ use native.Mathlib.Omega.{arith}
 use lib.Bits.{bitAnd, and-block, and-mask}
 use lib.Dec.{lit<}
 use lib.ListN.{length, getD}
-use Rattle.bitset.specs.Words.{wordAt}
+use Rattle.bitset.specs.Words.{Bytes, wordAt}
 use Rattle.bitset.proofs.WordLaws.{sumOfBytes, loaded}
 use Rattle.seal.specs.Lanes.{pack, oddsAt, pairsAt}
 
@@ -43,22 +43,24 @@ module _ (b0 b1 b2 b3 b4 b5 b6 b7 : ℕ) (h0 : b0 < 256) (h1 : b1 < 256) (h2 : b
       ap (λ (y : ℕ). bitAnd y 0x00FF00FF00FF00FF) e ∙ masked (b1 + b2 * 256) (b3 + b4 * 256) (b5 + b6 * 256) b7 (omega arith) (omega arith) (omega arith)
       ∙ omega (arith, low)
 
--- the word at a place of a list
-module _ (l : List ℕ) (small : (p : ℕ) → getD l p 0 < 256) (at : ℕ) (h : at + 8 ≤ length l) where
-  word-is : wordAt l at ≡ word (getD l at 0) (getD l (at + 1) 0) (getD l (at + 2) 0) (getD l (at + 3) 0) (getD l (at + 4) 0) (getD l (at + 5) 0) (getD l (at + 6) 0) (getD l (at + 7) 0)
-  word-is = unfold sumOfBytes in sym (loaded l at _ h refl) ∙ omega arith
+-- the word w at a place of a list
+module _ (l : List ℕ) (small : Bytes l) (at : ℕ) (h : at + 8 ≤ length l) (w : ℕ) (e : w ≡ wordAt l at) where
+  word-is : w ≡ word (getD l at 0) (getD l (at + 1) 0) (getD l (at + 2) 0) (getD l (at + 3) 0) (getD l (at + 4) 0) (getD l (at + 5) 0) (getD l (at + 6) 0) (getD l (at + 7) 0)
+  word-is = unfold sumOfBytes in e ∙ sym (loaded l at _ h refl) ∙ omega arith
 
-  pub odds-are : bitAnd (wordAt l at / 0x100) 0x00FF00FF00FF00FF ≡ oddsAt l at
+  odds-are : bitAnd (w / 0x100) 0x00FF00FF00FF00FF ≡ oddsAt l at
   unfolding oddsAt
   odds-are = ap (λ (y : ℕ). bitAnd (y / 0x100) 0x00FF00FF00FF00FF) word-is ∙ odd-lanes _ _ _ _ _ _ _ _ (small at) (small (at + 1)) (small (at + 2)) (small (at + 3)) (small (at + 4)) (small (at + 5)) (small (at + 6)) (small (at + 7))
 
-  pub pairs-are : bitAnd (wordAt l at) 0x00FF00FF00FF00FF + oddsAt l at ≡ pairsAt l at
+  pairs-are : bitAnd w 0x00FF00FF00FF00FF + bitAnd (w / 0x100) 0x00FF00FF00FF00FF ≡ pairsAt l at
   unfolding oddsAt pairsAt pack
-  pairs-are = omega (arith, ap (λ (y : ℕ). bitAnd y 0x00FF00FF00FF00FF) word-is, even-lanes _ _ _ _ _ _ _ _ (small at) (small (at + 1)) (small (at + 2)) (small (at + 3)) (small (at + 4)) (small (at + 5)) (small (at + 6)) (small (at + 7)))
+  pairs-are = omega (arith, odds-are, ap (λ (y : ℕ). bitAnd y 0x00FF00FF00FF00FF) word-is, even-lanes _ _ _ _ _ _ _ _ (small at) (small (at + 1)) (small (at + 2)) (small (at + 3)) (small (at + 4)) (small (at + 5)) (small (at + 6)) (small (at + 7)))
 
-  pub odds-low : oddsAt l at ≤ 0x00FF00FF00FF00FF
-  odds-low = unfold oddsAt pack in omega (arith, small (at + 1), small (at + 3), small (at + 5), small (at + 7))
-
-  pub pairs-low : pairsAt l at ≤ 0x01FE01FE01FE01FE
-  unfolding pairsAt pack
-  pairs-low = omega (arith, small at, small (at + 1), small (at + 2), small (at + 3), small (at + 4), small (at + 5), small (at + 6), small (at + 7))
+  -- both, and what they are at most
+  pub lanes-read : ((bitAnd w 0x00FF00FF00FF00FF + bitAnd (w / 0x100) 0x00FF00FF00FF00FF ≡ pairsAt l at) × (bitAnd (w / 0x100) 0x00FF00FF00FF00FF ≡ oddsAt l at))
+      × ((bitAnd w 0x00FF00FF00FF00FF + bitAnd (w / 0x100) 0x00FF00FF00FF00FF ≤ 0x01FE01FE01FE01FE) × (bitAnd (w / 0x100) 0x00FF00FF00FF00FF ≤ 0x00FF00FF00FF00FF))
+  unfolding oddsAt pairsAt pack
+  lanes-read =
+      let low : (pairsAt l at ≤ 0x01FE01FE01FE01FE) × (oddsAt l at ≤ 0x00FF00FF00FF00FF) =
+      omega (arith, small at, small (at + 1), small (at + 2), small (at + 3), small (at + 4), small (at + 5), small (at + 6), small (at + 7)) in
+      ((pairs-are, odds-are), (rw pairs-are (low .0), rw odds-are (low .1)))

@@ -1,26 +1,22 @@
 -- The totals of a block's 512 bytes from the lanes of eight parts of 8 words.
 use mathlib.Core.Path.{_≡_, refl, sym, ap, ap₂, _∙_}
-use mathlib.Core.List.{List}
-use Prim.Native.Nat.{ℕ, zero, suc, _+_, _-_, _*_, _/_, _%_, _≤_, _<_}
+use mathlib.Core.List.{List, [], _∷_}
+use Prim.Native.Nat.{ℕ, suc, _+_, _-_, _*_, _/_, _%_, _≤_, _<_}
+use native.Mathlib.Nat.{add-mul-div-right, div-eq-of-lt}
 use native.Mathlib.Omega.{arith}
 use lib.ListN.{length, getD}
 use lib.Seq.{take-all}
+use Rattle.bitset.specs.Words.{Bytes}
 use Rattle.seal.specs.Seal.{blockBytes}
-use Rattle.seal.specs.Lanes.{pack, oddsAt, pairsAt, fourAt, beforeAt, laneSum, lanePlaces, upTo, total, weighed}
-use Rattle.seal.proofs.WordSums.{S, T, eight, placed, x0, x1, x2, x3, odd, words-total, words-weighed, packed, odds-packed, lanes-low, odd-low, word-lanes, place-lanes}
+use Rattle.seal.specs.Lanes.{pack, oddsAt, pairsAt, fourAt, beforeAt, laneSum, lanePlaces, total, weighed}
+use Rattle.seal.proofs.WordSums.{S, T, eight, steps, odd, eight-more}
 
 -- a number of two parts: what stands above the lowest bits, and those
-above : (y r : ℕ) → r < 65536 → (r + y * 65536) / 0x10000 ≡ y
-above y r h = omega arith
+above : (d y r : ℕ) → r < d → (r + y * d) / d ≡ y
+above d y r h = add-mul-div-right r y (omega arith) ∙ ap (_+ y) (div-eq-of-lt h) ∙ omega arith
 
 lowest : (y r : ℕ) → r < 65536 → (r + y * 65536) % 0x10000 ≡ r
 lowest y r h = omega arith
-
-upper : (y r : ℕ) → r < 4294967296 → (r + y * 4294967296) / 0x100000000 ≡ y
-upper y r h = omega arith
-
-top : (y r : ℕ) → r < 281474976710656 → (r + y * 281474976710656) / 0x1000000000000 ≡ y
-top y r h = omega arith
 
 -- four lanes: each of them, all added, and what they say of places
 module _ (a b c d : ℕ) (h : a < 65536) (k : b < 65536) (j : c < 65536) where
@@ -31,287 +27,193 @@ module _ (a b c d : ℕ) (h : a < 65536) (k : b < 65536) (j : c < 65536) where
   unfolding pack
   lane-1 =
       let e : pack a b c d ≡ a + (b + (c + d * 65536) * 65536) * 65536 = omega arith in
-      ap (λ y. y / 0x10000 % 0x10000) e ∙ ap (_% 0x10000) (above _ a h) ∙ lowest _ b k
+      ap (λ y. y / 0x10000 % 0x10000) e ∙ ap (_% 0x10000) (above 65536 _ a h) ∙ lowest _ b k
 
   halved : pack a b c d / 0x100000000 ≡ c + d * 65536
   unfolding pack
-  halved = let e : pack a b c d ≡ a + b * 65536 + (c + d * 65536) * 4294967296 = omega arith in ap (_/ 0x100000000) e ∙ upper _ (a + b * 65536) (omega arith)
+  halved = let e : pack a b c d ≡ a + b * 65536 + (c + d * 65536) * 4294967296 = omega arith in ap (_/ 0x100000000) e ∙ above 4294967296 _ (a + b * 65536) (omega arith)
 
   lane-3 : pack a b c d / 0x1000000000000 ≡ d
   unfolding pack
-  lane-3 = let e : pack a b c d ≡ a + b * 65536 + c * 4294967296 + d * 281474976710656 = omega arith in ap (_/ 0x1000000000000) e ∙ top d (a + b * 65536 + c * 4294967296) (omega arith)
+  lane-3 = let e : pack a b c d ≡ a + b * 65536 + c * 4294967296 + d * 281474976710656 = omega arith in ap (_/ 0x1000000000000) e ∙ above 281474976710656 d (a + b * 65536 + c * 4294967296) (omega arith)
 
   lane-2 : pack a b c d / 0x100000000 % 0x10000 ≡ c
   lane-2 = ap (_% 0x10000) halved ∙ lowest d c j
 
-  pub lane-sum : laneSum (pack a b c d) ≡ a + b + c + d
+  lane-sum : laneSum (pack a b c d) ≡ a + b + c + d
   lane-sum = ap₂ _+_ (ap₂ _+_ (ap₂ _+_ lane-0 lane-1) lane-2) lane-3
 
-  pub lane-places : (odds o : ℕ) → laneSum odds ≡ o → lanePlaces (pack a b c d) odds ≡ o + 2 * (b + 2 * c + 3 * d)
+  lane-places : (odds o : ℕ) → laneSum odds ≡ o → lanePlaces (pack a b c d) odds ≡ o + 2 * (b + 2 * c + 3 * d)
   lane-places odds o e = ap₂ (λ x y. x + 2 * y) e (ap₂ _+_ (ap₂ (λ x y. x + 2 * y) lane-1 lane-2) (ap (3 *_) lane-3))
 
-  -- four words added: their lanes as one number, in the lowest 16 bits
-  pub four-added : a + c < 65536 → a + b + c + d < 65536 → (x : ℕ) → x ≡ pack a b c d → (x + x / 0x100000000 + (x + x / 0x100000000) / 0x10000) % 0x10000 ≡ a + b + c + d
+  -- words added: their lanes as one number, in the lowest 16 bits
+  four-added : a + c < 65536 → a + b + c + d < 65536 → (x : ℕ) → x ≡ pack a b c d → (x + x / 0x100000000 + (x + x / 0x100000000) / 0x10000) % 0x10000 ≡ a + b + c + d
   unfolding pack
   four-added low few x x-is =
       let e : x / 0x100000000 ≡ c + d * 65536 = ap (_/ 0x100000000) x-is ∙ halved in
       let halves : x + x / 0x100000000 ≡ a + c + (b + d + c * 65536 + d * 4294967296) * 65536 = ap₂ _+_ x-is e ∙ omega arith in
-      let f : (x + x / 0x100000000) / 0x10000 ≡ b + d + c * 65536 + d * 4294967296 = ap (_/ 0x10000) halves ∙ above _ (a + c) low in
+      let f : (x + x / 0x100000000) / 0x10000 ≡ b + d + c * 65536 + d * 4294967296 = ap (_/ 0x10000) halves ∙ above 65536 _ (a + c) low in
       let g : a + c + (b + d + c * 65536 + d * 4294967296) * 65536 + (b + d + c * 65536 + d * 4294967296) ≡ a + b + c + d + (b + d + c * 65537 + d * 4295032832) * 65536 = omega arith in
       ap (_% 0x10000) (ap₂ _+_ halves f ∙ g) ∙ lowest _ (a + b + c + d) few
 
--- of words that stand at `at` 0, `at` 1 and so on, and of those 64, 128 and 192 bytes behind them
-abbrev fours : ((ℕ → ℕ) → ℕ) → (ℕ → ℕ) → ℕ
-fours x at = x at + x (λ i. at i + 64) + x (λ i. at i + 128) + x (λ i. at i + 192)
+-- x is four lanes of at most m each: all of them added are s, and the second, twice the third and three times the fourth are t
+pub record Lanes (m x s t : ℕ) : Type 0 where
+  lane : ℕ → ℕ
+  is : x ≡ pack (lane 0) (lane 1) (lane 2) (lane 3)
+  low : (lane 0 ≤ m) × (lane 1 ≤ m) × (lane 2 ≤ m) × (lane 3 ≤ m)
+  sums : (s ≡ lane 0 + lane 1 + lane 2 + lane 3) × (t ≡ lane 1 + 2 * lane 2 + 3 * lane 3)
 
-abbrev ahead : ((ℕ → ℕ) → ℕ) → (ℕ → ℕ) → ℕ
-ahead x at = 3 * x at + 2 * x (λ i. at i + 64) + x (λ i. at i + 128)
+module _ {m x s t : ℕ} (v : Lanes m x s t) where
+  pub lanes-sum : m < 65536 → laneSum x ≡ s
+  lanes-sum h = ap laneSum (v .is) ∙ lane-sum (v .lane 0) (v .lane 1) (v .lane 2) (v .lane 3) (omega arith) (omega arith) (omega arith) ∙ sym (v .sums .0)
 
-fours-low : (m : ℕ) (x : (ℕ → ℕ) → ℕ) → ((at : ℕ → ℕ) → x at ≤ m) → (at : ℕ → ℕ) → fours x at ≤ 4 * m
-fours-low m x h at = omega (arith, h at, h (λ i. at i + 64), h (λ i. at i + 128), h (λ i. at i + 192))
+  pub lanes-places : m < 65536 → (y u : ℕ) → laneSum y ≡ u → lanePlaces x y ≡ u + 2 * t
+  lanes-places h y u e =
+      ap (λ z. lanePlaces z y) (v .is) ∙ lane-places (v .lane 0) (v .lane 1) (v .lane 2) (v .lane 3) (omega arith) (omega arith) (omega arith) y u e
+      ∙ ap (λ z. u + 2 * z) (sym (v .sums .1))
 
-pack-add : (a0 a1 a2 a3 b0 b1 b2 b3 : ℕ) → pack a0 a1 a2 a3 + pack b0 b1 b2 b3 ≡ pack (a0 + b0) (a1 + b1) (a2 + b2) (a3 + b3)
-pack-add a0 a1 a2 a3 b0 b1 b2 b3 = unfold pack in omega arith
+  lanes-one : 4 * m < 65536 → (x + x / 0x100000000 + (x + x / 0x100000000) / 0x10000) % 0x10000 ≡ s
+  lanes-one h =
+      four-added (v .lane 0) (v .lane 1) (v .lane 2) (v .lane 3) (omega arith) (omega arith) (omega arith) (omega arith) (omega arith) x (v .is) ∙ sym (v .sums .0)
 
-four-packs : (a0 a1 a2 a3 b0 b1 b2 b3 c0 c1 c2 c3 d0 d1 d2 d3 : ℕ)
-    → pack a0 a1 a2 a3 + pack b0 b1 b2 b3 + pack c0 c1 c2 c3 + pack d0 d1 d2 d3 ≡ pack (a0 + b0 + c0 + d0) (a1 + b1 + c1 + d1) (a2 + b2 + c2 + d2) (a3 + b3 + c3 + d3)
-four-packs a0 a1 a2 a3 b0 b1 b2 b3 c0 c1 c2 c3 d0 d1 d2 d3 = unfold pack in omega arith
+  pub lanes-low : (s ≤ 4 * m) × (t ≤ 6 * m)
+  lanes-low = omega (arith, v .sums)
 
-ahead-packs : (a0 a1 a2 a3 b0 b1 b2 b3 c0 c1 c2 c3 : ℕ)
-    → 3 * pack a0 a1 a2 a3 + 2 * pack b0 b1 b2 b3 + pack c0 c1 c2 c3 ≡ pack (3 * a0 + 2 * b0 + c0) (3 * a1 + 2 * b1 + c1) (3 * a2 + 2 * b2 + c2) (3 * a3 + 2 * b3 + c3)
-ahead-packs a0 a1 a2 a3 b0 b1 b2 b3 c0 c1 c2 c3 = unfold pack in omega arith
+  module _ {n y u w : ℕ} (o : Lanes n y u w) where
+    pub lanes-add : (k : ℕ) → m + n ≤ k → Lanes k (x + y) (s + u) (t + w)
+    unfolding pack
+    lanes-add k h = record { lane = λ i. v .lane i + o .lane i; is = omega arith; low = omega arith; sums = omega arith }
 
--- sums of sums
-upTo-add : (f g : ℕ → ℕ) (n : ℕ) → upTo (λ i. f i + g i) n ≡ upTo f n + upTo g n
-unfolding upTo
-upTo-add f g zero = refl
-upTo-add f g (suc n) = omega (arith, upTo-add f g n)
+    -- with k added to each lane, so that none is below 0
+    pub lanes-less : (k : ℕ) → n ≤ k → Lanes (m + k) (x + k * 0x0001000100010001 - y) (s + 4 * k - u) (t + 6 * k - w)
+    unfolding pack
+    lanes-less k h = record { lane = λ i. v .lane i + k - o .lane i; is = omega arith; low = omega arith; sums = omega arith }
 
-upTo-four : (f : ℕ → ℕ) (at : ℕ → ℕ) (n : ℕ) → upTo (λ i. f (at i) + f (at i + 64) + f (at i + 128) + f (at i + 192)) n ≡ fours (λ at. upTo (λ i. f (at i)) n) at
-unfolding upTo
-upTo-four f at zero = refl
-upTo-four f at (suc n) = omega (arith, upTo-four f at n)
+    -- three times the one, twice the other and a third
+    lanes-ahead : {z q r : ℕ} → Lanes n z q r → (k : ℕ) → 3 * m + 3 * n ≤ k → Lanes k (3 * x + 2 * y + z) (3 * s + 2 * u + q) (3 * t + 2 * w + r)
+    unfolding pack
+    lanes-ahead p k h = record { lane = λ i. 3 * v .lane i + 2 * o .lane i + p .lane i; is = omega arith; low = omega arith; sums = omega arith }
 
-upTo-ahead : (f : ℕ → ℕ) (at : ℕ → ℕ) (n : ℕ) → upTo (λ i. 3 * f (at i) + 2 * f (at i + 64) + f (at i + 128)) n ≡ ahead (λ at. upTo (λ i. f (at i)) n) at
-unfolding upTo
-upTo-ahead f at zero = refl
-upTo-ahead f at (suc n) = omega (arith, upTo-ahead f at n)
+-- whatever the sums
+abbrev Laned : ℕ → ℕ → Type 0
+Laned m x = (s : ℕ) × (t : ℕ) × Lanes m x s t
 
--- sums that are counted
-counted-two : (f g : ℕ → ℕ) (n : ℕ) → upTo (λ i. (f i + g i) * (8 - i)) n ≡ upTo (λ i. f i * (8 - i)) n + upTo (λ i. g i * (8 - i)) n
-unfolding upTo
-counted-two f g zero = refl
-counted-two f g (suc n) =
-    let apart : (a b v : ℕ) → (a + b) * v ≡ a * v + b * v = λ a b v. omega arith in
-    omega (arith, counted-two f g n, apart (f n) (g n) (8 - n))
+no-lanes : Lanes 0 0 0 0
+no-lanes = unfold pack in record { lane = λ i. 0; is = refl; low = omega arith; sums = omega arith }
 
-counted-four : (f : ℕ → ℕ) (at : ℕ → ℕ) (n : ℕ) → upTo (λ i. (f (at i) + f (at i + 64) + f (at i + 128) + f (at i + 192)) * (8 - i)) n ≡ fours (λ at. upTo (λ i. f (at i) * (8 - i)) n) at
-unfolding upTo
-counted-four f at zero = refl
-counted-four f at (suc n) =
-    let apart : (a b c d v : ℕ) → (a + b + c + d) * v ≡ a * v + b * v + c * v + d * v = λ a b c d v. omega arith in
-    omega (arith, counted-four f at n, apart (f (at n)) (f (at n + 64)) (f (at n + 128)) (f (at n + 192)) (8 - n))
+abbrev lanesOf : ℕ → ℕ → ℕ → ℕ → ℕ → ℕ
+lanesOf a b c d i = getD (a ∷ b ∷ c ∷ d ∷ []) i 0
 
--- where the words of the first four parts stand, and of the last four
-abbrev low : ℕ → ℕ
-low i = 8 * i
+abbrev oddSteps : List ℕ → ℕ → ℕ
+oddSteps l at = getD l (at + 3) 0 + 2 * getD l (at + 5) 0 + 3 * getD l (at + 7) 0
 
-abbrev high : ℕ → ℕ
-high i = 8 * i + 256
+-- something of words as often as words of the four follow it
+abbrev ahead : (List ℕ → ℕ → ℕ) → List ℕ → ℕ → ℕ
+ahead f l at = 3 * f l at + 2 * f l (at + 64) + f l (at + 128)
 
-abbrev eights : ((ℕ → ℕ) → ℕ) → ℕ
-eights x = fours x low + fours x high
+module _ (l : List ℕ) (small : Bytes l) where
+  -- the lanes of a word, of four and of eight
+  pub pairs-lanes : (at : ℕ) → Lanes 510 (pairsAt l at) (eight l at) (steps l at)
+  unfolding pairsAt
+  pairs-lanes at =
+      let two : (p q : ℕ) → getD l p 0 + getD l q 0 ≤ 510 = λ p q. omega (arith, small p, small q) in
+      record {
+        lane = lanesOf (getD l at 0 + getD l (at + 1) 0) (getD l (at + 2) 0 + getD l (at + 3) 0) (getD l (at + 4) 0 + getD l (at + 5) 0) (getD l (at + 6) 0 + getD l (at + 7) 0);
+        is = refl;
+        low = (two at (at + 1), two (at + 2) (at + 3), two (at + 4) (at + 5), two (at + 6) (at + 7));
+        sums = (refl, refl);
+      }
 
-eights-low : (m : ℕ) (x : (ℕ → ℕ) → ℕ) → ((at : ℕ → ℕ) → x at ≤ m) → eights x ≤ 8 * m
-eights-low m x h = omega (arith, fours-low m x h low, fours-low m x h high)
+  pub odds-lanes : (at : ℕ) → Lanes 255 (oddsAt l at) (odd l at) (oddSteps l at)
+  unfolding oddsAt
+  odds-lanes at =
+      let one : (p : ℕ) → getD l p 0 ≤ 255 = λ p. omega (arith, small p) in
+      let lane = lanesOf (getD l (at + 1) 0) (getD l (at + 3) 0) (getD l (at + 5) 0) (getD l (at + 7) 0) in
+      record { lane = lane; is = refl; low = (one (at + 1), one (at + 3), one (at + 5), one (at + 7)); sums = (refl, refl) }
 
--- word i of each part: their bytes added
-module _ (l : List ℕ) where
-  abbrev pub across : ℕ → ℕ
-  across i = fourAt eight l (8 * i) + fourAt eight l (8 * i + 256)
+  module _ (m : ℕ) (f g h : List ℕ → ℕ → ℕ) (v : (at : ℕ) → Lanes m (f l at) (g l at) (h l at)) where
+    lanes-four : (at : ℕ) → Lanes (4 * m) (fourAt f l at) (fourAt g l at) (fourAt h l at)
+    lanes-four at = lanes-add (lanes-add (lanes-add (v at) (v (at + 64)) (2 * m) (omega arith)) (v (at + 128)) (3 * m) (omega arith)) (v (at + 192)) (4 * m) (omega arith)
 
-  across-apart : (n : ℕ) → upTo (λ i. across i * (8 - i)) n ≡ eights (λ at. upTo (λ i. eight l (at i) * (8 - i)) n)
-  across-apart n = counted-two (λ i. fourAt eight l (8 * i)) (λ i. fourAt eight l (8 * i + 256)) n ∙ ap₂ _+_ (counted-four (eight l) low n) (counted-four (eight l) high n)
+  -- the words of all eight parts, as the code adds them
+  pub across-is : (i x : ℕ) → x ≡ fourAt pairsAt l (8 * i) + fourAt pairsAt l (8 * i + 256)
+      → (x + x / 0x100000000 + (x + x / 0x100000000) / 0x10000) % 0x10000 ≡ fourAt eight l (8 * i) + fourAt eight l (8 * i + 256)
+  across-is i x e = let word = lanes-four 510 pairsAt eight steps pairs-lanes in rw e (lanes-one (lanes-add (word (8 * i)) (word (8 * i + 256)) 4080 (omega arith)) (omega arith))
 
-  module _ (small : (p : ℕ) → getD l p 0 < 256) where
-    two : (p q : ℕ) → getD l p 0 + getD l q 0 ≤ 510
-    two p q = omega (arith, small p, small q)
+  -- four words further on, from `at` to q
+  four-more : (at q : ℕ) → q ≡ at + 8 → at + 200 ≤ length l → (fourAt S l q ≡ fourAt S l at + fourAt eight l at) × (ahead S l q ≡ ahead S l at + ahead eight l at)
+      × (fourAt T l q + (fourAt odd l at + 2 * fourAt steps l at) ≡ fourAt T l at + 8 * fourAt S l at + 8 * fourAt eight l at)
+  four-more at q e h =
+      let w0 = eight-more l at q e (omega arith) in
+      let w1 = eight-more l (at + 64) (q + 64) (omega arith) (omega arith) in
+      let w2 = eight-more l (at + 128) (q + 128) (omega arith) (omega arith) in
+      let w3 = eight-more l (at + 192) (q + 192) (omega arith) (omega arith) in
+      (omega (arith, w0 .0, w1 .0, w2 .0, w3 .0), omega (arith, w0 .0, w1 .0, w2 .0), omega (arith, w0 .1, w1 .1, w2 .1, w3 .1))
 
-    -- as the code adds them
-    pub across-is : (i x : ℕ) → x ≡ fourAt pairsAt l (8 * i) + fourAt pairsAt l (8 * i + 256) → (x + x / 0x100000000 + (x + x / 0x100000000) / 0x10000) % 0x10000 ≡ across i
-    unfolding pairsAt
-    across-is i x e =
-        let low0 = eights-low 510 (λ at. x0 l at i) (λ at. two (at i) (at i + 1)) in
-        let low1 = eights-low 510 (λ at. x1 l at i) (λ at. two (at i + 2) (at i + 3)) in
-        let low2 = eights-low 510 (λ at. x2 l at i) (λ at. two (at i + 4) (at i + 5)) in
-        let low3 = eights-low 510 (λ at. x3 l at i) (λ at. two (at i + 6) (at i + 7)) in
-        four-added (eights (λ at. x0 l at i)) (eights (λ at. x1 l at i)) (eights (λ at. x2 l at i)) (eights (λ at. x3 l at i))
-        (omega (arith, low0)) (omega (arith, low1)) (omega (arith, low2)) (omega (arith, low0, low2)) (omega (arith, low0, low1, low2, low3)) x
-        (e ∙ ap₂ _+_ (four-packs _ _ _ _ _ _ _ _ _ _ _ _ _ _ _ _) (four-packs _ _ _ _ _ _ _ _ _ _ _ _ _ _ _ _) ∙ pack-add _ _ _ _ _ _ _ _) ∙ omega arith
+-- a word more of each part: what it adds to totals, and to those in which the word j of 8 counts 8 - j times
+onward : (q q′ p p′ x x′ p0 s : ℕ) → q ≡ p + x → q′ ≡ p′ + x′ → p + p′ ≡ p0 + s → q + q′ ≡ p0 + (s + (x + x′))
+onward q q′ p p′ x x′ p0 s e f g = omega arith
 
--- what the code holds behind its loop
-module _ (l : List ℕ) (small : (p : ℕ) → getD l p 0 < 256) (long : length l ≡ blockBytes) (a b before odds z : ℕ)
-    (a-is : a ≡ upTo (λ i. fourAt pairsAt l (8 * i)) 8) (b-is : b ≡ upTo (λ i. fourAt pairsAt l (8 * i + 256)) 8)
-    (before-is : before ≡ upTo (λ i. beforeAt l (8 * i) + beforeAt l (8 * i + 256)) 8)
-    (odds-is : odds ≡ upTo (λ i. fourAt oddsAt l (8 * i) + fourAt oddsAt l (8 * i + 256)) 8)
-    (z-is : z ≡ upTo (λ i. across l i * (8 - i)) 8) where
-  -- a lane of all words of a part, and their bytes at an odd place
-  abbrev X : ((ℕ → ℕ) → ℕ → ℕ) → (ℕ → ℕ) → ℕ
-  X x at = upTo (x at) 8
+weigh : (q q′ b b′ r r′ e e′ o k o′ k′ a a′ x s u t v w j c d z : ℕ) → q + (o + 2 * k) ≡ b + 8 * r + 8 * e → q′ + (o′ + 2 * k′) ≡ b′ + 8 * r′ + 8 * e′ → r ≡ a + s → r′ ≡ a′ + u
+    → b + b′ + (x + 2 * (t + v)) + 8 * (suc w * (s + u)) ≡ c + d + 8 * (j * (a + a′)) + 8 * z
+    → q + q′ + (x + (o + o′) + 2 * (t + k + (v + k′))) + 8 * (w * (s + e + (u + e′))) ≡ c + d + 8 * (suc j * (a + a′)) + 8 * (z + (e + e′) * suc w)
+weigh q q′ b b′ r r′ e e′ o k o′ k′ a a′ x s u t v w j c d z f g h i l = omega arith
 
-  abbrev O : ℕ → (ℕ → ℕ) → ℕ
-  O p at = upTo (odd l at p) 8
+-- What the code holds after j words of each part: four lanes each, and what they say of the totals up to there.
+pub record Counted (l : List ℕ) (a b before odds z j : ℕ) : Type 0 where
+  low : Laned (2040 * j) a
+  high : Laned (2040 * j) b
+  front : Laned (6120 * j) before
+  odd-bytes : Laned (2040 * j) odds
+  low-is : fourAt S l (8 * j) ≡ fourAt S l 0 + low .0
+  high-is : fourAt S l (8 * j + 256) ≡ fourAt S l 256 + high .0
+  front-is : ahead S l (8 * j) + ahead S l (8 * j + 256) ≡ ahead S l 0 + ahead S l 256 + front .0
+  weighed-is : fourAt T l (8 * j) + fourAt T l (8 * j + 256) + (odd-bytes .0 + 2 * (low .1 + high .1)) + 8 * ((8 - j) * (low .0 + high .0))
+      ≡ fourAt T l 0 + fourAt T l 256 + 8 * (j * (fourAt S l 0 + fourAt S l 256)) + 8 * z
 
-  half-packed : (at : ℕ → ℕ) → upTo (λ i. fourAt pairsAt l (at i)) 8 ≡ pack (fours (X (x0 l)) at) (fours (X (x1 l)) at) (fours (X (x2 l)) at) (fours (X (x3 l)) at)
-  half-packed at =
-      upTo-four (pairsAt l) at 8
-      ∙ ap₂ _+_ (ap₂ _+_ (ap₂ _+_ (packed l at 8) (packed l (λ i. at i + 64) 8)) (packed l (λ i. at i + 128) 8)) (packed l (λ i. at i + 192) 8)
-      ∙ four-packs _ _ _ _ _ _ _ _ _ _ _ _ _ _ _ _
+pub counted-none : (l : List ℕ) → Counted l 0 0 0 0 0 0
+counted-none l =
+    let none : Laned 0 0 = (0, 0, no-lanes) in
+    record { low = none; high = none; front = none; odd-bytes = none; low-is = omega arith; high-is = omega arith; front-is = omega arith; weighed-is = omega arith }
 
-  half-ahead : (at : ℕ → ℕ) → upTo (λ i. beforeAt l (at i)) 8 ≡ pack (ahead (X (x0 l)) at) (ahead (X (x1 l)) at) (ahead (X (x2 l)) at) (ahead (X (x3 l)) at)
-  half-ahead at =
-      upTo-ahead (pairsAt l) at 8
-      ∙ ap₂ _+_ (ap₂ (λ x y. 3 * x + 2 * y) (packed l at 8) (packed l (λ i. at i + 64) 8)) (packed l (λ i. at i + 128) 8)
-      ∙ ahead-packs _ _ _ _ _ _ _ _ _ _ _ _
+module _ (l : List ℕ) (small : Bytes l) (long : length l ≡ blockBytes) {a b before odds z j : ℕ} (c : Counted l a b before odds z j) where
+  pub counted-more : j < 8 → (x x′ y y′ r r′ e : ℕ) → x ≡ fourAt pairsAt l (8 * j) → x′ ≡ fourAt pairsAt l (8 * j + 256) → y ≡ beforeAt l (8 * j) → y′ ≡ beforeAt l (8 * j + 256)
+      → r ≡ fourAt oddsAt l (8 * j) → r′ ≡ fourAt oddsAt l (8 * j + 256) → e ≡ fourAt eight l (8 * j) + fourAt eight l (8 * j + 256)
+      → Counted l (a + x) (b + x′) (before + (y + y′)) (odds + (r + r′)) (z + e * (8 - j)) (suc j)
+  counted-more h x x′ y y′ r r′ e i i′ k k′ q q′ d =
+      let word = lanes-four l small 510 pairsAt eight steps (pairs-lanes l small) in
+      let odd-word = lanes-four l small 255 oddsAt odd oddSteps (odds-lanes l small) in
+      let g = four-more l small (8 * j) (8 * suc j) (omega arith) (omega arith) in
+      let f = four-more l small (8 * j + 256) (8 * suc j + 256) (omega arith) (omega arith) in
+      rw (i, i′, k, k′, q, q′, d)
+      (record {
+        low = (_, _, lanes-add (c .low .2) (word (8 * j)) _ (omega arith));
+        high = (_, _, lanes-add (c .high .2) (word (8 * j + 256)) _ (omega arith));
+        front = (_, _, lanes-add (c .front .2) (lanes-add (front-lanes (8 * j)) (front-lanes (8 * j + 256)) 6120 (omega arith)) _ (omega arith));
+        odd-bytes = (_, _, lanes-add (c .odd-bytes .2) (lanes-add (odd-word (8 * j)) (odd-word (8 * j + 256)) 2040 (omega arith)) _ (omega arith));
+        low-is = omega (arith, g .0, c .low-is);
+        high-is = omega (arith, f .0, c .high-is);
+        front-is = onward _ _ _ _ _ _ _ _ (g .1) (f .1) (c .front-is);
+        weighed-is = rw (counts .0, counts .1) (weigh _ _ _ _ _ _ _ _ _ _ _ _ _ _ _ _ _ _ _ (7 - j) j _ _ z (g .2) (f .2) (c .low-is) (c .high-is) (rw (counts .0) at (c .weighed-is)));
+      }) where
+        front-lanes : (at : ℕ) → Lanes 3060 (beforeAt l at) (ahead eight l at) (ahead steps l at)
+        front-lanes at = lanes-ahead (pairs-lanes l small at) (pairs-lanes l small (at + 64)) (pairs-lanes l small (at + 128)) 3060 (omega arith)
 
-  half-odds : (at : ℕ → ℕ) → upTo (λ i. fourAt oddsAt l (at i)) 8 ≡ pack (fours (O 1) at) (fours (O 3) at) (fours (O 5) at) (fours (O 7) at)
-  half-odds at =
-      upTo-four (oddsAt l) at 8
-      ∙ ap₂ _+_ (ap₂ _+_ (ap₂ _+_ (odds-packed l at 8) (odds-packed l (λ i. at i + 64) 8)) (odds-packed l (λ i. at i + 128) 8)) (odds-packed l (λ i. at i + 192) 8)
-      ∙ four-packs _ _ _ _ _ _ _ _ _ _ _ _ _ _ _ _
+        counts : (8 - j ≡ suc (7 - j)) × (8 - suc j ≡ 7 - j)
+        counts = omega arith
 
-  all-packed : a + b ≡ pack (eights (X (x0 l))) (eights (X (x1 l))) (eights (X (x2 l))) (eights (X (x3 l)))
-  all-packed = ap₂ _+_ (a-is ∙ half-packed low) (b-is ∙ half-packed high) ∙ pack-add _ _ _ _ _ _ _ _
-
-  -- each part as often as parts of its half follow it
-  abbrev aheads : ((ℕ → ℕ) → ℕ) → ℕ
-  aheads x = ahead x low + ahead x high
-
-  before-packed : before ≡ pack (aheads (X (x0 l))) (aheads (X (x1 l))) (aheads (X (x2 l))) (aheads (X (x3 l)))
-  before-packed = before-is ∙ upTo-add (λ i. beforeAt l (8 * i)) (λ i. beforeAt l (8 * i + 256)) 8 ∙ ap₂ _+_ (half-ahead low) (half-ahead high) ∙ pack-add _ _ _ _ _ _ _ _
-
-  odds-all : odds ≡ pack (eights (O 1)) (eights (O 3)) (eights (O 5)) (eights (O 7))
-  odds-all = odds-is ∙ upTo-add (λ i. fourAt oddsAt l (8 * i)) (λ i. fourAt oddsAt l (8 * i + 256)) 8 ∙ ap₂ _+_ (half-odds low) (half-odds high) ∙ pack-add _ _ _ _ _ _ _ _
-
-  lows : (at : ℕ → ℕ) → (X (x0 l) at ≤ 4080) × (X (x1 l) at ≤ 4080) × (X (x2 l) at ≤ 4080) × (X (x3 l) at ≤ 4080)
-  lows at = lanes-low l at small 8
-
-  -- lanes of part sums have room
-  record Room (x : (ℕ → ℕ) → ℕ) : Type 0 where
-    pub half : fours x low < 65536
-    pub whole : eights x < 65536
-    pub ahead : aheads x < 65536
-
-  room : (x : (ℕ → ℕ) → ℕ) → ((at : ℕ → ℕ) → x at ≤ 4080) → Room x
-  room x h =
-      let g : (at : ℕ → ℕ) → ahead x at ≤ 24480 = λ at. omega (arith, h at, h (λ i. at i + 64), h (λ i. at i + 128)) in
-      record { half = omega (arith, fours-low 4080 x h low); whole = omega (arith, eights-low 4080 x h); ahead = omega (arith, g low, g high) }
-
-  room0 : Room (X (x0 l))
-  room0 = room (X (x0 l)) (λ at. lows at .0)
-
-  room1 : Room (X (x1 l))
-  room1 = room (X (x1 l)) (λ at. lows at .1)
-
-  room2 : Room (X (x2 l))
-  room2 = room (X (x2 l)) (λ at. lows at .2)
-
-  -- the bytes of a part
-  abbrev Q : (ℕ → ℕ) → ℕ
-  Q at = X (x0 l) at + X (x1 l) at + X (x2 l) at + X (x3 l) at
-
-  all-sum : laneSum (a + b) ≡ eights Q
-  all-sum = ap laneSum all-packed ∙ lane-sum _ _ _ (eights (X (x3 l))) (room0 .whole) (room1 .whole) (room2 .whole) ∙ omega arith
-
-  half-sum : laneSum a ≡ fours Q low
-  half-sum = ap laneSum (a-is ∙ half-packed low) ∙ lane-sum _ _ _ (fours (X (x3 l)) low) (room0 .half) (room1 .half) (room2 .half) ∙ omega arith
-
-  before-sum : laneSum before ≡ aheads Q
-  before-sum = ap laneSum before-packed ∙ lane-sum _ _ _ (aheads (X (x3 l))) (room0 .ahead) (room1 .ahead) (room2 .ahead) ∙ omega arith
-
-  -- the totals in front of each part
-  part : (at : ℕ → ℕ) → ((i : ℕ) → at (suc i) ≡ at i + 8) → at 8 ≤ 512 → S l (at 8) ≡ S l (at 0) + Q at
-  part at move h = words-total l at move 8 (omega arith) ∙ ap (S l (at 0) +_) (word-lanes l at 8)
-
-  S-1 : S l 64 ≡ Q low
-  S-1 = unfold total in part low (λ i. omega arith) (omega arith) ∙ omega arith
-
-  S-2 : S l 128 ≡ S l 64 + Q (λ i. low i + 64)
-  S-2 = part (λ i. low i + 64) (λ i. omega arith) (omega arith)
-
-  S-3 : S l 192 ≡ S l 128 + Q (λ i. low i + 128)
-  S-3 = part (λ i. low i + 128) (λ i. omega arith) (omega arith)
-
-  S-4 : S l 256 ≡ S l 192 + Q (λ i. low i + 192)
-  S-4 = part (λ i. low i + 192) (λ i. omega arith) (omega arith)
-
-  S-5 : S l 320 ≡ S l 256 + Q high
-  S-5 = part high (λ i. omega arith) (omega arith)
-
-  S-6 : S l 384 ≡ S l 320 + Q (λ i. high i + 64)
-  S-6 = part (λ i. high i + 64) (λ i. omega arith) (omega arith)
-
-  S-7 : S l 448 ≡ S l 384 + Q (λ i. high i + 128)
-  S-7 = part (λ i. high i + 128) (λ i. omega arith) (omega arith)
-
-  S-8 : S l 512 ≡ S l 448 + Q (λ i. high i + 192)
-  S-8 = part (λ i. high i + 192) (λ i. omega arith) (omega arith)
-
-  s-right : laneSum (a + b) ≡ total l
-  s-right = all-sum ∙ chain (Q low) (Q (λ i. low i + 64)) (Q (λ i. low i + 128)) (Q (λ i. low i + 192)) (Q high) (Q (λ i. high i + 64)) (Q (λ i. high i + 128)) (Q (λ i. high i + 192)) S-1 S-2 S-3 S-4 S-5 S-6 S-7 S-8 ∙ ap total (take-all 512 l (omega arith))
-    where
-      chain : (p q r s t u v w : ℕ) {p′ q′ r′ s′ t′ u′ v′ w′ : ℕ} → p′ ≡ p → q′ ≡ p′ + q → r′ ≡ q′ + r → s′ ≡ r′ + s → t′ ≡ s′ + t → u′ ≡ t′ + u → v′ ≡ u′ + v → w′ ≡ v′ + w → p + q + r + s + (t + u + v + w) ≡ w′
-      chain p q r s t u v w a b c d e f g h = omega arith
-
-  -- the bytes in front of each part, for all parts
-  in-front : laneSum before + 4 * laneSum a ≡ S l 64 + S l 128 + S l 192 + S l 256 + S l 320 + S l 384 + S l 448
-  in-front = ap₂ (λ x y. x + 4 * y) before-sum half-sum ∙ chain (Q low) (Q (λ i. low i + 64)) (Q (λ i. low i + 128)) (Q (λ i. low i + 192)) (Q high) (Q (λ i. high i + 64)) (Q (λ i. high i + 128)) S-1 S-2 S-3 S-4 S-5 S-6 S-7
-    where
-      chain : (p q r s t u v : ℕ) {p′ q′ r′ s′ t′ u′ v′ : ℕ} → p′ ≡ p → q′ ≡ p′ + q → r′ ≡ q′ + r → s′ ≡ r′ + s → t′ ≡ s′ + t → u′ ≡ t′ + u → v′ ≡ u′ + v
-          → 3 * p + 2 * q + r + (3 * t + 2 * u + v) + 4 * (p + q + r + s) ≡ p′ + q′ + r′ + s′ + t′ + u′ + v′
-      chain p q r s t u v a b c d e f g = omega arith
-
-  abbrev P : (ℕ → ℕ) → ℕ
-  P at = upTo (λ i. placed l (at i)) 8
-
-  abbrev C : (ℕ → ℕ) → ℕ
-  C at = upTo (λ i. eight l (at i) * (8 - i)) 8
-
-  fours-places : (at : ℕ → ℕ) → fours P at ≡ 2 * fours (X (x1 l)) at + 4 * fours (X (x2 l)) at + 6 * fours (X (x3 l)) at + (fours (O 1) at + fours (O 3) at + fours (O 5) at + fours (O 7) at)
-  fours-places at = omega (arith, place-lanes l at 8, place-lanes l (λ i. at i + 64) 8, place-lanes l (λ i. at i + 128) 8, place-lanes l (λ i. at i + 192) 8)
-
-  all-places : lanePlaces (a + b) odds ≡ eights P
-  all-places =
-      let few : (p : ℕ) → eights (O p) < 65536 = λ p. omega (arith, eights-low 2040 (O p) (λ at. odd-low l at small p 8)) in
-      let o = ap laneSum odds-all ∙ lane-sum _ _ _ (eights (O 7)) (few 1) (few 3) (few 5) in
-      ap (λ x. lanePlaces x odds) all-packed ∙ lane-places _ _ _ (eights (X (x3 l))) (room0 .whole) (room1 .whole) (room2 .whole) odds _ o
-      ∙ omega (arith, fours-places low, fours-places high)
-
-  weighed-part : (at : ℕ → ℕ) → ((i : ℕ) → at (suc i) ≡ at i + 8) → at 8 ≤ 512 → T l (at 8) + P at ≡ T l (at 0) + 64 * S l (at 0) + 8 * C at
-  weighed-part at move h = omega (arith, words-weighed l at move 8 (omega arith) (omega arith))
-
-  weighed-low : T l 256 + fours P low ≡ 64 * (S l 64 + S l 128 + S l 192) + 8 * fours C low
-  weighed-low =
-      let w0 : T l 64 + P low ≡ 8 * C low = unfold weighed total in omega (arith, weighed-part low (λ i. omega arith) (omega arith)) in
-      let w1 = weighed-part (λ i. low i + 64) (λ i. omega arith) (omega arith) in
-      let w2 = weighed-part (λ i. low i + 128) (λ i. omega arith) (omega arith) in
-      let w3 = weighed-part (λ i. low i + 192) (λ i. omega arith) (omega arith) in
-      omega (arith, w0, w1, w2, w3)
-
-  weighed-high : T l 512 + fours P high ≡ T l 256 + 64 * (S l 256 + S l 320 + S l 384 + S l 448) + 8 * fours C high
-  weighed-high =
-      let w0 = weighed-part high (λ i. omega arith) (omega arith) in
-      let w1 = weighed-part (λ i. high i + 64) (λ i. omega arith) (omega arith) in
-      let w2 = weighed-part (λ i. high i + 128) (λ i. omega arith) (omega arith) in
-      let w3 = weighed-part (λ i. high i + 192) (λ i. omega arith) (omega arith) in
-      omega (arith, w0, w1, w2, w3)
-
-  t-right : 8 * (z + 8 * (laneSum before + 4 * laneSum a)) ≡ weighed l + lanePlaces (a + b) odds
-  t-right =
-      ap₂ (λ x y. 8 * (x + 8 * y)) (z-is ∙ across-apart l 8) in-front ∙ halves (fours P low) (fours P high) (fours C low) (fours C high) (T l 256) (T l 512) (S l 64) (S l 128) (S l 192) (S l 256) (S l 320) (S l 384) (S l 448) weighed-low weighed-high
-      ∙ ap₂ _+_ (ap weighed (take-all 512 l (omega arith))) (sym all-places) where
-        halves : (p q c d t u e f g h i j k : ℕ) → t + p ≡ 64 * (e + f + g) + 8 * c → u + q ≡ t + 64 * (h + i + j + k) + 8 * d → 8 * (c + d + 8 * (e + f + g + h + i + j + k)) ≡ u + (p + q)
-        halves p q c d t u e f g h i j k m n = omega arith
-
-  pub block-right : (laneSum (a + b) ≡ total l) × (8 * (z + 8 * (laneSum before + 4 * laneSum a)) ≡ weighed l + lanePlaces (a + b) odds)
-  block-right = (s-right, t-right)
+-- and after all eight
+pub counted-all : (l : List ℕ) → length l ≡ blockBytes → {a b before odds z : ℕ} → Counted l a b before odds z 8
+    → (laneSum (a + b) ≡ total l) × (8 * (z + 8 * (laneSum before + 4 * laneSum a)) ≡ weighed l + lanePlaces (a + b) odds)
+unfolding total weighed
+counted-all l long {z = z} c =
+    let all = lanes-add (c .low .2) (c .high .2) 32640 (omega arith) in
+    let whole = take-all 512 l (omega arith) in
+    let places = lanes-places all (omega arith) _ _ (lanes-sum (c .odd-bytes .2) (omega arith)) in (
+      omega (arith, lanes-sum all (omega arith), c .low-is, c .high-is, ap total whole),
+      ap₂ (λ x y. 8 * (z + 8 * (x + 4 * y))) (lanes-sum (c .front .2) (omega arith)) (lanes-sum (c .low .2) (omega arith))
+          ∙ settle _ _ _ _ _ _ _ _ _ _ _ _ _ _ _ _ _ _ _ z (c .low-is) (c .front-is) (c .weighed-is) ∙ ap₂ _+_ (ap weighed whole) (sym places),
+    ) where
+      settle : (b c d e f g h p q r t u v w x y i j k z : ℕ) → b + c + d + e ≡ 0 + b + c + d + i → 3 * b + 2 * c + d + (3 * f + 2 * g + h) ≡ 3 * 0 + 2 * b + c + (3 * e + 2 * f + g) + j
+          → p + q + r + t + (u + v + w + x) + k + 8 * (0 * y) ≡ 0 + p + q + r + (t + u + v + w) + 8 * (8 * (0 + b + c + d + (e + f + g + h))) + 8 * z → 8 * (z + 8 * (j + 4 * i)) ≡ x + k
+      settle b c d e f g h p q r t u v w x y i j k z l m n = omega arith

@@ -53,9 +53,8 @@ module _ (f : Form) where
   pub length-sealed : (body : List ℕ) → length body ≡ f .bodyBytes → length (sealed f body) ≡ blockBytes
   length-sealed body h = unfold sealed in length-append body (seal f body) ∙ omega (arith, f .whole, length-stored f (sums f body))
 
-  module _ (k : List ℕ) (h : length k ≡ blockBytes) where
-    pub length-body : length (take (f .bodyBytes) k) ≡ f .bodyBytes
-    length-body = length-take-le (f .bodyBytes) k (omega (arith, f .whole))
+  pub length-body : (k : List ℕ) → length k ≡ blockBytes → length (take (f .bodyBytes) k) ≡ f .bodyBytes
+  length-body k h = length-take-le (f .bodyBytes) k (omega (arith, f .whole))
 
   -- sums are told by their check bytes
   pub stored-told : (u v : Sums) → u .s < f .modulus → u .t < f .modulus → v .s < f .modulus → v .t < f .modulus → stored f u ≡ stored f v → (u .s ≡ v .s) × (u .t ≡ v .t)

@@ -9,6 +9,7 @@ use borrow.Author.Tests.{ltb-true, ltb-false}
 use lib.Dec.{ltb}
 use lib.ListN.{length, getD, take, drop, set, replicate, length-set}
 use lib.Seq.{getD-take, getD-drop, getD-set-same, getD-set-other, take-set-lt, take-set-le, drop-set-lt}
+use Rattle.bitset.specs.Words.{Bytes}
 use Rattle.seal.specs.Seal.{blockBytes, Form, modulo257, modulo255, sums, sumsFrom, seal, sealRight, exchanged}
 use Rattle.seal.specs.Lanes.{total, weighed}
 use Rattle.seal.proofs.TotalLaws.{sums-total, sums-weighed, total-set, weighed-set}
@@ -48,7 +49,7 @@ module _ (f : Form) (above : 256 ≤ f .modulus) where
       let both = stored-told f (sums f a) (sums f b) (s-low f a) (t-low f a) (s-low f b) (t-low f b) (sym (right-check f k e) ∙ d ∙ right-check f j g) in
       (sym (sums-total f a) ∙ both .0 ∙ sums-total f b, sym (sums-weighed f a) ∙ both .1 ∙ sums-weighed f b)
 
-  module _ (k : List ℕ) (h : length k ≡ blockBytes) (small : (p : ℕ) → getD k p 0 < 256) (right : sealRight f k ≡ true) where
+  module _ (k : List ℕ) (h : length k ≡ blockBytes) (small : Bytes k) (right : sealRight f k ≡ true) where
     -- a byte of the body
     body-told : (p x : ℕ) → p < f .bodyBytes → x < 256 → sealRight f (set k p x) ≡ true → x ≡ getD k p 0
     body-told p x l b g =

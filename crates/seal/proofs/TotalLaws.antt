@@ -4,10 +4,8 @@ use mathlib.Core.List.{List, [], _∷_}
 use Prim.Native.Nat.{ℕ, zero, suc, _+_, _-_, _*_, _%_, _≤_, _<_}
 use native.Mathlib.Nat.{mod-add-mod, add-mod, mod-eq-of-lt, add-mul-mod-self-right, mul-le-mul-left}
 use native.Mathlib.Omega.{arith}
-use native.Mathlib.Decide.{decLt}
-use lib.Dec.{lit<}
-use lib.ListN.{length, getD, take, set, length-set, List·getD-eq-default}
-use lib.Seq.{getD-take, length-take-le}
+use lib.ListN.{length, getD, set, length-set}
+use Rattle.bitset.specs.Words.{Bytes}
 use Rattle.seal.specs.Seal.{Form, Sums, sums, sumsFrom}
 use Rattle.seal.specs.Lanes.{total, weighed}
 
@@ -56,32 +54,19 @@ pub alike : (m x y a b : ℕ) → x + a * m ≡ y + b * m → x % m ≡ y % m
 alike m x y a b e = sym (add-mul-mod-self-right x a m) ∙ ap (_% m) e ∙ add-mul-mod-self-right y b m
 
 -- The plain totals of bytes: of 508 they are at most 129,540 and 32,967,930.
-total-low : (l : List ℕ) → ((p : ℕ) → getD l p 0 < 256) → total l ≤ 255 * length l
+total-low : (l : List ℕ) → Bytes l → total l ≤ 255 * length l
 unfolding total
 total-low [] small = omega arith
 total-low (b ∷ l) small = omega (arith, small 0, total-low l (λ p. small (suc p)))
 
-weighed-low : (l : List ℕ) → ((p : ℕ) → getD l p 0 < 256) → 2 * weighed l ≤ 255 * (length l * suc (length l))
+weighed-low : (l : List ℕ) → Bytes l → 2 * weighed l ≤ 255 * (length l * suc (length l))
 unfolding weighed
 weighed-low [] small = omega arith
-weighed-low (b ∷ l) small = step b (length l) (weighed l) (mul-le-mul-left {m = b} {n = 255} (suc (length l)) (below (small 0))) (weighed-low l (λ p. small (suc p))) where
-  below : {x : ℕ} → x < 256 → x ≤ 255
-  below h = omega arith
-
+weighed-low (b ∷ l) small = step b (length l) (weighed l) (mul-le-mul-left {m = b} {n = 255} (suc (length l)) (omega (arith, small 0))) (weighed-low l (λ p. small (suc p))) where
   step : (b n w : ℕ) → suc n * b ≤ suc n * 255 → 2 * w ≤ 255 * (n * suc n) → 2 * (suc n * b + w) ≤ 255 * (suc n * suc (suc n))
   step b n w h k = omega arith
 
-pub plain-totals : (l : List ℕ) → length l ≡ 508 → ((p : ℕ) → getD l p 0 < 256) → (total l ≤ 129540) × (weighed l ≤ 32967930)
+pub plain-totals : (l : List ℕ) → length l ≡ 508 → Bytes l → (total l ≤ 129540) × (weighed l ≤ 32967930)
 plain-totals l h small = (omega (arith, total-low l small), weigh (length l) (weighed l) h (weighed-low l small)) where
   weigh : (n w : ℕ) → n ≡ 508 → 2 * w ≤ 255 * (n * suc n) → w ≤ 32967930
   weigh n w e k = let g : 2 * w ≤ 255 * (508 * 509) = rw e at k in omega arith
-
--- of a body, the first 508 bytes of more
-pub body-totals : (k : List ℕ) → 508 ≤ length k → ((p : ℕ) → getD k p 0 < 256) → (total (take 508 k) ≤ 129540) × (weighed (take 508 k) ≤ 32967930)
-body-totals k h small = plain-totals (take 508 k) long (λ p. go p (decLt p 508)) where
-  long : length (take 508 k) ≡ 508
-  long = length-take-le 508 k h
-
-  go : (p : ℕ) → Dec (p < 508) → getD (take 508 k) p 0 < 256
-  go p (yes u) = rw (getD-take 508 k p 0 u) (small p)
-  go p (no u) = rw (List·getD-eq-default (take 508 k) 0 {n = p} (omega (arith, long))) (lit< tt)

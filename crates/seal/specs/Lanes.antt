@@ -1,6 +1,6 @@
 -- The bytes of a word of 8 in lanes of 16 bits: what the code adds as whole words.
 use mathlib.Core.List.{List, [], _∷_}
-use Prim.Native.Nat.{ℕ, zero, suc, _+_, _*_, _/_, _%_}
+use Prim.Native.Nat.{ℕ, suc, _+_, _*_, _/_, _%_}
 use lib.ListN.{length, getD}
 
 -- Four lanes as one number.
@@ -29,11 +29,6 @@ laneSum x = x % 0x10000 + x / 0x10000 % 0x10000 + x / 0x100000000 % 0x10000 + x 
 
 abbrev pub lanePlaces : ℕ → ℕ → ℕ
 lanePlaces pairs odds = laneSum odds + 2 * (pairs / 0x10000 % 0x10000 + 2 * (pairs / 0x100000000 % 0x10000) + 3 * (pairs / 0x1000000000000))
-
--- The sum of f over the numbers below n.
-unfoldable pub upTo : (ℕ → ℕ) → ℕ → ℕ
-upTo f zero = 0
-upTo f (suc n) = upTo f n + f n
 
 -- The plain total of bytes; and the total of the plain totals after each byte, in which byte p of n counts n - p times.
 unfoldable pub total : List ℕ → ℕ

@@ -12,7 +12,7 @@ use lib.ListN.{length, getD, take, replicate}
 use Rattle.answer.specs.Asked.{passed}
 use Rattle.logic.specs.Graph.{Nodes, allBelow}
 use Rattle.logic.proofs.Below.{all-each}
-use Rattle.bitset.specs.Words.{wordAt}
+use Rattle.bitset.specs.Words.{Bytes, wordAt}
 use Rattle.bitset.proofs.SetLaws.{member-zero}
 use Rattle.seal.specs.Seal.{blockBytes, modulo257, sealOf, sealRight}
 use Rattle.seal.specs.declared.Modulo.{Modulo}
@@ -20,13 +20,13 @@ use Rattle.seal.specs.declared.Modulo.the-variants.{M257, M255}
 use Rattle.seal.proofs.SealLaws.{two-and-zeros}
 use Rattle.sheet.specs.Sheet.{blockCount, padding, SheetForm}
 use Rattle.sheet.specs.SheetForms.{formIn}
-use Rattle.sheet.specs.Questions.{headRight, zeroRight, askBlock}
+use Rattle.sheet.specs.Questions.{headRight, askBlock}
 use Rattle.sheet.specs.Masks.{wordCount, blankIn, zerosAt, within, zeroBut, Outside, Edges}
 use Rattle.sheet.proofs.SheetQuestionLaws.{block-right, head-later}
 use Rattle.sheet.proofs.FreeBits.{byte-ext, bit-of-word, zeros-right}
 use Rattle.sheet.proofs.MaskLaws.{all-zero}
 use Rattle.sheet.proofs.ZeroLaws.{zero-at, but-parts, word-clear}
-use Rattle.sheet.proofs.BlockHeads.{head-number}
+use Rattle.sheet.proofs.BlockHeads.{head-number, number-told}
 
 -- what is not such a block: an old card's, block 0, one with another head
 module _ (k : List ℕ) (b : ℕ) where
@@ -43,7 +43,7 @@ module _ (k : List ℕ) (b : ℕ) where
   not-headed M257 ne = rw (ne-eqb (wordAt k 0) (2 + 0x100 * b) ne) (and-false (not (eqb b 0)))
   not-headed M255 ne = refl
 
-module _ (k : List ℕ) (small : (p : ℕ) → getD k p 0 < 256) where
+module _ (k : List ℕ) (small : Bytes k) where
   -- nothing behind the first three bytes
   module _ (e : zeroBut modulo257 (λ j. 0) k ≡ true) where
     parts : (zerosAt k 3 13 ≡ true) × (allBelow wordCount (λ j. within k 0 j) ≡ true) × (zerosAt k (16 + 8 * wordCount) (padding modulo257 wordCount) ≡ true)
@@ -61,10 +61,6 @@ module _ (k : List ℕ) (small : (p : ℕ) → getD k p 0 < 256) where
       go (no a) (yes b) = inner p (omega arith) b
       go (no a) (no b) = zero-at k (16 + 8 * wordCount) (padding modulo257 wordCount) (parts .2) p (omega arith) (omega arith)
 
-    -- question 4 passes, whatever the nodes
-    passes-4 : (held : Bool) (n : ℕ) (nodes : Nodes) (b : ℕ) → zeroRight (formIn M257 held) n nodes b k ≡ true
-    passes-4 held n nodes b = zeros-right (formIn M257 held) n nodes b k 0 (λ p l u w. zeros-behind p l u) (λ p i l u s. absurd (omega arith))
-
   -- what the code finds: e of the edges, r of the words
   pub zeros-are : (e r : ℕ) → Edges modulo257 k e → Outside k 0 wordCount 0 r → eqb (bitOr e r) 0 ≡ zeroBut modulo257 (λ j. 0) k
   zeros-are e r d o = all-zero k modulo257 (λ j. 0) e r d (record { none = λ z j l. o .none z j (omega arith) l; some = λ h. o .some (λ j a b. h j b) })
@@ -73,9 +69,7 @@ module _ (k : List ℕ) (small : (p : ℕ) → getD k p 0 < 256) where
     -- the head of an arrow's block, by its first word
     module _ (w : wordAt k 0 ≡ 2 + 0x100 * b) where
       head-bytes : (getD k 0 0 ≡ 2) × (getD k 1 0 ≡ b) × (getD k 2 0 ≡ 0)
-      head-bytes =
-          let s : getD k 0 0 + getD k 1 0 * 0x100 + getD k 2 0 * 0x10000 ≡ 2 + 0x100 * b = sym (head-number k h small (wordAt k 0) refl) ∙ omega (arith, w, inside) in
-          (omega (arith, s, small 0, small 1, small 2), omega (arith, s, small 0, small 1, small 2), omega (arith, s, small 0, small 1, small 2))
+      head-bytes = number-told k h small b inside (sym (head-number k h small (wordAt k 0) refl) ∙ omega (arith, w, inside))
 
       head-is : (φ : SheetForm) → (b ≡ 0 → ⊥) → headRight φ b k ≡ true
       head-is φ ne =
@@ -104,5 +98,6 @@ module _ (k : List ℕ) (small : (p : ℕ) → getD k p 0 < 256) where
         let a = and-eq-true-iff (not (eqb b 0)) _ .0 e in
         let c = and-eq-true-iff (eqb (wordAt k 0) (2 + 0x100 * b)) _ .0 (a .1) in
         let d = and-eq-true-iff (sealRight modulo257 k) _ .0 (c .1) in
-        block-right (formIn M257 held) n nodes b k (d .0) (head-is (eqb-true _ _ (c .0)) (formIn M257 held) (eqb-false b 0 (not-true _ (a .0)))) (passes-4 (d .1) held n nodes b)
+        block-right (formIn M257 held) n nodes b k (d .0) (head-is (eqb-true _ _ (c .0)) (formIn M257 held) (eqb-false b 0 (not-true _ (a .0))))
+        (zeros-right (formIn M257 held) n nodes b k 0 (λ p l u w. zeros-behind (d .1) p l u) (λ p i l u s. absurd (omega arith)))
     blank-passes M255 e held n nodes = let z : _≡_ {A = ℕ} 0 1 = cc in absurd (omega arith)

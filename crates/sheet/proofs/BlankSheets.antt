@@ -7,10 +7,10 @@ use native.Mathlib.Numerals.{add-one}
 use native.Mathlib.Omega.{arith}
 use borrow.Author.Tests.{eq-eqb, ne-eqb, le-leb, lt-leb, lt-ltb}
 use lib.Dec.{ltb}
-use lib.ListN.{length, getD, set, replicate}
+use lib.ListN.{length, set, replicate}
 use Rattle.answer.specs.Asked.{Asked, passed, refused, _>>_, is, after}
 use Rattle.logic.specs.Limits.{maxNodes, labelCount, arrowCount}
-use Rattle.bitset.specs.Words.{setOf, bytes, putWord}
+use Rattle.bitset.specs.Words.{Bytes, setOf, bytes, putWord}
 use Rattle.bitset.proofs.SetLaws.{setOf-none, setOf-cong, setOf-lowest}
 use Rattle.seal.specs.Seal.{reseal, blockBytes}
 use Rattle.sheet.specs.Sheet.{SheetForm, present, sheetBytes, blockCount, chunks, block, lineCount, labelBlock, arrowBlock, storeIn, store, graphIn, blank}
@@ -32,21 +32,6 @@ all-used n h = setOf-lowest n 64 (omega arith) ∙ setOf-cong n (λ i. true) (λ
 abbrev unsealed : List ℕ
 unsealed = replicate (blockBytes - (present .sums .bodyBytes)) 0
 
-blank-labels : (n used : ℕ) → used ≡ setOf n (λ i. ltb i n) → reseal (present .sums) (blankBlock 1 0 n used) ≡ labelBlock present (blank n)
-unfolding labelBlock chunks bytes bareBlock blankBlock
-blank-labels n used e =
-    ap (reseal (present .sums))
-    (put-raw (present .sums) (labelHead (blank n)) refl (lineCount present) unsealed (λ k. 0) (labelWord (blank n)) labelCount used (omega arith) (sym e)
-    (λ j l d. let b : j < labelCount = omega (arith, d) in sym (ap (setOf n) (line-label (blank n) j b) ∙ setOf-none n)))
-    ∙ seal-raw (present .sums) (labelHead (blank n)) refl (lineCount present) unsealed (labelWord (blank n)) (labels-fit present)
-
-blank-arrows : (n a : ℕ) → reseal (present .sums) (blankBlock 2 (a + 1) 0 0) ≡ arrowBlock present (blank n) a
-unfolding arrowBlock chunks bytes bareBlock blankBlock
-blank-arrows n a =
-    ap (λ x. reseal (present .sums) (putWord (bareBlock 2 x 0) (16 + 8 * labelCount) 0)) (add-one a)
-    ∙ ap (reseal (present .sums)) (put-raw (present .sums) (arrowHead a) refl maxNodes unsealed (λ k. 0) (λ k. setOf n (λ i. false)) labelCount 0 (omega arith) (setOf-none n) (λ j l d. sym (setOf-none n)))
-    ∙ seal-raw (present .sums) (arrowHead a) refl maxNodes unsealed (λ i. setOf n (λ i. false)) (rows-fit present)
-
 -- block j of the blank sheet, as it is made
 abbrev pub blankOf : ℕ → ℕ → List ℕ
 blankOf n j = blockOf (store (blank n)) j
@@ -55,10 +40,20 @@ pub blankOf-length : (n j : ℕ) → j < blockCount → length (blankOf n j) ≡
 blankOf-length n j l = length-block (store (blank n)) (length-store present (blank n)) j l
 
 pub first-made : (n used : ℕ) → used ≡ setOf n (λ i. ltb i n) → reseal (present .sums) (blankBlock 1 0 n used) ≡ blankOf n 0
-first-made n used e = blank-labels n used e ∙ sym (first-block present (blank n))
+unfolding labelBlock chunks bytes bareBlock blankBlock
+first-made n used e =
+    ap (reseal (present .sums))
+    (put-raw (present .sums) (labelHead (blank n)) refl (lineCount present) unsealed (λ k. 0) (labelWord (blank n)) labelCount used (omega arith) (sym e)
+    (λ j l d. let b : j < labelCount = omega (arith, d) in sym (ap (setOf n) (line-label (blank n) j b) ∙ setOf-none n)))
+    ∙ seal-raw (present .sums) (labelHead (blank n)) refl (lineCount present) unsealed (labelWord (blank n)) (labels-fit present) ∙ sym (first-block present (blank n))
 
 pub later-made : (n a : ℕ) → a < arrowCount → reseal (present .sums) (blankBlock 2 (a + 1) 0 0) ≡ blankOf n (a + 1)
-later-made n a l = blank-arrows n a ∙ sym (later-block present (blank n) a l) ∙ ap (blankOf n) (sym (add-one a))
+unfolding arrowBlock chunks bytes bareBlock blankBlock
+later-made n a l =
+    ap (λ x. reseal (present .sums) (putWord (bareBlock 2 x 0) (16 + 8 * labelCount) 0)) (add-one a)
+    ∙ ap (reseal (present .sums)) (put-raw (present .sums) (arrowHead a) refl maxNodes unsealed (λ k. 0) (λ k. setOf n (λ i. false)) labelCount 0 (omega arith) (setOf-none n) (λ j l d. sym (setOf-none n)))
+    ∙ seal-raw (present .sums) (arrowHead a) refl maxNodes unsealed (λ i. setOf n (λ i. false)) (rows-fit present)
+    ∙ sym (later-block present (blank n) a l) ∙ ap (blankOf n) (sym (add-one a))
 
 -- 5, then 1
 module _ (n len : ℕ) where
@@ -80,7 +75,7 @@ pub answered : (n : ℕ) (t l : List ℕ) (q : Asked (Unit {0})) → askBlank n 
 answered n t l q e m = (sym e, rw e m)
 
 -- Block 1 of a sheet without arrows of kind 0, in any form: its words are zero.
-pub block-1-without-arrows : (φ : SheetForm) (t : List ℕ) → ((p : ℕ) → getD t p 0 < 256) → SoundIn φ t → ((i j : ℕ) → graphIn φ t .joined 0 i j ≡ false) → blockOf t 1 ≡ block (φ .sums) (2 ∷ 1 ∷ 0 ∷ []) maxNodes (λ i. 0)
+pub block-1-without-arrows : (φ : SheetForm) (t : List ℕ) → Bytes t → SoundIn φ t → ((i j : ℕ) → graphIn φ t .joined 0 i j ≡ false) → blockOf t 1 ≡ block (φ .sums) (2 ∷ 1 ∷ 0 ∷ []) maxNodes (λ i. 0)
 unfolding arrowBlock
 block-1-without-arrows φ t small sound none =
     let g = graphIn φ t in

@@ -9,7 +9,7 @@ use lib.Dec.{eqb, leb}
 use lib.ListN.{length, getD}
 use Rattle.logic.specs.Graph.{anyBelow}
 use Rattle.logic.specs.Limits.{maxNodes}
-use Rattle.bitset.specs.Words.{wordAt}
+use Rattle.bitset.specs.Words.{Bytes, wordAt}
 use Rattle.bitset.proofs.WordLaws.{sumOfBytes, loaded}
 use Rattle.seal.specs.Seal.{blockBytes}
 use Rattle.sheet.specs.Sheet.{SheetForm, blockCount, usedIn}
@@ -51,9 +51,13 @@ module _ (φ : SheetForm) (k : List ℕ) where
   pub later-head : (a : ℕ) → headRight φ (suc a) k ≡ true → (getD k 0 0 ≡ 2) × (getD k 1 0 ≡ suc a) × (getD k 2 0 ≡ 0)
   later-head a e = unfold headRight in told-bytes k 2 (suc a) 0 e
 
-module _ (k : List ℕ) (h : length k ≡ blockBytes) (small : (p : ℕ) → getD k p 0 < 256) where
+module _ (k : List ℕ) (h : length k ≡ blockBytes) (small : Bytes k) where
   pub head-number : (r : ℕ) → r ≡ wordAt k 0 → r % 0x1000000 ≡ getD k 0 0 + getD k 1 0 * 0x100 + getD k 2 0 * 0x10000
   head-number r e = unfold sumOfBytes in omega (arith, e, loaded k 0 (sumOfBytes k 0) (omega (arith, h)) refl, small 0, small 1, small 2)
+
+  -- the bytes that such a number says
+  pub number-told : (b : ℕ) → b < blockCount → getD k 0 0 + getD k 1 0 * 0x100 + getD k 2 0 * 0x10000 ≡ 2 + 0x100 * b → (getD k 0 0 ≡ 2) × (getD k 1 0 ≡ b) × (getD k 2 0 ≡ 0)
+  number-told b l w = omega (arith, small 0, small 1, small 2)
 
   module _ (r : ℕ) (e : r ≡ wordAt k 0) where
     -- block 0 is not named
@@ -69,8 +73,8 @@ module _ (k : List ℕ) (h : length k ≡ blockBytes) (small : (p : ℕ) → get
     later b l = same-test _ _ told says where
       told : eqb (r % 0x1000000) (2 + 0x100 * b) ≡ true → (eqb (getD k 0 0) 2 && (eqb (getD k 1 0) b && eqb (getD k 2 0) 0)) ≡ true
       told q =
-          let w : getD k 0 0 + getD k 1 0 * 0x100 + getD k 2 0 * 0x10000 ≡ 2 + 0x100 * b = sym (head-number r e) ∙ eqb-true _ _ q in
-          rw (eq-eqb (getD k 0 0) 2 (omega (arith, w, small 0, small 1, small 2, l)), eq-eqb (getD k 1 0) b (omega (arith, w, small 0, small 1, small 2, l)), eq-eqb (getD k 2 0) 0 (omega (arith, w, small 0, small 1, small 2, l))) refl
+          let (x, y, z) = number-told b l (sym (head-number r e) ∙ eqb-true _ _ q) in
+          rw (eq-eqb (getD k 0 0) 2 x, eq-eqb (getD k 1 0) b y, eq-eqb (getD k 2 0) 0 z) refl
 
       says : (eqb (getD k 0 0) 2 && (eqb (getD k 1 0) b && eqb (getD k 2 0) 0)) ≡ true → eqb (r % 0x1000000) (2 + 0x100 * b) ≡ true
       says q =

@@ -36,12 +36,6 @@ bit-of-byte x i = member-low 8 (i % 8) (x / 2 ^ (8 * (i / 8))) (omega arith) ∙
 pub length-words : (m : ℕ) (f : ℕ → ℕ) → length (wordsOf m f) ≡ 8 * m
 length-words m f = length-chunks 8 (λ k. bytes 8 (f k)) (λ k. length-bytes 8 (f k)) m 0
 
--- byte j of the k-th word
-getD-words : (m : ℕ) (f : ℕ → ℕ) (k j : ℕ) → k < m → j < 8 → getD (wordsOf m f) (8 * k + j) 0 ≡ byteOf (f k) j
-getD-words m f k j h l =
-    getD-chunks 8 (λ k. bytes 8 (f k)) (λ k. length-bytes 8 (f k)) m 0 k j h l
-    ∙ getD-bytes 8 (f (0 + k)) j l ∙ ap (λ a. byteOf (f a) j) (zero-add k)
-
 abbrev pub labelHead : Graph → List ℕ
 labelHead g = 1 ∷ 0 ∷ g .n ∷ []
 
@@ -105,7 +99,8 @@ module _ (φ : Form) where
     word-byte k j l b =
         before-pad (16 + (8 * k + j)) (omega arith)
         ∙ ap (λ q. getD (head ++ replicate 13 0 ++ wordsOf m f) q 0) (sym (simp (length-append, length-replicate) (omega arith)))
-        ∙ getD-append-add (head ++ replicate 13 0) (wordsOf m f) (8 * k + j) 0 ∙ getD-words m f k j l b
+        ∙ getD-append-add (head ++ replicate 13 0) (wordsOf m f) (8 * k + j) 0
+        ∙ getD-chunks 8 (λ k. bytes 8 (f k)) (λ k. length-bytes 8 (f k)) m 0 k j l b ∙ getD-bytes 8 (f (0 + k)) j b ∙ ap (λ a. byteOf (f a) j) (zero-add k)
 
     -- a bit of a byte of a word
     pub word-bit : (p i : ℕ) → 16 ≤ p → p < 16 + 8 * m → i < 8 → member (getD (block φ head m f) p 0) i ≡ member (f ((p - 16) / 8)) (p % 8 * 8 + i)

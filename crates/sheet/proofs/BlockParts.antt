@@ -7,11 +7,12 @@ use native.Mathlib.Decide.{decLt}
 use native.Mathlib.Omega.{arith}
 use borrow.Author.Tests.{le-ltb}
 use lib.Dec.{ltb}
-use lib.ListN.{length, getD, take, drop, length-take, length-drop, List·getD-eq-default}
+use lib.ListN.{length, getD, take, drop, length-drop}
 use lib.Seq.{getD-take, getD-drop, ext-getD, length-take-le}
 use Rattle.logic.specs.Graph.{isNode}
 use Rattle.logic.specs.Limits.{labelCount}
-use Rattle.bitset.specs.Words.{member}
+use Rattle.bitset.specs.Words.{Bytes, member}
+use Rattle.bitset.proofs.WordLaws.{part-small}
 use Rattle.seal.specs.Seal.{blockBytes}
 use Rattle.sheet.specs.Sheet.{SheetForm, sheetBytes, blockCount, bitIn, usedIn, graphIn}
 use Rattle.sheet.specs.Questions.{blockOf}
@@ -27,11 +28,8 @@ module _ (t : List ℕ) where
   pub block-byte : (b q : ℕ) → q < blockBytes → getD (blockOf t b) q 0 ≡ getD t (blockBytes * b + q) 0
   block-byte b q l = getD-take blockBytes (drop (blockBytes * b) t) q 0 l ∙ getD-drop (blockBytes * b) t q 0
 
-  pub block-small : ((p : ℕ) → getD t p 0 < 256) → (b q : ℕ) → getD (blockOf t b) q 0 < 256
-  block-small small b q = go (decLt q blockBytes) where
-    go : Dec (q < blockBytes) → getD (blockOf t b) q 0 < 256
-    go (yes l) = omega (arith, block-byte b q l, small (blockBytes * b + q))
-    go (no l) = omega (arith, List·getD-eq-default (blockOf t b) 0 {n = q} (omega (arith, length-take blockBytes (drop (blockBytes * b) t))))
+  pub block-small : Bytes t → (b : ℕ) → Bytes (blockOf t b)
+  block-small small b = part-small t blockBytes (blockBytes * b) small
 
   -- a bit of the 8 bytes at p of block b, which stand at q of the sheet
   pub block-bit : (b p q i : ℕ) → q ≡ blockBytes * b + p → p + 8 ≤ blockBytes → bitIn (blockOf t b) p i ≡ bitIn t q i

@@ -12,7 +12,7 @@ use lib.ListN.{length, getD, take, length-take}
 use lib.Seq.{getD-take, ext-getD}
 use lib.Pow.{pow-pos}
 use Rattle.logic.specs.Graph.{Nodes}
-use Rattle.bitset.specs.Words.{setOf, member}
+use Rattle.bitset.specs.Words.{Bytes, setOf, member}
 use Rattle.bitset.proofs.SetLaws.{member-setOf, member-beyond}
 use Rattle.seal.specs.Seal.{blockBytes, sealed, sealRight}
 use Rattle.seal.proofs.SealLaws.{right-sealed}
@@ -22,7 +22,7 @@ use Rattle.sheet.proofs.BlockLaws.{bodyOf, length-body, body-at, head-a
 use Rattle.sheet.proofs.FreeBits.{byte-ext, bit-of-word, bit-clear, byte-clear}
 
 -- block b of a sheet with n nodes, with words for the m sets v
-module _ (φ : SheetForm) (n : ℕ) (nodes : Nodes) (b : ℕ) (k : List ℕ) (len : length k ≡ blockBytes) (small : (p : ℕ) → getD k p 0 < 256)
+module _ (φ : SheetForm) (n : ℕ) (nodes : Nodes) (b : ℕ) (k : List ℕ) (len : length k ≡ blockBytes) (small : Bytes k)
     (check : sealRight (φ .sums) k ≡ true) (zeros : zeroRight φ n nodes b k ≡ true)
     (head : List ℕ) (m : ℕ) (v : ℕ → Nodes) (h : length head ≡ 3) (fits : 16 + 8 * m ≤ φ .sums .bodyBytes)
     (heads : (p : ℕ) → p < 3 → getD k p 0 ≡ getD head p 0)

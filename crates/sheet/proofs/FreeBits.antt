@@ -20,9 +20,6 @@ use Rattle.sheet.specs.Questions.{free, zeroRight}
 pub if-clear : (b c : Bool) → b ≡ false → implies b c ≡ true
 if-clear b c e = rw e
 
-if-free : (b c : Bool) → c ≡ true → implies b c ≡ true
-if-free b c e = rw (e, or-true)
-
 pub clear : (b c : Bool) → c ≡ false → implies b c ≡ true → b ≡ false
 clear true c e h = sym h ∙ e
 clear false c e h = refl
@@ -101,7 +98,7 @@ module _ (φ : SheetForm) (n : ℕ) (nodes : Nodes) where
       (gap : (p : ℕ) → 3 ≤ p → p < φ .sums .bodyBytes → (p < 16) ⊎ (16 + 8 * m ≤ p) → getD k p 0 ≡ 0)
       (words : (p i : ℕ) → 16 ≤ p → p < 16 + 8 * m → i < 8 → implies (member (getD k p 0) i) (free φ n nodes b p i) ≡ true) where
     bit-right : (p i : ℕ) → p < φ .sums .bodyBytes → i < 8 → Dec (p < 3) → Dec (p < 16) → Dec (p < 16 + 8 * m) → implies (member (getD k p 0) i) (free φ n nodes b p i) ≡ true
-    bit-right p i l s (yes x) d e = if-free (member (getD k p 0) i) _ (head-free b p i x)
+    bit-right p i l s (yes x) d e = rw (head-free b p i x, or-true)
     bit-right p i l s (no x) (yes d) e = if-clear _ _ (no-bit _ i (gap p (omega arith) l (inl d)))
     bit-right p i l s (no x) (no d) (yes e) = words p i (omega arith) e s
     bit-right p i l s (no x) (no d) (no e) = if-clear _ _ (no-bit _ i (gap p (omega arith) l (inr (omega arith))))

@@ -4,7 +4,8 @@ use mathlib.Core.Bool.{Bool, true, false, not, _&&_, cond, and-eq-true-iff, and-
 use mathlib.Core.List.{List}
 use mathlib.Core.Logic.{⊎-elim}
 use Prim.Native.Nat.{ℕ, _+_, _-_, _*_, _/_, _%_, _^_, _≤_, _<_}
-use native.Mathlib.Nat.{eq-or-lt-of-le}
+use native.Mathlib.Nat.{eq-or-lt-of-le, le-of-suc-le-suc}
+use native.Mathlib.Numerals.{add-one}
 use native.Mathlib.Omega.{arith}
 use native.Mathlib.Decide.{decLt}
 use borrow.Author.Tests.{eq-eqb, eqb-true, lt-ltb, le-ltb, ltb-true}
@@ -15,7 +16,8 @@ use Rattle.logic.specs.Graph.{Nodes}
 use Rattle.logic.specs.Limits.{maxNodes, labelCount}
 use Rattle.logic.proofs.Below.{all-true, all-each}
 use Rattle.bitset.specs.Words.{Bytes, setOf, member, combined, wordAt}
-use Rattle.bitset.proofs.SetLaws.{member-zero, member-setOf, member-beyond}
+use Rattle.bitset.proofs.SetLaws.{setOf-lt, member-zero, member-setOf}
+use Rattle.bitset.proofs.MemberLaws.{member-small}
 use Rattle.bitset.proofs.ZeroBytes.{high-zero, zero-high, low-zero, zero-low}
 use Rattle.seal.specs.Seal.{blockBytes, Form}
 use Rattle.sheet.specs.Masks.{wordCount, zerosAt, within, zeroBut, lineMask, rowMask, ZeroWhen, Outside, Edges, Bare, Over}
@@ -50,10 +52,8 @@ module _ (k : List ℕ) where
   pub outside-more : (i j mask r x : ℕ) → i ≤ j → Outside k i j mask r → x ≡ combined (λ a b. a && not b) (wordAt k (16 + 8 * j)) mask → Outside k i (j + 1) mask (bitOr r x)
   outside-more i j mask r x l o e =
       zero-as (zero-both o (zero-word j mask x e))
-      (λ h c a b. ⊎-elim (λ q. ap (within k mask) q ∙ h .1) (λ q. h .0 c a q) (eq-or-lt-of-le (at-most c j b)))
-      (λ h. (λ c a b. h c a (omega arith), h j l (omega arith))) where
-        at-most : (c j : ℕ) → c < j + 1 → c ≤ j
-        at-most c j h = omega arith
+      (λ h c a b. ⊎-elim (λ q. ap (within k mask) q ∙ h .1) (λ q. h .0 c a q) (eq-or-lt-of-le (le-of-suc-le-suc (rw add-one at b))))
+      (λ h. (λ c a b. h c a (omega arith), h j l (omega arith)))
 
   -- the words of a set against nothing, but for those that are left
   pub record Barely (set left r : ℕ) : Type 0 where
@@ -170,10 +170,9 @@ module _ (n all closed : ℕ) (few : n ≤ maxNodes) (below : ℕ) (b : below �
   closed-is j l = rw (c, b) (member-setOf 64 _ j l ∙ ap (_&& not (member all j)) (member-setOf 64 (λ i. ltb i n) j l))
 
   pub closed-in : (j : ℕ) → member closed j ≡ true → j < wordCount
-  closed-in j m = go (decLt j 64) where
-    go : Dec (j < 64) → j < wordCount
-    go (yes l) = omega (arith, few, ltb-true j n (and-eq-true-iff (ltb j n) (not (member all j)) .0 (sym (closed-is j l) ∙ m) .0))
-    go (no l) = let z : _≡_ {A = ℕ} 0 1 = cc (sym m ∙ ap (λ (w : ℕ). member w j) c ∙ member-beyond 64 (λ i. member below i && not (member all i)) j (omega arith)) in absurd (omega arith)
+  closed-in j m =
+      let l : j < 64 = member-small 64 closed j (rw c (setOf-lt 64 _)) m in
+      omega (arith, few, ltb-true j n (and-eq-true-iff (ltb j n) (not (member all j)) .0 (sym (closed-is j l) ∙ m) .0))
 
   pub closed-nodes : (nodes : Nodes) → all ≡ setOf 64 nodes → (j : ℕ) → j < 64 → member closed j ≡ (ltb j n && not (nodes j))
   closed-nodes nodes e j l = closed-is j l ∙ rw (e, member-setOf 64 nodes j l) refl

@@ -3,7 +3,8 @@ use mathlib.Core.Logic.{_≢_, ⊎-elim}
 use mathlib.Core.Path.{_≡_, refl, sym, ap, _∙_}
 use mathlib.Core.List.{List, _++_}
 use Prim.Native.Nat.{ℕ, suc, _+_, _-_, _*_, _≤_, _<_}
-use native.Mathlib.Nat.{eq-or-lt-of-le}
+use native.Mathlib.Nat.{eq-or-lt-of-le, le-of-suc-le-suc}
+use native.Mathlib.Numerals.{add-one}
 use native.Mathlib.Omega.{arith}
 use native.Mathlib.Decide.{decLt}
 use lib.ListN.{length, take, drop, length-append, length-drop, take-append-drop}
@@ -71,11 +72,9 @@ module _ (made : ℕ → List ℕ) (t : List ℕ) where
       rw (f, e)
       (record {
         size = replaced-length l k b (u .size) h few;
-        done = λ j s. ⊎-elim (λ z. ap (blockOf (replaced l k b (u .size) h few)) z ∙ block-here l k b (u .size) h few ∙ q ∙ ap made (sym z)) (λ s. block-other l k b (u .size) h few j (λ z. omega arith) ∙ u .done j s) (eq-or-lt-of-le (at-most j b s));
+        done = λ j s. ⊎-elim (λ z. ap (blockOf (replaced l k b (u .size) h few)) z ∙ block-here l k b (u .size) h few ∙ q ∙ ap made (sym z)) (λ s. block-other l k b (u .size) h few j (λ z. omega arith) ∙ u .done j s) (eq-or-lt-of-le (le-of-suc-le-suc (rw add-one at s)));
         left = λ j s. block-other l k b (u .size) h few j (λ z. omega arith) ∙ u .left j (omega arith);
-      }) where
-        at-most : (j b : ℕ) → j < b + 1 → j ≤ b
-        at-most j b h = omega arith
+      })
 
   pub upto-all : (l u : List ℕ) (b : ℕ) → Upto made t l b → blockCount ≤ b → length u ≡ sheetBytes → ((j : ℕ) → j < blockCount → made j ≡ blockOf u j) → l ≡ u
   upto-all l u b v h size each = blocks-ext l u (v .size) size (λ j s. v .done j (omega arith) ∙ each j s)

@@ -12,6 +12,7 @@ use lib.ListN.{length, getD, take, drop, set, length-set}
 use lib.Seq.{take-set-lt, take-set-le, drop-set-add}
 use Rattle.answer.specs.Asked.{Asked, passed, refused, _>>_, is}
 use Rattle.logic.specs.Graph.{Nodes, isNode}
+use Rattle.bitset.specs.Words.{Bytes}
 use Rattle.seal.specs.Seal.{blockBytes, sealRight, exchanged}
 use Rattle.seal.proofs.SealNoticed.{change-noticed, exchange-noticed}
 use Rattle.sheet.specs.Sheet.{SheetForm, present, sheetBytes, blockCount, usedIn, graphIn}
@@ -47,63 +48,61 @@ module _ (f : SheetForm) where
           ∙ ap (λ (v : Nodes). askBlock f (getD t 2 0) v j (blockOf t j)) (nodes-0 u f ∙ ap (λ (c : List ℕ). λ i. ltb i (getD c 2 0) && usedIn f c i) first ∙ sym (nodes-0 t f))
           ∙ sound-parts f t sound .1 j (omega arith)
 
--- one block of a sheet, and the blocks before it, after a byte of it is changed
-module _ (t : List ℕ) (b : ℕ) where
-  pub block-set : (q x : ℕ) → q < blockBytes → blockOf (set t (blockBytes * b + q) x) b ≡ set (blockOf t b) q x
-  block-set q x l = ap (take blockBytes) (drop-set-add (blockBytes * b) t q x) ∙ take-set-lt blockBytes (drop (blockBytes * b) t) q x l
+-- one block of a sheet, and the blocks before it, after byte p is changed, which is byte q of the block
+module _ (t : List ℕ) (b p : ℕ) where
+  block-set : (q x : ℕ) → p ≡ blockBytes * b + q → q < blockBytes → blockOf (set t p x) b ≡ set (blockOf t b) q x
+  block-set q x e l = rw e (ap (take blockBytes) (drop-set-add (blockBytes * b) t q x) ∙ take-set-lt blockBytes (drop (blockBytes * b) t) q x l)
 
-  pub before-set : (q x j : ℕ) → j < b → blockOf (set t (blockBytes * b + q) x) j ≡ blockOf t j
-  before-set q x j l =
-      let e : blockBytes * b + q ≡ blockBytes * j + (blockBytes * (b - j) + q) = omega arith in
-      ap (λ p. take blockBytes (drop (blockBytes * j) (set t p x))) e ∙ ap (take blockBytes) (drop-set-add (blockBytes * j) t (blockBytes * (b - j) + q) x)
-      ∙ take-set-le blockBytes (drop (blockBytes * j) t) (blockBytes * (b - j) + q) x (omega arith)
+  before-set : (x j : ℕ) → blockBytes * b ≤ p → j < b → blockOf (set t p x) j ≡ blockOf t j
+  before-set x j h l =
+      let e : p ≡ blockBytes * j + (p - blockBytes * j) = omega arith in
+      ap (λ i. take blockBytes (drop (blockBytes * j) (set t i x))) e ∙ ap (take blockBytes) (drop-set-add (blockBytes * j) t (p - blockBytes * j) x)
+      ∙ take-set-le blockBytes (drop (blockBytes * j) t) (p - blockBytes * j) x (omega arith)
 
 -- Of every sound sheet whose form has a modulus above 255:
-module _ (f : SheetForm) (above : 256 ≤ f .sums .modulus) (t : List ℕ) (small : (p : ℕ) → getD t p 0 < 256) (sound : SoundIn f t) where
+module _ (f : SheetForm) (above : 256 ≤ f .sums .modulus) (t : List ℕ) (small : Bytes t) (sound : SoundIn f t) where
   n : length t ≡ sheetBytes
   n = sound-parts f t sound .0
 
   block-right : (b : ℕ) → b < blockCount → sealRight (f .sums) (blockOf t b) ≡ true
   block-right b h = block-ok f (getD t 2 0) (isNode (graphIn f t)) b (blockOf t b) (sound-parts f t sound .1 b h) .check
 
-  change-at : (b q x : ℕ) → b < blockCount → q < blockBytes → x < 256 → (x ≡ getD t (blockBytes * b + q) 0 → ⊥) → askSheetIn f (set t (blockBytes * b + q) x) ≡ refused 2 b
-  change-at b q x h l k other =
-      damaged f t (set t (blockBytes * b + q) x) b sound h (length-set t (blockBytes * b + q) x) (λ j m. before-set t b q x j m)
-      (ap (sealRight (f .sums)) (block-set t b q x l)
-      ∙ change-noticed (f .sums) above (blockOf t b) (length-block t n b h) (block-small t small b) (block-right b h) q x l k (λ e. other (e ∙ block-byte t b q l)))
-
-  exchange-at : (b q : ℕ) → b < blockCount → suc q < f .sums .bodyBytes → (getD t (blockBytes * b + q) 0 ≡ getD t (blockBytes * b + suc q) 0 → ⊥) → askSheetIn f (exchanged t (blockBytes * b + q)) ≡ refused 2 b
-  unfolding exchanged
-  exchange-at b q h l other =
-      let l2 : suc q < blockBytes = omega (arith, f .sums .whole) in
-      let l1 : q < blockBytes = omega arith in
-      let e : suc (blockBytes * b + q) ≡ blockBytes * b + suc q = omega arith in
-      let x : ℕ = getD t (blockBytes * b + q) 0 in
-      let y : ℕ = getD t (blockBytes * b + suc q) 0 in
-      let u : List ℕ = set t (blockBytes * b + q) y in
-      let ex = block-byte t b q l1 in
-      let ey = block-byte t b (suc q) l2 in
-      ap (λ i. askSheetIn f (set (set t (blockBytes * b + q) (getD t i 0)) i x)) e
-      ∙ damaged f t (set u (blockBytes * b + suc q) x) b sound h (length-set u (blockBytes * b + suc q) x ∙ length-set t (blockBytes * b + q) y)
-      (λ j m. before-set u b (suc q) x j m ∙ before-set t b q y j m)
-      (ap (sealRight (f .sums)) (block-set u b (suc q) x l2 ∙ ap (λ k. set k (suc q) x) (block-set t b q y l1) ∙ ap₂ (λ v w. set (set (blockOf t b) q v) (suc q) w) (sym ey) (sym ex))
-      ∙ exchange-noticed (f .sums) above (blockOf t b) (length-block t n b h) (block-small t small b) (block-right b h) q l (λ g. other (sym ex ∙ g ∙ ey)))
+  byte-at : (b p q : ℕ) → p ≡ blockBytes * b + q → q < blockBytes → getD (blockOf t b) q 0 ≡ getD t p 0
+  byte-at b p q e l = rw e (block-byte t b q l)
 
   -- every byte changed,
   pub sheet-change : (p x : ℕ) → p < sheetBytes → x < 256 → (x ≡ getD t p 0 → ⊥) → askSheetIn f (set t p x) ≡ refused 2 (p / blockBytes)
   sheet-change p x h k other =
-      let e : blockBytes * (p / blockBytes) + p % blockBytes ≡ p = omega arith in
-      ap (λ i. askSheetIn f (set t i x)) (sym e) ∙ change-at (p / blockBytes) (p % blockBytes) x (omega arith) (omega arith) k (λ g. other (g ∙ ap (λ i. getD t i 0) e))
+      let b : ℕ = p / blockBytes in
+      let q : ℕ = p % blockBytes in
+      let e : p ≡ blockBytes * b + q = omega arith in
+      let l : q < blockBytes = omega arith in
+      let i : b < blockCount = omega arith in
+      damaged f t (set t p x) b sound i (length-set t p x) (λ j m. before-set t b p x j (omega arith) m)
+      (ap (sealRight (f .sums)) (block-set t b p q x e l)
+      ∙ change-noticed (f .sums) above (blockOf t b) (length-block t n b i) (block-small t small b) (block-right b i) q x l k (λ g. other (g ∙ byte-at b p q e l)))
 
   -- and every two unequal neighbours of a block's body exchanged.
   pub sheet-exchange : (p : ℕ) → p < sheetBytes → suc (p % blockBytes) < f .sums .bodyBytes → (getD t p 0 ≡ getD t (suc p) 0 → ⊥) → askSheetIn f (exchanged t p) ≡ refused 2 (p / blockBytes)
+  unfolding exchanged
   sheet-exchange p h l other =
-      let e : blockBytes * (p / blockBytes) + p % blockBytes ≡ p = omega arith in
-      let g : blockBytes * (p / blockBytes) + suc (p % blockBytes) ≡ suc p = omega arith in
-      ap (λ i. askSheetIn f (exchanged t i)) (sym e) ∙ exchange-at (p / blockBytes) (p % blockBytes) (omega arith) l (λ w. other (ap (λ i. getD t i 0) (sym e) ∙ w ∙ ap (λ i. getD t i 0) g))
+      let b : ℕ = p / blockBytes in
+      let q : ℕ = p % blockBytes in
+      let e : p ≡ blockBytes * b + q = omega arith in
+      let e2 : suc p ≡ blockBytes * b + suc q = omega arith in
+      let l2 : suc q < blockBytes = omega (arith, f .sums .whole) in
+      let i : b < blockCount = omega arith in
+      let x : ℕ = getD t p 0 in
+      let y : ℕ = getD t (suc p) 0 in
+      let u : List ℕ = set t p y in
+      let ex = byte-at b p q e (omega arith) in
+      let ey = byte-at b (suc p) (suc q) e2 l2 in
+      damaged f t (set u (suc p) x) b sound i (length-set u (suc p) x ∙ length-set t p y) (λ j m. before-set u b (suc p) x j (omega arith) m ∙ before-set t b p y j (omega arith) m)
+      (ap (sealRight (f .sums)) (block-set u b (suc p) (suc q) x e2 l2 ∙ ap (λ k. set k (suc q) x) (block-set t b p q y e (omega arith)) ∙ ap₂ (λ v w. set (set (blockOf t b) q v) (suc q) w) (sym ey) (sym ex))
+      ∙ exchange-noticed (f .sums) above (blockOf t b) (length-block t n b i) (block-small t small b) (block-right b i) q l (λ g. other (sym ex ∙ g ∙ ey)))
 
 -- Today's sheets have such a form: what every caller may rely on.
-module _ (t : List ℕ) (small : (p : ℕ) → getD t p 0 < 256) (sound : Sound t) where
+module _ (t : List ℕ) (small : Bytes t) (sound : Sound t) where
   pub every-change : (p x : ℕ) → p < sheetBytes → x < 256 → (x ≡ getD t p 0 → ⊥) → askSheet (set t p x) ≡ refused 2 (p / blockBytes)
   every-change = sheet-change present (lit≤ tt) t small sound
 

@@ -16,7 +16,7 @@ use Rattle.logic.specs.Graph.{Nodes, isNode, anyBelow}
 use Rattle.logic.specs.Limits.{maxNodes, labelCount}
 use Rattle.logic.proofs.Inside.{no-node}
 use Rattle.logic.proofs.Below.{any-found, any-one}
-use Rattle.bitset.specs.Words.{setOf, member, combined, wordAt}
+use Rattle.bitset.specs.Words.{Bytes, setOf, member, combined, wordAt}
 use Rattle.bitset.proofs.SetLaws.{setOf-cong, setOf-empty, member-setOf}
 use Rattle.bitset.proofs.WordLaws.{member-wordAt}
 use Rattle.seal.specs.Seal.{sealRight}
@@ -61,7 +61,7 @@ head-used φ k b n all nodes t e x y l u =
 
 -- the word of the nodes in use
 module _ (φ : SheetForm) (t : List ℕ) (n : ℕ) (q : n ≡ getD t 2 0) where
-  pub told-held : ((p : ℕ) → getD t p 0 < 256) → (below r : ℕ) → below ≡ setOf 64 (λ j. ltb j n) → r ≡ combined _&&_ below (wordAt t (16 + 8 * labelCount)) → φ .holdsUse ≡ true → r ≡ setOf 64 (isNode (graphIn φ t))
+  pub told-held : Bytes t → (below r : ℕ) → below ≡ setOf 64 (λ j. ltb j n) → r ≡ combined _&&_ below (wordAt t (16 + 8 * labelCount)) → φ .holdsUse ≡ true → r ≡ setOf 64 (isNode (graphIn φ t))
   unfolding isNode graphIn
   told-held bytes below r b e h =
       e ∙ setOf-cong 64 _ _ (λ i l. ap₂ _&&_ (ap (λ (w : ℕ). member w i) b ∙ member-setOf 64 (λ j. ltb j n) i l ∙ ap (ltb i) q)
@@ -73,15 +73,13 @@ module _ (φ : SheetForm) (t : List ℕ) (n : ℕ) (q : n ≡ getD t 2 0) where
   told-all r e h =
       e ∙ setOf-cong 64 _ _ (λ i l. ap (ltb i) q ∙ sym (ap (ltb i (getD t 2 0) &&_) (ap (λ c. cond c (bitIn t (16 + 8 * labelCount)) (λ j. ltb j (getD t 2 0)) i) h) ∙ and-self (ltb i (getD t 2 0))))
 
-n-told : (φ : SheetForm) (t : List ℕ) → getD t 2 0 ≡ graphIn φ t .n
-n-told φ t = unfold graphIn in refl
-
 -- what is told of each block
 pub told-of : (φ : SheetForm) (t : List ℕ) (n all : ℕ) → n ≡ getD t 2 0 → (n ≤ maxNodes → all ≡ setOf 64 (isNode (graphIn φ t))) → (b : ℕ) (k : List ℕ) → k ≡ blockOf t b → Told φ k b n all (isNode (graphIn φ t))
+unfolding graphIn
 told-of φ t n all q w b k e =
     record {
       word = w;
-      below = λ i l. no-node (graphIn φ t) i (subst (λ (m : ℕ). m ≤ i) (q ∙ n-told φ t) l);
+      below = λ i l. no-node (graphIn φ t) i (subst (λ (m : ℕ). m ≤ i) q l);
       first = λ z. let f : k ≡ blockOf t 0 = e ∙ ap (blockOf t) z in (
         q ∙ sym (byte-2 t) ∙ ap (λ c. getD c 2 0) (sym f),
         λ i. ap (λ (v : Nodes). v i) (nodes-0 t φ) ∙ ap (λ (c : List ℕ). ltb i (getD c 2 0) && usedIn φ c i) (sym f),

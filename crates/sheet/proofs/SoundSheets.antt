@@ -16,6 +16,7 @@ use Rattle.logic.specs.Graph.{Graph, Nodes, isNode, anyBelow}
 use Rattle.logic.specs.Limits.{Within, maxNodes, labelCount, arrowCount}
 use Rattle.logic.proofs.Inside.{no-node}
 use Rattle.logic.proofs.Below.{any-cong}
+use Rattle.bitset.specs.Words.{Bytes}
 use Rattle.seal.specs.Seal.{blockBytes, sealRight}
 use Rattle.sheet.specs.Sheet.{sheetBytes, SheetForm, lineOf, lineCount, labelBlock, arrowBlock, storeIn, bitIn, usedIn, graphIn, blockCount}
 use Rattle.sheet.specs.Questions.{blockOf, headRight, free, zeroRight, askBlock, askBlocks, askSheetIn, SoundIn}
@@ -66,7 +67,7 @@ module _ (φ : SheetForm) where
         let (size, blocks) = is-then (eqb (length t) sheetBytes) 1 0 (askBlocks φ t blockCount 0) e in
         (eqb-true (length t) sheetBytes size, λ b l. blocks-passed blockCount 0 blocks b (omega arith) (omega arith))
 
-    module _ (small : (p : ℕ) → getD t p 0 < 256) (sound : SoundIn φ t) where
+    module _ (small : Bytes t) (sound : SoundIn φ t) where
       size : length t ≡ sheetBytes
       size = sound-parts sound .0
 
@@ -75,9 +76,6 @@ module _ (φ : SheetForm) where
 
       head : FirstHead φ (blockOf t 0)
       head = first-head φ (blockOf t 0) (ok 0 (omega arith) .heads)
-
-      n-few : getD t 2 0 ≤ maxNodes
-      n-few = subst (λ x. x ≤ maxNodes) (byte-2 t) (head .few)
 
       -- bit i of word j of block b, at q of the sheet, where nothing may be
       clear-bit : (b j q i : ℕ) → b < blockCount → 16 + 8 * suc j ≤ φ .sums .bodyBytes → q ≡ blockBytes * b + (16 + 8 * j)
@@ -106,17 +104,14 @@ module _ (φ : SheetForm) where
           guarded a arrowCount _ false (λ d. guarded i maxNodes _ false (λ e. clear-bit (suc a) i (blockBytes * (a + 1) + (16 + 8 * i)) j (omega arith) (omega (arith, rows-fit φ)) (omega arith) h) (λ e. refl))
           (λ d. refl)
 
-      some-used : anyBelow (getD t 2 0) (usedIn φ t) ≡ true
-      some-used =
-          any-cong (getD t 2 0) (usedIn φ t) (usedIn φ (blockOf t 0)) (λ i l. used-0 t φ i)
-          ∙ ap (λ n. anyBelow n (usedIn φ (blockOf t 0))) (sym (byte-2 t)) ∙ head .used
-
       sheet-within : Within g
       unfolding graphIn
       sheet-within =
           record {
-            some-node = some-used;
-            few-nodes = n-few;
+            some-node =
+                any-cong (getD t 2 0) (usedIn φ t) (usedIn φ (blockOf t 0)) (λ i l. used-0 t φ i)
+                ∙ ap (λ n. anyBelow n (usedIn φ (blockOf t 0))) (sym (byte-2 t)) ∙ head .used;
+            few-nodes = subst (λ x. x ≤ maxNodes) (byte-2 t) (head .few);
             use-below = use-in;
             labels-in = label-in;
             arrows-in = λ a. record {
@@ -174,9 +169,9 @@ module _ (φ : SheetForm) where
     pub stored : t ≡ storeIn φ (graphIn φ t)
     pub within : Within (graphIn φ t)
 
-  pub sound-is-stored : (t : List ℕ) → ((p : ℕ) → getD t p 0 < 256) → SoundIn φ t → Stored t
+  pub sound-is-stored : (t : List ℕ) → Bytes t → SoundIn φ t → Stored t
   sound-is-stored t small sound = record { stored = sheet-is t small sound; within = sheet-within t small sound }
 
   -- So each graph has one sheet: two sheets that pass and read as the same graph are the same bytes.
-  pub one-sheet : (s t : List ℕ) → ((p : ℕ) → getD s p 0 < 256) → ((p : ℕ) → getD t p 0 < 256) → SoundIn φ s → SoundIn φ t → graphIn φ s ≡ graphIn φ t → s ≡ t
+  pub one-sheet : (s t : List ℕ) → Bytes s → Bytes t → SoundIn φ s → SoundIn φ t → graphIn φ s ≡ graphIn φ t → s ≡ t
   one-sheet s t small-s small-t sound-s sound-t e = sound-is-stored s small-s sound-s .stored ∙ ap (storeIn φ) e ∙ sym (sound-is-stored t small-t sound-t .stored)

@@ -2,7 +2,7 @@
 use mathlib.Core.Path.{_≡_, sym, ap, _∙_}
 use mathlib.Core.Bool.{true, _&&_}
 use mathlib.Core.List.{List}
-use Prim.Native.Nat.{ℕ, _+_, _*_, _^_, _≤_, _<_}
+use Prim.Native.Nat.{ℕ, _+_, _*_, _≤_, _<_}
 use native.Mathlib.Nat.{lt-of-lt-of-le}
 use native.Mathlib.Omega.{arith}
 use borrow.Author.Tests.{lt-ltb}
@@ -11,17 +11,14 @@ use lib.Pow.{pow-mono}
 use Rattle.logic.specs.Graph.{Graph, Nodes, isNode}
 use Rattle.logic.proofs.Inside.{some-n}
 use Rattle.logic.specs.Limits.{Within, maxNodes, labelCount, arrowCount}
-use Rattle.bitset.specs.Words.{setOf, wordAt}
+use Rattle.bitset.specs.Words.{Bytes, setOf, wordAt}
 use Rattle.bitset.proofs.SetLaws.{setOf-lt, setOf-cong}
 use Rattle.bitset.proofs.WordLaws.{wordAt-of}
 use Rattle.seal.specs.Seal.{sealRight, blockBytes}
 use Rattle.sheet.specs.Sheet.{SheetForm, lineOf, lineCount, sheetBytes, storeIn, graphIn}
 use Rattle.sheet.specs.Questions.{blockOf, SoundIn}
-use Rattle.sheet.proofs.BlockLaws.{labelWord, line-label, label-lines, few-lines, lines-held, rowWord, label-byte, arrow-byte, length-store}
+use Rattle.sheet.proofs.BlockLaws.{byteOf, labelWord, line-label, label-lines, few-lines, lines-held, rowWord, label-byte, arrow-byte, length-store}
 use Rattle.sheet.proofs.SoundSheets.{block-ok, sound-parts, sound-is-stored}
-
-small : (n : ℕ) (v : Nodes) → n ≤ maxNodes → setOf n v < 2 ^ 64
-small n v h = let m : n ≤ 64 = omega arith in lt-of-lt-of-le (setOf-lt n v) (pow-mono m)
 
 module _ (φ : SheetForm) where
   pub sound-length : (t : List ℕ) → SoundIn φ t → length t ≡ sheetBytes
@@ -31,22 +28,22 @@ module _ (φ : SheetForm) where
   pub sound-seal : (t : List ℕ) → SoundIn φ t → sealRight (φ .sums) (take blockBytes t) ≡ true
   sound-seal t e = block-ok φ (getD t 2 0) (isNode (graphIn φ t)) 0 (blockOf t 0) (sound-parts φ t e .1 0 (omega arith)) .check
 
-  stored-line : (g : Graph) (k : ℕ) → g .n ≤ maxNodes → k < lineCount φ → wordAt (storeIn φ g) (16 + 8 * k) ≡ labelWord g k
-  stored-line g k s h = wordAt-of (storeIn φ g) (16 + 8 * k) (labelWord g k) (omega (arith, length-store φ g, few-lines φ)) (small (g .n) (lineOf g k) s) (λ j l. label-byte φ g k j h l)
-
-  stored-row : (g : Graph) (a i : ℕ) → g .n ≤ maxNodes → a < arrowCount → i < maxNodes → wordAt (storeIn φ g) (blockBytes * (a + 1) + (16 + 8 * i)) ≡ rowWord g a i
-  stored-row g a i s h l =
-      wordAt-of (storeIn φ g) (blockBytes * (a + 1) + (16 + 8 * i)) (rowWord g a i) (omega (arith, length-store φ g)) (small (g .n) (g .joined a i) s) (λ j b. arrow-byte φ g a i j h l b)
-
-  module _ (t : List ℕ) (bytes : (p : ℕ) → getD t p 0 < 256) (sound : SoundIn φ t) where
+  module _ (t : List ℕ) (bytes : Bytes t) (sound : SoundIn φ t) where
     abbrev g : Graph
     g = graphIn φ t
 
     pub sound-n : (1 ≤ g .n) × (g .n ≤ maxNodes)
     sound-n = let w : Within g = sound-is-stored φ t bytes sound .within in (some-n g w, w .few-nodes)
 
+    -- the word at p is that of a set whose bytes stand there in the sheet that stores the graph
+    stored-word : (p : ℕ) (v : Nodes) → p + 8 ≤ sheetBytes → ((j : ℕ) → j < 8 → getD (storeIn φ g) (p + j) 0 ≡ byteOf (setOf (g .n) v) j) → wordAt t p ≡ setOf (g .n) v
+    stored-word p v l e =
+        let m : g .n ≤ 64 = omega (arith, sound-n) in
+        ap (λ s. wordAt s p) (sound-is-stored φ t bytes sound .stored)
+        ∙ wordAt-of (storeIn φ g) p (setOf (g .n) v) (omega (arith, length-store φ g)) (lt-of-lt-of-le (setOf-lt (g .n) v) (pow-mono m)) e
+
     sound-line : (k : ℕ) → k < lineCount φ → wordAt t (16 + 8 * k) ≡ labelWord g k
-    sound-line k h = ap (λ s. wordAt s (16 + 8 * k)) (sound-is-stored φ t bytes sound .stored) ∙ stored-line g k (sound-n .1) h
+    sound-line k h = stored-word (16 + 8 * k) (lineOf g k) (omega (arith, few-lines φ)) (λ j l. label-byte φ g k j h l)
 
     pub sound-label : (k : ℕ) → k < labelCount → wordAt t (16 + 8 * k) ≡ setOf (g .n) (g .labelled k)
     sound-label k h = sound-line k (omega (arith, label-lines φ)) ∙ ap (setOf (g .n)) (line-label g k h)
@@ -58,4 +55,4 @@ module _ (φ : SheetForm) where
         sound-line labelCount (omega (arith, lines-held φ true e)) ∙ setOf-cong (g .n) (g .inUse) (isNode g) (λ i l. sym (ap (_&& g .inUse i) (lt-ltb i (g .n) l)))
 
     pub sound-row : (a i : ℕ) → a < arrowCount → i < g .n → wordAt t (blockBytes * (a + 1) + (16 + 8 * i)) ≡ rowWord g a i
-    sound-row a i h l = ap (λ s. wordAt s (blockBytes * (a + 1) + (16 + 8 * i))) (sound-is-stored φ t bytes sound .stored) ∙ stored-row g a i (sound-n .1) h (omega (arith, sound-n .1))
+    sound-row a i h l = stored-word (blockBytes * (a + 1) + (16 + 8 * i)) (g .joined a i) (omega (arith, sound-n .1)) (λ j b. arrow-byte φ g a i j h (omega (arith, sound-n .1)) b)

@@ -6,7 +6,7 @@ use mathlib.Core.List.{List, _++_, append-assoc}
 use Prim.Native.Nat.{ℕ, zero, suc, _+_, _-_, _*_, _≤_, _<_}
 use native.Mathlib.Nat.{eq-or-lt-of-le}
 use native.Mathlib.Omega.{arith}
-use borrow.Author.Tests.{eq-eqb, ne-eqb, eqb-true, eqb-false}
+use borrow.Author.Tests.{eqb-true, eqb-false}
 use lib.Dec.{eqb, ltb}
 use lib.ListN.{length, getD, take, drop, replicate, length-append, length-replicate}
 use lib.Seq.{take-at, drop-at}
@@ -14,6 +14,7 @@ use Rattle.logic.specs.Graph.{Graph, Nodes, Pairs}
 use Rattle.logic.specs.Limits.{Within, PairsIn, maxNodes, labelCount, arrowCount}
 use Rattle.logic.specs.Closing.{withUse}
 use Rattle.logic.specs.Steps.{update, relabel, rejoin}
+use Rattle.logic.proofs.Tables.{update-same, update-other}
 use Rattle.logic.proofs.Inside.{no-node}
 use Rattle.bitset.specs.Words.{setOf, bytes, putWord}
 use Rattle.bitset.proofs.SetLaws.{setOf-cong}
@@ -37,21 +38,12 @@ put-mid A B D at x a b =
 around : (P X B Y Z C : List ℕ) → ((P ++ (X ++ (B ++ Y))) ++ Z) ++ C ≡ (P ++ X) ++ (B ++ ((Y ++ Z) ++ C))
 around P X B Y Z C = simp append-assoc
 
-pub update-same : {A : Type 0} (f : ℕ → A) (k : ℕ) (v : A) → update f k v k ≡ v
-update-same f k v = unfold update in rw (eq-eqb k k refl)
-
-pub update-other : {A : Type 0} (f : ℕ → A) (k : ℕ) (v : A) (j : ℕ) → j ≢ k → update f k v j ≡ f j
-update-other f k v j d = unfold update in rw (ne-eqb j k d)
-
 module _ (φ : Form) where
   -- a block with any check bytes
   abbrev pub raw : List ℕ → (m : ℕ) → (ℕ → ℕ) → List ℕ → List ℕ
   raw head m f c = bodyOf φ head m f ++ c
 
   module _ (head : List ℕ) (h3 : length head ≡ 3) (m : ℕ) (c : List ℕ) where
-    words-same : (f h : ℕ → ℕ) → ((j : ℕ) → j < m → f j ≡ h j) → raw head m f c ≡ raw head m h c
-    words-same f h e = ap (λ w. (head ++ replicate 13 0 ++ w ++ replicate (padding φ m) 0) ++ c) (chunks-same m 0 _ _ (λ j a b. ap (bytes 8) (e j (omega arith))))
-
     -- a word is put into a block
     pub put-raw : (f h : ℕ → ℕ) (k x : ℕ) → k < m → h k ≡ x → ((j : ℕ) → j < m → j ≢ k → f j ≡ h j) → putWord (raw head m f c) (16 + 8 * k) x ≡ raw head m h c
     put-raw f h k x l e same =
@@ -82,7 +74,8 @@ module _ (φ : Form) where
     -- the first i words are put into a block; before the last of them it has the words of h, but for that one
     put-rows-raw : (f h : ℕ → ℕ) (rows : List ℕ) (i : ℕ) → i ≤ m → ((j : ℕ) → j < i → getD rows j 0 ≡ h j) → ((j : ℕ) → i ≤ j → j < m → f j ≡ h j) → putRows i rows (raw head m f c) ≡ raw head m h c
     unfolding putRows
-    put-rows-raw f h rows zero l new old = words-same f h (λ j b. old j (omega arith) b)
+    put-rows-raw f h rows zero l new old =
+        ap (λ w. (head ++ replicate 13 0 ++ w ++ replicate (padding φ m) 0) ++ c) (chunks-same m 0 _ _ (λ j a b. ap (bytes 8) (old j (omega arith) (omega arith))))
     put-rows-raw f h rows (suc i) l new old =
         ap (λ y. putWord y (16 + 8 * i) (getD rows i 0))
         (put-rows-raw f (update h i (f i)) rows i (omega arith) (λ j b. new j (omega arith) ∙ sym (update-other h i (f i) j (λ q. omega arith)))

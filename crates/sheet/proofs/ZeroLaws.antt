@@ -12,7 +12,7 @@ use lib.ListN.{getD}
 use Rattle.logic.specs.Graph.{Nodes, allBelow, implies}
 use Rattle.logic.specs.Limits.{maxNodes, labelCount}
 use Rattle.logic.proofs.Below.{all-cong, all-true, all-each, none-outside}
-use Rattle.bitset.specs.Words.{setOf, member, wordAt}
+use Rattle.bitset.specs.Words.{Bytes, setOf, member, wordAt}
 use Rattle.bitset.proofs.SetLaws.{setOf-empty, setOf-none, member-setOf}
 use Rattle.bitset.proofs.WordLaws.{member-wordAt}
 use Rattle.seal.specs.Seal.{Form}
@@ -49,7 +49,7 @@ but-parts φ mask k e =
     (a .0, b .0, b .1)
 
 -- a word within its mask, bit for bit
-module _ (k : List ℕ) (bytes : (p : ℕ) → getD k p 0 < 256) (node : Nodes) (j : ℕ) (h : j < wordCount) where
+module _ (k : List ℕ) (bytes : Bytes k) (node : Nodes) (j : ℕ) (h : j < wordCount) where
   abbrev word : Nodes
   word = member (wordAt k (16 + 8 * j))
 
@@ -69,15 +69,15 @@ module _ (k : List ℕ) (bytes : (p : ℕ) → getD k p 0 < 256) (node : Nodes) 
   bits-within e = within-is ∙ all-true 64 (λ r. implies (word r) (mask r)) (λ r l. bit-is r l ∙ e r l)
 
 -- a word without members has no bits, and is within every mask
-pub word-clear : (k : List ℕ) → ((p : ℕ) → getD k p 0 < 256) → (j : ℕ) → j < wordCount → within k 0 j ≡ true → (r : ℕ) → r < 64 → member (getD k (16 + 8 * j + r / 8) 0) (r % 8) ≡ false
+pub word-clear : (k : List ℕ) → Bytes k → (j : ℕ) → j < wordCount → within k 0 j ≡ true → (r : ℕ) → r < 64 → member (getD k (16 + 8 * j + r / 8) 0) (r % 8) ≡ false
 word-clear k bytes j h e r l = clear (member (getD k (16 + 8 * j + r / 8) 0) (r % 8)) false refl (within-bits k bytes (λ i. false) j h (ap (λ (m : ℕ). within k m j) (setOf-none 64) ∙ e) r l)
 
-pub within-none : (k : List ℕ) → ((p : ℕ) → getD k p 0 < 256) → (node : Nodes) (j : ℕ) → j < wordCount → within k 0 j ≡ true → within k (setOf 64 node) j ≡ true
+pub within-none : (k : List ℕ) → Bytes k → (node : Nodes) (j : ℕ) → j < wordCount → within k 0 j ≡ true → within k (setOf 64 node) j ≡ true
 within-none k bytes node j h e = bits-within k bytes node j h (λ r l. if-clear (member (getD k (16 + 8 * j + r / 8) 0) (r % 8)) (node r) (word-clear k bytes j h e r l))
 
 module _ (φ : SheetForm) where
   -- a block whose bits are free where their masks have them
-  module _ (k : List ℕ) (bytes : (p : ℕ) → getD k p 0 < 256) (n : ℕ) (nodes : Nodes) (b : ℕ) (masks : ℕ → Nodes)
+  module _ (k : List ℕ) (bytes : Bytes k) (n : ℕ) (nodes : Nodes) (b : ℕ) (masks : ℕ → Nodes)
       (gap : (p i : ℕ) → 3 ≤ p → (p < 16) ⊎ (16 + 8 * wordCount ≤ p) → free φ n nodes b p i ≡ false)
       (inner : (p i : ℕ) → 16 ≤ p → p < 16 + 8 * wordCount → free φ n nodes b p i ≡ masks ((p - 16) / 8) (p % 8 * 8 + i)) where
     module _ (e : zeroRight φ n nodes b k ≡ true) where
@@ -86,13 +86,10 @@ module _ (φ : SheetForm) where
 
       word-right : (j : ℕ) → j < wordCount → within k (setOf 64 (masks j)) j ≡ true
       word-right j l = bits-within k bytes (masks j) j (omega arith) (λ r h.
-          ap (implies (member (getD k (16 + 8 * j + r / 8) 0) (r % 8))) (sym (inner (16 + 8 * j + r / 8) (r % 8) (omega arith) (omega arith) ∙ ap₂ masks (at-row j r h) (at-node j r h)))
-          ∙ bit-free φ n nodes b k e (16 + 8 * j + r / 8) (r % 8) (omega arith) (omega arith)) where
-            at-row : (j r : ℕ) → r < 64 → (16 + 8 * j + r / 8 - 16) / 8 ≡ j
-            at-row j r h = omega arith
-
-            at-node : (j r : ℕ) → r < 64 → (16 + 8 * j + r / 8) % 8 * 8 + r % 8 ≡ r
-            at-node j r h = omega arith
+          let at-row : (16 + 8 * j + r / 8 - 16) / 8 ≡ j = omega arith in
+          let at-node : (16 + 8 * j + r / 8) % 8 * 8 + r % 8 ≡ r = omega arith in
+          ap (implies (member (getD k (16 + 8 * j + r / 8) 0) (r % 8))) (sym (inner (16 + 8 * j + r / 8) (r % 8) (omega arith) (omega arith) ∙ ap₂ masks at-row at-node))
+          ∙ bit-free φ n nodes b k e (16 + 8 * j + r / 8) (r % 8) (omega arith) (omega arith))
 
       asks : zeroBut (φ .sums) (λ j. setOf 64 (masks j)) k ≡ true
       unfolding zeroBut
@@ -121,7 +118,7 @@ module _ (φ : SheetForm) where
     by-masks = same-test _ _ answered asks
 
   -- the masks that the code has
-  module _ (k : List ℕ) (bytes : (p : ℕ) → getD k p 0 < 256) (n : ℕ) (nodes : Nodes) (b all : ℕ) (is-all : all ≡ setOf 64 nodes) where
+  module _ (k : List ℕ) (bytes : Bytes k) (n : ℕ) (nodes : Nodes) (b all : ℕ) (is-all : all ≡ setOf 64 nodes) where
     by-mask : (mask : ℕ → ℕ) (masks : ℕ → Nodes) → ((j : ℕ) → j < wordCount → mask j ≡ setOf 64 (masks j)) → zeroBut (φ .sums) mask k ≡ zeroBut (φ .sums) (λ j. setOf 64 (masks j)) k
     unfolding zeroBut
     by-mask mask masks e = ap (λ c. zerosAt k 3 13 && (c && zerosAt k (16 + 8 * wordCount) (padding (φ .sums) wordCount))) (all-cong wordCount _ _ (λ j l. ap (λ (m : ℕ). within k m j) (e j l)))

@@ -4,7 +4,8 @@ use mathlib.Core.Logic.{_↔_}
 use mathlib.Core.List.{List, [], _∷_}
 use Prim.Native.Nat.{ℕ}
 use native.Mathlib.Omega.{arith}
-use Rattle.answer.specs.Asked.{Asked, passed, refused, _>>=_}
+use Rattle.answer.specs.Asked.{passed, _>>=_}
+use Rattle.answer.proofs.AskedLaws.{bind-passed}
 use Rattle.logic.specs.Syntax.{Expr, rule}
 use Rattle.logic.specs.Graph.{Graph}
 use Rattle.logic.specs.Meaning.{value}
@@ -18,7 +19,7 @@ use Rattle.shortening.specs.Questions.{askChain, askCheck, CheckPasses}
 use Rattle.shortening.specs.SameTruth.{SameTruth}
 use Rattle.shortening.proofs.Sound.{chain-sound}
 use Rattle.shortening.proofs.StepLimits.{step-shorter, step-no-deeper, step-in-range}
-use Rattle.shortening.proofs.StepsAccepted.{WhenPassed, accepted}
+use Rattle.shortening.proofs.StepsAccepted.{accepted}
 use Rattle.shortening.proofs.OneReading.{one-rule}
 
 module _ (l : Limits) where
@@ -41,12 +42,8 @@ module _ (l : Limits) where
 pub check-passes : (carried steps sent : List ℕ) → (askCheck carried steps sent ≡ passed tt) ↔ CheckPasses carried steps sent
 unfolding askCheck _>>=_
 check-passes carried steps sent = (there, back) where
-  asked : (q : Asked (Expr rule)) → askRule (carriedLimits maxNodes) carried ≡ q → (q >>= (λ K. askChain K steps sent)) ≡ passed tt → CheckPasses carried steps sent
-  asked (passed K) e h = record { first = K; read = e; accepted = accepted K steps sent .0 h }
-  asked (refused n p) e h = absurd (subst (WhenPassed {A = Unit {0}} (λ u. ⊥)) h tt)
-
   there : askCheck carried steps sent ≡ passed tt → CheckPasses carried steps sent
-  there h = asked (askRule (carriedLimits maxNodes) carried) refl h
+  there h = let (K, read, chained) = bind-passed _ (λ K. askChain K steps sent) tt h in record { first = K; read = read; accepted = accepted K steps sent .0 chained }
 
   back : CheckPasses carried steps sent → askCheck carried steps sent ≡ passed tt
   back c = ap (_>>= (λ K. askChain K steps sent)) (c .read) ∙ accepted (c .first) steps sent .1 (c .accepted)

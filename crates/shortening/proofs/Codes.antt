@@ -16,15 +16,9 @@ unfolding put before behind
 code-put here x = sym (append-nil (code x))
 code-put (only u c) x = code-1 u (put c x) ∙ ap (head1 u ++_) (code-put c x) ∙ sym (append-assoc (head1 u) (before c) (code x ++ behind c))
 code-put (first b c y) x =
-    code-2 b (put c x) y
-    ∙ ap (λ z. head2 b ++ (z ++ code y)) (code-put c x)
-    ∙ ap (head2 b ++_) (append-assoc (before c) (code x ++ behind c) (code y) ∙ ap (before c ++_) (append-assoc (code x) (behind c) (code y)))
-    ∙ sym (append-assoc (head2 b) (before c) (code x ++ (behind c ++ code y)))
+    code-2 b (put c x) y ∙ ap (λ z. head2 b ++ (z ++ code y)) (code-put c x) ∙ simp append-assoc
 code-put (second b y c) x =
-    code-2 b y (put c x)
-    ∙ ap (λ z. head2 b ++ (code y ++ z)) (code-put c x)
-    ∙ ap (head2 b ++_) (sym (append-assoc (code y) (before c) (code x ++ behind c)))
-    ∙ sym (append-assoc (head2 b) (code y ++ before c) (code x ++ behind c))
+    code-2 b y (put c x) ∙ ap (λ z. head2 b ++ (code y ++ z)) (code-put c x) ∙ simp append-assoc
 
 pub place-in : {s t : Sort} (c : Context s t) (x : Expr s) → length (before c) < length (code (put c x))
 place-in c x = omega (arith, ap length (code-put c x), length-append (before c) (code x ++ behind c), length-append (code x) (behind c), code-some x)

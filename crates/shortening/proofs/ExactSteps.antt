@@ -5,16 +5,17 @@ use mathlib.Core.Logic.{_↔_}
 use mathlib.Core.List.{List, [], _∷_, _++_}
 use Prim.Native.Nat.{ℕ, _+_}
 use lib.ListN.{length, length-append}
+use Rattle.logic.specs.Lists.{All}
 use Rattle.logic.specs.Syntax.{Sort, node, arrow, rule, Expr}
 use Rattle.logic.specs.Arity.{build1, build2}
 use Rattle.text.specs.Code.{code}
 use Rattle.shortening.specs.Raw.{sameTerm}
 use Rattle.text.specs.Heads.{head1, head2}
 use Rattle.shortening.specs.Place.{Context, here, only, first, second, put, before}
-use Rattle.shortening.specs.Laws.{Law, laws, operand1, operand2, Made, made, unfit, numbered, Step, Fits, Chain}
+use Rattle.shortening.specs.Laws.{Law, laws, operands, Made, made, unfit, numbered, Step, Fits, Chain}
 use Rattle.shortening.specs.Checking.{mapMade, byLaw, makeStep, makeSteps}
 use Rattle.shortening.proofs.Codes.{place-in}
-use Rattle.shortening.proofs.Numbered.{_&_, Each, by-number, made-injective, unfit-not-made}
+use Rattle.shortening.proofs.Numbered.{_&_, by-number, made-injective, unfit-not-made}
 use Rattle.shortening.proofs.Same.{same-equal, equal-same}
 use Rattle.shortening.proofs.StandingTerms.{StandsIn}
 use Rattle.shortening.proofs.StepsByArity.{step-here, step-only, step-first, step-second, made-stands}
@@ -23,8 +24,8 @@ use Rattle.shortening.proofs.StepsByArity.{step-here, step-only, step-f
 abbrev Found : {s : Sort} → Law s → Type 0
 Found {s} l = (x : Expr s) → l .find (l .left x) ≡ x
 
-laws-found : (s : Sort) → Each Found (laws s)
-unfolding Each laws operand1 operand2
+laws-found : (s : Sort) → All Found (laws s)
+unfolding laws operands
 laws-found node = (λ x. refl) & (λ x. refl) & (λ x. refl) & (λ x. refl) & (λ x. refl) & (λ x. refl) & tt
 laws-found arrow = tt
 laws-found rule = (λ x. refl) & (λ x. refl) & tt
@@ -54,20 +55,11 @@ module _ (n : ℕ) where
   unfolding put before
   step-put {s} here x = step-here n x ∙ map-here (byLaw x (numbered n (laws s)))
   step-put {s} (only b c) x =
-      ap (makeStep n (build1 b (put c x))) (length-append (head1 b) (before c))
-      ∙ step-only n b (put c x) (length (before c))
-      ∙ ap (mapMade (build1 b)) (step-put c x)
-      ∙ map-map (build1 b) (put c) (byLaw x (numbered n (laws s)))
+      cc (length-append (head1 b) (before c), step-only n b (put c x) (length (before c)), step-put c x, map-map (build1 b) (put c) (byLaw x (numbered n (laws s))))
   step-put {s} (first b c y) x =
-      ap (makeStep n (build2 b (put c x) y)) (length-append (head2 b) (before c))
-      ∙ step-first n b (put c x) y (length (before c)) (place-in c x)
-      ∙ ap (mapMade (λ z. build2 b z y)) (step-put c x)
-      ∙ map-map (λ z. build2 b z y) (put c) (byLaw x (numbered n (laws s)))
+      cc (length-append (head2 b) (before c), step-first n b (put c x) y (length (before c)) (place-in c x), step-put c x, map-map (λ z. build2 b z y) (put c) (byLaw x (numbered n (laws s))))
   step-put {s} (second b y c) x =
-      ap (makeStep n (build2 b y (put c x))) (length-append (head2 b) (code y ++ before c) ∙ ap (length (head2 b) +_) (length-append (code y) (before c)))
-      ∙ step-second n b y (put c x) (length (before c))
-      ∙ ap (mapMade (build2 b y)) (step-put c x)
-      ∙ map-map (build2 b y) (put c) (byLaw x (numbered n (laws s)))
+      cc (length-append (head2 b) (code y ++ before c), length-append (code y) (before c), step-second n b y (put c x) (length (before c)), step-put c x, map-map (build2 b y) (put c) (byLaw x (numbered n (laws s))))
 
   pub fits-made : {s t : Sort} (c : Context s t) (l : Law s) → numbered n (laws s) ≡ made l → (x : Expr s) → makeStep n (put c (l .left x)) (length (before c)) ≡ made (put c (l .right x))
   fits-made c l e x = unfold mapMade in step-put c (l .left x) ∙ ap (mapMade (put c)) (by-law l x e)
@@ -110,12 +102,10 @@ step-exact x e e′ = (made-fits (x .law) e e′ (x .offset), λ f. ap₂ (makeS
 pub chain-exact : (xs : List Step) (K L : Expr rule) → (makeSteps xs K ≡ made L) ↔ Chain xs K L
 unfolding makeSteps Chain
 chain-exact [] K L = (made-injective K L, ap made)
-chain-exact (x ∷ xs) K L = (there (λ M. chain-exact xs M L .0), back (λ M. chain-exact xs M L .1)) where
-  there : ((M : Expr rule) → makeSteps xs M ≡ made L → Chain xs M L) → elim (makeStep (x .law) K (x .offset)) as (λ c. Made (Expr rule)) [ made M ↦ makeSteps xs M | unfit ↦ unfit ] ≡ made L → (M : Expr rule) × Fits x K M × Chain xs M L
-  there rest h = go (makeStep (x .law) K (x .offset)) refl h where
-    go : (m : Made (Expr rule)) → makeStep (x .law) K (x .offset) ≡ m → elim m as (λ c. Made (Expr rule)) [ made M ↦ makeSteps xs M | unfit ↦ unfit ] ≡ made L → (M : Expr rule) × Fits x K M × Chain xs M L
-    go (made M) e h = (M, step-exact x K M .0 e, rest M h)
-    go unfit e h = absurd (unfit-not-made L h)
+chain-exact (x ∷ xs) K L = (λ h. there (λ M. chain-exact xs M L .0) (makeStep (x .law) K (x .offset)) refl h, λ (M, f, c). ap goes-on (step-exact x K M .1 f) ∙ chain-exact xs M L .1 c) where
+  goes-on : Made (Expr rule) → Made (Expr rule)
+  goes-on m = elim m [ made M ↦ makeSteps xs M | unfit ↦ unfit ]
 
-  back : ((M : Expr rule) → Chain xs M L → makeSteps xs M ≡ made L) → (M : Expr rule) × Fits x K M × Chain xs M L → elim (makeStep (x .law) K (x .offset)) as (λ c. Made (Expr rule)) [ made M ↦ makeSteps xs M | unfit ↦ unfit ] ≡ made L
-  back rest (M, f, c) = ap (λ m. elim m as (λ c. Made (Expr rule)) [ made M ↦ makeSteps xs M | unfit ↦ unfit ]) (step-exact x K M .1 f) ∙ rest M c
+  there : ((M : Expr rule) → makeSteps xs M ≡ made L → Chain xs M L) → (m : Made (Expr rule)) → makeStep (x .law) K (x .offset) ≡ m → goes-on m ≡ made L → (M : Expr rule) × Fits x K M × Chain xs M L
+  there rest (made M) e h = (M, step-exact x K M .0 e, rest M h)
+  there rest unfit e h = absurd (unfit-not-made L h)

@@ -5,6 +5,7 @@ use mathlib.Core.List.{List, [], _∷_}
 use Prim.Native.Nat.{ℕ}
 use lib.Dec.{eqb}
 use borrow.Author.Tests.{eqb-true}
+use Rattle.logic.specs.Lists.{All}
 use Rattle.logic.specs.Syntax.{Sort}
 use Rattle.shortening.specs.Laws.{Law, laws, Made, made, unfit, numbered}
 
@@ -22,15 +23,11 @@ infixr 5 _&_
 abbrev pub _&_ : {A B : Type 0} → A → B → A × B
 a & b = (a, b)
 
-unfoldable pub Each : {s : Sort} → (Law s → Type 0) → List (Law s) → Type 0
-Each P [] = Unit {0}
-Each P (l ∷ ls) = P l × Each P ls
-
 -- What holds of each law and its number holds of the law with a number.
-pub by-number : {s : Sort} (P : ℕ → Law s → Type 0) → Each (λ l. P (l .number) l) (laws s) → {n : ℕ} {l : Law s} → numbered n (laws s) ≡ made l → P n l
-unfolding Each numbered
+pub by-number : {s : Sort} (P : ℕ → Law s → Type 0) → All (λ l. P (l .number) l) (laws s) → {n : ℕ} {l : Law s} → numbered n (laws s) ≡ made l → P n l
+unfolding numbered
 by-number {s} P each {n} e = subst (OfMade (P n)) e (among (laws s) each) where
-  among : (ls : List (Law s)) → Each (λ l. P (l .number) l) ls → OfMade (P n) (numbered n ls)
+  among : (ls : List (Law s)) → All (λ l. P (l .number) l) ls → OfMade (P n) (numbered n ls)
   among [] each = tt
   among (l ∷ ls) each = go (eqb n (l .number)) refl (among ls (each .1)) where
     go : (b : Bool) → eqb n (l .number) ≡ b → OfMade (P n) (numbered n ls) → OfMade (P n) (elim b [ true ↦ made l | false ↦ numbered n ls ])

@@ -10,7 +10,7 @@ use Rattle.answer.specs.Asked.{passed}
 use Rattle.logic.specs.Syntax.{Expr, rule}
 use Rattle.logic.specs.Limits.{fits}
 use Rattle.text.specs.Code.{code, bookCode}
-use Rattle.text.specs.Reading.{Limits, expr, Plan, done, number, operand, _>>=_, Entry, Fault, Read, got, fault, wrongSort, tooDeep, outOfRange, codes, choice, follow, readAs}
+use Rattle.text.specs.Reading.{Limits, expr, Format, done, number, operand, _>>=_, Entry, Fault, Read, got, fault, wrongSort, tooDeep, outOfRange, codes, choice, follow, readAs}
 use Rattle.text.specs.Questions.{askBook, askRule}
 use Rattle.text.proofs.TextReadBack.{reads}
 use Rattle.text.proofs.TextSpelling.{EachAllowed, rule-is-spelled, book-is-spelled}
@@ -45,17 +45,17 @@ agree-both true true x y why p h = h
 agree-both true false x y why p h = agree-fault x why p
 agree-both false c x y why p h = tt
 
-agree-choice : {A B : Type 0} (c : ℕ) (es : List (Entry A)) (f g : Plan A → Read B) (why : Fault) (p : ℕ) → ((e : Plan A) → Agree (f e) (g e)) → Agree (choice c es f (fault why p)) (choice c es g (fault why p))
+agree-choice : {A B : Type 0} (c : ℕ) (es : List (Entry A)) (f g : Format A → Read B) (why : Fault) (p : ℕ) → ((e : Format A) → Agree (f e) (g e)) → Agree (choice c es f (fault why p)) (choice c es g (fault why p))
 unfolding choice
 agree-choice c [] f g why p h = tt
 agree-choice {A} {B} c (e ∷ es) f g why p h = go (eqb c (e .byte)) (agree-choice c es f g why p h) where
-  go : (b : Bool) → Agree (choice c es f (fault why p)) (choice c es g (fault why p)) → Agree {A = B} (elim b [ true ↦ f (e .plan) | false ↦ choice c es f (fault why p) ]) (elim b [ true ↦ g (e .plan) | false ↦ choice c es g (fault why p) ])
-  go true k = h (e .plan)
+  go : (b : Bool) → Agree (choice c es f (fault why p)) (choice c es g (fault why p)) → Agree {A = B} (elim b [ true ↦ f (e .format) | false ↦ choice c es f (fault why p) ]) (elim b [ true ↦ g (e .format) | false ↦ choice c es g (fault why p) ])
+  go true k = h (e .format)
   go false k = k
 
 module _ (l l′ : Limits) where
-  -- So do those of a plan along a text by two limits.
-  agree : {A : Type 0} (t : List ℕ) (p : Plan A) (at : ℕ) → Agree (follow l t p at) (follow l′ t p at)
+  -- So do those of a format along a text by two limits.
+  agree : {A : Type 0} (t : List ℕ) (p : Format A) (at : ℕ) → Agree (follow l t p at) (follow l′ t p at)
   unfolding follow
   agree [] (done a) at = refl
   agree [] (number k f) at = tt
@@ -65,7 +65,7 @@ module _ (l l′ : Limits) where
   agree (c ∷ t) (operand w d f) at =
       agree-choice c (codes d w) _ _ wrongSort at (λ p. agree-both (leb d (l .deepest)) (leb d (l′ .deepest)) (follow l t (p >>= f) (suc at)) (follow l′ t (p >>= f) (suc at)) tooDeep at (agree t (p >>= f) (suc at)))
 
-  got-same : {A : Type 0} (t : List ℕ) (p : Plan A) (at : ℕ) (a b : A) (r s : List ℕ) (x y : ℕ) → follow l t p at ≡ got a r x → follow l′ t p at ≡ got b s y → got a r x ≡ got b s y
+  got-same : {A : Type 0} (t : List ℕ) (p : Format A) (at : ℕ) (a b : A) (r s : List ℕ) (x y : ℕ) → follow l t p at ≡ got a r x → follow l′ t p at ≡ got b s y → got a r x ≡ got b s y
   got-same t p at a b r s x y e e′ = subst (λ z. Agree z (got b s y)) e (subst (Agree (follow l t p at)) e′ (agree t p at))
 
   -- One rule has one reading;

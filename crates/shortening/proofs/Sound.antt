@@ -2,16 +2,17 @@
 use mathlib.Core.Path.{_≡_, refl, sym, _∙_, ap, fun-ext}
 use mathlib.Core.Bool.{Bool, true, false, not, _&&_, _||_, and-self, or-self, Bool·not-not}
 use mathlib.Core.List.{List, [], _∷_}
-use lib.Dec.{leb}
+use Rattle.logic.specs.Lists.{All}
 use Rattle.logic.specs.Syntax.{Sort, node, arrow, rule, Expr}
-use Rattle.logic.specs.Graph.{Graph, isNode, anyBelow, allBelow, countBelow, implies}
+use Rattle.logic.specs.Graph.{Graph, isNode}
 use Rattle.logic.specs.Meaning.{value}
 use Rattle.logic.specs.Limits.{Within}
+use Rattle.logic.proofs.Bools.{and-only}
 use Rattle.logic.proofs.Inside.{value-in}
 use Rattle.logic.proofs.ArityLaws.{value-1, value-2}
 use Rattle.shortening.specs.Place.{Context, here, only, first, second, put}
 use Rattle.shortening.specs.Laws.{Law, laws, Step, Fits, Chain}
-use Rattle.shortening.proofs.Numbered.{_&_, Each, by-number}
+use Rattle.shortening.proofs.Numbered.{_&_, by-number}
 
 -- A term's value goes by its operands' values.
 module _ (g : Graph) where
@@ -26,15 +27,15 @@ module _ (g : Graph) where
 abbrev pub LawSound : (g : Graph) {s : Sort} → Law s → Type 0
 LawSound g {s} l = (x : Expr s) → value g (l .left x) ≡ value g (l .right x)
 
-pub laws-sound : (g : Graph) → Within g → (s : Sort) → Each (LawSound g) (laws s)
-unfolding Each laws value
+pub laws-sound : (g : Graph) → Within g → (s : Sort) → All (LawSound g) (laws s)
+unfolding laws value
 laws-sound g w node =
     (λ E. fun-ext (λ i. twice (isNode g i) (value g E i) (value-in g w E i)))
     & (λ E. fun-ext (λ i. and-self (value g E i)))
     & (λ E. fun-ext (λ i. or-self (value g E i)))
     & (λ E. fun-ext (λ i. contrary (isNode g i) (value g E i)))
     & (λ E. fun-ext (λ i. all-or (isNode g i) (value g E i) (value-in g w E i)))
-    & (λ E. fun-ext (λ i. all-and (isNode g i) (value g E i) (value-in g w E i)))
+    & (λ E. fun-ext (λ i. and-only (isNode g i) (value g E i) (value-in g w E i)))
     & tt where
       twice : (b v : Bool) → (b ≡ false → v ≡ false) → (b && not (b && not v)) ≡ v
       twice true true h = refl
@@ -49,10 +50,6 @@ laws-sound g w node =
       all-or : (b v : Bool) → (b ≡ false → v ≡ false) → (b || v) ≡ b
       all-or true v h = refl
       all-or false v h = h refl
-
-      all-and : (b v : Bool) → (b ≡ false → v ≡ false) → (b && v) ≡ v
-      all-and true v h = refl
-      all-and false v h = sym (h refl)
 laws-sound g w arrow = tt
 laws-sound g w rule = (λ K. Bool·not-not (value g K)) & (λ K. or-self (value g K)) & tt
 

@@ -1,10 +1,11 @@
 -- After a fitting step the text is again one rule within the limits: shorter, no deeper, its numbers in range.
 -- And what the step does to the bytes.
-use mathlib.Core.Path.{_≡_, refl, sym, _∙_, ap, subst}
+use mathlib.Core.Path.{_≡_, sym, _∙_, ap, subst}
 use mathlib.Core.List.{_++_}
-use Prim.Native.Nat.{suc, _+_, max, _≤_, _<_}
+use Prim.Native.Nat.{_+_, _≤_, _<_}
 use native.Mathlib.Omega.{arith}
 use lib.ListN.{length, length-append}
+use Rattle.logic.specs.Lists.{All}
 use Rattle.logic.specs.Syntax.{Sort, node, arrow, rule, Expr, complement}
 use Rattle.logic.specs.Limits.{Ranges, InRange}
 use Rattle.logic.specs.Arity.{byArity}
@@ -14,7 +15,7 @@ use Rattle.text.proofs.HeadLaws.{levels-1, levels-2}
 use Rattle.shortening.specs.Place.{Context, here, only, first, second, put, before, behind}
 use Rattle.shortening.specs.Laws.{Law, laws, Step, Fits}
 use Rattle.shortening.proofs.Codes.{code-put}
-use Rattle.shortening.proofs.Numbered.{_&_, Each, by-number}
+use Rattle.shortening.proofs.Numbered.{_&_, by-number}
 
 -- The bytes: what stands before and behind stays.
 pub bytes-before : (x : Step) {t : Sort} (e e′ : Expr t) (f : Fits x e e′) → code e ≡ before (f .place) ++ (code (f .law .left (f .variable)) ++ behind (f .place))
@@ -27,24 +28,16 @@ bytes-after x e e′ f = ap code (f .to) ∙ code-put (f .place) (f .law .right 
 abbrev Shorter : {s : Sort} → Law s → Type 0
 Shorter {s} l = (x : Expr s) → length (code (l .right x)) < length (code (l .left x))
 
-laws-shorter : (s : Sort) → Each Shorter (laws s)
-unfolding Each laws code
+laws-shorter : (s : Sort) → All Shorter (laws s)
+unfolding laws code
 laws-shorter node = (λ x. omega arith) & (λ x. omega (arith, length-append (code x) (code x))) & (λ x. omega (arith, length-append (code x) (code x))) & (λ x. omega (arith, length-append (code x) (code (complement x)))) & (λ x. omega arith) & (λ x. omega arith) & tt
 laws-shorter arrow = tt
 laws-shorter rule = (λ x. omega arith) & (λ x. omega (arith, length-append (code x) (code x))) & tt
 
 pub step-shorter : (x : Step) {t : Sort} (e e′ : Expr t) → Fits x e e′ → length (code e′) < length (code e)
 step-shorter x e e′ f =
-    omega (
-      arith,
-      ap length (bytes-before x e e′ f),
-      ap length (bytes-after x e e′ f),
-      length-append (before (f .place)) (code (f .law .left (f .variable)) ++ behind (f .place)),
-      length-append (before (f .place)) (code (f .law .right (f .variable)) ++ behind (f .place)),
-      length-append (code (f .law .left (f .variable))) (behind (f .place)),
-      length-append (code (f .law .right (f .variable))) (behind (f .place)),
-      by-number (λ n. Shorter) (laws-shorter (f .sort)) (f .number-right) (f .variable),
-    )
+    let shorter = by-number (λ n. Shorter) (laws-shorter (f .sort)) (f .number-right) (f .variable) in
+    omega (arith, simp length-append at (ap length (bytes-before x e e′ f)), simp length-append at (ap length (bytes-after x e e′ f)))
 
 -- And no deeper.
 levels-put : {s t : Sort} (c : Context s t) (x y : Expr s) → levels x ≤ levels y → levels (put c x) ≤ levels (put c y)
@@ -57,8 +50,8 @@ levels-put (second b z c) x y h = omega (arith, levels-2 b z (put c x), levels-2
 abbrev NoDeeper : {s : Sort} → Law s → Type 0
 NoDeeper {s} l = (x : Expr s) → levels (l .right x) ≤ levels (l .left x)
 
-laws-no-deeper : (s : Sort) → Each NoDeeper (laws s)
-unfolding Each laws levels byArity
+laws-no-deeper : (s : Sort) → All NoDeeper (laws s)
+unfolding laws levels byArity
 laws-no-deeper node = (λ x. omega arith) & (λ x. omega arith) & (λ x. omega arith) & (λ x. omega arith) & (λ x. omega arith) & (λ x. omega arith) & tt
 laws-no-deeper arrow = tt
 laws-no-deeper rule = (λ x. omega arith) & (λ x. omega arith) & tt
@@ -90,8 +83,8 @@ module _ (r : Ranges) where
   abbrev InRangeToo : {s : Sort} → Law s → Type 0
   InRangeToo {s} l = (x : Expr s) → InRange r (l .left x) → InRange r (l .right x)
 
-  laws-in-range : (s : Sort) → Each InRangeToo (laws s)
-  unfolding Each laws InRange
+  laws-in-range : (s : Sort) → All InRangeToo (laws s)
+  unfolding laws InRange
   laws-in-range node = (λ x q. q) & (λ x q. q .0) & (λ x q. q .0) & (λ x q. tt) & (λ x q. tt) & (λ x q. q .1) & tt
   laws-in-range arrow = tt
   laws-in-range rule = (λ x q. q) & (λ x q. q .0) & tt

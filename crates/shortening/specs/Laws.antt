@@ -9,59 +9,38 @@ use Rattle.logic.specs.Syntax.{Sort, node, arrow, rule, Expr, all, none, label,
 use Rattle.shortening.specs.Place.{Context, put, before}
 
 -- The first and the second operand of a code whose operands are of its own sort; of another the term itself.
-unfoldable pub operand1 : {s : Sort} → Expr s → Expr s
-operand1 all = all
-operand1 none = none
-operand1 (label k) = label k
-operand1 (nominal k) = nominal k
-operand1 (complement E) = E
-operand1 (and E F) = E
-operand1 (or E F) = E
-operand1 (some R E) = some R E
-operand1 (every R E) = every R E
-operand1 (atLeast k R E) = atLeast k R E
-operand1 (atMost k R E) = atMost k R E
-operand1 (arrowKind k) = arrowKind k
-operand1 (reversed R) = R
-operand1 (union R S) = R
-operand1 (common R S) = R
-operand1 (minus R S) = R
-operand1 (endingIn R E) = endingIn R E
-operand1 (pair k l) = pair k l
-operand1 (subNodes E F) = subNodes E F
-operand1 (subArrows R S) = subArrows R S
-operand1 (nodeIn k E) = nodeIn k E
-operand1 (pairIn k l R) = pairIn k l R
-operand1 (both K L) = K
-operand1 (either K L) = K
-operand1 (notRule K) = K
+unfoldable pub operands : {s : Sort} → Expr s → Expr s × Expr s
+operands all = (all, all)
+operands none = (none, none)
+operands (label k) = (label k, label k)
+operands (nominal k) = (nominal k, nominal k)
+operands (complement E) = (E, complement E)
+operands (and E F) = (E, F)
+operands (or E F) = (E, F)
+operands (some R E) = (some R E, some R E)
+operands (every R E) = (every R E, every R E)
+operands (atLeast k R E) = (atLeast k R E, atLeast k R E)
+operands (atMost k R E) = (atMost k R E, atMost k R E)
+operands (arrowKind k) = (arrowKind k, arrowKind k)
+operands (reversed R) = (R, reversed R)
+operands (union R S) = (R, S)
+operands (common R S) = (R, S)
+operands (minus R S) = (R, S)
+operands (endingIn R E) = (endingIn R E, endingIn R E)
+operands (pair k l) = (pair k l, pair k l)
+operands (subNodes E F) = (subNodes E F, subNodes E F)
+operands (subArrows R S) = (subArrows R S, subArrows R S)
+operands (nodeIn k E) = (nodeIn k E, nodeIn k E)
+operands (pairIn k l R) = (pairIn k l R, pairIn k l R)
+operands (both K L) = (K, L)
+operands (either K L) = (K, L)
+operands (notRule K) = (K, notRule K)
 
-unfoldable pub operand2 : {s : Sort} → Expr s → Expr s
-operand2 all = all
-operand2 none = none
-operand2 (label k) = label k
-operand2 (nominal k) = nominal k
-operand2 (complement E) = complement E
-operand2 (and E F) = F
-operand2 (or E F) = F
-operand2 (some R E) = some R E
-operand2 (every R E) = every R E
-operand2 (atLeast k R E) = atLeast k R E
-operand2 (atMost k R E) = atMost k R E
-operand2 (arrowKind k) = arrowKind k
-operand2 (reversed R) = reversed R
-operand2 (union R S) = S
-operand2 (common R S) = S
-operand2 (minus R S) = S
-operand2 (endingIn R E) = endingIn R E
-operand2 (pair k l) = pair k l
-operand2 (subNodes E F) = subNodes E F
-operand2 (subArrows R S) = subArrows R S
-operand2 (nodeIn k E) = nodeIn k E
-operand2 (pairIn k l R) = pairIn k l R
-operand2 (both K L) = L
-operand2 (either K L) = L
-operand2 (notRule K) = notRule K
+abbrev pub operand1 : {s : Sort} → Expr s → Expr s
+operand1 e = operands e .0
+
+abbrev pub operand2 : {s : Sort} → Expr s → Expr s
+operand2 e = operands e .1
 
 -- A law: its number, its two sides, with one variable, and what stands for the variable in a left side (proofs/ExactSteps, `laws-found`).
 pub record Law (s : Sort) : Type 0 where

@@ -7,10 +7,11 @@ use native.Mathlib.Omega.{arith}
 use lib.Dec.{ltb, lit≤}
 use lib.ListN.{length, getD, take, drop, replicate, replicate-append-replicate}
 use Rattle.answer.specs.Asked.{Asked, refused, after}
+use Rattle.logic.proofs.Tables.{update-same, update-other}
 use Rattle.logic.specs.Graph.{Graph}
 use Rattle.logic.specs.Limits.{maxNodes, labelCount}
 use Rattle.logic.specs.Steps.{update}
-use Rattle.bitset.specs.Words.{setOf, bytes, putWord}
+use Rattle.bitset.specs.Words.{Bytes, setOf, bytes, putWord}
 use Rattle.bitset.proofs.WordLaws.{length-putWord}
 use Rattle.seal.specs.Seal.{blockBytes, Form, seal, sealed, reseal}
 use Rattle.seal.specs.declared.Modulo.{Modulo}
@@ -25,7 +26,7 @@ use Rattle.sheet.proofs.BlockLaws.{wordsOf, bodyOf, labels-fit, rows-fit, label
 use Rattle.sheet.proofs.SoundWords.{sound-length, sound-n}
 use Rattle.sheet.proofs.SoundSheets.{sound-is-stored}
 use Rattle.sheet.proofs.ReplacedBlocks.{replaced-length, block-here, block-other}
-use Rattle.sheet.proofs.WriteLaws.{update-same, update-other, put-raw, seal-raw}
+use Rattle.sheet.proofs.WriteLaws.{put-raw, seal-raw}
 use Rattle.sheet.proofs.BlankSheets.{all-used}
 use Rattle.store.proofs.StoredPasses.{stored-passes}
 use Rattle.store.proofs.StoredReads.{read-back}
@@ -63,7 +64,7 @@ module _ (φ ψ : Form) (shorter : ψ .bodyBytes ≤ φ .bodyBytes) where
           as-raw = rw (word-of-zeros, zeros) (simp append-assoc)
 
 -- An old card that passes its questions stores its graph, and the sheet made of it is sound and reads as that graph.
-module _ (f : Form) (card : List ℕ) (small : (p : ℕ) → getD card p 0 < 256) (sound : SoundIn (former f) card) where
+module _ (f : Form) (card : List ℕ) (small : Bytes card) (sound : SoundIn (former f) card) where
   abbrev g : Graph
   g = graphIn (former f) card
 
@@ -82,9 +83,6 @@ module _ (f : Form) (card : List ℕ) (small : (p : ℕ) → getD card p 0 < 256
   pub card-few : getD card 2 0 ≤ maxNodes
   card-few = unfold graphIn in sound-n (former f) card small sound .1
 
-  card-used : setOf 64 (λ i. ltb i (getD card 2 0)) ≡ setOf (g .n) (g .inUse)
-  card-used = unfold graphIn in all-used (getD card 2 0) card-few
-
   -- the card with all n nodes in use, whose blocks are then sealed
   module _ (fits : present .sums .bodyBytes ≤ f .bodyBytes) (k : List ℕ) (x : ℕ) (e : x ≡ setOf 64 (λ i. ltb i (getD card 2 0))) (q : k ≡ putWord (take blockBytes card) (16 + 8 * labelCount) x) where
     size : length card ≡ sheetBytes
@@ -100,10 +98,10 @@ module _ (f : Form) (card : List ℕ) (small : (p : ℕ) → getD card p 0 < 256
     begun-length = replaced-length card k 0 size k-length (omega arith)
 
     pub each-made : (b : ℕ) → b < blockCount → reseal (present .sums) (blockOf (k ++ drop blockBytes card) b) ≡ blockOf (store g) b
-    unfolding labelBlock arrowBlock
+    unfolding labelBlock arrowBlock graphIn
     each-made zero h =
         ap (reseal (present .sums))
-        (block-here card k 0 size k-length (omega arith) ∙ q ∙ ap₂ (λ y z. putWord y (16 + 8 * labelCount) z) (ap (λ t. blockOf t 0) card-stored ∙ first-block (former f) g) (e ∙ card-used))
+        (block-here card k 0 size k-length (omega arith) ∙ q ∙ ap₂ (λ y z. putWord y (16 + 8 * labelCount) z) (ap (λ t. blockOf t 0) card-stored ∙ first-block (former f) g) (e ∙ all-used (getD card 2 0) card-few))
         ∙ block-longer f (present .sums) fits (labelHead g) labelCount (labelWord g) refl (labelWord g) (labels-fit present) (λ j l. refl) ∙ sym (first-block present g)
     each-made (suc a) h =
         ap (reseal (present .sums)) (block-other card k 0 size k-length (omega arith) (suc a) (λ z. omega arith) ∙ ap (λ t. blockOf t (suc a)) card-stored ∙ later-block (former f) g a (omega arith))

@@ -13,12 +13,11 @@ use Rattle.answer.specs.Asked.{passed, _>>_, is}
 use Rattle.logic.specs.Graph.{Graph, Nodes, isNode, anyBelow, implies}
 use Rattle.logic.specs.Limits.{Within, maxNodes, labelCount, arrowCount}
 use Rattle.logic.proofs.Inside.{some-n}
-use Rattle.logic.proofs.Below.{any-cong}
+use Rattle.logic.proofs.Below.{any-cong, any-one}
 use Rattle.bitset.specs.Words.{setOf, member}
 use Rattle.bitset.proofs.SetLaws.{member-setOf, member-beyond}
-use Rattle.seal.specs.Seal.{sealRight}
 use Rattle.seal.proofs.SealLaws.{sealed-right}
-use Rattle.sheet.specs.Sheet.{block, SheetForm, present, lineOf, lineCount, labelBlock, arrowBlock, storeIn, store, usedIn, graphIn, Storable}
+use Rattle.sheet.specs.Sheet.{block, SheetForm, present, lineOf, lineCount, labelBlock, arrowBlock, storeIn, store, blank, usedIn, graphIn, Storable}
 use Rattle.sheet.specs.Questions.{nodeCountRight, headRight, free, zeroRight, askBlock, askBlocks, askSheetIn, SoundIn, Sound}
 use Rattle.sheet.proofs.BlockLaws.{bodyOf, length-body, head-at, front-zero, pad-zero, word-bit, labelHead, labelWord, line-label, arrowHead, rowWord, length-store, n-is, labels-fit, rows-fit, first-block, later-block}
 use Rattle.sheet.proofs.BlockParts.{used-0}
@@ -42,35 +41,27 @@ module _ (φ : SheetForm) where
       go (yes x) = ap (λ y. implies y (free φ n nodes b p i)) (member-setOf n (v ((p - 16) / 8)) (p % 8 * 8 + i) x) ∙ inside p i l u x
       go (no x) = if-clear _ _ (member-beyond n (v ((p - 16) / 8)) (p % 8 * 8 + i) (omega arith))
 
-    block-zeros : zeroRight φ n nodes b k ≡ true
-    block-zeros = zeros-right φ n nodes b k m (λ p l u w. ⊎-elim (front-zero (φ .sums) head m f h fits p l) (λ a. pad-zero (φ .sums) head m f h fits p a u) w) word-right
-
-    block-sealed : sealRight (φ .sums) k ≡ true
-    block-sealed = unfold block in sealed-right (φ .sums) (bodyOf (φ .sums) head m f) (length-body (φ .sums) head m f h fits)
-
     block-passes : headRight φ b k ≡ true → askBlock φ n nodes b k ≡ passed tt
-    block-passes e = block-right φ n nodes b k block-sealed e block-zeros
+    block-passes e =
+        block-right φ n nodes b k (unfold block in sealed-right (φ .sums) (bodyOf (φ .sums) head m f) (length-body (φ .sums) head m f h fits)) e
+        (zeros-right φ n nodes b k m (λ p l u w. ⊎-elim (front-zero (φ .sums) head m f h fits p l) (λ a. pad-zero (φ .sums) head m f h fits p a u) w) word-right)
 
   first-head-right : (k : List ℕ) (n : ℕ) → getD k 0 0 ≡ 1 → getD k 1 0 ≡ 0 → getD k 2 0 ≡ n → nodeCountRight n ≡ true → anyBelow n (usedIn φ k) ≡ true → headRight φ 0 k ≡ true
   unfolding headRight
   first-head-right k n a b c r u = ap₂ _&&_ (eq-eqb _ _ a) (ap₂ _&&_ (eq-eqb _ _ b) (ap₂ _&&_ (ap nodeCountRight c ∙ r) (ap (λ m. anyBelow m (usedIn φ k)) c ∙ u)))
 
   module _ (g : Graph) (w : Within g) where
-    -- the nodes in use, as block 0 tells them
-    used-there : Storable φ g → (i : ℕ) → usedIn φ (labelBlock φ g) i ≡ g .inUse i
-    used-there s i = unfold graphIn in ap (λ k. usedIn φ k i) (sym (first-block φ g)) ∙ sym (used-0 (storeIn φ g) φ i) ∙ ap (λ h. h .inUse i) (reads-back φ g w s)
-
     labels-pass : Storable φ g → askBlock φ (g .n) (isNode g) 0 (labelBlock φ g) ≡ passed tt
-    unfolding labelBlock free
+    unfolding labelBlock free graphIn
     labels-pass s =
+        let at = head-at (φ .sums) (labelHead g) (lineCount φ) (labelWord g) refl (labels-fit φ) in
         block-passes (labelHead g) (lineCount φ) (lineOf g) refl (labels-fit φ) (g .n) (isNode g) 0 inside
         (first-head-right (labelBlock φ g) (g .n) (at 0 (omega arith)) (at 1 (omega arith)) (at 2 (omega arith)) (ap₂ _&&_ (le-leb 1 (g .n) (some-n g w)) (le-leb (g .n) maxNodes (w .few-nodes))) used)
       where
-        at : (p : ℕ) → p < 3 → getD (block (φ .sums) (labelHead g) (lineCount φ) (labelWord g)) p 0 ≡ getD (labelHead g) p 0
-        at p l = head-at (φ .sums) (labelHead g) (lineCount φ) (labelWord g) refl (labels-fit φ) p l
-
         used : anyBelow (g .n) (usedIn φ (labelBlock φ g)) ≡ true
-        used = any-cong (g .n) (usedIn φ (labelBlock φ g)) (g .inUse) (λ i l. used-there s i) ∙ w .some-node
+        used =
+            any-cong (g .n) (usedIn φ (labelBlock φ g)) (g .inUse)
+            (λ i l. ap (λ k. usedIn φ k i) (sym (first-block φ g)) ∙ sym (used-0 (storeIn φ g) φ i) ∙ ap (λ h. h .inUse i) (reads-back φ g w s)) ∙ w .some-node
 
         -- a bit of a label that is set is a node in use; of line 48, below n
         line : (k j : ℕ) → j < g .n → (d : Bool) → (d ≡ true → lineOf g k ≡ g .labelled k) → (c : Bool) → lineOf g k j ≡ c → implies c (cond d (isNode g j) (ltb j (g .n))) ≡ true
@@ -89,11 +80,9 @@ module _ (φ : SheetForm) where
     arrows-pass : (a : ℕ) → askBlock φ (g .n) (isNode g) (suc a) (arrowBlock φ g a) ≡ passed tt
     unfolding arrowBlock headRight free
     arrows-pass a =
+        let at = head-at (φ .sums) (arrowHead a) maxNodes (rowWord g a) refl (rows-fit φ) in
         block-passes (arrowHead a) maxNodes (g .joined a) refl (rows-fit φ) (g .n) (isNode g) (suc a) inside
         (rw (at 0 (omega arith), at 1 (omega arith), at 2 (omega arith)) (rw (eq-eqb (suc a) (suc a) refl))) where
-          at : (p : ℕ) → p < 3 → getD (block (φ .sums) (arrowHead a) maxNodes (rowWord g a)) p 0 ≡ getD (arrowHead a) p 0
-          at p l = head-at (φ .sums) (arrowHead a) maxNodes (rowWord g a) refl (rows-fit φ) p l
-
           -- a bit that is set joins two nodes in use
           joins : (r j : ℕ) → (x y c : Bool) → isNode g r ≡ x → isNode g j ≡ y → g .joined a r j ≡ c → implies c (x && y) ≡ true
           joins r j x y false f h e = refl
@@ -122,3 +111,16 @@ module _ (φ : SheetForm) where
 
 pub stored-passes : (g : Graph) → Within g → Sound (store g)
 stored-passes g w = passes present g w (all-storable g)
+
+-- A blank sheet's graph is within the limits.
+pub blank-within : (n : ℕ) → 1 ≤ n → n ≤ maxNodes → Within (blank n)
+blank-within n l u =
+    record {
+      some-node = any-one n (λ i. ltb i n) 0 (omega arith) (lt-ltb 0 n (omega arith));
+      few-nodes = u;
+      use-below = λ i m. le-ltb i n m;
+      labels-in = λ k i h. refl;
+      arrows-in = λ a. record { starts = λ i j h. refl; ends = λ i j h. refl };
+      no-more-labels = λ k i m. refl;
+      no-more-arrows = λ a i j m. refl;
+    }

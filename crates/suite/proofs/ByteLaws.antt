@@ -8,7 +8,7 @@ use native.Mathlib.Decide.{decLt}
 use borrow.Author.Tests.{lt-ltb, le-ltb, ltb-true}
 use lib.Dec.{ltb}
 use lib.ListN.{getD}
-use Rattle.answer.specs.Asked.{_>>_, is, passed, refused}
+use Rattle.answer.specs.Asked.{_>>_, is, passed}
 use Rattle.logic.specs.Limits.{labelCount, arrowCount}
 use Rattle.sheet.specs.Sheet.{graphIn, graphOf}
 use Rattle.sheet.specs.Questions.{askSheet, askLabelBit, askArrowBit}

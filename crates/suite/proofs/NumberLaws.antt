@@ -1,5 +1,5 @@
 -- Numbers of an answer from those of the questions that it answers.
-use mathlib.Core.Path.{_≡_, refl}
+use mathlib.Core.Path.{_≡_, refl, _∙_, ap}
 use mathlib.Core.List.{List, []}
 use Prim.Native.Nat.{ℕ}
 use lib.ListN.{length}
@@ -8,7 +8,16 @@ use Rattle.logic.specs.Syntax.{Expr, rule}
 use Rattle.text.specs.Code.{code}
 use Rattle.text.specs.Questions.{askRuleEnd, firstRule}
 use Rattle.suite.specs.Numbers.{numbers, lengthNumbers, ruleEnd}
+use Rattle.suite.specs.declared.Numbers.{Numbers}
 use Rattle.suite.specs.declared.LengthNumbers.{LengthNumbers}
+
+-- A call answers the numbers of its questions, with what else it promises.
+module _ {B : Type 0} where
+  pub answered : {r : Numbers} {a q : Asked (Unit {0})} → r ≡ numbers a → (a ≡ q) × B → (r ≡ numbers q) × B
+  answered e f = (e ∙ ap numbers (f .0), f .1)
+
+  pub written : {r : LengthNumbers} {a q : Asked ℕ} → r ≡ lengthNumbers a → (a ≡ q) × B → (r ≡ lengthNumbers q) × B
+  written e f = (e ∙ ap lengthNumbers (f .0), f .1)
 
 -- what was learned does not show in number and place
 pub outcome-numbers : {A : Type 0} (q : Asked A) → numbers (outcome q) ≡ numbers q

@@ -7,10 +7,11 @@ use native.Mathlib.Omega.{arith}
 use lib.ListN.{length}
 use lib.Dec.{T, leb, eqb, leb→le, eqb→eq}
 use Rattle.logic.specs.Syntax.{node, arrow, rule}
+use Rattle.logic.specs.Lists.{All}
 use Rattle.logic.specs.Arity.{byArity}
 use Rattle.logic.specs.Limits.{fits, InRange, EditInRange}
 use Rattle.text.specs.Code.{code, editCode, levels, editLevels}
-use Rattle.text.specs.Reading.{Limits, Want, expr, edit, Thing, Plan, done, number, operand, _>>=_, Entry, Read, got, fault, codes, choice, follow}
+use Rattle.text.specs.Reading.{Limits, Want, expr, edit, Thing, Format, done, number, operand, _>>=_, Entry, Read, got, fault, codes, choice, follow}
 use Rattle.text.proofs.TextPlaces.{placeBehind, placeBehind-is}
 
 -- the bytes of a thing, and its levels
@@ -31,8 +32,8 @@ pub record Allowed (l : Limits) (w : Want) (d : ℕ) (e : Thing w) : Type 0 wher
   pub numbers-fit : NumbersFit l w e
   pub levels-fit : d + depth w e ≤ suc (l .deepest)
 
--- P holds of whatever the plan makes, and of the bytes before it, `pre`, with those that the plan takes
-abbrev pub Fine : Limits → {A : Type 0} → (A → List ℕ → Type 0) → Plan A → List ℕ → Type 0
+-- P holds of whatever the format makes, and of the bytes before it, `pre`, with those that the format takes
+abbrev pub Fine : Limits → {A : Type 0} → (A → List ℕ → Type 0) → Format A → List ℕ → Type 0
 Fine l P (done a) pre = P a pre
 Fine l P (number k f) pre = (x : ℕ) → T (fits (l .numbers) k x) → Fine l P (f x) (pre ++ x ∷ [])
 Fine l P (operand w d f) pre = (e : Thing w) → Allowed l w d e → Fine l P (f e) (pre ++ spelling w e)
@@ -42,12 +43,8 @@ pub record Spelled (l : Limits) (w : Want) (d : ℕ) (e : Thing w) (pre : List �
   pub same : spelling w e ≡ pre
   pub allowed : Allowed l w d e
 
-abbrev spelled : {l : Limits} (w : Want) {d : ℕ} (e : Thing w) {pre : List ℕ} → spelling w e ≡ pre → NumbersFit l w e → d + depth w e ≤ suc (l .deepest) → Spelled l w d e pre
-spelled w e s n h = record { same = s; allowed = record { numbers-fit = n; levels-fit = h } }
-
 abbrev FineAll : (l : Limits) (w : Want) (d : ℕ) → List (Entry (Thing w)) → Type 0
-FineAll l w d [] = Unit {0}
-FineAll l w d (e ∷ es) = Fine l (Spelled l w d) (e .plan) (e .byte ∷ []) × FineAll l w d es
+FineAll l w d = All (λ e. Fine l (Spelled l w d) (e .format) (e .byte ∷ []))
 
 infixr 5 _&_
 abbrev pub _&_ : {A B : Type 0} → A → B → A × B
@@ -58,53 +55,26 @@ module _ (l : Limits) (d : ℕ) (h : d ≤ l .deepest) where
   codes-fine : (w : Want) → FineAll l w d (codes d w)
   unfolding codes code editCode levels byArity editLevels InRange EditInRange _>>=_
   codes-fine (expr node) =
-      spelled (expr node) _ refl tt (omega arith)
-      & spelled (expr node) _ refl tt (omega arith)
-      & (λ k f. spelled (expr node) _ refl f (omega arith))
-      & (λ i f. spelled (expr node) _ refl f (omega arith))
-      & (λ E a. spelled (expr node) _ refl (a .numbers-fit) (omega arith))
-      & (λ E a F b. spelled (expr node) _ refl (a .numbers-fit, b .numbers-fit) (omega arith))
-      & (λ E a F b. spelled (expr node) _ refl (a .numbers-fit, b .numbers-fit) (omega arith))
-      & (λ R a E b. spelled (expr node) _ refl (a .numbers-fit, b .numbers-fit) (omega arith))
-      & (λ R a E b. spelled (expr node) _ refl (a .numbers-fit, b .numbers-fit) (omega arith))
-      & (λ m f R a E b. spelled (expr node) _ refl (f, a .numbers-fit, b .numbers-fit) (omega arith))
-      & (λ m f R a E b. spelled (expr node) _ refl (f, a .numbers-fit, b .numbers-fit) (omega arith))
-      & tt
+      search arith & search arith & (λ k f. search arith) & (λ k f. search arith) & (λ E a. search arith) & (λ E a F b. search arith) & (λ E a F b. search arith)
+      & (λ E a F b. search arith) & (λ E a F b. search arith) & (λ k f E a F b. search arith) & (λ k f E a F b. search arith) & tt
   codes-fine (expr arrow) =
-      (λ k f. spelled (expr arrow) _ refl f (omega arith))
-      & (λ R a. spelled (expr arrow) _ refl (a .numbers-fit) (omega arith))
-      & (λ R a S b. spelled (expr arrow) _ refl (a .numbers-fit, b .numbers-fit) (omega arith))
-      & (λ R a S b. spelled (expr arrow) _ refl (a .numbers-fit, b .numbers-fit) (omega arith))
-      & (λ R a S b. spelled (expr arrow) _ refl (a .numbers-fit, b .numbers-fit) (omega arith))
-      & (λ R a E b. spelled (expr arrow) _ refl (a .numbers-fit, b .numbers-fit) (omega arith))
-      & (λ i f j g. spelled (expr arrow) _ refl (f, g) (omega arith))
-      & tt
+      (λ k f. search arith) & (λ E a. search arith) & (λ E a F b. search arith) & (λ E a F b. search arith) & (λ E a F b. search arith) & (λ E a F b. search arith)
+      & (λ i f j g. search arith) & tt
   codes-fine (expr rule) =
-      (λ E a F b. spelled (expr rule) _ refl (a .numbers-fit, b .numbers-fit) (omega arith))
-      & (λ R a S b. spelled (expr rule) _ refl (a .numbers-fit, b .numbers-fit) (omega arith))
-      & (λ i f E a. spelled (expr rule) _ refl (f, a .numbers-fit) (omega arith))
-      & (λ i f j g R a. spelled (expr rule) _ refl (f, g, a .numbers-fit) (omega arith))
-      & (λ K a L b. spelled (expr rule) _ refl (a .numbers-fit, b .numbers-fit) (omega arith))
-      & (λ K a L b. spelled (expr rule) _ refl (a .numbers-fit, b .numbers-fit) (omega arith))
-      & (λ K a. spelled (expr rule) _ refl (a .numbers-fit) (omega arith))
-      & tt
+      (λ E a F b. search arith) & (λ E a F b. search arith) & (λ i f E a. search arith) & (λ i f j g R a. search arith) & (λ E a F b. search arith) & (λ E a F b. search arith)
+      & (λ E a. search arith) & tt
   codes-fine edit =
-      spelled edit _ refl tt (omega arith)
-      & (λ k f E a Z b. spelled edit _ refl (f, a .numbers-fit, b .numbers-fit) (omega arith))
-      & (λ k f E a Z b. spelled edit _ refl (f, a .numbers-fit, b .numbers-fit) (omega arith))
-      & (λ k f R a Z b. spelled edit _ refl (f, a .numbers-fit, b .numbers-fit) (omega arith))
-      & (λ k f R a Z b. spelled edit _ refl (f, a .numbers-fit, b .numbers-fit) (omega arith))
-      & (λ K a P b Q c Z e. spelled edit _ refl (a .numbers-fit, b .numbers-fit, c .numbers-fit, e .numbers-fit) (omega arith))
-      & tt
+      search arith & (λ k f E a F b. search arith) & (λ k f E a F b. search arith) & (λ k f E a F b. search arith) & (λ k f E a F b. search arith)
+      & (λ K a P b Q c Z e. search arith) & tt
 
 module _ (l : Limits) {A : Type 0} (P : A → List ℕ → Type 0) where
-  fine-bind : (w : Want) (d : ℕ) (q : Plan (Thing w)) (f : Thing w → Plan A) (pre c : List ℕ) → Fine l (Spelled l w d) q c → ((e : Thing w) → Allowed l w d e → Fine l P (f e) (pre ++ spelling w e)) → Fine l P (q >>= f) (pre ++ c)
+  fine-bind : (w : Want) (d : ℕ) (q : Format (Thing w)) (f : Thing w → Format A) (pre c : List ℕ) → Fine l (Spelled l w d) q c → ((e : Thing w) → Allowed l w d e → Fine l P (f e) (pre ++ spelling w e)) → Fine l P (q >>= f) (pre ++ c)
   unfolding _>>=_
   fine-bind w d (done e) f pre c h k = subst (λ z. Fine l P (f e) (pre ++ z)) (h .same) (k e (h .allowed))
   fine-bind w d (number κ g) f pre c h k = λ x b. rw (append-assoc pre c (x ∷ [])) (fine-bind w d (g x) f pre (c ++ x ∷ []) (h x b) k)
   fine-bind w d (operand v m g) f pre c h k = λ e b. rw (append-assoc pre c (spelling v e)) (fine-bind w d (g e) f pre (c ++ spelling v e) (h e b) k)
 
-  -- what a plan made is spelled by the bytes before it and those it took
+  -- what a format made is spelled by the bytes before it and those it took
   abbrev pub Outcome : List ℕ → List ℕ → ℕ → Read A → Type 0
   Outcome pre t at (got a r p) = (bs : List ℕ) × (t ≡ bs ++ r) × P a (pre ++ bs) × (p ≡ placeBehind bs at)
   Outcome pre t at (fault why p) = Unit {0}
@@ -119,15 +89,15 @@ module _ (l : Limits) {A : Type 0} (P : A → List ℕ → Type 0) where
   outcome-if pre t at false r q h i = i
 
   -- the table is fine where the level is within the limit, which is asked once the code is found
-  outcome-choice : (X : Type 0) (pre t : List ℕ) (at : ℕ) (w : Want) (d c : ℕ) (es : List (Entry (Thing w))) (found : Plan (Thing w) → Read A) (other : Read A) → (X → FineAll l w d es)
-      → ((q : Plan (Thing w)) → (X → Fine l (Spelled l w d) q (c ∷ [])) → Outcome pre t at (found q)) → Outcome pre t at other → Outcome pre t at (choice c es found other)
+  outcome-choice : (X : Type 0) (pre t : List ℕ) (at : ℕ) (w : Want) (d c : ℕ) (es : List (Entry (Thing w))) (found : Format (Thing w) → Read A) (other : Read A) → (X → FineAll l w d es)
+      → ((q : Format (Thing w)) → (X → Fine l (Spelled l w d) q (c ∷ [])) → Outcome pre t at (found q)) → Outcome pre t at other → Outcome pre t at (choice c es found other)
   unfolding choice
   outcome-choice X pre t at w d c [] found other h k o = o
   outcome-choice X pre t at w d c (e ∷ es) found other h k o =
-      outcome-if pre t at (eqb c (e .byte)) (found (e .plan)) (choice c es found other) (λ b. k (e .plan) (λ x. rw (eqb→eq c (e .byte) b) (h x .0)))
+      outcome-if pre t at (eqb c (e .byte)) (found (e .format)) (choice c es found other) (λ b. k (e .format) (λ x. rw (eqb→eq c (e .byte) b) (h x .0)))
       (outcome-choice X pre t at w d c es found other (λ x. h x .1) k o)
 
-  pub outcome : (t : List ℕ) (p : Plan A) (pre : List ℕ) (at : ℕ) → Fine l P p pre → Outcome pre t at (follow l t p at)
+  pub outcome : (t : List ℕ) (p : Format A) (pre : List ℕ) (at : ℕ) → Fine l P p pre → Outcome pre t at (follow l t p at)
   unfolding follow placeBehind
   outcome [] (done a) pre at h = ([], refl, rw append-nil h, refl)
   outcome [] (number k f) pre at h = tt

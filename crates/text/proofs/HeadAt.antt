@@ -5,8 +5,8 @@ use Prim.Native.Nat.{ℕ, _+_, _≤_, _<_}
 use lib.ListN.{length, getD}
 use borrow.Author.Tests.{lt-ltb, le-ltb, le-leb, lt-leb, eq-eqb, ne-eqb}
 use Rattle.text.specs.declared.Stop.the-variants.{Missing, WrongSort, TooDeep}
-use Rattle.text.specs.declared.Step.the-variants.{Next, Stopped}
-use Rattle.text.specs.Rows.{sortOf, headAt}
+use Rattle.text.specs.declared.Turn.the-variants.{Next, Stopped}
+use Rattle.text.specs.Patterns.{sortOf, headAt}
 
 module _ (text : List ℕ) (deepest x d at : ℕ) where
   pub head-ends : length text ≤ at → Stopped (Missing at) ≡ headAt text deepest x d at

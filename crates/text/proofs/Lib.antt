@@ -13,7 +13,7 @@ pub mod Marked
 pub mod Compose
 pub mod Items
 pub mod Entries
-pub mod RowTurns
+pub mod PatternTurns
 pub mod HeadAt
 pub mod NumberBytes
 pub mod Remaining

@@ -4,7 +4,7 @@ use Rattle.answer.specs.Asked.{_>>=_, _>>_, is}
 use Rattle.logic.specs.Graph.{isNode, anyBelow, allBelow, countBelow}
 use Rattle.logic.specs.Meaning.{value}
 use Rattle.logic.specs.Steps.{update, run}
-use Rattle.logic.specs.Carry.{replace, putLabel, putArrow, carry}
+use Rattle.logic.specs.Carry.{substitute, putLabel, putArrow, carry}
 use Rattle.text.specs.Code.{code}
 use Rattle.text.specs.Reading.{codes, choice, follow}
 use Rattle.text.specs.Reading as reading
@@ -13,7 +13,7 @@ use Rattle.text.specs.Marked.{sheetT, members, readOnT, judgedOnT, throu
 
 -- Examples 1 to 10: from the printed bytes to what is printed.
 pub marked : Right examples
-unfolding examples readOnT judgedOnT throughOnT sheetT members value isNode anyBelow allBelow countBelow update run replace putLabel putArrow carry code first whole askFirst askOne _>>=_ _>>_ is codes choice follow reading._>>=_
+unfolding examples readOnT judgedOnT throughOnT sheetT members value isNode anyBelow allBelow countBelow update run substitute putLabel putArrow carry code first whole askFirst askOne _>>=_ _>>_ is codes choice follow reading._>>=_
 marked = refl
 
 -- The faults and their places.

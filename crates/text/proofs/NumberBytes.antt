@@ -11,37 +11,37 @@ use lib.Seq.{drop-cons}
 use borrow.Author.Tests.{le-leb, lt-leb}
 use Rattle.logic.specs.Limits.{Kind, labelCount, arrowCount, Ranges, fits}
 use Rattle.text.specs.declared.Stop.the-variants.{Missing, OutOfRange}
-use Rattle.text.specs.declared.Step.the-variants.{Next, Stopped}
+use Rattle.text.specs.declared.Turn.the-variants.{Next, Stopped}
 use Rattle.text.specs.Reading.{Limits, number, Read, fault, outOfRange, follow}
-use Rattle.text.specs.Rows.{takes, items, itemOf, itemPlan, finished, numberFits, stopOf, stepOf, stepAt}
+use Rattle.text.specs.Patterns.{takes, items, itemOf, itemFormat, finished, numberFits, stopOf, turnOf, turnAt}
 use Rattle.text.proofs.Items.{is-number}
 
 module _ (text : List ℕ) (ρ : Limits) where
   -- A number of a kind.
-  pub number-missing : (k : Kind) (d at : ℕ) → length text ≤ at → stepAt text ρ (itemPlan (takes k) d finished) at ≡ Stopped (Missing at)
-  number-missing k d at h = unfold itemPlan stepAt stepOf stopOf follow in rw (drop-of-length-le text h) refl
+  pub number-missing : (k : Kind) (d at : ℕ) → length text ≤ at → turnAt text ρ (itemFormat (takes k) d finished) at ≡ Stopped (Missing at)
+  number-missing k d at h = unfold itemFormat turnAt turnOf stopOf follow in rw (drop-of-length-le text h) refl
 
-  pub number-there : (k : Kind) (d at : ℕ) → at < length text → stepAt text ρ (itemPlan (takes k) d finished) at ≡ cond (fits (ρ .numbers) k (getD text at 0)) (Next (at + 1)) (Stopped (OutOfRange at))
-  unfolding itemPlan stepAt stepOf stopOf follow
-  number-there k d at h = ap (λ z. stepOf (follow ρ z (number k (λ x. finished)) at)) (drop-cons text at 0 h) ∙ go (fits (ρ .numbers) k (getD text at 0)) (drop (suc at) text) where
-    next : (t : List ℕ) → stepOf (follow ρ t finished (suc at)) ≡ Next (at + 1)
+  pub number-there : (k : Kind) (d at : ℕ) → at < length text → turnAt text ρ (itemFormat (takes k) d finished) at ≡ cond (fits (ρ .numbers) k (getD text at 0)) (Next (at + 1)) (Stopped (OutOfRange at))
+  unfolding itemFormat turnAt turnOf stopOf follow
+  number-there k d at h = ap (λ z. turnOf (follow ρ z (number k (λ x. finished)) at)) (drop-cons text at 0 h) ∙ go (fits (ρ .numbers) k (getD text at 0)) (drop (suc at) text) where
+    next : (t : List ℕ) → turnOf (follow ρ t finished (suc at)) ≡ Next (at + 1)
     next [] = ap Next (sym (add-one at))
     next (x ∷ t) = ap Next (sym (add-one at))
 
-    go : (b : Bool) (t : List ℕ) → stepOf {A = Unit {0}} (elim b as (λ z. Read (Unit {0})) [ true ↦ follow ρ t finished (suc at) | false ↦ fault outOfRange at ]) ≡ cond b (Next (at + 1)) (Stopped (OutOfRange at))
+    go : (b : Bool) (t : List ℕ) → turnOf {A = Unit {0}} (elim b as (λ z. Read (Unit {0})) [ true ↦ follow ρ t finished (suc at) | false ↦ fault outOfRange at ]) ≡ cond b (Next (at + 1)) (Stopped (OutOfRange at))
     go true t = next t
     go false t = refl
 
 -- An item that is a number, by its digit: it is missing, or in its range or not.
 module _ (text : List ℕ) (ρ : Limits) (x d at : ℕ) (low : 3 ≤ x) (high : x < 8) where
-  pub number-ends : length text ≤ at → stepAt text ρ (itemPlan (itemOf x) d finished) at ≡ Stopped (Missing at)
-  number-ends h = let q = is-number x low high in ap (λ i. stepAt text ρ (itemPlan i d finished) at) (q .item-is) ∙ number-missing text ρ (q .kind) d at h
+  pub number-ends : length text ≤ at → turnAt text ρ (itemFormat (itemOf x) d finished) at ≡ Stopped (Missing at)
+  number-ends h = let q = is-number x low high in ap (λ i. turnAt text ρ (itemFormat i d finished) at) (q .item-is) ∙ number-missing text ρ (q .kind) d at h
 
-  pub number-is : (b : Bool) → at < length text → numberFits (ρ .numbers) (itemOf x) (getD text at 0) ≡ b → stepAt text ρ (itemPlan (itemOf x) d finished) at ≡ cond b (Next (at + 1)) (Stopped (OutOfRange at))
+  pub number-is : (b : Bool) → at < length text → numberFits (ρ .numbers) (itemOf x) (getD text at 0) ≡ b → turnAt text ρ (itemFormat (itemOf x) d finished) at ≡ cond b (Next (at + 1)) (Stopped (OutOfRange at))
   unfolding numberFits
   number-is b h e =
       let q = is-number x low high in
-      ap (λ i. stepAt text ρ (itemPlan i d finished) at) (q .item-is)
+      ap (λ i. turnAt text ρ (itemFormat i d finished) at) (q .item-is)
       ∙ number-there text ρ (q .kind) d at h
       ∙ ap (λ c. cond c (Next (at + 1)) (Stopped (OutOfRange at))) (sym (ap (λ i. numberFits (ρ .numbers) i (getD text at 0)) (q .item-is)) ∙ e)
 

@@ -7,10 +7,12 @@ use lib.ListN.{length, take, drop, length-append, take-append-drop}
 use lib.Seq.{drop-append-seam}
 use Rattle.answer.specs.Asked.{passed}
 use Rattle.logic.specs.Syntax.{Expr, rule}
+use Rattle.logic.proofs.ListLaws.{all-drop}
 use Rattle.text.specs.Code.{code, bookCode}
 use Rattle.text.specs.Reading.{Limits, expr, Fault, got, fault, follow, readAs}
 use Rattle.text.specs.Questions.{rulesEnd, ruleStart, askBook}
 use Rattle.text.specs.Stands.{Stands}
+use Rattle.text.proofs.Converse.{Allowed}
 use Rattle.text.proofs.TextReadBack.{reads}
 use Rattle.text.proofs.TextSpelling.{EachAllowed, book-is-spelled}
 
@@ -43,11 +45,6 @@ module _ (l : Limits) where
       ∙ end-is i book (at + length (code K)) (a .1)
       ∙ omega (arith, length-append (code K) (bookCode (take i book)))
 
-  each-from : (i : ℕ) (book : List (Expr rule)) → EachAllowed l book → EachAllowed l (drop i book)
-  each-from zero book a = a
-  each-from (suc i) [] a = tt
-  each-from (suc i) (K ∷ book) a = each-from i book (a .1)
-
   -- RULE i OF A BOOK THAT PASSES STANDS AT ruleStart, and its code begins there.
   pub rule-stands : (t : List ℕ) (book : List (Expr rule)) → askBook l t ≡ passed book → (i : ℕ) → RuleStands l t book i
   unfolding ruleStart bookCode
@@ -59,5 +56,5 @@ module _ (l : Limits) where
       record {
         place-is = place;
         left-is = left;
-        stands = λ K others e. record { rest = bookCode others; here = left ∙ ap bookCode e; range = subst (EachAllowed l) e (each-from i book (s .rules)) .0 .numbers-fit };
+        stands = λ K others e. record { rest = bookCode others; here = left ∙ ap bookCode e; range = subst (EachAllowed l) e (all-drop (Allowed l (expr rule) 1) i book (s .rules)) .0 .numbers-fit };
       }

@@ -13,7 +13,7 @@ use Rattle.logic.specs.Limits.{Kind, labelNumber, arrowNumber, nodeNumber, leas
 use Rattle.text.specs.Code.{code, editCode, levels, editLevels}
 use Rattle.text.specs.Heads.{head0, head1, head2}
 use Rattle.text.proofs.HeadLaws.{code-0, code-1, code-2, levels-0, levels-1, levels-2}
-use Rattle.text.specs.Reading.{Limits, Want, expr, edit, Thing, Plan, done, operand, _>>=_, got, codes, choice, follow}
+use Rattle.text.specs.Reading.{Limits, Want, expr, edit, Thing, Format, done, operand, _>>=_, got, codes, choice, follow}
 use Rattle.text.proofs.TextPlaces.{placeBehind, placeBehind-is, placeBehind-append}
 use Rattle.text.proofs.Converse.{spelling, Allowed}
 
@@ -26,9 +26,9 @@ regroup a b c t = simp append-assoc
 module _ (l : Limits) where
   -- the bytes of e, wanted at level d, are read as e
   abbrev pub Back : (w : Want) (d : ℕ) → Thing w → Type 1
-  Back w d e = (A : Type 0) (f : Thing w → Plan A) (t : List ℕ) (at : ℕ) → follow l (spelling w e ++ t) (operand w d f) at ≡ follow l t (f e) (placeBehind (spelling w e) at)
+  Back w d e = (A : Type 0) (f : Thing w → Format A) (t : List ℕ) (at : ℕ) → follow l (spelling w e ++ t) (operand w d f) at ≡ follow l t (f e) (placeBehind (spelling w e) at)
 
-  two : (w w′ : Want) (d d′ : ℕ) (e : Thing w) (e′ : Thing w′) → Back w d e → Back w′ d′ e′ → (A : Type 0) (f : Thing w → Thing w′ → Plan A) (t : List ℕ) (at : ℕ)
+  two : (w w′ : Want) (d d′ : ℕ) (e : Thing w) (e′ : Thing w′) → Back w d e → Back w′ d′ e′ → (A : Type 0) (f : Thing w → Thing w′ → Format A) (t : List ℕ) (at : ℕ)
       → follow l (spelling w e ++ spelling w′ e′ ++ t) (operand w d (λ x. operand w′ d′ (f x))) at ≡ follow l t (f e e′) (placeBehind (spelling w e ++ spelling w′ e′) at)
   two w w′ d d′ e e′ b b′ A f t at =
       rw (append-assoc (spelling w e) (spelling w′ e′) t)
@@ -44,9 +44,9 @@ module _ (l : Limits) where
 
   -- A code that is allowed at level d is read, with its numbers, and its operands are wanted one level deeper.
   module _ (d : ℕ) (h : d ≤ l .deepest) {A : Type 0} where
-    head-0 : {s : Sort} (b : Nullary s) → Fit (l .numbers) (numbers0 b) → (f : Expr s → Plan A) (t : List ℕ) (at : ℕ)
+    head-0 : {s : Sort} (b : Nullary s) → Fit (l .numbers) (numbers0 b) → (f : Expr s → Format A) (t : List ℕ) (at : ℕ)
         → follow l (head0 b ++ t) (operand (expr s) d f) at ≡ follow l t (f (build0 b)) (placeBehind (head0 b) at)
-    unfolding head0 build0 Fit placeBehind follow choice codes _>>=_
+    unfolding head0 build0 placeBehind follow choice codes _>>=_
     head-0 all· r f t at = opened d h _ _
     head-0 none· r f t at = opened d h _ _
     head-0 (label· k) r f t at = opened d h _ _ ∙ fitting labelNumber k (r .0) _ _
@@ -54,19 +54,19 @@ module _ (l : Limits) where
     head-0 (arrowKind· a) r f t at = opened d h _ _ ∙ fitting arrowNumber a (r .0) _ _
     head-0 (pair· i j) r f t at = opened d h _ _ ∙ fitting nodeNumber i (r .0) _ _ ∙ fitting nodeNumber j (r .1 .0) _ _
 
-    head-1 : {u v : Sort} (b : Unary u v) → Fit (l .numbers) (numbers1 b) → (f : Expr v → Plan A) (t : List ℕ) (at : ℕ)
+    head-1 : {u v : Sort} (b : Unary u v) → Fit (l .numbers) (numbers1 b) → (f : Expr v → Format A) (t : List ℕ) (at : ℕ)
         → follow l (head1 b ++ t) (operand (expr v) d f) at ≡ follow l t (operand (expr u) (suc d) (λ x. f (build1 b x))) (placeBehind (head1 b) at)
-    unfolding head1 build1 Fit placeBehind follow choice codes _>>=_
+    unfolding head1 build1 placeBehind follow choice codes _>>=_
     head-1 complement· r f t at = opened d h _ _
     head-1 reversed· r f t at = opened d h _ _
     head-1 (nodeIn· i) r f t at = opened d h _ _ ∙ fitting nodeNumber i (r .0) _ _
     head-1 (pairIn· i j) r f t at = opened d h _ _ ∙ fitting nodeNumber i (r .0) _ _ ∙ fitting nodeNumber j (r .1 .0) _ _
     head-1 notRule· r f t at = opened d h _ _
 
-    head-2 : {u v w : Sort} (b : Binary u v w) → Fit (l .numbers) (numbers2 b) → (f : Expr w → Plan A) (t : List ℕ) (at : ℕ)
+    head-2 : {u v w : Sort} (b : Binary u v w) → Fit (l .numbers) (numbers2 b) → (f : Expr w → Format A) (t : List ℕ) (at : ℕ)
         → follow l (head2 b ++ t) (operand (expr w) d f) at
         ≡ follow l t (operand (expr u) (suc d) (λ x. operand (expr v) (suc d) (λ y. f (build2 b x y)))) (placeBehind (head2 b) at)
-    unfolding head2 build2 Fit placeBehind follow choice codes _>>=_
+    unfolding head2 build2 placeBehind follow choice codes _>>=_
     head-2 and· r f t at = opened d h _ _
     head-2 or· r f t at = opened d h _ _
     head-2 some· r f t at = opened d h _ _
@@ -113,20 +113,16 @@ module _ (l : Limits) where
   unfolding editCode editLevels EditInRange placeBehind follow choice codes _>>=_
   edit-back finish d h r A f t at = opened d (omega arith) _ _
   edit-back (addLabel k E Z) d h r A f t at =
-      opened d (omega arith) _ _
-      ∙ fitting labelNumber k (r .0) _ _
+      opened d (omega arith) _ _ ∙ fitting labelNumber k (r .0) _ _
       ∙ two (expr node) edit (suc d) d E Z (expr-back E (suc d) (omega arith) (r .1)) (edit-back Z d (omega arith) (r .2)) A (λ x y. f (addLabel k x y)) t (suc (suc at))
   edit-back (takeLabel k E Z) d h r A f t at =
-      opened d (omega arith) _ _
-      ∙ fitting labelNumber k (r .0) _ _
+      opened d (omega arith) _ _ ∙ fitting labelNumber k (r .0) _ _
       ∙ two (expr node) edit (suc d) d E Z (expr-back E (suc d) (omega arith) (r .1)) (edit-back Z d (omega arith) (r .2)) A (λ x y. f (takeLabel k x y)) t (suc (suc at))
   edit-back (addArrow a R Z) d h r A f t at =
-      opened d (omega arith) _ _
-      ∙ fitting arrowNumber a (r .0) _ _
+      opened d (omega arith) _ _ ∙ fitting arrowNumber a (r .0) _ _
       ∙ two (expr arrow) edit (suc d) d R Z (expr-back R (suc d) (omega arith) (r .1)) (edit-back Z d (omega arith) (r .2)) A (λ x y. f (addArrow a x y)) t (suc (suc at))
   edit-back (takeArrow a R Z) d h r A f t at =
-      opened d (omega arith) _ _
-      ∙ fitting arrowNumber a (r .0) _ _
+      opened d (omega arith) _ _ ∙ fitting arrowNumber a (r .0) _ _
       ∙ two (expr arrow) edit (suc d) d R Z (expr-back R (suc d) (omega arith) (r .1)) (edit-back Z d (omega arith) (r .2)) A (λ x y. f (takeArrow a x y)) t (suc (suc at))
   edit-back (choose K P Q Z) d h r A f t at =
       opened d (omega arith) _ _

@@ -12,7 +12,7 @@ use Rattle.answer.specs.Asked.{_>>=_, passed, refused}
 use Rattle.answer.proofs.Refusals.{Refuses, passes, refuses, asked-refuses, bind-refuses, wider}
 use Rattle.logic.specs.Syntax.{Expr, rule}
 use Rattle.logic.specs.Limits.{fits}
-use Rattle.text.specs.Reading.{Limits, Want, Thing, expr, edit, Plan, done, number, operand, Entry, Fault, missing, wrongSort, tooDeep, outOfRange, Read, got, fault, codes, choice, follow, readAs}
+use Rattle.text.specs.Reading.{Limits, Want, Thing, expr, edit, Format, done, number, operand, Entry, Fault, missing, wrongSort, tooDeep, outOfRange, Read, got, fault, codes, choice, follow, readAs}
 use Rattle.text.specs.Reading as reading
 use Rattle.text.specs.Questions.{faultNumber, mostRules, whole, readRules, askBook, askOne, askEdit}
 
@@ -26,12 +26,12 @@ module _ (l : Limits) {A : Type 0} where
   if-inside true h i = h
   if-inside false h i = i
 
-  choice-inside : {B : Type 0} {end : ℕ} (c : ℕ) (es : List (Entry B)) {found : Plan B → Read A} {other : Read A} → ((p : Plan B) → Inside end (found p)) → Inside end other → Inside end (choice c es found other)
+  choice-inside : {B : Type 0} {end : ℕ} (c : ℕ) (es : List (Entry B)) {found : Format B → Read A} {other : Read A} → ((p : Format B) → Inside end (found p)) → Inside end other → Inside end (choice c es found other)
   unfolding choice
   choice-inside c [] h i = i
-  choice-inside c (e ∷ es) h i = if-inside (eqb c (e .byte)) (h (e .plan)) (choice-inside c es h i)
+  choice-inside c (e ∷ es) h i = if-inside (eqb c (e .byte)) (h (e .format)) (choice-inside c es h i)
 
-  follow-inside : (t : List ℕ) (p : Plan A) (at : ℕ) {end : ℕ} → at + length t ≡ end → Inside end (follow l t p at)
+  follow-inside : (t : List ℕ) (p : Format A) (at : ℕ) {end : ℕ} → at + length t ≡ end → Inside end (follow l t p at)
   unfolding follow
   follow-inside [] (done a) at h = left h
   follow-inside [] (number k f) at h = at-fault at (omega arith)

@@ -12,6 +12,8 @@ use Rattle.answer.specs.Asked.{Asked, passed, refused, _>>=_, _>>_, after}
 use Rattle.answer.proofs.AskedLaws.{passed-same, refused-not-passed, is-then, so-then}
 use Rattle.logic.specs.Syntax.{Expr, rule, Edit}
 use Rattle.logic.specs.Limits.{maxNodes}
+use Rattle.logic.specs.Lists.{All}
+use Rattle.logic.proofs.ListLaws.{all-so}
 use Rattle.text.specs.Code.{code, editCode, bookCode}
 use Rattle.text.specs.Part.{PartOf}
 use Rattle.text.specs.Reading.{mostRules, Limits, textLimits, Want, Thing, expr, edit, Fault, Read, got, fault, follow, readAs}
@@ -21,13 +23,10 @@ use Rattle.text.proofs.Converse.{spelling, Allowed, Written, Wrote, wro
 use Rattle.text.proofs.TextReadBack.{reads}
 
 abbrev pub EachAllowed : Limits → List (Expr rule) → Type 0
-EachAllowed l [] = Unit {0}
-EachAllowed l (K ∷ book) = Allowed l (expr rule) 1 K × EachAllowed l book
+EachAllowed l book = All (Allowed l (expr rule) 1) book
 
 pub rules-in-range : (l : Limits) (rules : List (Expr rule)) → EachAllowed l rules → RulesInRange (l .numbers) rules
-unfolding RulesInRange
-rules-in-range l [] h = tt
-rules-in-range l (K ∷ Ks) h = (h .0 .numbers-fit, rules-in-range l Ks (h .1))
+rules-in-range l = all-so (λ K a. a .numbers-fit)
 
 -- A text that spells a book of at most m rules within the limits.
 pub record SpellsRules (l : Limits) (m : ℕ) (t : List ℕ) (book : List (Expr rule)) : Type 0 where

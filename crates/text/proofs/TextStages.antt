@@ -11,27 +11,32 @@ use Rattle.answer.proofs.AskedLaws.{so-then, not-then, outcome-ends, after-ends
 use Rattle.logic.specs.Syntax.{rule, Expr}
 use Rattle.logic.specs.Limits.{maxNodes}
 use Rattle.text.specs.declared.Stop.{Stop}
-use Rattle.text.specs.declared.Step.the-variants.{Next, Stopped}
+use Rattle.text.specs.declared.Turn.{Turn}
+use Rattle.text.specs.declared.Turn.the-variants.{Next, Stopped}
 use Rattle.text.specs.Code.{code}
 use Rattle.text.specs.Reading.{mostRules, Limits, textLimits, Want, Thing, expr, operand, done, Fault, missing, wrongSort, tooDeep, outOfRange, Read, got, fault, follow, readAs}
 use Rattle.text.specs.Questions.{faultNumber, first, whole, readRules, rulesEnd, askBook, askFirst, askOne, askRuleEnd, firstRule}
-use Rattle.text.specs.Rows.{rowPlan, stopOf, stepOf, stepAt, stepAnswer}
+use Rattle.text.specs.Patterns.{patternFormat, stopOf, turnOf, turnAt, turnAnswer}
 use Rattle.text.proofs.Converse.{read-is-written}
 use Rattle.text.proofs.TextSpelling.{rules-step, rules-fault}
 use Rattle.text.proofs.RuleStart.{end-step, end-fault}
-use Rattle.text.proofs.Compose.{same-operand, same-end, alike-steps, ReachedBy, reached}
-use Rattle.text.proofs.Items.{digit, here-row, here-digit}
+use Rattle.text.proofs.Compose.{same-operand, same-end, alike-turns, ReachedBy, reached}
+use Rattle.text.proofs.Items.{digit, here-pattern, here-digit}
 
 -- what a fault answers
-stop-answer : (base : ℕ) (why : Fault) (p : ℕ) → stepAnswer base (Stopped (stopOf why p)) ≡ refused (faultNumber base why) p
+stop-answer : (base : ℕ) (why : Fault) (p : ℕ) → turnAnswer base (Stopped (stopOf why p)) ≡ refused (faultNumber base why) p
 unfolding stopOf
 stop-answer base missing p = refl
 stop-answer base wrongSort p = refl
 stop-answer base tooDeep p = refl
 stop-answer base outOfRange p = refl
 
-step-not : {P : Type 0} {p : ℕ} {s : Stop} → Next p ≡ Stopped s → P
-step-not e = let z : _≡_ {A = ℕ} 0 1 = cc in absurd (omega arith)
+-- what a turn answers that is told part by part
+pub answer-told : (base : ℕ) {t : Turn} {s s′ : Stop} → t ≡ Stopped s → s ≡ s′ → turnAnswer base (Stopped s′) ≡ turnAnswer base t
+answer-told base e f = sym (ap (turnAnswer base) (e ∙ ap Stopped f))
+
+turn-not : {P : Type 0} {p : ℕ} {s : Stop} → Next p ≡ Stopped s → P
+turn-not e = let z : _≡_ {A = ℕ} 0 1 = cc in absurd (omega arith)
 
 -- What the code has read at a place: a thing that ends at p; or a fault.
 pub record WasRead (t : List ℕ) (ρ : Limits) (w : Want) (at p : ℕ) : Type 0 where
@@ -45,28 +50,28 @@ record WasFault (t : List ℕ) (ρ : Limits) (w : Want) (at : ℕ) : Type 0 wher
   reading : readAs ρ w (drop at t) at ≡ fault why place
 
 module _ (t : List ℕ) (ρ : Limits) where
-  -- a row of one thing reads that thing
-  one-thing : (w : Want) (at : ℕ) → stepAt t ρ (rowPlan (digit w) 1) at ≡ stepOf (readAs ρ w (drop at t) at)
-  unfolding stepAt
-  one-thing w at = ap (λ z. stepOf (follow ρ (drop at t) z at)) (here-row (digit w) 1 w (here-digit w)) ∙ alike-steps ρ (same-operand (λ e. same-end)) (drop at t) at
+  -- a pattern of one thing reads that thing
+  one-thing : (w : Want) (at : ℕ) → turnAt t ρ (patternFormat (digit w) 1) at ≡ turnOf (readAs ρ w (drop at t) at)
+  unfolding turnAt
+  one-thing w at = ap (λ z. turnOf (follow ρ (drop at t) z at)) (here-pattern (digit w) 1 w (here-digit w)) ∙ alike-turns ρ (same-operand (λ e. same-end)) (drop at t) at
 
   module _ (w : Want) (at : ℕ) where
-    pub was-read : {p : ℕ} → stepAt t ρ (rowPlan (digit w) 1) at ≡ Next p → WasRead t ρ w at p
-    unfolding stepOf
+    pub was-read : {p : ℕ} → turnAt t ρ (patternFormat (digit w) 1) at ≡ Next p → WasRead t ρ w at p
+    unfolding turnOf
     was-read {p} e = go (readAs ρ w (drop at t) at) refl (reached ρ t (operand w 1 done) at) (sym (one-thing w at) ∙ e) where
-      go : (x : Read (Thing w)) → readAs ρ w (drop at t) at ≡ x → ReachedBy t at x → stepOf x ≡ Next p → WasRead t ρ w at p
+      go : (x : Read (Thing w)) → readAs ρ w (drop at t) at ≡ x → ReachedBy t at x → turnOf x ≡ Next p → WasRead t ρ w at p
       go (got a rest q) i r e = let z : q ≡ p = cc in record { thing = a; reading = i ∙ ap₂ (got a) (r .rest-is ∙ ap (λ k. drop k t) z) z; inside = λ j. omega (arith, r .inside j) }
-      go (fault why q) i r e = step-not (sym e)
+      go (fault why q) i r e = turn-not (sym e)
 
-    was-fault : {s : Stop} → stepAt t ρ (rowPlan (digit w) 1) at ≡ Stopped s → WasFault t ρ w at
-    unfolding stepOf
+    was-fault : {s : Stop} → turnAt t ρ (patternFormat (digit w) 1) at ≡ Stopped s → WasFault t ρ w at
+    unfolding turnOf
     was-fault {s} e = go (readAs ρ w (drop at t) at) refl (sym (one-thing w at) ∙ e) where
-      go : (x : Read (Thing w)) → readAs ρ w (drop at t) at ≡ x → stepOf x ≡ Stopped s → WasFault t ρ w at
-      go (got a rest q) i e = step-not e
+      go : (x : Read (Thing w)) → readAs ρ w (drop at t) at ≡ x → turnOf x ≡ Stopped s → WasFault t ρ w at
+      go (got a rest q) i e = turn-not e
       go (fault why q) i e = record { why = why; place = q; reading = i }
 
-    fault-answer : (base : ℕ) (f : WasFault t ρ w at) → stepAnswer base (stepAt t ρ (rowPlan (digit w) 1) at) ≡ refused (faultNumber base (f .why)) (f .place)
-    fault-answer base f = unfold stepOf in ap (stepAnswer base) (one-thing w at ∙ ap stepOf (f .reading)) ∙ stop-answer base (f .why) (f .place)
+    fault-answer : (base : ℕ) (f : WasFault t ρ w at) → turnAnswer base (turnAt t ρ (patternFormat (digit w) 1) at) ≡ refused (faultNumber base (f .why)) (f .place)
+    fault-answer base f = unfold turnOf in ap (turnAnswer base) (one-thing w at ∙ ap turnOf (f .reading)) ∙ stop-answer base (f .why) (f .place)
 
   -- BOOK
   pub book-same : {q : Limits} → ρ ≡ q → outcome (askBook ρ t) ≡ outcome (askBook q t)
@@ -91,7 +96,7 @@ module _ (t : List ℕ) (ρ : Limits) where
       rules-full h = unfold readRules outcome in rw (h, drop-cons t at 0 more) refl
 
       module _ (some : m ≡ 0 → ⊥) where
-        pub rules-next : {p : ℕ} → stepAt t ρ (rowPlan 14 1) at ≡ Next p → outcome (readRules ρ (m - 1) (drop p t) p) ≡ outcome (readRules ρ m (drop at t) at)
+        pub rules-next : {p : ℕ} → turnAt t ρ (patternFormat 14 1) at ≡ Next p → outcome (readRules ρ (m - 1) (drop p t) p) ≡ outcome (readRules ρ m (drop at t) at)
         rules-next {p} e = go m some (was-read (expr rule) at e) where
           go : (k : ℕ) → (k ≡ 0 → ⊥) → WasRead t ρ (expr rule) at p → outcome (readRules ρ (k - 1) (drop p t) p) ≡ outcome (readRules ρ k (drop at t) at)
           go zero s r = absurd (s refl)
@@ -99,13 +104,13 @@ module _ (t : List ℕ) (ρ : Limits) where
               ap (λ j. outcome (readRules ρ j (drop p t) p)) (let e : suc k - 1 ≡ k = omega arith in e)
               ∙ sym (ap outcome (rules-step ρ k (drop at t) at (r .thing) (drop p t) p (r .reading)) ∙ outcome-bind (readRules ρ k (drop p t) p) (λ book. r .thing ∷ book))
 
-        pub rules-stopped : {s : Stop} → stepAt t ρ (rowPlan 14 1) at ≡ Stopped s → stepAnswer 10 (stepAt t ρ (rowPlan 14 1) at) ≡ outcome (readRules ρ m (drop at t) at)
+        pub rules-stopped : {s : Stop} → turnAt t ρ (patternFormat 14 1) at ≡ Stopped s → turnAnswer 10 (turnAt t ρ (patternFormat 14 1) at) ≡ outcome (readRules ρ m (drop at t) at)
         unfolding outcome
         rules-stopped e = go m some (was-fault (expr rule) at e) where
           left : drop at t ≡ [] → ⊥
           left z = omega (arith, sym (length-drop at t) ∙ ap length z)
 
-          go : (k : ℕ) → (k ≡ 0 → ⊥) → WasFault t ρ (expr rule) at → stepAnswer 10 (stepAt t ρ (rowPlan 14 1) at) ≡ outcome (readRules ρ k (drop at t) at)
+          go : (k : ℕ) → (k ≡ 0 → ⊥) → WasFault t ρ (expr rule) at → turnAnswer 10 (turnAt t ρ (patternFormat 14 1) at) ≡ outcome (readRules ρ k (drop at t) at)
           go zero h f = absurd (h refl)
           go (suc k) h f = fault-answer (expr rule) at 10 f ∙ sym (ap outcome (rules-fault ρ k (drop at t) at (f .why) (f .place) left (f .reading)))
 
@@ -118,37 +123,37 @@ module _ (t : List ℕ) (ρ : Limits) where
       one-more : left ≡ suc (left - 1)
       one-more = omega arith
 
-      pub start-next : {p : ℕ} → stepAt t ρ (rowPlan 14 1) at ≡ Next p → rulesEnd ρ (left - 1) (drop p t) p ≡ rulesEnd ρ left (drop at t) at
+      pub start-next : {p : ℕ} → turnAt t ρ (patternFormat 14 1) at ≡ Next p → rulesEnd ρ (left - 1) (drop p t) p ≡ rulesEnd ρ left (drop at t) at
       start-next e = sym (ap (λ k. rulesEnd ρ k (drop at t) at) one-more ∙ end-step ρ (left - 1) (drop at t) at (was-read (expr rule) at e .reading))
 
-      pub start-stopped : {s : Stop} → at ≤ length t → stepAt t ρ (rowPlan 14 1) at ≡ Stopped s → length t ≡ rulesEnd ρ left (drop at t) at
+      pub start-stopped : {s : Stop} → at ≤ length t → turnAt t ρ (patternFormat 14 1) at ≡ Stopped s → length t ≡ rulesEnd ρ left (drop at t) at
       start-stopped h e =
           omega (arith, length-drop at t)
           ∙ sym (ap (λ k. rulesEnd ρ k (drop at t) at) one-more ∙ end-fault ρ (left - 1) (drop at t) at (was-fault (expr rule) at e .reading))
 
-  -- ONE THING, an edit or a rule
-  module _ (base : ℕ) (w : Want) where
-    pub one-same : {q : Limits} → ρ ≡ q → outcome (askOne ρ base w t) ≡ outcome (askOne q base w t)
-    one-same e = ap (λ r. outcome (askOne r base w t)) e
+  -- ONE THING, an edit or a rule, by limits that are those asked
+  module _ (base : ℕ) (w : Want) {q : Limits} (same : ρ ≡ q) where
+    pub one-same : outcome (askOne ρ base w t) ≡ outcome (askOne q base w t)
+    one-same = ap (λ r. outcome (askOne r base w t)) same
 
-    pub one-long : ρ .longest < length t → refused (base + 1) 0 ≡ outcome (askOne ρ base w t)
-    one-long h = unfold askOne outcome is _>>_ in rw (lt-leb (length t) (ρ .longest) h) refl
+    pub one-long : ρ .longest < length t → refused (base + 1) 0 ≡ outcome (askOne q base w t)
+    one-long h = unfold askOne outcome is _>>_ in (let e : refused (base + 1) 0 ≡ outcome (askOne ρ base w t) = rw (lt-leb (length t) (ρ .longest) h) refl in e) ∙ one-same
 
     module _ (short : length t ≤ ρ .longest) where
-      one-read : {x : Read (Thing w)} → readAs ρ w t 0 ≡ x → outcome (whole base x) ≡ outcome (askOne ρ base w t)
-      one-read e = unfold askOne in sym (ap outcome (so-then (base + 1) 0 _ (le-leb (length t) (ρ .longest) short) ∙ ap (whole base) e))
+      one-read : {x : Read (Thing w)} → readAs ρ w t 0 ≡ x → outcome (whole base x) ≡ outcome (askOne q base w t)
+      one-read e = unfold askOne in sym (ap outcome (so-then (base + 1) 0 _ (le-leb (length t) (ρ .longest) short) ∙ ap (whole base) e)) ∙ one-same
 
-      pub one-stopped : {s : Stop} → stepAt t ρ (rowPlan (digit w) 1) 0 ≡ Stopped s → stepAnswer base (stepAt t ρ (rowPlan (digit w) 1) 0) ≡ outcome (askOne ρ base w t)
+      pub one-stopped : {s : Stop} → turnAt t ρ (patternFormat (digit w) 1) 0 ≡ Stopped s → turnAnswer base (turnAt t ρ (patternFormat (digit w) 1) 0) ≡ outcome (askOne q base w t)
       one-stopped e = unfold outcome whole in let f = was-fault w 0 e in fault-answer w 0 base f ∙ one-read (f .reading)
 
-      pub one-done : {p : ℕ} → stepAt t ρ (rowPlan (digit w) 1) 0 ≡ Next p → p ≡ length t → passed tt ≡ outcome (askOne ρ base w t)
+      pub one-done : {p : ℕ} → turnAt t ρ (patternFormat (digit w) 1) 0 ≡ Next p → p ≡ length t → passed tt ≡ outcome (askOne q base w t)
       unfolding outcome whole
       one-done {p} e h =
           let k : length t ≤ p = omega arith in
           let r = was-read w 0 e in
           one-read (r .reading ∙ ap (λ rest. got (r .thing) rest p) (drop-of-length-le t k))
 
-      pub one-extra : {p : ℕ} → stepAt t ρ (rowPlan (digit w) 1) 0 ≡ Next p → (p ≡ length t → ⊥) → refused (base + 6) p ≡ outcome (askOne ρ base w t)
+      pub one-extra : {p : ℕ} → turnAt t ρ (patternFormat (digit w) 1) 0 ≡ Next p → (p ≡ length t → ⊥) → refused (base + 6) p ≡ outcome (askOne q base w t)
       unfolding outcome whole
       one-extra {p} e h =
           let r = was-read w 0 e in
@@ -174,22 +179,22 @@ module _ (t : List ℕ) (ρ : Limits) (all-nodes : ρ ≡ textLimits maxNodes) w
     asked-first : {x : Read (Expr rule)} → readAs ρ (expr rule) t 0 ≡ x → first x ≡ askRuleEnd t
     asked-first e = unfold askFirst in first-asked (so-then 11 0 (first (readAs ρ (expr rule) t 0)) (le-leb (length t) (ρ .longest) short) ∙ ap first e)
 
-    pub first-answer : stepAnswer 10 (stepAt t ρ (rowPlan 14 1) 0) ≡ outcome (askRuleEnd t)
-    unfolding first outcome stepOf
-    first-answer = ap (stepAnswer 10) (one-thing t ρ (expr rule) 0) ∙ go (readAs ρ (expr rule) t 0) ∙ ap outcome (asked-first refl) where
-      go : (x : Read (Expr rule)) → stepAnswer 10 (stepOf x) ≡ outcome (first x)
+    pub first-answer : turnAnswer 10 (turnAt t ρ (patternFormat 14 1) 0) ≡ outcome (askRuleEnd t)
+    unfolding first outcome turnOf
+    first-answer = ap (turnAnswer 10) (one-thing t ρ (expr rule) 0) ∙ go (readAs ρ (expr rule) t 0) ∙ ap outcome (asked-first refl) where
+      go : (x : Read (Expr rule)) → turnAnswer 10 (turnOf x) ≡ outcome (first x)
       go (got K rest q) = refl
       go (fault why q) = stop-answer 10 why q
 
-    pub no-rule : {s : Stop} → stepAt t ρ (rowPlan 14 1) 0 ≡ Stopped s → [] ≡ firstRule t
+    pub no-rule : {s : Stop} → turnAt t ρ (patternFormat 14 1) 0 ≡ Stopped s → [] ≡ firstRule t
     no-rule e = unfold firstRule first after in ap (λ q. after q code []) (asked-first (was-fault t ρ (expr rule) 0 e .reading))
 
-    pub the-rule : {p : ℕ} → stepAt t ρ (rowPlan 14 1) 0 ≡ Next p → p - 0 ≡ length (firstRule t)
+    pub the-rule : {p : ℕ} → turnAt t ρ (patternFormat 14 1) 0 ≡ Next p → p - 0 ≡ length (firstRule t)
     unfolding firstRule first after
     the-rule {p} e =
         let r = was-read t ρ (expr rule) 0 e in
         let size : p - 0 ≡ length (code (r .thing)) = omega (arith, read-is-written ρ (expr rule) 1 t 0 (r .reading) .place-is) in
         size ∙ ap (λ q. length (after q code [])) (asked-first (r .reading))
 
-    pub rule-inside : {p : ℕ} → stepAt t ρ (rowPlan 14 1) 0 ≡ Next p → p ≤ length t
+    pub rule-inside : {p : ℕ} → turnAt t ρ (patternFormat 14 1) 0 ≡ Next p → p ≤ length t
     rule-inside e = was-read t ρ (expr rule) 0 e .inside (omega arith)

@@ -4,5 +4,5 @@ pub mod Reading
 pub mod Part
 pub mod Questions
 pub mod Stands
-pub mod Rows
+pub mod Patterns
 pub mod Marked

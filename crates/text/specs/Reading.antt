@@ -1,4 +1,4 @@
--- Reading a text ("The questions, in order" of document 01): what a code is followed by, as a plan, and the plan followed along the bytes.
+-- Reading a text ("The questions, in order" of document 01): what a code is followed by, as a format, and the format followed along the bytes.
 use mathlib.Core.Bool.{true, false}
 use mathlib.Core.List.{List, [], _∷_}
 use Prim.Native.Nat.{ℕ, suc}
@@ -53,32 +53,32 @@ Thing (expr s) = Expr s
 Thing edit = Edit
 
 -- What the bytes to come must be: nothing more; a number and then more; a thing at a level and then more.
-pub data Plan (A : Type 0) : Type 0 where
-  done : A → Plan A
-  number : Kind → (ℕ → Plan A) → Plan A
-  operand : (w : Want) → ℕ → (Thing w → Plan A) → Plan A
+pub data Format (A : Type 0) : Type 0 where
+  done : A → Format A
+  number : Kind → (ℕ → Format A) → Format A
+  operand : (w : Want) → ℕ → (Thing w → Format A) → Format A
 
 infixl 20 _>>=_
-unfoldable pub _>>=_ : {A B : Type 0} → Plan A → (A → Plan B) → Plan B
+unfoldable pub _>>=_ : {A B : Type 0} → Format A → (A → Format B) → Format B
 done a >>= f = f a
 number k p >>= f = number k (λ x. p x >>= f)
 operand w l p >>= f = operand w l (λ e. p e >>= f)
 
--- A code byte with the plan of what follows it.
+-- A code byte with the format of what follows it.
 pub record Entry (A : Type 0) : Type 0 where
   pub byte : ℕ
-  pub plan : Plan A
+  pub format : Format A
 
 infix 70 _⇒_
-abbrev pub _⇒_ : {A : Type 0} → ℕ → Plan A → Entry A
-c ⇒ p = record { byte = c; plan = p }
+abbrev pub _⇒_ : {A : Type 0} → ℕ → Format A → Entry A
+c ⇒ p = record { byte = c; format = p }
 
 -- The codes of each sort, for a code at level l.
 module _ (l : ℕ) where
-  abbrev num : Kind → Plan ℕ
+  abbrev num : Kind → Format ℕ
   num k = number k done
 
-  abbrev sub : (w : Want) → Plan (Thing w)
+  abbrev sub : (w : Want) → Format (Thing w)
   sub w = operand w (suc l) done
 
   unfoldable pub codes : (w : Want) → List (Entry (Thing w))
@@ -133,14 +133,14 @@ pub data Read (A : Type 0) : Type 0 where
   got : (result : A) (rest : List ℕ) (place : ℕ) → Read A
   fault : (why : Fault) (place : ℕ) → Read A
 
--- the plan that stands at the byte c
-unfoldable pub choice : {A B : Type 0} → ℕ → List (Entry A) → (Plan A → Read B) → Read B → Read B
+-- the format that stands at the byte c
+unfoldable pub choice : {A B : Type 0} → ℕ → List (Entry A) → (Format A → Read B) → Read B → Read B
 choice c [] found other = other
-choice c (e ∷ es) found other = elim (eqb c (e .byte)) [ true ↦ found (e .plan) | false ↦ choice c es found other ]
+choice c (e ∷ es) found other = elim (eqb c (e .byte)) [ true ↦ found (e .format) | false ↦ choice c es found other ]
 
 module _ (l : Limits) where
-  -- The plan followed along the bytes, the first of which is at a place.
-  unfoldable pub follow : {A : Type 0} → List ℕ → Plan A → ℕ → Read A
+  -- The format followed along the bytes, the first of which is at a place.
+  unfoldable pub follow : {A : Type 0} → List ℕ → Format A → ℕ → Read A
   unfolding choice
   follow [] (done a) at = got a [] at
   follow [] (number k f) at = fault missing at

@@ -1,9 +1,10 @@
 -- An expression or an edit that stands at a place of a text. Inner functions ask for some such thing and speak of every one.
 use mathlib.Core.Path.{_≡_}
-use mathlib.Core.List.{List, [], _∷_, _++_}
+use mathlib.Core.List.{List, _++_}
 use Prim.Native.Nat.{ℕ}
 use lib.ListN.{drop}
 use Rattle.logic.specs.Syntax.{Sort, rule, Expr, Edit}
+use Rattle.logic.specs.Lists.{All}
 use Rattle.logic.specs.Limits.{Ranges, InRange, EditInRange}
 use Rattle.text.specs.Code.{code, editCode}
 
@@ -26,6 +27,5 @@ pub record SomeEditStands (r : Ranges) (text : List ℕ) (at : ℕ) : Type 0 whe
   pub stands : EditStands r text at what
 
 -- The numbers of each rule of a book are in range.
-unfoldable pub RulesInRange : Ranges → List (Expr rule) → Type 0
-RulesInRange r [] = Unit {0}
-RulesInRange r (K ∷ rules) = InRange r K × RulesInRange r rules
+abbrev pub RulesInRange : Ranges → List (Expr rule) → Type 0
+RulesInRange r rules = All (InRange r {s = rule}) rules

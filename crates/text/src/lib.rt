@@ -7,7 +7,7 @@ use logic::Node;
 ghost use mathlib.Core.Path.{_≡_};
 ghost use Prim.Native.Nat.{_<_, _≤_};
 ghost use Rattle.logic.specs.Limits.{maxNodes};
-ghost use Rattle.text.specs.Rows.{itemOf, rowOf, sortOf, rowPlan, limitsOf, numberFits, stepAt, stepAnswer};
+ghost use Rattle.text.specs.Patterns.{itemOf, patternOf, sortOf, patternFormat, limitsOf, numberFits, turnAt, turnAnswer};
 ghost use Rattle.answer.specs.Answers.{asked};
 ghost use Rattle.answer.specs.Asked.{outcome};
 ghost use Rattle.text.specs.Reading.{textLimits, formerLimits, carriedLimits};
@@ -23,7 +23,7 @@ pub enum Stop {
 }
 
 // Where reading goes on, or what stopped it.
-pub enum Step {
+pub enum Turn {
     Next(usize),
     Stopped(Stop),
 }
@@ -31,8 +31,8 @@ pub enum Step {
 // What follows each code, a hexadecimal digit for each item, the first item last. 3 label, 4 arrow, 5 node number; 6, 7 the counts of 0A
 // and 0B; 8 nodes, 9 arrows, A rule, B edit, one level deeper; C nodes, D arrows, E rule, F edit, on the code's own level.
 // 0 where the byte is no code. One `match` with constants: the compiler makes it a table in read-only memory.
-fn row_of(code: u8) -> u32
-    ensures { λ r. ⌜ r ≡ rowOf code ⌝ }
+fn pattern_of(code: u8) -> u32
+    ensures { λ r. ⌜ r ≡ patternOf code ⌝ }
 {
     match code {
         0x01 => 0x0000, // all
@@ -113,62 +113,62 @@ fn in_range(limits: Limits, kind: u32, x: u8) -> bool
     }
 }
 
-// Reads a thing whose first code is on level 1, byte by byte along the rows of its codes: `row` is what is left of the code at `level`,
-// `rows` what is left of those above it. 512 bytes of stack, however deep the text.
+// Reads a thing whose first code is on level 1, byte by byte along the patterns of its codes: `pattern` is what is left of the code at `level`,
+// `patterns` what is left of those above it. 512 bytes of stack, however deep the text.
 // Inner: the sort wanted is a digit from C to F.
-fn read(text: &[u8], limits: Limits, wanted: u32, at: usize) -> Step
+fn read(text: &[u8], limits: Limits, wanted: u32, at: usize) -> Turn
     requires { ⌜ (12 ≤ wanted) × (wanted < 16) ⌝ }
-    ensures { λ r. ⌜ r ≡ stepAt (now (text .entry)) (limitsOf limits) (rowPlan wanted 1) at ⌝ }
+    ensures { λ r. ⌜ r ≡ turnAt (now (text .entry)) (limitsOf limits) (patternFormat wanted 1) at ⌝ }
 {
-    let mut rows = [0u16; 256];
+    let mut patterns = [0u16; 256];
     let mut level: usize = 0;
-    let mut row = wanted - 4;
+    let mut pattern = wanted - 4;
     let mut p = at;
     loop {
-        let item = row % 16;
+        let item = pattern % 16;
         if item < 3 {
             if level == 0 {
-                return Step::Next(p);
+                return Turn::Next(p);
             }
             level -= 1;
-            row = rows[level] as u32;
+            pattern = patterns[level] as u32;
         } else if text.len() <= p {
-            return Step::Stopped(Stop::Missing { place: p });
+            return Turn::Stopped(Stop::Missing { place: p });
         } else if item < 8 {
             if in_range(limits, item, text[p]) {
-                row = row / 16;
+                pattern = pattern / 16;
                 p += 1;
             } else {
-                return Step::Stopped(Stop::OutOfRange { place: p });
+                return Turn::Stopped(Stop::OutOfRange { place: p });
             }
         } else {
             let code = text[p];
             if sort_of(code) != 12 + item % 4 {
-                return Step::Stopped(Stop::WrongSort { place: p });
+                return Turn::Stopped(Stop::WrongSort { place: p });
             }
-            let next = row_of(code);
+            let next = pattern_of(code);
             if item >= 12 {
-                row = next;
+                pattern = next;
                 p += 1;
             } else if level >= limits.deepest as usize {
-                return Step::Stopped(Stop::TooDeep { place: p });
+                return Turn::Stopped(Stop::TooDeep { place: p });
             } else {
-                rows[level] = (row / 16) as u16;
+                patterns[level] = (pattern / 16) as u16;
                 level += 1;
-                row = next;
+                pattern = next;
                 p += 1;
             }
         }
     }
 }
 
-// The answer to a book, and to an edit, of which this was the last step.
-fn book_answer(step: Step) -> Answer
-    ensures { λ r. ⌜ asked r ≡ stepAnswer 10 step ⌝ }
+// The answer to a book, and to an edit, of which this was the last turn.
+fn book_answer(turn: Turn) -> Answer
+    ensures { λ r. ⌜ asked r ≡ turnAnswer 10 turn ⌝ }
 {
-    match step {
-        Step::Next(_) => Answer::Done,
-        Step::Stopped(stop) => match stop {
+    match turn {
+        Turn::Next(_) => Answer::Done,
+        Turn::Stopped(stop) => match stop {
             Stop::Missing { place } => Answer::Refused(Refusal::BookEnds { place }),
             Stop::WrongSort { place } => Answer::Refused(Refusal::BookCode { place }),
             Stop::TooDeep { place } => Answer::Refused(Refusal::BookLevel { place }),
@@ -177,12 +177,12 @@ fn book_answer(step: Step) -> Answer
     }
 }
 
-fn edit_answer(step: Step) -> Answer
-    ensures { λ r. ⌜ asked r ≡ stepAnswer 20 step ⌝ }
+fn edit_answer(turn: Turn) -> Answer
+    ensures { λ r. ⌜ asked r ≡ turnAnswer 20 turn ⌝ }
 {
-    match step {
-        Step::Next(_) => Answer::Done,
-        Step::Stopped(stop) => match stop {
+    match turn {
+        Turn::Next(_) => Answer::Done,
+        Turn::Stopped(stop) => match stop {
             Stop::Missing { place } => Answer::Refused(Refusal::EditEnds { place }),
             Stop::WrongSort { place } => Answer::Refused(Refusal::EditCode { place }),
             Stop::TooDeep { place } => Answer::Refused(Refusal::EditLevel { place }),
@@ -244,9 +244,9 @@ fn book_within(book: &[u8], limits: Limits) -> Answer
         if left == 0 {
             return Answer::Refused(Refusal::BookRules { place: p });
         }
-        let step = read(book, limits, RULE, p);
-        let Step::Next(q) = step else {
-            return book_answer(step);
+        let turn = read(book, limits, RULE, p);
+        let Turn::Next(q) = turn else {
+            return book_answer(turn);
         };
         p = q;
         left -= 1;
@@ -261,9 +261,9 @@ fn rule_within(text: &[u8], limits: Limits) -> Answer
     if text.len() > limits.longest as usize {
         return Answer::Refused(Refusal::BookLength { place: 0 });
     }
-    let step = read(text, limits, RULE, 0);
-    let Step::Next(p) = step else {
-        return book_answer(step);
+    let turn = read(text, limits, RULE, 0);
+    let Turn::Next(p) = turn else {
+        return book_answer(turn);
     };
     if p != text.len() {
         return Answer::Refused(Refusal::BookRules { place: p });
@@ -314,6 +314,14 @@ impl Text {
         book_within(book, limits)
     }
 
+    // Is a text one rule, and no more? 11 to 16.
+    pub fn check_rule(text: &[u8], n: usize) -> Answer
+        ensures { λ r. ⌜ asked r ≡ outcome (askRule (textLimits n) (now (text .entry))) ⌝ }
+    {
+        let limits = limits_for(n);
+        rule_within(text, limits)
+    }
+
     // Is a text one carried rule? 11 to 16 by the limits of a carried book, n as 60.
     pub fn check_carried_rule(text: &[u8]) -> Answer
         ensures { λ r. ⌜ asked r ≡ outcome (askRule (carriedLimits maxNodes) (now (text .entry))) ⌝ }
@@ -330,9 +338,9 @@ impl Text {
         if edit.len() > limits.longest as usize {
             return Answer::Refused(Refusal::EditLength { place: 0 });
         }
-        let step = read(edit, limits, EDIT, 0);
-        let Step::Next(p) = step else {
-            return edit_answer(step);
+        let turn = read(edit, limits, EDIT, 0);
+        let Turn::Next(p) = turn else {
+            return edit_answer(turn);
         };
         if p != edit.len() {
             return Answer::Refused(Refusal::EditExtra { place: p });
@@ -348,8 +356,8 @@ impl Text {
         if text.len() > limits.longest as usize {
             return &text[0..0]; // 11
         }
-        let step = read(text, limits, RULE, 0);
-        let Step::Next(p) = step else {
+        let turn = read(text, limits, RULE, 0);
+        let Turn::Next(p) = turn else {
             return &text[0..0]; // 12 to 15
         };
         &text[0..p]
@@ -375,8 +383,8 @@ impl Text {
         let mut p = 0;
         let mut left = i;
         while 0 < left {
-            let step = read(book, limits, RULE, p);
-            let Step::Next(q) = step else {
+            let turn = read(book, limits, RULE, p);
+            let Turn::Next(q) = turn else {
                 return book.len();
             };
             p = q;

@@ -12,97 +12,58 @@ use Rattle.text.specs.Code.{code, bookCode, bookLevels}
 use Rattle.tree.specs.Tree.{same, under, tree}
 use Rattle.tree.proofs.TreeLaws.{code-tree, height-tree, size-is}
 use Rattle.tree.specs.Sizes.{Measure, measure, substituted, chosen, back, join, nothing, measures}
-use Rattle.tree.proofs.Measured.{under-max, max-under, measured}
+use Rattle.tree.proofs.Measured.{same-measure, under-max, max-under, measured}
 
 -- Joining is a sum, and a maximum, in each number.
 pub join-nothing : (M : Measure) → join M nothing ≡ M
-unfolding join nothing
-join-nothing M = λ i. record { len = sum (M .len) i; tall = top (M .tall) i; counts = λ c k. sum (M .counts c k) i; deeps = λ c k. top (M .deeps c k) i } where
-  sum : (x : ℕ) → x + 0 ≡ x
-  sum x = omega arith
-
-  top : (x : ℕ) → max x 0 ≡ x
-  top x = omega arith
+join-nothing M = unfold join nothing in same-measure (omega arith) (omega arith) (λ c k. omega arith) (λ c k. omega arith)
 
 pub join-comm : (M N : Measure) → join M N ≡ join N M
-unfolding join
-join-comm M N = λ i. record { len = sum (M .len) (N .len) i; tall = top (M .tall) (N .tall) i; counts = λ c k. sum (M .counts c k) (N .counts c k) i; deeps = λ c k. top (M .deeps c k) (N .deeps c k) i }
-  where
-    sum : (x y : ℕ) → x + y ≡ y + x
-    sum x y = omega arith
-
-    top : (x y : ℕ) → max x y ≡ max y x
-    top x y = omega arith
+join-comm M N = unfold join in same-measure (omega arith) (omega arith) (λ c k. omega arith) (λ c k. omega arith)
 
 pub join-assoc : (M N O : Measure) → join (join M N) O ≡ join M (join N O)
-unfolding join
-join-assoc M N O = λ i. record {
-  len = sum (M .len) (N .len) (O .len) i;
-  tall = top (M .tall) (N .tall) (O .tall) i;
-  counts = λ c k. sum (M .counts c k) (N .counts c k) (O .counts c k) i;
-  deeps = λ c k. top (M .deeps c k) (N .deeps c k) (O .deeps c k) i;
-} where
-  sum : (x y z : ℕ) → x + y + z ≡ x + (y + z)
-  sum x y z = omega arith
-
-  top : (x y z : ℕ) → max (max x y) z ≡ max x (max y z)
-  top x y z = omega arith
+join-assoc M N O = unfold join in same-measure (omega arith) (omega arith) (λ c k. omega arith) (λ c k. omega arith)
 
 pub substituted-join : (c k more : ℕ) (E M N : Measure) → substituted c k more E (join M N) ≡ join (substituted c k more E M) (substituted c k more E N)
 unfolding substituted join
-substituted-join c k more E M N = λ i. record {
-  len = sums (M .len) (N .len) (more + E .len) i;
-  tall = tops (M .tall) (N .tall) (E .tall) i;
-  counts = λ c′ k′. sums (M .counts c′ k′) (N .counts c′ k′) (E .counts c′ k′) i;
-  deeps = λ c′ k′. deep-at (same c′ k′ c k) (M .deeps c′ k′) (N .deeps c′ k′) (E .deeps c′ k′) i;
-} where
-  d : ℕ
-  d = M .deeps c k
+substituted-join c k more E M N =
+    same-measure (sums (M .len) (N .len) (more + E .len)) (omega (arith, below (E .tall))) (λ c′ k′. sums (M .counts c′ k′) (N .counts c′ k′) (E .counts c′ k′))
+    (λ c′ k′. deep-at (same c′ k′ c k) (M .deeps c′ k′) (N .deeps c′ k′) (E .deeps c′ k′)) where
+      d : ℕ
+      d = M .deeps c k
 
-  e : ℕ
-  e = N .deeps c k
+      e : ℕ
+      e = N .deeps c k
 
-  sums : (x y w : ℕ) → x + y + (M .counts c k + N .counts c k) * w ≡ x + M .counts c k * w + (y + N .counts c k * w)
-  sums x y w = omega (arith, add-mul (M .counts c k) (N .counts c k) w)
+      sums : (x y w : ℕ) → x + y + (M .counts c k + N .counts c k) * w ≡ x + M .counts c k * w + (y + N .counts c k * w)
+      sums x y w = omega (arith, add-mul (M .counts c k) (N .counts c k) w)
 
-  below : (w : ℕ) → under (under (max d e) (suc more)) w ≡ max (under (under d (suc more)) w) (under (under e (suc more)) w)
-  below w = ap (λ (u : ℕ). under u w) (max-under d e (suc more)) ∙ max-under (under d (suc more)) (under e (suc more)) w
+      below : (w : ℕ) → under (under (max d e) (suc more)) w ≡ max (under (under d (suc more)) w) (under (under e (suc more)) w)
+      below w = ap (λ (u : ℕ). under u w) (max-under d e (suc more)) ∙ max-under (under d (suc more)) (under e (suc more)) w
 
-  tops : (x y w : ℕ) → max (max x y) (under (under (max d e) (suc more)) w) ≡ max (max x (under (under d (suc more)) w)) (max y (under (under e (suc more)) w))
-  tops x y w = omega (arith, below w)
+      deep-at : (s : Bool) (x y w : ℕ) → max (cond s (under (max d e) 2) (max x y)) (under (under (max d e) (suc more)) w) ≡ max (max (cond s (under d 2) x) (under (under d (suc more)) w)) (max (cond s (under e 2) y) (under (under e (suc more)) w))
+      deep-at true x y w = omega (arith, below w, max-under d e 2)
+      deep-at false x y w = omega (arith, below w)
 
-  deep-at : (s : Bool) (x y w : ℕ) → max (cond s (under (max d e) 2) (max x y)) (under (under (max d e) (suc more)) w) ≡ max (max (cond s (under d 2) x) (under (under d (suc more)) w)) (max (cond s (under e 2) y) (under (under e (suc more)) w))
-  deep-at true x y w = omega (arith, below w, max-under d e 2)
-  deep-at false x y w = omega (arith, below w)
-
-max-swap : (a b c d : ℕ) → max (max a b) (max c d) ≡ max (max a c) (max b d)
-max-swap a b c d = omega arith
-
-max-share : (x y k : ℕ) → max (max x y) k ≡ max (max x k) (max y k)
-max-share x y k = omega arith
+-- the two parts of two things, each with the same third one
+max-parts : (a b c d k : ℕ) → max (max (max a b) (max c d)) k ≡ max (max (max a c) k) (max (max b d) k)
+max-parts a b c d k = let e : max (max a b) (max c d) ≡ max (max a c) (max b d) = omega arith in ap (λ (x : ℕ). max x k) e ∙ shared (max a c) (max b d) where
+  shared : (x y : ℕ) → max (max x y) k ≡ max (max x k) (max y k)
+  shared x y = omega arith
 
 max-two : (x y : ℕ) → 2 + max x y ≡ max (2 + x) (2 + y)
 max-two x y = omega arith
 
 pub chosen-join : (r s : ℕ) (K T U T′ U′ : Measure) → chosen (r + s) K (join T U) (join T′ U′) ≡ join (chosen r K T T′) (chosen s K U U′)
 unfolding chosen join
-chosen-join r s K T U T′ U′ = λ i. record {
-  len = sums (T .len) (U .len) (T′ .len) (U′ .len) (4 + 2 * K .len) i;
-  tall = tops (T .tall) (U .tall) (T′ .tall) (U′ .tall) (K .tall) i;
-  counts = λ c k. count-at (T .counts c k) (U .counts c k) (T′ .counts c k) (U′ .counts c k) (K .counts c k) i;
-  deeps = λ c k. deep-at (T .deeps c k) (U .deeps c k) (T′ .deeps c k) (U′ .deeps c k) (K .deeps c k) i;
-} where
-  sums : (t u v w k : ℕ) → t + u + (v + w) + (r + s) * k ≡ t + v + r * k + (u + w + s * k)
-  sums t u v w k = omega (arith, add-mul r s k)
+chosen-join r s K T U T′ U′ =
+    same-measure (omega (arith, add-mul r s (4 + 2 * K .len))) (tops (T .tall) (U .tall) (T′ .tall) (U′ .tall) (3 + K .tall))
+    (λ c k. omega arith) (λ c k. deep-at (T .deeps c k) (U .deeps c k) (T′ .deeps c k) (U′ .deeps c k) (under 4 (K .deeps c k))) where
+      tops : (t u v w k : ℕ) → max (max (2 + max t u) (2 + max v w)) k ≡ max (max (max (2 + t) (2 + v)) k) (max (max (2 + u) (2 + w)) k)
+      tops t u v w k = ap₂ (λ (x y : ℕ). max (max x y) k) (max-two t u) (max-two v w) ∙ max-parts (2 + t) (2 + u) (2 + v) (2 + w) k
 
-  tops : (t u v w k : ℕ) → max (max (2 + max t u) (2 + max v w)) (3 + k) ≡ max (max (max (2 + t) (2 + v)) (3 + k)) (max (max (2 + u) (2 + w)) (3 + k))
-  tops t u v w k = ap₂ (λ (x y : ℕ). max (max x y) (3 + k)) (max-two t u) (max-two v w) ∙ ap (λ (x : ℕ). max x (3 + k)) (max-swap (2 + t) (2 + u) (2 + v) (2 + w)) ∙ max-share _ _ _
-
-  count-at : (t u v w k : ℕ) → t + u + (v + w) + (2 * (r + s)) * k ≡ t + v + (2 * r) * k + (u + w + (2 * s) * k)
-  count-at t u v w k = omega arith
-
-  deep-at : (t u v w k : ℕ) → max (max (under 3 (max t u)) (under 3 (max v w))) (under 4 k) ≡ max (max (max (under 3 t) (under 3 v)) (under 4 k)) (max (max (under 3 u) (under 3 w)) (under 4 k))
-  deep-at t u v w k = ap₂ (λ (x y : ℕ). max (max x y) (under 4 k)) (under-max 3 t u) (under-max 3 v w) ∙ ap (λ (x : ℕ). max x (under 4 k)) (max-swap (under 3 t) (under 3 u) (under 3 v) (under 3 w)) ∙ max-share _ _ _
+      deep-at : (t u v w k : ℕ) → max (max (under 3 (max t u)) (under 3 (max v w))) k ≡ max (max (max (under 3 t) (under 3 v)) k) (max (max (under 3 u) (under 3 w)) k)
+      deep-at t u v w k = ap₂ (λ (x y : ℕ). max (max x y) k) (under-max 3 t u) (under-max 3 v w) ∙ max-parts (under 3 t) (under 3 u) (under 3 v) (under 3 w) k
 
 pub back-join : (r s : ℕ) (Z : Edit) (M N : Measure) → back (r + s) Z (join M N) ≡ join (back r Z M) (back s Z N)
 unfolding back

@@ -6,7 +6,7 @@ use native.Mathlib.Nat.{mul-le-mul-left, mul-le-mul-right}
 use native.Mathlib.Decide.{decLt}
 use Rattle.tree.specs.Tree.{under}
 use Rattle.tree.specs.Sizes.{beyond, capped}
-use Rattle.tree.proofs.Measured.{under-under}
+use Rattle.tree.proofs.Measured.{under-under, under-nothing}
 
 pub capped-max : (x y : ℕ) → capped (max x y) ≡ max (capped x) (capped y)
 capped-max x y = omega arith
@@ -25,10 +25,7 @@ capped-mul x c (suc w) = go (decLt c beyond) where
 pub capped-under : (d x : ℕ) → capped (under (capped d) x) ≡ capped (under d x)
 unfolding under
 capped-under zero x = refl
-capped-under (suc d) zero = refl-zero (capped (suc d)) where
-  refl-zero : (u : ℕ) → capped (under u 0) ≡ 0
-  refl-zero zero = refl
-  refl-zero (suc u) = refl
+capped-under (suc d) zero = ap capped (under-nothing (capped (suc d)))
 capped-under (suc d) (suc x) = go (decLt (suc d) beyond) where
   go : Dec (suc d < beyond) → capped (under (capped (suc d)) (suc x)) ≡ capped (suc (d + x))
   go (yes l) = let e : capped (suc d) ≡ suc d = omega arith in ap (λ (u : ℕ). capped (under u (suc x))) e

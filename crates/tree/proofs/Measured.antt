@@ -6,14 +6,14 @@ use Prim.Native.Nat.{ℕ, zero, suc, _+_, _*_, max, _≤_, _<_}
 use native.Mathlib.Omega.{arith}
 use native.Mathlib.Nat.{zero-max, max-zero, suc-max-suc}
 use lib.Dec.{eqb}
-use borrow.Author.Tests.{eq-eqb, eqb-true}
+use borrow.Author.Tests.{eq-eqb, ne-eqb, eqb-true, eqb-false}
 use Rattle.logic.specs.Syntax.{rule, Expr, label, complement, and, or, arrowKind, union, minus, Edit, finish, addLabel, takeLabel, addArrow, takeArrow, choose}
 use Rattle.logic.specs.Carry.{carry}
 use Rattle.logic.specs.Arity.{byArity}
 use Rattle.text.specs.Heads.{head1, head2}
 use Rattle.tree.specs.Tree.{Tree, name, leaf, one, two, graft, same, only, size, height, count, under, deep, bare, tree}
 use Rattle.tree.proofs.TreeLaws.{tree-putLabel, tree-putArrow}
-use Rattle.tree.specs.Sizes.{measure, substituted, chosen, back}
+use Rattle.tree.specs.Sizes.{Measure, measure, substituted, chosen, back}
 
 pub under-max : (d x y : ℕ) → under d (max x y) ≡ max (under d x) (under d y)
 unfolding under
@@ -63,8 +63,11 @@ height-pos (leaf h) = omega arith
 height-pos (one h x) = omega arith
 height-pos (two h x y) = omega arith
 
-eqb-sym : (a b : ℕ) → eqb a b ≡ true → eqb b a ≡ true
-eqb-sym a b e = eq-eqb b a (sym (eqb-true a b e))
+eqb-flip : (x y : ℕ) → eqb x y ≡ eqb y x
+eqb-flip x y = go (eqb x y) (eqb-true x y) (eqb-false x y) where
+  go : (b : Bool) → (b ≡ true → x ≡ y) → (b ≡ false → x ≡ y → ⊥) → b ≡ eqb y x
+  go true f g = sym (eq-eqb y x (sym (f refl)))
+  go false f g = sym (ne-eqb y x (λ e. g refl (sym e)))
 
 pub same-eq : (c k c′ k′ : ℕ) → same c k c′ k′ ≡ true → (c ≡ c′) × (k ≡ k′)
 same-eq c k c′ k′ e = let p = and-eq-true-iff (eqb c c′) (eqb k k′) .0 e in (eqb-true _ _ (p .0), eqb-true _ _ (p .1))
@@ -76,20 +79,14 @@ same-self c k = ap₂ _&&_ (eq-eqb c c refl) (eq-eqb k k refl)
 alike-r : (a b c k c′ k′ : ℕ) → same c′ k′ c k ≡ true → same a b c′ k′ ≡ same a b c k
 alike-r a b c k c′ k′ e = let p = same-eq c′ k′ c k e in ap₂ (λ (u v : ℕ). same a b u v) (p .0) (p .1)
 
-alike-l : (a b c k c′ k′ : ℕ) → same a b c k ≡ true → same a b c′ k′ ≡ same c′ k′ c k
-alike-l a b c k c′ k′ e = let p = same-eq a b c k e in ap₂ (λ (u v : ℕ). same u v c′ k′) (p .0) (p .1) ∙ turn (eqb c c′) (eqb k k′) (eqb c′ c) (eqb k′ k) (flip c c′) (flip k k′) where
-  flip : (x y : ℕ) → eqb x y ≡ eqb y x
-  flip x y = go (eqb x y) (eqb y x) (eqb-sym x y) (eqb-sym y x) where
-    go : (p q : Bool) → (p ≡ true → q ≡ true) → (q ≡ true → p ≡ true) → p ≡ q
-    go true q f g = sym (f refl)
-    go false true f g = g refl
-    go false false f g = refl
-
-  turn : (p q r t : Bool) → p ≡ r → q ≡ t → (p && q) ≡ (r && t)
-  turn p q r t e f = ap₂ _&&_ e f
+pub alike-l : (a b c k c′ k′ : ℕ) → same a b c k ≡ true → same a b c′ k′ ≡ same c′ k′ c k
+alike-l a b c k c′ k′ e = let p = same-eq a b c k e in ap₂ (λ (u v : ℕ). same u v c′ k′) (p .0) (p .1) ∙ ap₂ _&&_ (eqb-flip c c′) (eqb-flip k k′)
 
 ticked : {a b : Bool} → a ≡ b → _≡_ {A = ℕ} (cond a 1 0) (cond b 1 0)
 ticked e = ap {B = ℕ} (λ (x : Bool). cond x 1 0) e
+
+pub same-measure : {M N : Measure} → M .len ≡ N .len → M .tall ≡ N .tall → ((c k : ℕ) → M .counts c k ≡ N .counts c k) → ((c k : ℕ) → M .deeps c k ≡ N .deeps c k) → M ≡ N
+same-measure p q r s = λ i. record { len = p i; tall = q i; counts = λ c k. r c k i; deeps = λ c k. s c k i }
 
 -- one name of a tree replaced by a tree
 module _ (c k : ℕ) (F : Tree) where
@@ -176,23 +173,12 @@ module _ (c k more : ℕ) (E F : Tree) (size-F : size F ≡ 2 + (more + size E))
     d = deep t c k
 
     go : (s : Bool) → same c′ k′ c k ≡ s → max (cond s 0 (deep t c′ k′)) (under d (max (under 2 (cond (same c k c′ k′) 1 0)) (under (suc more) (deep E c′ k′)))) ≡ max (cond s (under d 2) (deep t c′ k′)) (under (under d (suc more)) (deep E c′ k′))
-    go true e = omega (arith, under-max d (under 2 (cond (same c k c′ k′) 1 0)) (under (suc more) (deep E c′ k′)), under-under d (suc more) (deep E c′ k′), ap (λ (x : ℕ). under d (under 2 x)) (ticked (alike-r c k c k c′ k′ e ∙ same-self c k)), two-one d)
-      where
-        two-one : (x : ℕ) → under x (under 2 1) ≡ under x 2
-        two-one x = refl
-    go false e = omega (arith, under-max d (under 2 (cond (same c k c′ k′) 1 0)) (under (suc more) (deep E c′ k′)), under-under d (suc more) (deep E c′ k′), ap (λ (x : ℕ). under d (under 2 x)) (ticked (alike-l c k c k c′ k′ (same-self c k) ∙ e)), two-none d)
-      where
-        two-none : (x : ℕ) → under x (under 2 0) ≡ 0
-        two-none x = under-nothing x
+    go true e = omega (arith, under-max d (under 2 (cond (same c k c′ k′) 1 0)) (under (suc more) (deep E c′ k′)), under-under d (suc more) (deep E c′ k′), ap (λ (x : ℕ). under d (under 2 x)) (ticked (alike-r c k c k c′ k′ e ∙ same-self c k)))
+    go false e = omega (arith, under-max d (under 2 (cond (same c k c′ k′) 1 0)) (under (suc more) (deep E c′ k′)), under-under d (suc more) (deep E c′ k′), ap (λ (x : ℕ). under d (under 2 x)) (ticked (alike-l c k c k c′ k′ (same-self c k) ∙ e)), under-nothing d)
 
   pub step-measure : (t : Tree) → measure (graft (only c k F) t) ≡ substituted c k more (measure E) (measure t)
   unfolding measure substituted
-  step-measure t = λ i. record {
-    len = size-only c k F (more + size E) size-F t i;
-    tall = tall-path i;
-    counts = λ c′ k′. step-count t c′ k′ i;
-    deeps = λ c′ k′. step-deep t c′ k′ i;
-  } where
+  step-measure t = same-measure (size-only c k F (more + size E) size-F t) tall-path (step-count t) (step-deep t) where
     tall-path : height (graft (only c k F) t) ≡ max (height t) (under (under (deep t c k) (suc more)) (height E))
     tall-path = height-only c k F t ∙ ap (λ (x : ℕ). max (height t) (under (deep t c k) x)) (height-F ∙ sym (under-more more (height E) (height-pos E))) ∙ ap (max (height t)) (sym (under-under (deep t c k) (suc more) (height E)))
 
@@ -209,16 +195,7 @@ not-step c k E t = step-measure c k 2 E (two (0x06 ∷ []) (name c k) (one (0x05
 
 pub choice-measure : (K T U : Tree) → measure (two (0x25 ∷ []) (two (0x26 ∷ []) (one (0x27 ∷ []) K) T) (two (0x26 ∷ []) K U)) ≡ chosen 1 (measure K) (measure T) (measure U)
 unfolding measure chosen size height count deep under
-choice-measure K T U = λ i. record { len = lens i; tall = talls i; counts = λ c k. count-at c k i; deeps = λ c k. deep-at (deep K c k) (deep T c k) (deep U c k) i } where
-  lens : 1 + ((1 + ((1 + size K) + size T)) + (1 + (size K + size U))) ≡ size T + size U + 1 * (4 + 2 * size K)
-  lens = omega arith
-
-  talls : suc (max (suc (max (suc (height K)) (height T))) (suc (max (height K) (height U)))) ≡ max (max (2 + height T) (2 + height U)) (3 + height K)
-  talls = omega arith
-
-  count-at : (c k : ℕ) → count K c k + count T c k + (count K c k + count U c k) ≡ count T c k + count U c k + (2 * 1) * count K c k
-  count-at c k = omega arith
-
+choice-measure K T U = same-measure (omega arith) (omega arith) (λ c k. omega arith) (λ c k. deep-at (deep K c k) (deep T c k) (deep U c k)) where
   deep-at : (x y z : ℕ) → under 2 (max (under 2 (max (under 2 x) y)) (under 2 (max x z))) ≡ max (max (under 3 y) (under 3 z)) (under 4 x)
   deep-at x y z = omega (arith, under-max 2 (under 2 (max (under 2 x) y)) (under 2 (max x z)), deeper 2 (max (under 2 x) y), deeper 2 (max x z), deeper 3 x, under-max 3 (under 2 x) y, under-max 3 x z, under-under 3 2 x, low x)
     where

@@ -9,9 +9,9 @@ use lib.ListN.{length, length-append}
 use borrow.Author.Tests.{eq-eqb}
 use Rattle.logic.specs.Syntax.{Sort, node, arrow, rule, Expr, label, arrowKind}
 use Rattle.logic.specs.Steps.{update}
-use Rattle.logic.specs.Carry.{replace, putLabel, putArrow}
+use Rattle.logic.specs.Carry.{substitute, putLabel, putArrow}
 use Rattle.logic.specs.Arity.{Nullary, all·, none·, label·, nominal·, arrowKind·, pair·, Unary, Binary, build0, build1, build2, byArity}
-use Rattle.logic.proofs.ArityLaws.{byArity-0, byArity-1, byArity-2, replace-1, replace-2}
+use Rattle.logic.proofs.ArityLaws.{byArity-0, byArity-1, byArity-2, substitute-1, substitute-2}
 use Rattle.text.specs.Code.{code, levels}
 use Rattle.text.specs.Heads.{head1, head2}
 use Rattle.text.proofs.HeadLaws.{code-1, code-2, levels-0, levels-1, levels-2}
@@ -55,19 +55,19 @@ height-tree e = byArity (λ s e. height (tree e) ≡ levels e) (λ s b. rw (tree
       leaf-height (pair· i j) = refl
 
 module _ (f : ℕ → Expr node) (h : ℕ → Expr arrow) (g : ℕ → ℕ → Tree) (f-is : (k : ℕ) → tree (f k) ≡ g 0x03 k) (h-is : (a : ℕ) → tree (h a) ≡ g 0x11 a) where
-  pub tree-replace : {s : Sort} (e : Expr s) → tree (replace f h e) ≡ graft g (tree e)
-  unfolding graft bare replace build0
-  tree-replace e = byArity (λ s e. tree (replace f h e) ≡ graft g (tree e)) (λ s b. leaf-replace b ∙ ap (graft g) (sym (tree-0 b)))
-      (λ u t b x p. rw (replace-1, tree-1 b (replace f h x), tree-1 b x, p))
-      (λ u v t b x y p q. rw (replace-2, tree-2 b (replace f h x) (replace f h y), tree-2 b x y, p, q))
+  pub tree-substitute : {s : Sort} (e : Expr s) → tree (substitute f h e) ≡ graft g (tree e)
+  unfolding graft bare substitute build0
+  tree-substitute e = byArity (λ s e. tree (substitute f h e) ≡ graft g (tree e)) (λ s b. leaf-substitute b ∙ ap (graft g) (sym (tree-0 b)))
+      (λ u t b x p. rw (substitute-1, tree-1 b (substitute f h x), tree-1 b x, p))
+      (λ u v t b x y p q. rw (substitute-2, tree-2 b (substitute f h x) (substitute f h y), tree-2 b x y, p, q))
       e where
-        leaf-replace : {s : Sort} (b : Nullary s) → tree (replace f h (build0 b)) ≡ graft g (bare b)
-        leaf-replace all· = tree-0 all·
-        leaf-replace none· = tree-0 none·
-        leaf-replace (label· k) = f-is k
-        leaf-replace (nominal· i) = tree-0 (nominal· i)
-        leaf-replace (arrowKind· a) = h-is a
-        leaf-replace (pair· i j) = tree-0 (pair· i j)
+        leaf-substitute : {s : Sort} (b : Nullary s) → tree (substitute f h (build0 b)) ≡ graft g (bare b)
+        leaf-substitute all· = tree-0 all·
+        leaf-substitute none· = tree-0 none·
+        leaf-substitute (label· k) = f-is k
+        leaf-substitute (nominal· i) = tree-0 (nominal· i)
+        leaf-substitute (arrowKind· a) = h-is a
+        leaf-substitute (pair· i j) = tree-0 (pair· i j)
 
 update-tree : {s : Sort} (c : ℕ) (f : ℕ → Expr s) → ((j : ℕ) → tree (f j) ≡ name c j) → (k : ℕ) (F : Expr s) (j : ℕ) → tree (update f k F j) ≡ only c k (tree F) c j
 unfolding update only
@@ -78,11 +78,11 @@ update-tree c f f-is k F j = rw (eq-eqb c c refl) (go (eqb j k)) where
 
 pub tree-putLabel : (k : ℕ) (F : Expr node) (K : Expr rule) → tree (putLabel k F K) ≡ graft (only 0x03 k (tree F)) (tree K)
 unfolding putLabel only tree byArity bare
-tree-putLabel k F K = tree-replace (update label k F) arrowKind (only 0x03 k (tree F)) (update-tree 0x03 label (λ j. refl) k F) (λ a. refl) K
+tree-putLabel k F K = tree-substitute (update label k F) arrowKind (only 0x03 k (tree F)) (update-tree 0x03 label (λ j. refl) k F) (λ a. refl) K
 
 pub tree-putArrow : (a : ℕ) (S : Expr arrow) (K : Expr rule) → tree (putArrow a S K) ≡ graft (only 0x11 a (tree S)) (tree K)
 unfolding putArrow only tree byArity bare
-tree-putArrow a S K = tree-replace label (update arrowKind a S) (only 0x11 a (tree S)) (λ k. refl) (update-tree 0x11 arrowKind (λ j. refl) a S) K
+tree-putArrow a S K = tree-substitute label (update arrowKind a S) (only 0x11 a (tree S)) (λ k. refl) (update-tree 0x11 arrowKind (λ j. refl) a S) K
 
 pub size-is : (t : Tree) → length (treeCode t) ≡ size t
 unfolding size treeCode

@@ -14,7 +14,7 @@ use Rattle.text.specs.Code.{code}
 use Rattle.text.specs.Heads.{head1, head2}
 use Rattle.tree.specs.Tree.{Tree, name, leaf, one, two, treeCode, graft, same, only, bare, tree}
 use Rattle.tree.proofs.TreeLaws.{code-tree, tree-putLabel, tree-putArrow}
-use Rattle.tree.specs.Stack.{Step, touched, becomes, env, written, shown, lead, inner}
+use Rattle.tree.specs.Stack.{Substitution, touched, becomes, env, written, shown, lead, inner}
 
 pub graft-graft : (f g : ℕ → ℕ → Tree) (t : Tree) → graft g (graft f t) ≡ graft (λ c k. graft g (f c k)) t
 unfolding graft
@@ -39,7 +39,7 @@ graft-only g c k F = λ i c′ k′. go c′ k′ (same c′ k′ c k) i where
   go c′ k′ false = refl
 
 -- a step and then what follows, under a stack, is what follows under the stack with the step
-under-step : (σ : List Step) (s : Step) (F : Tree) → graft (env σ) F ≡ becomes (s .op) (env σ (touched (s .op)) (s .number)) (graft (env σ) (s .what)) → (t : Tree)
+under-step : (σ : List Substitution) (s : Substitution) (F : Tree) → graft (env σ) F ≡ becomes (s .op) (env σ (touched (s .op)) (s .number)) (graft (env σ) (s .what)) → (t : Tree)
     → graft (env σ) (graft (only (touched (s .op)) (s .number) F) t) ≡ graft (env (s ∷ σ)) t
 unfolding env
 under-step σ s F e t =
@@ -52,37 +52,37 @@ pub written-code : (Z : Edit) (K : Expr rule) → written [] Z K ≡ code (carry
 written-code Z K = unfold written env in ap treeCode (graft-name (tree (carry Z K))) ∙ code-tree (carry Z K)
 
 -- .. and this is how it is written.
-pub written-finish : (σ : List Step) (K : Expr rule) → written σ finish K ≡ shown σ K
+pub written-finish : (σ : List Substitution) (K : Expr rule) → written σ finish K ≡ shown σ K
 written-finish σ K = unfold written shown carry in refl
 
-pub written-addLabel : (σ : List Step) (k : ℕ) (E : Expr node) (Z : Edit) (K : Expr rule) → written σ (addLabel k E Z) K ≡ written (record { op = 0x31; number = k; what = tree E } ∷ σ) Z K
+pub written-addLabel : (σ : List Substitution) (k : ℕ) (E : Expr node) (Z : Edit) (K : Expr rule) → written σ (addLabel k E Z) K ≡ written (record { op = 0x31; number = k; what = tree E } ∷ σ) Z K
 unfolding written carry tree byArity bare head1 head2 graft
 written-addLabel σ k E Z K = ap treeCode (ap (graft (env σ)) (tree-putLabel k (or (label k) E) (carry Z K)) ∙ under-step σ (record { op = 0x31; number = k; what = tree E }) (tree (or (label k) E)) refl (tree (carry Z K)))
 
-pub written-takeLabel : (σ : List Step) (k : ℕ) (E : Expr node) (Z : Edit) (K : Expr rule) → written σ (takeLabel k E Z) K ≡ written (record { op = 0x32; number = k; what = tree E } ∷ σ) Z K
+pub written-takeLabel : (σ : List Substitution) (k : ℕ) (E : Expr node) (Z : Edit) (K : Expr rule) → written σ (takeLabel k E Z) K ≡ written (record { op = 0x32; number = k; what = tree E } ∷ σ) Z K
 unfolding written carry tree byArity bare head1 head2 graft
 written-takeLabel σ k E Z K = ap treeCode (ap (graft (env σ)) (tree-putLabel k (and (label k) (complement E)) (carry Z K)) ∙ under-step σ (record { op = 0x32; number = k; what = tree E }) (tree (and (label k) (complement E))) refl (tree (carry Z K)))
 
-pub written-addArrow : (σ : List Step) (a : ℕ) (R : Expr arrow) (Z : Edit) (K : Expr rule) → written σ (addArrow a R Z) K ≡ written (record { op = 0x33; number = a; what = tree R } ∷ σ) Z K
+pub written-addArrow : (σ : List Substitution) (a : ℕ) (R : Expr arrow) (Z : Edit) (K : Expr rule) → written σ (addArrow a R Z) K ≡ written (record { op = 0x33; number = a; what = tree R } ∷ σ) Z K
 unfolding written carry tree byArity bare head1 head2 graft
 written-addArrow σ a R Z K = ap treeCode (ap (graft (env σ)) (tree-putArrow a (union (arrowKind a) R) (carry Z K)) ∙ under-step σ (record { op = 0x33; number = a; what = tree R }) (tree (union (arrowKind a) R)) refl (tree (carry Z K)))
 
-pub written-takeArrow : (σ : List Step) (a : ℕ) (R : Expr arrow) (Z : Edit) (K : Expr rule) → written σ (takeArrow a R Z) K ≡ written (record { op = 0x34; number = a; what = tree R } ∷ σ) Z K
+pub written-takeArrow : (σ : List Substitution) (a : ℕ) (R : Expr arrow) (Z : Edit) (K : Expr rule) → written σ (takeArrow a R Z) K ≡ written (record { op = 0x34; number = a; what = tree R } ∷ σ) Z K
 unfolding written carry tree byArity bare head1 head2 graft
 written-takeArrow σ a R Z K = ap treeCode (ap (graft (env σ)) (tree-putArrow a (minus (arrowKind a) R) (carry Z K)) ∙ under-step σ (record { op = 0x34; number = a; what = tree R }) (tree (minus (arrowKind a) R)) refl (tree (carry Z K)))
 
-pub written-choose : (σ : List Step) (K₁ : Expr rule) (P Q Z : Edit) (K : Expr rule)
+pub written-choose : (σ : List Substitution) (K₁ : Expr rule) (P Q Z : Edit) (K : Expr rule)
     → written σ (choose K₁ P Q Z) K ≡ 0x25 ∷ (0x26 ∷ (0x27 ∷ shown σ K₁) ++ written σ (followedBy P Z) K) ++ (0x26 ∷ shown σ K₁ ++ written σ (followedBy Q Z) K)
 unfolding written shown tree byArity head1 head2 graft treeCode
 written-choose σ K₁ P Q Z K = ap (λ (L : Expr rule). treeCode (graft (env σ) (tree L))) (carry-choose K₁ P Q Z K)
 
 -- a name under a stack whose last step touches it, and under one whose last step does not
-pub env-hit : (s : Step) (σ : List Step) (c k : ℕ) → same c k (touched (s .op)) (s .number) ≡ true → env (s ∷ σ) c k ≡ becomes (s .op) (env σ c k) (graft (env σ) (s .what))
+pub env-hit : (s : Substitution) (σ : List Substitution) (c k : ℕ) → same c k (touched (s .op)) (s .number) ≡ true → env (s ∷ σ) c k ≡ becomes (s .op) (env σ c k) (graft (env σ) (s .what))
 unfolding env
 env-hit s σ c k e = let p = same-eq c k (touched (s .op)) (s .number) e in
     (λ t. cond (e t) (becomes (s .op) (env σ (touched (s .op)) (s .number)) (graft (env σ) (s .what))) (env σ c k)) ∙ ap₂ (λ (u v : ℕ). becomes (s .op) (env σ u v) (graft (env σ) (s .what))) (sym (p .0)) (sym (p .1))
 
-pub env-miss : (s : Step) (σ : List Step) (c k : ℕ) → same c k (touched (s .op)) (s .number) ≡ false → env (s ∷ σ) c k ≡ env σ c k
+pub env-miss : (s : Substitution) (σ : List Substitution) (c k : ℕ) → same c k (touched (s .op)) (s .number) ≡ false → env (s ∷ σ) c k ≡ env σ c k
 env-miss s σ c k e = unfold env in λ t. cond (e t) (becomes (s .op) (env σ (touched (s .op)) (s .number)) (graft (env σ) (s .what))) (env σ c k)
 
 pub code-becomes : (b : ℕ) (x E : Tree) → treeCode (becomes b x E) ≡ lead b ∷ treeCode x ++ inner b (treeCode E)

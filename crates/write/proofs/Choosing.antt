@@ -9,7 +9,7 @@ use Rattle.logic.specs.Syntax.{rule, Expr, Edit, finish, choose}
 use Rattle.logic.specs.Carry.{followedBy}
 use Rattle.text.specs.Code.{editCode}
 use Rattle.tree.specs.Tree.{Tree, tree, size, treeCode, graft}
-use Rattle.tree.specs.Stack.{Step, env, written, shown}
+use Rattle.tree.specs.Stack.{Substitution, env, written, shown}
 use Rattle.tree.proofs.Written.{written-finish, written-choose}
 use Rattle.ends.specs.Shapes.{At}
 use Rattle.ends.specs.Edits.{EditAt, behindStep}
@@ -17,7 +17,7 @@ use Rattle.ends.specs.Kept.{Kept}
 use Rattle.ends.proofs.TreePlaces.{size-pos}
 use Rattle.ends.proofs.FirstSteps.{as-choose, as-finish}
 use Rattle.ends.proofs.Kept.{kept-set}
-use Rattle.write.specs.Ways.{followed, BehindIs, Way, SomeTwo, Chosen}
+use Rattle.write.specs.Ways.{followed, BehindIs, Way, Chosen}
 use Rattle.write.proofs.Walking.{steps-kept, behind-kept, followed-through}
 
 -- where the parts of a 35 stand, as `open_first` and `end_of` say
@@ -26,8 +26,6 @@ module _ (edit : List ℕ) (at : ℕ) (m : getD edit at 0 ≡ 0x35) where
       → Chosen edit at first second next Z
   parted {first} {second} {next} Z h a b′ c′ =
       let q = as-choose edit at Z h m in
-      let b : second ≡ at + 1 + size (tree (q .K)) + length (editCode (q .P)) = b′ ∙ ap (λ (n : ℕ). n + length (editCode (q .P))) a in
-      let c : next ≡ at + 1 + size (tree (q .K)) + length (editCode (q .P)) + length (editCode (q .Q)) = c′ ∙ ap (λ (n : ℕ). n + length (editCode (q .Q))) b in
       record {
         test = q .K;
         P = q .P;
@@ -36,27 +34,23 @@ module _ (edit : List ℕ) (at : ℕ) (m : getD edit at 0 ≡ 0x35) where
         is = q .is;
         test-at = q .what;
         first-at = q .first first a;
-        second-at = q .second second b;
-        next-at = q .next next c;
+        second-at = q .second second (omega (arith, a, b′));
+        next-at = q .next next (omega (arith, a, b′, c′));
         on = omega (arith, a, size-pos (tree (q .K)) (q .what .formed));
         between = sym b′;
         behind = sym c′;
-        ends = omega (arith, c, q .long);
+        ends = omega (arith, a, b′, c′, q .long);
       }
 
-  module _ {first : ℕ} (f : (t : Tree) → At edit (at + 1) t → first ≡ at + 1 + size t) where
-    pub two-some : (Z : Edit) → EditAt edit at Z → SomeTwo edit first
-    two-some Z h = let q = as-choose edit at Z h m in let a = f (tree (q .K)) (q .what) in record { P = q .P; Q = q .Q; P-at = q .first first a; Q-at = q .second _ (ap (λ (n : ℕ). n + length (editCode (q .P))) a) }
-
-    pub chosen : {second next : ℕ} → ((Y : Edit) → EditAt edit first Y → second ≡ first + length (editCode Y)) → ((Y : Edit) → EditAt edit second Y → next ≡ second + length (editCode Y)) → (Z : Edit) → EditAt edit at Z → Chosen edit at first second next Z
-    chosen {second} g k Z h =
-        let q = as-choose edit at Z h m in
-        let a = f (tree (q .K)) (q .what) in
-        let b = g (q .P) (q .first first a) in
-        parted Z h a b (k (q .Q) (q .second second (b ∙ ap (λ (n : ℕ). n + length (editCode (q .P))) a)))
+  pub chosen : {first second next : ℕ} → ((t : Tree) → At edit (at + 1) t → first ≡ at + 1 + size t) → ((Y : Edit) → EditAt edit first Y → second ≡ first + length (editCode Y)) → ((Y : Edit) → EditAt edit second Y → next ≡ second + length (editCode Y)) → (Z : Edit) → EditAt edit at Z → Chosen edit at first second next Z
+  chosen {first} {second} f g k Z h =
+      let q = as-choose edit at Z h m in
+      let a = f (tree (q .K)) (q .what) in
+      let b = g (q .P) (q .first first a) in
+      parted Z h a b (k (q .Q) (q .second second (omega (arith, a, b))))
 
 -- The end: what is written is the rule under the steps passed.
-pub end-written : {edit stack behind : List ℕ} {at h d : ℕ} {σ : List Step} {Z : Edit} {Ws : List Edit} → Way edit stack behind at h d σ Z Ws → getD edit at 0 ≡ 0x30 → d ≡ 0 → (K : Expr rule)
+pub end-written : {edit stack behind : List ℕ} {at h d : ℕ} {σ : List Substitution} {Z : Edit} {Ws : List Edit} → Way edit stack behind at h d σ Z Ws → getD edit at 0 ≡ 0x30 → d ≡ 0 → (K : Expr rule)
     → treeCode (graft (env σ) (tree K)) ≡ written σ (followed Z Ws) K
 unfolding followed shown
 end-written {edit} {stack} {behind} {at} {h} {d} {σ} {Z} {Ws} y c z K = go Ws (y .around) ∙ sym (ap (λ (Y : Edit). written σ (followed Y Ws) K) (as-finish edit at Z (y .here) c)) where
@@ -65,7 +59,7 @@ end-written {edit} {stack} {behind} {at} {h} {d} {σ} {Z} {Ws} y c z K = go Ws (
   go (W ∷ Ws) e = absurd (omega (arith, e, z))
 
 -- A 35: 25 26 27 K1 T 26 K1 U.
-module _ {edit stack behind : List ℕ} {at h d first second next : ℕ} {σ : List Step} {Z : Edit} {Ws : List Edit} (y : Way edit stack behind at h d σ Z Ws) (q : Chosen edit at first second next Z) where
+module _ {edit stack behind : List ℕ} {at h d first second next : ℕ} {σ : List Substitution} {Z : Edit} {Ws : List Edit} (y : Way edit stack behind at h d σ Z Ws) (q : Chosen edit at first second next Z) where
   abbrev shown-test : List ℕ
   shown-test = treeCode (graft (env σ) (tree (q .test)))
 
@@ -78,11 +72,7 @@ module _ {edit stack behind : List ℕ} {at h d first second next : ℕ} {σ : L
 
   pub choice-length : (K : Expr rule) → length (written σ (followed Z Ws) K)
       ≡ 4 + length shown-test + length (written σ (followed (q .P) (q .W ∷ Ws)) K) + length shown-test + length (written σ (followed (q .Q) (q .W ∷ Ws)) K)
-  choice-length K =
-      let s : List ℕ = shown-test in
-      let t : List ℕ = written σ (followed (q .P) (q .W ∷ Ws)) K in
-      let u : List ℕ = written σ (followed (q .Q) (q .W ∷ Ws)) K in
-      omega (arith, ap length (choice-written K), length-append (((0x25 ∷ 0x26 ∷ 0x27 ∷ s) ++ t) ++ (0x26 ∷ s)) u, length-append ((0x25 ∷ 0x26 ∷ 0x27 ∷ s) ++ t) (0x26 ∷ s), length-append (0x25 ∷ 0x26 ∷ 0x27 ∷ s) t)
+  choice-length K = omega (arith, simp length-append at (ap length (choice-written K)))
 
   -- a way of the 35, with what follows it put on the stack
   pub branch : {stack′ behind′ : List ℕ} → Kept h stack stack′ → behind′ ≡ set behind d next → d < length behind → (p : ℕ) (Y : Edit) → EditAt edit p Y → p + length (editCode Y) ≤ next

@@ -8,7 +8,7 @@ use lib.Dec.{eqb}
 use lib.ListN.{length, getD, set, take, drop, length-append}
 use lib.Seq.{take-append-seam}
 use Rattle.tree.specs.Tree.{Tree, name, leaf, one, two, treeCode, graft, size}
-use Rattle.tree.specs.Stack.{Step, env, lead, inner}
+use Rattle.tree.specs.Stack.{Substitution, env, lead, inner}
 use Rattle.tree.proofs.Written.{code-becomes}
 use Rattle.ends.specs.Shapes.{At, Named, shapeOf}
 use Rattle.ends.proofs.TreePlaces.{IsName, as-name, tag, tag-at}
@@ -22,11 +22,8 @@ use Rattle.write.specs.Writing.{SomeName, SomeShown}
 use Rattle.write.proofs.Laying.{wrote-none, wrote-one, wrote-more, wrote-as}
 
 -- A name that no step touches, and one that the step at index j touches last.
-pub untouched : {edit stack : List ℕ} {σ : List Step} {c k r : ℕ} → Found edit stack σ c k r → r ≡ 0 → c ∷ k ∷ [] ≡ treeCode (env σ c k)
+pub untouched : {edit stack : List ℕ} {σ : List Substitution} {c k r : ℕ} → Found edit stack σ c k r → r ≡ 0 → c ∷ k ∷ [] ≡ treeCode (env σ c k)
 untouched f e = unfold treeCode in sym (ap treeCode (f .none e))
-
-pub last-hit : {edit stack : List ℕ} {σ : List Step} {c k r : ℕ} → Found edit stack σ c k r → 0 < r → Hit edit stack σ c k (r - 1)
-last-hit {edit} {stack} {σ} {c} {k} {r} f n = f .some (r - 1) (omega arith)
 
 inner-first : (b : ℕ) (l : List ℕ) → inner b l ≡ inner b [] ++ l
 inner-first b l = go (eqb b 0x32) where
@@ -34,7 +31,7 @@ inner-first b l = go (eqb b 0x32) where
   go true = refl
   go false = refl
 
-module _ {edit stack : List ℕ} {σ : List Step} {c k j : ℕ} (H : Hit edit stack σ c k j) (op : ℕ) (e : op ≡ H .s .op) where
+module _ {edit stack : List ℕ} {σ : List Substitution} {c k j : ℕ} (H : Hit edit stack σ c k j) (op : ℕ) (e : op ≡ H .s .op) where
   hit-bytes : ((lead op ∷ []) ++ treeCode (env (H .below) c k)) ++ inner op [] ++ treeCode (graft (env (H .below)) (H .s .what)) ≡ treeCode (env σ c k)
   hit-bytes =
       let x : List ℕ = treeCode (env (H .below) c k) in
@@ -43,23 +40,14 @@ module _ {edit stack : List ℕ} {σ : List Step} {c k j : ℕ} (H : Hit edit st
       ∙ ap (λ (b : ℕ). (lead b ∷ x) ++ inner b y) e
       ∙ sym (code-becomes (H .s .op) (env (H .below) c k) (graft (env (H .below)) (H .s .what))) ∙ sym (ap treeCode (H .is))
 
-  pub hit-length : length (treeCode (env σ c k)) ≡ 1 + length (treeCode (env (H .below) c k)) + length (inner op []) + length (treeCode (graft (env (H .below)) (H .s .what)))
-  hit-length =
-      let x : List ℕ = treeCode (env (H .below) c k) in
-      let y : List ℕ = treeCode (graft (env (H .below)) (H .s .what)) in
-      omega (arith, ap length hit-bytes, length-append ((lead op ∷ x) ++ inner op []) y, length-append (lead op ∷ x) (inner op []))
-
   pub hit-wrote : {o o₁ o₂ o₃ : List ℕ} {pos b p q r : ℕ} → b ≡ lead op → Wrote (set o pos b) (pos + 1) (treeCode (env (H .below) c k)) p o₁ → Wrote o₁ p (inner op []) q o₂
       → Wrote o₂ q (treeCode (graft (env (H .below)) (H .s .what))) r o₃ → Wrote o pos (treeCode (env σ c k)) r o₃
   hit-wrote {o} {o₁} {o₂} {o₃} {pos} {b} {p} {q} {r} f u v w = wrote-as hit-bytes (wrote-more (wrote-more (wrote-more (wrote-as (ap (λ (n : ℕ). n ∷ []) f) (wrote-one o pos b)) u) v) w)
 
 -- What writing a name leaves, whatever the steps of which the one below index j is the last that touches it.
 pub record NameWrote (edit stack : List ℕ) (j c k : ℕ) (o : List ℕ) (pos pos′ : ℕ) (o′ : List ℕ) : Type 0 where
-  pub each : (σ : List Step) → j ≡ lastIn edit stack (length σ) c k → StackIs edit stack σ → Wrote o pos (treeCode (env σ c k)) pos′ o′
+  pub each : (σ : List Substitution) → j ≡ lastIn edit stack (length σ) c k → StackIs edit stack σ → Wrote o pos (treeCode (env σ c k)) pos′ o′
   pub long : length o′ ≡ length o
-
-pub name-wrote-as : {edit stack o o′ o″ : List ℕ} {j c k pos pos′ pos″ : ℕ} → o″ ≡ o′ → pos″ ≡ pos′ → NameWrote edit stack j c k o pos pos′ o′ → NameWrote edit stack j c k o pos pos″ o″
-name-wrote-as {edit} {stack} {o} {o′} {o″} {j} {c} {k} {pos} {pos′} {pos″} e f w = subst (λ (x : ℕ). NameWrote edit stack j c k o pos x o″) (sym f) (subst (NameWrote edit stack j c k o pos pos′) (sym e) w)
 
 -- where none touches it
 pub bare-wrote : {edit stack o o′ : List ℕ} {j c k pos pos′ : ℕ} → j ≡ 0 → Wrote o pos (c ∷ k ∷ []) pos′ o′ → length o′ ≡ length o → NameWrote edit stack j c k o pos pos′ o′
@@ -71,10 +59,10 @@ bare-room w e = omega (arith, w .fits, ap length (untouched (found-as (w .is) (w
 -- where one does: the step, and the name under the steps below it
 module _ {edit work : List ℕ} {j c k pos room : ℕ} (l : 0 < j) (s : SomeLinks edit work j) (w : SomeName edit (stackOf work) j c k pos room) where
   pub hit : Hit edit (stackOf work) (w .steps) c k (j - 1)
-  hit = last-hit (found-as (w .is) (w .stands)) l
+  hit = found-as (w .is) (w .stands) .some (j - 1) (omega arith)
 
   pub hit-fits : pos + 1 + length (treeCode (env (hit .below) c k)) + length (inner (getD edit (getD work (64 + (j - 1)) 0) 0) []) + length (treeCode (graft (env (hit .below)) (hit .s .what))) ≤ room
-  hit-fits = omega (arith, w .fits, hit-length hit (getD edit (getD work (64 + (j - 1)) 0) 0) (hit-at s l hit .op-is))
+  hit-fits = omega (arith, w .fits, simp length-append at (ap length (hit-bytes hit (getD edit (getD work (64 + (j - 1)) 0) 0) (hit-at s l hit .op-is))))
 
   pub older-some : {room′ : ℕ} → room′ ≡ room → SomeName edit (stackOf work) (getD work (1430 + (j - 1)) 0) c k (pos + 1) room′
   older-some e = record { steps = hit .below; is = hit-older s (w .is) l hit .0; stands = hit .stands; fits = omega (arith, e, hit-fits) }
@@ -83,10 +71,10 @@ module _ {edit work : List ℕ} {j c k pos room : ℕ} (l : 0 < j) (s : SomeLink
   older-count u = u .each (hit .below) (hit-older s (w .is) l hit .0) (hit .stands) .counted
 
 -- The text of a tree under the steps passed, and of one that is no name by its head and its operands.
-abbrev shownBy : List Step → Tree → List ℕ
+abbrev shownBy : List Substitution → Tree → List ℕ
 shownBy σ t = treeCode (graft (env σ) t)
 
-opened : (σ : List Step) (t : Tree) → tag t < 16 → shownBy σ t ≡ headOf t ++ texts (shownBy σ) (partsOf t)
+opened : (σ : List Substitution) (t : Tree) → tag t < 16 → shownBy σ t ≡ headOf t ++ texts (shownBy σ) (partsOf t)
 unfolding graft treeCode texts
 opened σ (name c k) l = absurd (omega arith)
 opened σ (leaf h) l = sym (append-nil h)
@@ -100,14 +88,14 @@ head-taken text at t a n e =
     ap (take n) here ∙ ap (λ (m : ℕ). take m (headOf t ++ r)) (sym e) ∙ take-append-seam (headOf t) r
 
 -- An expression partly written: so many trees are wanted at p, and their texts are still to be written.
-pub record Emitted (text : List ℕ) (σ : List Step) (t : Tree) (p wanted : ℕ) (o : List ℕ) (pos q : ℕ) (o′ : List ℕ) : Type 0 where
+pub record Emitted (text : List ℕ) (σ : List Substitution) (t : Tree) (p wanted : ℕ) (o : List ℕ) (pos q : ℕ) (o′ : List ℕ) : Type 0 where
   pub parts : List Tree
   pub pending : Pending text p wanted parts
   pub done : List ℕ
   pub whole : done ++ texts (shownBy σ) parts ≡ shownBy σ t
   pub wrote : Wrote o pos done q o′
 
-shown-more : {text : List ℕ} {σ : List Step} {t : Tree} {p wanted : ℕ} {o : List ℕ} {pos q : ℕ} {o′ : List ℕ} (w : Emitted text σ t p wanted o pos q o′) {p′ wanted′ : ℕ} {parts′ : List Tree} {b : List ℕ} {q′ : ℕ} {o″ : List ℕ}
+shown-more : {text : List ℕ} {σ : List Substitution} {t : Tree} {p wanted : ℕ} {o : List ℕ} {pos q : ℕ} {o′ : List ℕ} (w : Emitted text σ t p wanted o pos q o′) {p′ wanted′ : ℕ} {parts′ : List Tree} {b : List ℕ} {q′ : ℕ} {o″ : List ℕ}
     → Pending text p′ wanted′ parts′ → texts (shownBy σ) (w .parts) ≡ b ++ texts (shownBy σ) parts′ → Wrote o′ q b q′ o″ → Emitted text σ t p′ wanted′ o pos q′ o″
 shown-more {text} {σ} {t} {p} {wanted} {o} {pos} {q} {o′} w {p′} {wanted′} {parts′} {b} n e u = record {
   parts = parts′;
@@ -119,7 +107,7 @@ shown-more {text} {σ} {t} {p} {wanted} {o} {pos} {q} {o′} w {p′} {wanted′
 
 -- whatever expression stands there, and whatever the steps on the stack
 pub record Showing (text : List ℕ) (at : ℕ) (edit stack : List ℕ) (h p wanted : ℕ) (o : List ℕ) (pos q : ℕ) (o′ : List ℕ) : Type 0 where
-  pub each : (σ : List Step) (t : Tree) → h ≡ length σ → StackIs edit stack σ → At text at t → Emitted text σ t p wanted o pos q o′
+  pub each : (σ : List Substitution) (t : Tree) → h ≡ length σ → StackIs edit stack σ → At text at t → Emitted text σ t p wanted o pos q o′
   pub passed : Passing text at p wanted
   pub long : length o′ ≡ length o
 
@@ -128,7 +116,7 @@ unfolding texts
 showing-first text at edit stack h o pos = record { each = λ σ t e i a. record { parts = t ∷ []; pending = pending-one text at t a; done = []; whole = append-nil (shownBy σ t); wrote = wrote-none o pos }; passed = passing-first text at; long = refl }
 
 pub showing-end : {text edit stack o o′ : List ℕ} {at h p wanted pos q : ℕ} → Showing text at edit stack h p wanted o pos q o′ → wanted ≤ 0
-    → (σ : List Step) (t : Tree) → h ≡ length σ → StackIs edit stack σ → At text at t → Wrote o pos (treeCode (graft (env σ) t)) q o′ × (p ≡ at + size t)
+    → (σ : List Substitution) (t : Tree) → h ≡ length σ → StackIs edit stack σ → At text at t → Wrote o pos (treeCode (graft (env σ) t)) q o′ × (p ≡ at + size t)
 unfolding texts
 showing-end {text} {edit} {stack} {o} {o′} {at} {h} {p} {wanted} {pos} {q} I l σ t e i a = let w = I .each σ t e i a in (go w (w .parts) (w .pending .count) (w .whole), passing-end (I .passed) l t a)
   where
@@ -166,7 +154,7 @@ module _ {text edit stack o o′ : List ℕ} {at h p wanted pos q : ℕ} (I : Sh
       named : {t : Tree} → At text p t → IsName text p t
       named {t} a = as-name text p t a (omega (arith, high, e))
 
-      name-text : (σ : List Step) (parts : List Tree) (f : First text p parts) → texts (shownBy σ) parts ≡ treeCode (env σ (getD text p 0) (getD text (p + 1) 0)) ++ texts (shownBy σ) (f .more)
+      name-text : (σ : List Substitution) (parts : List Tree) (f : First text p parts) → texts (shownBy σ) parts ≡ treeCode (env σ (getD text p 0) (getD text (p + 1) 0)) ++ texts (shownBy σ) (f .more)
       unfolding graft texts
       name-text σ parts f =
           let q = named (f .at) in
@@ -209,7 +197,7 @@ module _ {text edit stack o o′ : List ℕ} {at h p wanted pos q : ℕ} (I : Sh
 
     -- any other code
     module _ (low : s < 16) where
-      head-text : (σ : List Step) (parts : List Tree) (f : First text p parts) → (g : Turn text p wanted (f .t) (f .more) s) → texts (shownBy σ) parts ≡ take (s % 4) (drop p text) ++ texts (shownBy σ) (partsOf (f .t) ++ f .more)
+      head-text : (σ : List Substitution) (parts : List Tree) (f : First text p parts) → (g : Turn text p wanted (f .t) (f .more) s) → texts (shownBy σ) parts ≡ take (s % 4) (drop p text) ++ texts (shownBy σ) (partsOf (f .t) ++ f .more)
       unfolding texts
       head-text σ parts f g =
           let t : Tree = f .t in
@@ -222,9 +210,7 @@ module _ {text edit stack o o′ : List ℕ} {at h p wanted pos q : ℕ} (I : Sh
       head-at w =
           let f = head-first w in
           let g = turn (some w .pending) f s e in
-          let o = ap length (head-text (w .steps) (some w .parts) f g) in
-          let r = length-append (take (s % 4) (drop p text)) (texts (shownBy (w .steps)) (partsOf (f .t) ++ f .more)) in
-          record { on = g .on; in-text = g .in-text; in-count = g .in-count; fits = omega (arith, still w .0, g .head, ap length (head-taken text p (f .t) (f .at) (s % 4) (g .head)), o, r) }
+          record { on = g .on; in-text = g .in-text; in-count = g .in-count; fits = omega (arith, still w .0, g .head, ap length (head-taken text p (f .t) (f .at) (s % 4) (g .head)), simp length-append at (ap length (head-text (w .steps) (some w .parts) f g))) }
 
       pub head-shown : {q′ : ℕ} {o″ : List ℕ} → Wrote o′ q (take (s % 4) (drop p text)) q′ o″ → length o″ ≡ length o′ → Showing text at edit stack h (p + s % 4) (wanted - 1 + s / 4 % 4) o pos q′ o″
       head-shown u m = record { each = λ σ t g i a. let v = I .each σ t g i a in let f = first (v .pending) l in let n = turn (v .pending) f s e in shown-more v (n .next) (head-text σ (v .parts) f n) u; passed = passing-more (I .passed) l s e; long = m ∙ I .long }
@@ -234,10 +220,7 @@ module _ (text edit stack : List ℕ) (at h pos s : ℕ) (e : s ≡ shapeOf (get
   pub leaf-room : {room : ℕ} → SomeShown text at edit stack h pos room → (0 < s) × (s < 4) × (at + s ≤ length text) × (pos + s ≤ room)
   leaf-room w = let g = head-at (showing-first text at edit stack h [] pos) (omega arith) s e (omega arith) w in (omega (arith, g), l, omega (arith, g), omega (arith, g))
 
-  pub leaf-shown : {o o′ : List ℕ} {q : ℕ} → Wrote o pos (take s (drop at text)) q o′ → length o′ ≡ length o → (σ : List Step) (t : Tree) → h ≡ length σ → StackIs edit stack σ → At text at t → Wrote o pos (treeCode (graft (env σ) t)) q o′
+  pub leaf-shown : {o o′ : List ℕ} {q : ℕ} → Wrote o pos (take s (drop at text)) q o′ → length o′ ≡ length o → (σ : List Substitution) (t : Tree) → h ≡ length σ → StackIs edit stack σ → At text at t → Wrote o pos (treeCode (graft (env σ) t)) q o′
   leaf-shown {o} u m σ t f i a =
       let n : s ≡ s % 4 = omega arith in
       showing-end (head-shown (showing-first text at edit stack h o pos) (omega arith) s e (omega arith) (wrote-as (ap (λ (x : ℕ). take x (drop at text)) n) u) m) (omega arith) σ t f i a .0
-
-pub shown-moved : {text edit stack : List ℕ} {at h pos pos′ room room′ : ℕ} → SomeShown text at edit stack h pos room → pos′ ≡ pos → room′ ≡ room → SomeShown text at edit stack h pos′ room′
-shown-moved w p r = record { steps = w .steps; is = w .is; stands = w .stands; what = w .what; what-at = w .what-at; fits = omega (arith, w .fits, p, r) }

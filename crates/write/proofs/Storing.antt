@@ -8,7 +8,7 @@ use lib.Seq.{length-front, length-take-le}
 use Rattle.logic.specs.Syntax.{Edit}
 use Rattle.text.specs.Code.{editCode}
 use Rattle.tree.specs.Tree.{Tree, treeCode, graft, size}
-use Rattle.tree.specs.Stack.{Step, env}
+use Rattle.tree.specs.Stack.{Substitution, env}
 use Rattle.ends.specs.Shapes.{At}
 use Rattle.ends.specs.Edits.{EditAt}
 use Rattle.ends.specs.Kept.{Kept}
@@ -24,20 +24,6 @@ use Rattle.write.proofs.Finding.{linked-kept}
 use Rattle.write.proofs.Choosing.{chosen}
 use Rattle.write.proofs.WrittenWays.{rested}
 
--- where the stack or the offsets behind are given otherwise
-pub walked-on : {edit stack behind stack′ stack″ : List ℕ} {at h d at′ h′ d′ : ℕ} → stack″ ≡ stack′ → Walked edit stack behind at h d stack′ at′ h′ d′ → Walked edit stack behind at h d stack″ at′ h′ d′
-walked-on {edit} {stack} {behind} {stack′} {stack″} {at} {h} {d} {at′} {h′} {d′} e w = subst (λ (l : List ℕ). Walked edit stack behind at h d l at′ h′ d′) (sym e) w
-
-pub written-on : {text edit stack behind o stack′ stack″ behind′ behind″ o′ : List ℕ} {from at h d pos pos′ : ℕ} → stack″ ≡ stack′ → behind″ ≡ behind′ → WayWritten text from edit stack behind at h d o pos pos′ stack′ behind′ o′
-    → WayWritten text from edit stack behind at h d o pos pos′ stack″ behind″ o′
-written-on {text} {edit} {stack} {behind} {o} {stack′} {stack″} {behind′} {behind″} {o′} {from} {at} {h} {d} {pos} {pos′} e f w = record { wrote = w .wrote; kept = subst (Kept h stack) (sym e) (w .kept); again = f ∙ w .again }
-
-pub kept-on : {n : ℕ} {l m m′ : List ℕ} → m′ ≡ m → Kept n l m → Kept n l m′
-kept-on {n} {l} e k = subst (Kept n l) (sym e) k
-
-kept-of : {n : ℕ} {l l′ m : List ℕ} → l′ ≡ l → Kept n l m → Kept n l′ m
-kept-of {n} {l} {l′} {m} e k = subst (λ (x : List ℕ). Kept n x m) (sym e) k
-
 kept-same : {n : ℕ} {l m : List ℕ} → m ≡ l → Kept n l m
 kept-same e = record { same = λ i r. ap (λ (x : List ℕ). getD x i 0) e }
 
@@ -46,7 +32,7 @@ pub record Branch (text : List ℕ) (from : ℕ) (edit work : List ℕ) (at h d 
   pub walked : Walked edit (stackOf work) (behindOf work) at h d (stackOf work′) at′ h′ d′
   pub some : SomeCarried text from edit (stackOf work′) (behindOf work) at′ h′ d′ pos (length o)
   pub chosen : (Z : Edit) → EditAt edit at′ Z → Chosen edit at′ first second next Z
-  pub opened : (σ : List Step) (t : Tree) → h′ ≡ length σ → StackIs edit (stackOf work′) σ → At edit (at′ + 1) t → Wrote o pos (0x25 ∷ 0x26 ∷ 0x27 ∷ treeCode (graft (env σ) t)) pos′ o′
+  pub opened : (σ : List Substitution) (t : Tree) → h′ ≡ length σ → StackIs edit (stackOf work′) σ → At edit (at′ + 1) t → Wrote o pos (0x25 ∷ 0x26 ∷ 0x27 ∷ treeCode (graft (env σ) t)) pos′ o′
   pub low : d′ < length (behindOf work)
   pub behind : behindOf work′ ≡ set (behindOf work) d′ next
   pub linked : LinkedIn edit work′ h′
@@ -55,24 +41,23 @@ pub record Branch (text : List ℕ) (from : ℕ) (edit work : List ℕ) (at h d 
 
 pub branch : {text edit work work₁ o o′ : List ℕ} {from at h d pos at′ h′ d′ first second next pos′ : ℕ} → SomeCarried text from edit (stackOf work) (behindOf work) at h d pos (length o) → Fitting edit work → length work₁ ≡ length work
     → Walked edit (stackOf work) (behindOf work) at h d (stackOf work₁) at′ h′ d′ → Relinked edit work work₁ h h′ → (getD edit at′ 0 ≡ 0x30 → ⊥)
-    → ((σ : List Step) (t : Tree) → h′ ≡ length σ → StackIs edit (stackOf work₁) σ → At edit (at′ + 1) t → Wrote o pos (0x25 ∷ 0x26 ∷ 0x27 ∷ treeCode (graft (env σ) t)) pos′ o′ × (first ≡ at′ + 1 + size t))
+    → ((σ : List Substitution) (t : Tree) → h′ ≡ length σ → StackIs edit (stackOf work₁) σ → At edit (at′ + 1) t → Wrote o pos (0x25 ∷ 0x26 ∷ 0x27 ∷ treeCode (graft (env σ) t)) pos′ o′ × (first ≡ at′ + 1 + size t))
     → ((P : Edit) → EditAt edit first P → second ≡ first + length (editCode P)) → ((Q : Edit) → EditAt edit second Q → next ≡ second + length (editCode Q))
     → Branch text from edit work at h d o pos (set work₁ (2796 + d′) next) at′ h′ d′ first second next pos′ o′
 branch {text} {edit} {work} {work₁} {o} {o′} {from} {at} {h} {d} {pos} {at′} {h′} {d′} {first} {second} {next} {pos′} w f l a r m u g e =
     let y = rested w a .way in
     let q = way-low y (f .short) in
     let b = behind-stored work₁ d′ next (q .1) in
-    let v = walked-on (b .stack-same) a in
     record {
-      walked = v;
-      some = rested w v;
+      walked = rw (b .stack-is) a;
+      some = rw (b .stack-is) (rested w a);
       chosen = chosen edit at′ (at-choice _ _ (a .rests) m) (λ t i. u (y .steps) t (y .way .steps-passed) (y .way .steps) i .1) g e;
-      opened = λ σ t n s i. u σ t n (subst (λ (x : List ℕ). StackIs edit x σ) (b .stack-same) s) i .0;
+      opened = λ σ t n s i. u σ t n (rw (b .stack-is) at s) i .0;
       low = omega (arith, q .1, part-length 2796 2048 work (omega (arith, f .long)));
       behind = b .behind-is ∙ ap (λ (x : List ℕ). set x d′ next) (r .behind-same);
-      linked = linked-kept (kept-same (b .stack-same)) (kept-same (b .links-same)) (kept-same (b .last-same)) (r .linked);
+      linked = linked-kept (kept-same (b .stack-is)) (kept-same (b .links-are)) (kept-same (b .last-is)) (r .linked);
       fits = record { short = f .short; long = length-set work₁ (2796 + d′) next ∙ l ∙ f .long };
-      kept = kept-on (b .links-same) (r .kept);
+      kept = rw (b .links-are) (r .kept);
     }
 
 -- the second way: the last steps of names as before the first
@@ -87,9 +72,9 @@ pub again : (work₁ : List ℕ) {text edit work o o′ last last′ : List ℕ}
     → length last′ ≡ length (take 64 work₁) → Again text from edit work at h d o pos pos′ (last′ ++ drop 64 work₁) o′
 again work₁ {text} {edit} {work} {o} {o′} {last} {last′} {from} {at} {h} {d} w f l c t a b e =
     let r = last-replaced work₁ last′ (e ∙ length-take-le 64 work₁ (omega (arith, l, f .long))) in
-    let k : LinkedIn edit (last′ ++ drop 64 work₁) h = linked-kept (kept-on (r .stack-same) (c .kept)) (kept-on (r .links-same) t) (kept-on (r .last-is) (kept-of (last-first work) (kept-more (omega arith) a b))) w in
+    let k : LinkedIn edit (last′ ++ drop 64 work₁) h = linked-kept (rw (r .stack-is) (c .kept)) (rw (r .links-are) t) (rw (r .last-is, last-first work) (kept-more (omega arith) a b)) w in
     let n = length-front work₁ last′ 64 e ∙ l ∙ f .long in
-    record { written = written-on (r .stack-same) (r .behind-same) c; linked = k; fits = record { short = f .short; long = n }; kept = kept-on (r .links-same) t }
+    record { written = rw (r .stack-is, r .behind-is) c; linked = k; fits = record { short = f .short; long = n }; kept = rw (r .links-are) t }
 
 -- after both, what stood behind is there again
 pub stored-back : (work₀ work₁ work : List ℕ) {text edit : List ℕ} {from at h d : ℕ} {o : List ℕ} {pos pos′ : ℕ} {o′ : List ℕ} {d′ : ℕ} → d′ < length (behindOf work₀) → length work₀ ≡ workLength → behindOf work₁ ≡ behindOf work₀
@@ -102,4 +87,4 @@ stored-back work₀ work₁ work {text} {edit} {from} {at} {h} {d} {o} {pos} {po
     let v = getD work₁ (2796 + d′) 0 in
     let b = behind-stored work d′ v r in
     let x : v ≡ getD (behindOf work₀) d′ 0 = sym (part-at 2796 2048 work₁ d′ (2796 + d′) r refl) ∙ ap (λ (y : List ℕ). getD y d′ 0) e in
-    (written-on (b .stack-same) refl (c (behindOf (set work (2796 + d′) v)) (b .behind-is ∙ ap (λ (y : ℕ). set (behindOf work) d′ y) x)), kept-on (b .links-same) k)
+    (rw (b .stack-is) (c (behindOf (set work (2796 + d′) v)) (b .behind-is ∙ ap (λ (y : ℕ). set (behindOf work) d′ y) x)), rw (b .links-are) k)

@@ -7,12 +7,13 @@ use native.Mathlib.Omega.{arith}
 use lib.Dec.{eqb}
 use lib.ListN.{length, getD, set}
 use lib.Seq.{getD-set-same}
-use borrow.Author.Tests.{eqb-true, eqb-false, eq-eqb, ne-eqb}
+use borrow.Author.Tests.{eqb-true, eqb-false, ne-eqb}
 use Rattle.logic.specs.Syntax.{rule, Expr, Edit, finish, addLabel, takeLabel, addArrow, takeArrow, choose}
 use Rattle.logic.specs.Carry.{followedBy}
+use Rattle.logic.proofs.Bools.{true-false}
 use Rattle.text.specs.Code.{editCode}
 use Rattle.tree.specs.Tree.{Tree, size}
-use Rattle.tree.specs.Stack.{Step, touched, written}
+use Rattle.tree.specs.Stack.{Substitution, touched, written}
 use Rattle.tree.proofs.Written.{written-addLabel, written-takeLabel, written-addArrow, written-takeArrow}
 use Rattle.ends.specs.Shapes.{shapeOf, At, Some, Named}
 use Rattle.ends.specs.Edits.{EditAt, behindStep}
@@ -25,7 +26,7 @@ use Rattle.write.specs.Offsets.{StepAt, StackIs}
 use Rattle.write.specs.Ways.{followed, BehindIs, Way, SomeWay, SameWay, resting, Passed, Walked}
 
 -- what is below on a stack stays what it is
-pub steps-kept : (edit : List ℕ) {stack stack′ : List ℕ} {top : ℕ} (σ : List Step) → length σ ≤ top → Kept top stack stack′ → StackIs edit stack σ → StackIs edit stack′ σ
+pub steps-kept : (edit : List ℕ) {stack stack′ : List ℕ} {top : ℕ} (σ : List Substitution) → length σ ≤ top → Kept top stack stack′ → StackIs edit stack σ → StackIs edit stack′ σ
 unfolding StackIs
 steps-kept edit [] l k i = i
 steps-kept edit {stack} {stack′} {top} (s ∷ σ) l k i = (subst (λ (o : ℕ). StepAt edit o s) (sym (k .same (length σ) (omega arith))) (i .0), steps-kept edit σ (omega arith) k (i .1))
@@ -48,11 +49,7 @@ one-code text at s e l t a =
     let n : at + s ≡ at + s % 4 = omega arith in
     n ∙ passing-end (passing-more (passing-first text at) (omega arith) s e) (omega arith) t a
 
--- a step of the edit as the stack holds it
-step-holds : {edit : List ℕ} {at : ℕ} (Z : Edit) → IsStep edit at Z → StepAt edit at (stepOf Z)
-step-holds Z q = record { op-is = q .reads-op; number-is = q .reads-k; room = omega (arith, q .room); what-at = q .what }
-
-written-step : (Z : Edit) → (editTag Z ≡ 0x30 → ⊥) → (editTag Z ≡ 0x35 → ⊥) → (σ : List Step) (Ws : List Edit) (K : Expr rule) → written σ (followed Z Ws) K ≡ written (stepOf Z ∷ σ) (followed (behindStep Z) Ws) K
+written-step : (Z : Edit) → (editTag Z ≡ 0x30 → ⊥) → (editTag Z ≡ 0x35 → ⊥) → (σ : List Substitution) (Ws : List Edit) (K : Expr rule) → written σ (followed Z Ws) K ≡ written (stepOf Z ∷ σ) (followed (behindStep Z) Ws) K
 unfolding followedBy behindStep
 written-step finish n m σ Ws K = absurd (n refl)
 written-step (addLabel k E Z) n m σ Ws K = ap (λ (Y : Edit). written σ Y K) (followed-through (addLabel k E) (λ P Y. refl) Z Ws) ∙ written-addLabel σ k E (followed Z Ws) K
@@ -63,12 +60,6 @@ written-step (choose K P Q Z) n m σ Ws L = absurd (m refl)
 
 module _ {edit stack behind : List ℕ} {at h d : ℕ} where
   -- past a step
-  pub step-some : SomeWay edit stack behind at h d → (getD edit at 0 ≡ 0x30 → ⊥) → (getD edit at 0 ≡ 0x35 → ⊥) → (at + 2 < length edit) × Some edit (at + 2)
-  step-some w n m = let q = as-step edit at (w .what) (w .way .here) n m in (q .room, record { what = editTree (w .what); stands = q .what })
-
-  pub step-named : SomeWay edit stack behind at h d → (getD edit at 0 ≡ 0x30 → ⊥) → (getD edit at 0 ≡ 0x35 → ⊥) → Named (touched (getD edit at 0)) (getD edit (at + 1) 0)
-  step-named w n m = let q = as-step edit at (w .what) (w .way .here) n m in subst (λ (b : ℕ). Named (touched b) (getD edit (at + 1) 0)) (sym (q .reads-op)) (subst (Named (touched (editTag (w .what)))) (sym (q .reads-k)) (q .named))
-
   pub step-passed : SomeWay edit stack behind at h d → (getD edit at 0 ≡ 0x30 → ⊥) → (getD edit at 0 ≡ 0x35 → ⊥) → h < length stack → (next : ℕ) → ((t : Tree) → At edit (at + 2) t → next ≡ at + 2 + size t)
       → Passed edit stack behind at h d (set stack h at) next (h + 1) d
   unfolding StackIs
@@ -76,15 +67,9 @@ module _ {edit stack behind : List ℕ} {at h d : ℕ} where
       let p = as-step edit at (w .what) (w .way .here) n m in
       let l = f (editTree (w .what)) (p .what) in
       record {
-        each = λ σ Z Ws y. let q = as-step edit at Z (y .here) n m in go σ Z Ws y q (f (editTree Z) (q .what));
-        kept = kept-set stack h at;
-        on = omega (arith, l);
-        up = omega arith;
-        low = omega (arith, l, size-pos (editTree (w .what)) (p .what .formed), w .low);
-        low-behind = omega (arith, l, w .low-behind);
-      } where
-        go : (σ : List Step) (Z : Edit) (Ws : List Edit) → Way edit stack behind at h d σ Z Ws → (q : IsStep edit at Z) → next ≡ at + 2 + size (editTree Z) → SameWay edit (set stack h at) behind next (h + 1) d σ Z Ws
-        go σ Z Ws y q e =
+        each = λ σ Z Ws y.
+            let q = as-step edit at Z (y .here) n m in
+            let e = f (editTree Z) (q .what) in
             let here : getD (set stack h at) (length σ) 0 ≡ at = ap (λ (i : ℕ). getD (set stack h at) i 0) (sym (y .steps-passed)) ∙ getD-set-same stack h at 0 room in
             let from : at + length (editCode Z) ≡ next + length (editCode (behindStep Z)) = omega (arith, e, q .long) in
             record {
@@ -94,12 +79,18 @@ module _ {edit stack behind : List ℕ} {at h d : ℕ} where
               same = written-step Z (q .no-end) (q .no-choice) σ Ws;
               way = record {
                 steps-passed = omega (arith, y .steps-passed);
-                steps = (subst (λ (o : ℕ). StepAt edit o (stepOf Z)) (sym here) (step-holds Z q), steps-kept edit σ (omega (arith, y .steps-passed)) (kept-set stack h at) (y .steps));
+                steps = (rw here (record { op-is = q .reads-op; number-is = q .reads-k; room = omega (arith, q .room); what-at = q .what }), steps-kept edit σ (omega (arith, y .steps-passed)) (kept-set stack h at) (y .steps));
                 here = q .next next e;
                 around = y .around;
                 rest = subst (λ (x : ℕ). BehindIs edit behind x Ws) from (y .rest);
               };
-            }
+            };
+        kept = kept-set stack h at;
+        on = omega (arith, l);
+        up = omega arith;
+        low = omega (arith, l, size-pos (editTree (w .what)) (p .what .formed), w .low);
+        low-behind = omega (arith, l, w .low-behind);
+      }
 
   -- past the end of what a 35 does
   pub way-low : SomeWay edit stack behind at h d → length edit ≤ 4096 → (h < 1366) × (d < 2048)
@@ -108,46 +99,26 @@ module _ {edit stack behind : List ℕ} {at h d : ℕ} where
   pub end-passed : SomeWay edit stack behind at h d → getD edit at 0 ≡ 0x30 → 0 < d → Passed edit stack behind at h d stack (getD behind (d - 1) 0) h (d - 1)
   unfolding followed followedBy BehindIs editCode
   end-passed w c l =
-      let z = as-finish edit at (w .what) (w .way .here) c in
-      let b = on (w .later) (w .way .around) (subst (λ (Z : Edit). BehindIs edit behind (at + length (editCode Z)) (w .later)) z (w .way .rest)) in
-      record {
-        each = λ σ Z Ws y. let e = as-finish edit at Z (y .here) c in subst (λ (Y : Edit). SameWay edit stack behind (getD behind (d - 1) 0) h (d - 1) σ Y Ws) (sym e) (go σ Ws y (y .around) (subst (λ (Y : Edit). BehindIs edit behind (at + length (editCode Y)) Ws) e (y .rest)));
-        kept = record { same = λ i r. refl };
-        on = omega (arith, b);
-        up = omega arith;
-        low = omega (arith, w .low, b);
-        low-behind = omega (arith, w .low-behind, b);
-      } where
-        on : (Ws : List Edit) → d ≡ length Ws → BehindIs edit behind (at + 1) Ws → at + 1 ≤ getD behind (d - 1) 0
-        on [] e i = absurd (omega (arith, e, l))
-        on (W ∷ Ws) e i = let m : length Ws ≡ d - 1 = omega (arith, e) in subst (λ (x : ℕ). at + 1 ≤ getD behind x 0) m (i .0)
+      let b = go (w .steps) (w .what) (w .later) (w .way) .1 in
+      record { each = λ σ Z Ws y. go σ Z Ws y .0; kept = record { same = λ i r. refl }; on = omega (arith, b); up = omega arith; low = omega (arith, w .low, b); low-behind = omega (arith, w .low-behind, b) } where
+        go : (σ : List Substitution) (Z : Edit) (Ws : List Edit) → Way edit stack behind at h d σ Z Ws → SameWay edit stack behind (getD behind (d - 1) 0) h (d - 1) σ Z Ws × (at + 1 ≤ getD behind (d - 1) 0)
+        go σ Z [] y = absurd (omega (arith, y .around, l))
+        go σ Z (W ∷ Ws) y =
+            let e = as-finish edit at Z (y .here) c in
+            let m : length Ws ≡ d - 1 = omega (arith, y .around) in
+            let i = rw (e, m) at (y .rest) in (
+              record { steps = σ; what = W; later = Ws; same = λ K. ap (λ (Y : Edit). written σ (followed Y (W ∷ Ws)) K) e; way = record { steps-passed = y .steps-passed; steps = y .steps; here = i .1; around = sym m; rest = i .2 } },
+              i .0,
+            )
 
-        go : (σ : List Step) (Ws : List Edit) {Z : Edit} → Way edit stack behind at h d σ Z Ws → d ≡ length Ws → BehindIs edit behind (at + 1) Ws → SameWay edit stack behind (getD behind (d - 1) 0) h (d - 1) σ finish Ws
-        go σ [] y e i = absurd (omega (arith, e, l))
-        go σ (W ∷ Ws) y e i =
-            let m : length Ws ≡ d - 1 = omega (arith, e) in
-            record {
-              steps = σ;
-              what = W;
-              later = Ws;
-              same = λ K. refl;
-              way = record { steps-passed = y .steps-passed; steps = y .steps; here = subst (λ (x : ℕ). EditAt edit (getD behind x 0) W) m (i .1); around = sym m; rest = subst (λ (x : ℕ). BehindIs edit behind (getD behind x 0 + length (editCode W)) Ws) m (i .2) };
-            }
-
--- where the stack, the next place or the offsets behind are given otherwise
-pub passed-on : {edit stack behind stack′ stack″ : List ℕ} {at h d at′ h′ d′ : ℕ} → stack″ ≡ stack′ → Passed edit stack behind at h d stack′ at′ h′ d′ → Passed edit stack behind at h d stack″ at′ h′ d′
-passed-on {edit} {stack} {behind} {stack′} {stack″} {at} {h} {d} {at′} {h′} {d′} e p = subst (λ (l : List ℕ). Passed edit stack behind at h d l at′ h′ d′) (sym e) p
-
-pub passed-at : {edit stack behind stack′ : List ℕ} {at h d at′ at″ h′ d′ : ℕ} → at′ ≡ at″ → Passed edit stack behind at h d stack′ at′ h′ d′ → Passed edit stack behind at h d stack′ at″ h′ d′
-passed-at {edit} {stack} {behind} {stack′} {at} {h} {d} {at′} {at″} {h′} {d′} e p = subst (λ (x : ℕ). Passed edit stack behind at h d stack′ x h′ d′) e p
-
-pub way-behind : {edit stack behind behind′ : List ℕ} {at h d : ℕ} → behind′ ≡ behind → SomeWay edit stack behind at h d → SomeWay edit stack behind′ at h d
-way-behind {edit} {stack} {behind} {behind′} {at} {h} {d} e w = subst (λ (b : List ℕ). SomeWay edit stack b at h d) (sym e) w
+-- where the stack and the offsets behind are given otherwise
+pub way-kept : {edit stack behind stack′ behind′ : List ℕ} {at h d : ℕ} {σ : List Substitution} {Z : Edit} {Ws : List Edit} → Kept h stack stack′ → behind′ ≡ behind → Way edit stack behind at h d σ Z Ws → Way edit stack′ behind′ at h d σ Z Ws
+way-kept {edit} {σ = σ} k e y = record { steps-passed = y .steps-passed; steps = steps-kept edit σ (omega (arith, y .steps-passed)) k (y .steps); here = y .here; around = y .around; rest = rw e (y .rest) }
 
 -- a walk of many
 pub record Walking (edit stack behind : List ℕ) (at h d : ℕ) (stack′ : List ℕ) (at′ h′ d′ : ℕ) : Type 0 where
   pub some : SomeWay edit stack′ behind at′ h′ d′
-  pub each : (σ : List Step) (Z : Edit) (Ws : List Edit) → Way edit stack behind at h d σ Z Ws → SameWay edit stack′ behind at′ h′ d′ σ Z Ws
+  pub each : (σ : List Substitution) (Z : Edit) (Ws : List Edit) → Way edit stack behind at h d σ Z Ws → SameWay edit stack′ behind at′ h′ d′ σ Z Ws
   pub kept : Kept h stack stack′
   pub up : h ≤ h′
 
@@ -172,14 +143,10 @@ walked w r = record { each = w .each; kept = w .kept; up = w .up; low = w .some 
 
 -- what the test says
 pub not-choice : (c d : ℕ) → resting c d ≡ false → c ≡ 0x35 → ⊥
-not-choice c d e q = unfold resting in let z : true ≡ false = sym (simp (eq-eqb _ _ q)) ∙ e in let o : _≡_ {A = ℕ} 0 1 = cc in absurd (omega arith)
+not-choice c d e q = unfold resting in true-false (ap (λ (x : ℕ). resting x d) q) e
 
 pub not-end : (c d : ℕ) → resting c d ≡ false → c ≡ 0x30 → 0 < d
-unfolding resting
-not-end c d e q = go (eqb d 0) refl where
-  go : (b : Bool) → eqb d 0 ≡ b → 0 < d
-  go true z = let y : true ≡ false = sym (simp (q, z)) ∙ e in let o : _≡_ {A = ℕ} 0 1 = cc in absurd (omega arith)
-  go false z = let n = eqb-false d 0 z in omega arith
+not-end c d e q = unfold resting in let n = eqb-false d 0 (sym (ap (λ (x : ℕ). resting x d) q) ∙ e) in omega arith
 
 pub at-end : (c d : ℕ) → resting c d ≡ true → c ≡ 0x30 → d ≡ 0
 at-end c d e q = unfold resting in eqb-true d 0 (sym (ap (λ (x : ℕ). resting x d) q) ∙ e)
@@ -189,4 +156,4 @@ unfolding resting
 at-choice c d e n = go (eqb c 0x35) refl where
   go : (b : Bool) → eqb c 0x35 ≡ b → c ≡ 0x35
   go true z = eqb-true c 0x35 z
-  go false z = let y : false ≡ true = sym (simp (z, ne-eqb _ _ n)) ∙ e in let o : _≡_ {A = ℕ} 0 1 = cc in absurd (omega arith)
+  go false z = true-false e (simp (z, ne-eqb _ _ n))

@@ -4,8 +4,8 @@ use mathlib.Core.List.{List, _++_}
 use Prim.Native.Nat.{ℕ, _+_, _-_, _≤_, _<_}
 use native.Mathlib.Omega.{arith}
 use lib.ListN.{length, getD, set, take, drop, length-take, length-drop}
-use lib.Seq.{getD-drop, getD-take, drop-drop, take-at, drop-append-add, drop-set-add, drop-set-lt, take-set-lt, take-set-le}
-use Rattle.write.specs.Work.{part, lastOf, stackOf, linksOf, behindOf}
+use lib.Seq.{length-take-le, getD-drop, getD-take, drop-drop, take-at, drop-append-add, drop-set-add, drop-set-lt, take-set-lt, take-set-le}
+use Rattle.write.specs.Work.{part, workLength, lastOf, stackOf, linksOf, behindOf}
 
 module _ (from n : ℕ) (work : List ℕ) where
   pub part-at : (i k : ℕ) → i < n → k ≡ from + i → getD (part from n work) i 0 ≡ getD work k 0
@@ -40,32 +40,30 @@ module _ (from n : ℕ) (work : List ℕ) where
 pub last-first : (work : List ℕ) → lastOf work ≡ take 64 work
 last-first work = unfold part in refl
 
--- an offset of an edit behind stored
-pub record BehindStored (work : List ℕ) (d v : ℕ) : Type 0 where
-  pub last-same : lastOf (set work (2796 + d) v) ≡ lastOf work
-  pub stack-same : stackOf (set work (2796 + d) v) ≡ stackOf work
-  pub links-same : linksOf (set work (2796 + d) v) ≡ linksOf work
-  pub behind-is : behindOf (set work (2796 + d) v) ≡ set (behindOf work) d v
+pub names-long : (work : List ℕ) → length work ≡ workLength → length (take 64 work) ≡ 64
+names-long work l = length-take-le 64 work (omega arith)
 
-pub behind-stored : (work : List ℕ) (d v : ℕ) → d < 2048 → BehindStored work d v
+-- the parts of a work array, one by one
+pub record WorkIs (work last stack links behind : List ℕ) : Type 0 where
+  pub last-is : lastOf work ≡ last
+  pub stack-is : stackOf work ≡ stack
+  pub links-are : linksOf work ≡ links
+  pub behind-is : behindOf work ≡ behind
+
+-- an offset of an edit behind stored
+pub behind-stored : (work : List ℕ) (d v : ℕ) → d < 2048 → WorkIs (set work (2796 + d) v) (lastOf work) (stackOf work) (linksOf work) (set (behindOf work) d v)
 behind-stored work d v l = record {
-  last-same = part-behind 0 64 work (2796 + d) v (omega arith);
-  stack-same = part-behind 64 1366 work (2796 + d) v (omega arith);
-  links-same = part-behind 1430 1366 work (2796 + d) v (omega arith);
+  last-is = part-behind 0 64 work (2796 + d) v (omega arith);
+  stack-is = part-behind 64 1366 work (2796 + d) v (omega arith);
+  links-are = part-behind 1430 1366 work (2796 + d) v (omega arith);
   behind-is = part-in 2796 2048 work (2796 + d) v d l refl;
 }
 
 -- the last steps of names replaced
-pub record LastReplaced (work e work′ : List ℕ) : Type 0 where
-  pub last-is : lastOf work′ ≡ e
-  pub stack-same : stackOf work′ ≡ stackOf work
-  pub links-same : linksOf work′ ≡ linksOf work
-  pub behind-same : behindOf work′ ≡ behindOf work
-
-pub last-replaced : (work e : List ℕ) → length e ≡ 64 → LastReplaced work e (e ++ drop 64 work)
+pub last-replaced : (work e : List ℕ) → length e ≡ 64 → WorkIs (e ++ drop 64 work) e (stackOf work) (linksOf work) (behindOf work)
 last-replaced work e l = record {
   last-is = last-first (e ++ drop 64 work) ∙ take-at e (drop 64 work) 64 l;
-  stack-same = part-front 64 1366 work e 64 l (omega arith);
-  links-same = part-front 1430 1366 work e 64 l (omega arith);
-  behind-same = part-front 2796 2048 work e 64 l (omega arith);
+  stack-is = part-front 64 1366 work e 64 l (omega arith);
+  links-are = part-front 1430 1366 work e 64 l (omega arith);
+  behind-is = part-front 2796 2048 work e 64 l (omega arith);
 }

@@ -9,7 +9,7 @@ use Rattle.logic.specs.Syntax.{rule, Expr, Edit, choose}
 use Rattle.logic.specs.Carry.{followedBy}
 use Rattle.text.specs.Code.{editCode}
 use Rattle.tree.specs.Tree.{tree}
-use Rattle.tree.specs.Stack.{Step, written}
+use Rattle.tree.specs.Stack.{Substitution, written}
 use Rattle.ends.specs.Shapes.{At}
 use Rattle.ends.specs.Edits.{EditAt}
 use Rattle.ends.specs.Kept.{Kept}
@@ -29,7 +29,7 @@ BehindIs edit behind from (W ∷ Ws) =
     (from ≤ getD behind (length Ws) 0) × EditAt edit (getD behind (length Ws) 0) W × BehindIs edit behind (getD behind (length Ws) 0 + length (editCode W)) Ws
 
 -- h steps passed, the edit at a place, and d edits behind it
-pub record Way (edit stack behind : List ℕ) (at h d : ℕ) (σ : List Step) (Z : Edit) (Ws : List Edit) : Type 0 where
+pub record Way (edit stack behind : List ℕ) (at h d : ℕ) (σ : List Substitution) (Z : Edit) (Ws : List Edit) : Type 0 where
   pub steps-passed : h ≡ length σ
   pub steps : StackIs edit stack σ
   pub here : EditAt edit at Z
@@ -38,7 +38,7 @@ pub record Way (edit stack behind : List ℕ) (at h d : ℕ) (σ : List Step) (Z
 
 -- some way, with room for its offsets below its place: a step has three bytes at least
 pub record SomeWay (edit stack behind : List ℕ) (at h d : ℕ) : Type 0 where
-  pub steps : List Step
+  pub steps : List Substitution
   pub what : Edit
   pub later : List Edit
   pub way : Way edit stack behind at h d steps what later
@@ -46,8 +46,8 @@ pub record SomeWay (edit stack behind : List ℕ) (at h d : ℕ) : Type 0 where
   pub low-behind : 2 * d ≤ at
 
 -- further on the same way: what is written of each rule is the same
-pub record SameWay (edit stack behind : List ℕ) (at h d : ℕ) (σ : List Step) (Z : Edit) (Ws : List Edit) : Type 0 where
-  pub steps : List Step
+pub record SameWay (edit stack behind : List ℕ) (at h d : ℕ) (σ : List Substitution) (Z : Edit) (Ws : List Edit) : Type 0 where
+  pub steps : List Substitution
   pub what : Edit
   pub later : List Edit
   pub way : Way edit stack behind at h d steps what later
@@ -59,7 +59,7 @@ resting c d = cond (eqb c 0x35) true (cond (eqb c 0x30) (eqb d 0) false)
 
 -- what passing a step or an end leaves, and what a walk leaves
 pub record Passed (edit stack behind : List ℕ) (at h d : ℕ) (stack′ : List ℕ) (at′ h′ d′ : ℕ) : Type 0 where
-  pub each : (σ : List Step) (Z : Edit) (Ws : List Edit) → Way edit stack behind at h d σ Z Ws → SameWay edit stack′ behind at′ h′ d′ σ Z Ws
+  pub each : (σ : List Substitution) (Z : Edit) (Ws : List Edit) → Way edit stack behind at h d σ Z Ws → SameWay edit stack′ behind at′ h′ d′ σ Z Ws
   pub kept : Kept h stack stack′
   pub on : at < at′
   pub up : h ≤ h′
@@ -67,7 +67,7 @@ pub record Passed (edit stack behind : List ℕ) (at h d : ℕ) (stack′ : List
   pub low-behind : 2 * d′ ≤ at′
 
 pub record Walked (edit stack behind : List ℕ) (at h d : ℕ) (stack′ : List ℕ) (at′ h′ d′ : ℕ) : Type 0 where
-  pub each : (σ : List Step) (Z : Edit) (Ws : List Edit) → Way edit stack behind at h d σ Z Ws → SameWay edit stack′ behind at′ h′ d′ σ Z Ws
+  pub each : (σ : List Substitution) (Z : Edit) (Ws : List Edit) → Way edit stack behind at h d σ Z Ws → SameWay edit stack′ behind at′ h′ d′ σ Z Ws
   pub kept : Kept h stack stack′
   pub up : h ≤ h′
   pub low : 3 * h′ ≤ at′
@@ -106,6 +106,6 @@ pub record SomeCarried (text : List ℕ) (from : ℕ) (edit stack behind : List 
 
 -- what writing a rule along a way leaves
 pub record WayWritten (text : List ℕ) (from : ℕ) (edit stack behind : List ℕ) (at h d : ℕ) (o : List ℕ) (pos pos′ : ℕ) (stack′ behind′ o′ : List ℕ) : Type 0 where
-  pub wrote : (σ : List Step) (Z : Edit) (Ws : List Edit) → Way edit stack behind at h d σ Z Ws → (K : Expr rule) → RuleAt text from K → Wrote o pos (written σ (followed Z Ws) K) pos′ o′
+  pub wrote : (σ : List Substitution) (Z : Edit) (Ws : List Edit) → Way edit stack behind at h d σ Z Ws → (K : Expr rule) → RuleAt text from K → Wrote o pos (written σ (followed Z Ws) K) pos′ o′
   pub kept : Kept h stack stack′
   pub again : behind′ ≡ behind

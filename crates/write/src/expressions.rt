@@ -10,7 +10,7 @@ ghost use mathlib.Core.List.{List, []};
 ghost use Prim.Native.Nat.{_+_, _<_, _≤_};
 ghost use lib.ListN.{length};
 ghost use Rattle.tree.specs.Tree.{Tree, treeCode, graft, size};
-ghost use Rattle.tree.specs.Stack.{Step, env, lead, inner};
+ghost use Rattle.tree.specs.Stack.{Substitution, env, lead, inner};
 ghost use Rattle.ends.specs.Shapes.{At};
 ghost use Rattle.write.specs.Laid.{Wrote};
 ghost use Rattle.write.specs.Work.{stackOf};
@@ -48,7 +48,7 @@ fn put_not(op: u8, out: &mut [u8], pos: usize) -> usize
 // Inner: the work array holds offsets of steps, with their links, and there is room; the room left falls with each call.
 fn name(edit: &[u8], work: &[u16], j: usize, of: Name, out: &mut [u8], pos: usize) -> usize
     requires { ⌜ (0 < j) × SomeName (now edit) (stackOf (now work)) j (of .code) (of .number) pos (length (now out)) × SomeLinks (now edit) (now work) j ⌝ }
-    ensures { λ r. ⌜ ((σ : List Step) → j ≡ lastIn (now (edit .entry)) (stackOf (now (work .entry))) (length σ) (of .code) (of .number) → StackIs (now (edit .entry)) (stackOf (now (work .entry))) σ → Wrote (now (out .entry)) pos (treeCode (env σ (of .code) (of .number))) r (now (out .exit))) ⌝ }
+    ensures { λ r. ⌜ ((σ : List Substitution) → j ≡ lastIn (now (edit .entry)) (stackOf (now (work .entry))) (length σ) (of .code) (of .number) → StackIs (now (edit .entry)) (stackOf (now (work .entry))) σ → Wrote (now (out .entry)) pos (treeCode (env σ (of .code) (of .number))) r (now (out .exit))) ⌝ }
 {
     let below = j - 1;
     let o = work[STACK + below] as usize;
@@ -75,7 +75,7 @@ fn name(edit: &[u8], work: &[u16], j: usize, of: Name, out: &mut [u8], pos: usiz
 // Inner: it stands there, the work array holds offsets of steps, and there is room.
 pub fn emit(text: &[u8], edit: &[u8], work: &[u16], h: usize, out: &mut [u8], place: Place) -> Place
     requires { ⌜ SomeShown (now text) (place .at) (now edit) (stackOf (now work)) h (place .pos) (length (now out)) × SomeLinks (now edit) (now work) h ⌝ }
-    ensures { λ r. ⌜ ((σ : List Step) (t : Tree) → h ≡ length σ → StackIs (now (edit .entry)) (stackOf (now (work .entry))) σ → At (now (text .entry)) (place .at) t → Wrote (now (out .entry)) (place .pos) (treeCode (graft (env σ) t)) (r .pos) (now (out .exit)) × (r .at ≡ place .at + size t)) ⌝ }
+    ensures { λ r. ⌜ ((σ : List Substitution) (t : Tree) → h ≡ length σ → StackIs (now (edit .entry)) (stackOf (now (work .entry))) σ → At (now (text .entry)) (place .at) t → Wrote (now (out .entry)) (place .pos) (treeCode (graft (env σ) t)) (r .pos) (now (out .exit)) × (r .at ≡ place .at + size t)) ⌝ }
 {
     let mut p = place.at;
     let mut q = place.pos;

@@ -12,7 +12,7 @@ ghost use mathlib.Core.Bool.{false};
 ghost use Prim.Native.Nat.{_+_, _<_, _≤_};
 ghost use lib.ListN.{length, getD, take, drop};
 ghost use Rattle.tree.specs.Tree.{Tree, treeCode, graft, size};
-ghost use Rattle.tree.specs.Stack.{Step, env};
+ghost use Rattle.tree.specs.Stack.{Substitution, env};
 ghost use Rattle.logic.specs.Syntax.{rule, Expr, Edit};
 ghost use Rattle.text.specs.Code.{code, editCode};
 ghost use Rattle.ends.specs.Shapes.{At, Some};
@@ -117,7 +117,7 @@ fn ways_at(edit: &[u8], first: usize) -> Ways
 // Inner: it stands there, the work array holds offsets of steps, and there is room.
 fn open_first(edit: &[u8], work: &[u16], rest: Reached, out: &mut [u8], pos: usize) -> Place
     requires { ⌜ SomeShown (now edit) (rest .at + 1) (now edit) (stackOf (now work)) (rest .h) (pos + 3) (length (now out)) × SomeLinks (now edit) (now work) (rest .h) ⌝ }
-    ensures { λ r. ⌜ ((σ : List Step) (t : Tree) → rest .h ≡ length σ → StackIs (now (edit .entry)) (stackOf (now (work .entry))) σ → At (now (edit .entry)) (rest .at + 1) t → Wrote (now (out .entry)) pos (0x25 ∷ 0x26 ∷ 0x27 ∷ treeCode (graft (env σ) t)) (r .pos) (now (out .exit)) × (r .at ≡ rest .at + 1 + size t)) ⌝ }
+    ensures { λ r. ⌜ ((σ : List Substitution) (t : Tree) → rest .h ≡ length σ → StackIs (now (edit .entry)) (stackOf (now (work .entry))) σ → At (now (edit .entry)) (rest .at + 1) t → Wrote (now (out .entry)) pos (0x25 ∷ 0x26 ∷ 0x27 ∷ treeCode (graft (env σ) t)) (r .pos) (now (out .exit)) × (r .at ≡ rest .at + 1 + size t)) ⌝ }
 {
     let at = rest.at + 1;
     let p = bytes::put_two(0x25, 0x26, out, pos);

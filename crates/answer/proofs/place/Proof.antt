@@ -1,12 +1,7 @@
-use mathlib.Core.Path.{sym, ap, _∙_}
 use borrow.Author.Needs.{needs}
-use Rattle.answer.specs.Answers.{answerPlace}
 use Rattle.answer.proofs.place.Statement.{statement}
 use Rattle.answer.proofs.place.Tie as tie
 
 pub place-spec : {M : Type 1} → statement M
-place-spec =
-    tie.close
-    (tie.spec
-    (λ c. search needs) (λ c. search needs) (λ c κs. search needs) (λ c. search needs)
-    (λ c. c .refusal-place .ensures ∙ sym (ap answerPlace (c .before .before .a .given .1))))
+place-spec = tie.close (tie.spec (λ c. search needs) (λ c. search needs) (λ c κs. search needs) (λ c. search needs)
+    (λ c. rw (c .before .before .a .given .1) (c .refusal-place .ensures)))

@@ -19,9 +19,7 @@ edit-done : (c : tie.After-enum-told2) → passed tt ≡ outcome (askEdit (textL
 edit-done c = ap asked (sym (c .enum-told2 .given .1)) ∙ c .before .before .check-edit .ensures
 
 pub carry-back-spec : {M : Type 1} → statement M
-carry-back-spec =
-    tie.close
-    (tie.spec
+carry-back-spec = tie.close (tie.spec
     (λ c κs. search needs) (λ c. search needs) (λ c. search needs) (λ c κs. search needs) (λ c. search needs) (λ c. search needs)
     (λ c κs. both-read _ _ (now (c .before .before .before .before .before .before .before .before .before .before .args .out)) (book-done (c .before .before .before .before)) (edit-done (c .before)))
     (λ c. book-refused _ _ _ (c .before .r .given .0 .0) (ap asked (sym (c .before .r .given .1)) ∙ c .before .before .before .check-book .ensures))

@@ -25,9 +25,7 @@ fits : (c : tie.Else4) {rules : List (Expr rule)} {Z : Edit} → BookIs (now (st
 fits c h g = let s = measured c in fits-out (s .size-of-book .ensures _ _ h g .0) (now (start s .args .out)) (c .before .before .before .if2 .left) (c .before .if3 .left) (c .if4 .left)
 
 pub carry-into-spec : {M : Type 1} → statement M
-carry-into-spec =
-    tie.close
-    (tie.spec
+carry-into-spec = tie.close (tie.spec
     (λ c. λ rules Z h g. empty-into _ (c .if1 .taken) rules Z h _)
     (λ c. search needs) (λ c. search needs) (λ c κs. search needs)
     (λ c. λ rules Z h g. too-long (c .before .before .before .size-of-book .ensures rules Z h g .0) _ (c .if2 .taken))

@@ -1,7 +1,7 @@
 use borrow.Author.Needs.{needs}
 use mathlib.Core.Path.{ap, _∙_}
 use Prim.Native.Nat.{_+_, _%_}
-use Rattle.check_steps.proofs.Spans.{numbers-less, numbers-new}
+use Rattle.check_steps.proofs.Spans.{after-number, after-code}
 use Rattle.check_steps.proofs.next_numbers.Statement.{statement}
 use Rattle.check_steps.proofs.next_numbers.Tie as tie
 
@@ -9,5 +9,5 @@ pub next-numbers-spec : {M : Type 1} → statement M
 next-numbers-spec =
     tie.close
     (tie.spec
-    (λ c. search needs) (λ c κs. search needs) (λ c. search needs) (λ c. numbers-less _ _ (c .if1 .taken))
-    (λ c. ap (λ s. (s % 4 + 3) % 4) (c .shape-of .ensures) ∙ numbers-new _ _ (c .before .if1 .left)))
+    (λ c. search needs) (λ c κs. search needs) (λ c. search needs) (λ c. after-number _ 0 _ (c .if1 .taken) .0)
+    (λ c. ap (λ s. (s % 4 + 3) % 4) (c .shape-of .ensures) ∙ after-code _ 0 _ (c .before .if1 .left) .0))

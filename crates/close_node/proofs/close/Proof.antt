@@ -42,12 +42,12 @@ kept c =
 judge-with-requires : tie.Need-judge-with-requires
 judge-with-requires c κs =
     let u = c .before in let t = passed (in-use u .before) in let k = known t in let q = k .ready in
-    (q .sound, q .below, used (in-use u), within-closed (graphOf (start t .args .sheet .now)) _ (k .within) (may u), record { what = q .rules; stand = q .stand })
+    (q .sound, q .below, used (in-use u), within-closed (graphOf (start t .args .sheet .now)) _ (k .within) (may u), record { what = k .rules; stand = q .stand })
 
 judged : tie.Need-returns-4
 judged c =
     let r = c .before .before in let u = r .before .before in
-    let q = known (passed (in-use u .before)) .ready in close-judged _ _ _ q (used (in-use u)) (may u) (r .judge-with .ensures (q .rules) (q .stand))
+    let k = known (passed (in-use u .before)) in close-judged _ _ _ (k .ready) (used (in-use u)) (may u) (r .judge-with .ensures (k .rules) (k .ready .stand))
 
 pub close-spec : {M : Type 1} → statement M
 close-spec =

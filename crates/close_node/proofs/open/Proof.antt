@@ -27,12 +27,12 @@ opened-already c = let t = passed (c .before) in open-already _ _ _ (known t .re
 judge-with-requires : tie.Need-judge-with-requires
 judge-with-requires c κs =
     let t = passed (c .before .before) in let k = known t in let q = k .ready in
-    (q .sound, q .below, unused (c .before), within-opened (graphOf (start t .args .sheet .now)) _ (k .within) (q .below), record { what = q .rules; stand = q .stand })
+    (q .sound, q .below, unused (c .before), within-opened (graphOf (start t .args .sheet .now)) _ (k .within) (q .below), record { what = k .rules; stand = q .stand })
 
 judged : tie.Need-returns-3
 judged c =
     let r = c .before .before in let u = r .before .before in
-    let q = known (passed (u .before)) .ready in open-judged _ _ _ q (unused u) (r .judge-with .ensures (q .rules) (q .stand))
+    let k = known (passed (u .before)) in open-judged _ _ _ (k .ready) (unused u) (r .judge-with .ensures (k .rules) (k .ready .stand))
 
 pub open-spec : {M : Type 1} → statement M
 open-spec =

@@ -28,10 +28,7 @@ returns c =
     all-written (l .out) (l .at) (l .rest) (c .loop-test .left) (l .inv .2)
 
 pub write-digits-spec : {M : Type 1} → statement M
-write-digits-spec =
-    tie.close
-    (tie.spec
+write-digits-spec = tie.close (tie.spec
     Inv-loop μ-loop
     (λ c. (search needs, search needs, none-written (c .args .out .now) (c .args .n)))
-    (λ c. search needs) (λ c. search needs) (λ c. search needs) (λ c. search needs) (λ c. search needs) loop-again (λ c. search needs)
-    returns)
+    (λ c. search needs) (λ c. search needs) (λ c. search needs) (λ c. search needs) (λ c. search needs) loop-again (λ c. search needs) returns)

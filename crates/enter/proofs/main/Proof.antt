@@ -16,9 +16,7 @@ part-enter-line-end-2 c =
     omega (arith, ap gotLength (at .e .given .1), at .before .before .before .read-text .ensures)
 
 pub main-spec : {M : Type 1} → statement M
-main-spec =
-    tie.close
-    (tie.spec
+main-spec = tie.close (tie.spec
     (λ c. search needs) (λ c. search needs) (λ c κs. search needs) (λ c. search needs) (λ c. search needs) (λ c κs. search needs)
     (λ c. search needs) (λ c. search needs) (λ c κs. search needs) (λ c. search needs) (λ c. search needs) (λ c κs. search needs)
     (λ c. search needs) (λ c. search needs) (λ c. search needs) (λ c. search needs) part-enter-line-end (λ c. search needs)

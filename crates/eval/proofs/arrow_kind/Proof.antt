@@ -12,8 +12,7 @@ pub arrow-kind-spec : {M : Type 1} → statement M
 arrow-kind-spec =
     tie.close
     (tie.spec
-    (λ c. omega (arith, kind (c .before .before .before) .inside))
-    (λ c. omega (arith, kind (c .before .before .before .before) .inside))
+    (λ c. omega (arith, kind (c .before .before .before) .inside)) (λ c. omega (arith, kind (c .before .before .before .before) .inside))
     (λ c κs. let s = c .before .before .before .before .before in (s .pre .0 .sound, s .pre .0 .count, s .pre .0 .few, kind s .range, ap length (s .pre .3)))
     (λ c. omega (arith, kind (c .before .before .before .before .before .before .before .before) .inside))
     (λ c. c .before .before .arrow-rows .ensures .1 ∙ sym (ap length (c .before .before .before .before .before .before .before .before .pre .3)))

@@ -12,10 +12,8 @@ pub one-pair-spec : {M : Type 1} → statement M
 one-pair-spec =
     tie.close
     (tie.spec
-    (λ c. omega (arith, pair (c .before .before .before) .inside))
-    (λ c. omega (arith, pair (c .before .before .before .before) .inside))
-    (λ c. omega (arith, pair (c .before .before .before .before) .inside))
-    (λ c. omega (arith, pair (c .before .before .before .before .before) .inside))
+    (λ c. omega (arith, pair (c .before .before .before) .inside)) (λ c. omega (arith, pair (c .before .before .before .before) .inside))
+    (λ c. omega (arith, pair (c .before .before .before .before) .inside)) (λ c. omega (arith, pair (c .before .before .before .before .before) .inside))
     (λ c κs. let s = c .before .before .before .before .before .before in (omega (arith, s .pre .0 .few, pair s .range .0), omega (arith, s .pre .0 .few, pair s .range .1), s .pre .3))
     (λ c. omega (arith, pair (c .before .before .before .before .before .before .before .before .before) .inside))
     (λ c. c .before .before .pair-rows .ensures .1 ∙ sym (ap length (c .before .before .before .before .before .before .before .before .before .pre .3)))

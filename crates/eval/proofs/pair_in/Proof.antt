@@ -1,6 +1,7 @@
 use mathlib.Core.Path.{refl}
 use native.Mathlib.Omega.{arith}
 use borrow.Author.Needs.{needs}
+use Rattle.eval.proofs.CodePlaces.{operand}
 use Rattle.eval.proofs.RuleCases.{IsPairIn, as-pair-in, pair-in-truth}
 use Rattle.eval.proofs.pair_in.Statement.{statement}
 use Rattle.eval.proofs.pair_in.Tie as tie
@@ -13,7 +14,7 @@ pair-in-spec =
     tie.close
     (tie.spec
     (λ c. omega (arith, case (c .before .before) .inside)) (λ c. search needs)
-    (λ c κs. let s = c .before .before .before in (s .pre .0, record { what = case s .A; stands = case s .first }, refl))
+    (λ c κs. let s = c .before .before .before in (s .pre .0, operand (case s), refl))
     (λ c. search needs)
     (λ c. omega (arith, case (c .before .before .before .before .before .before) .inside))
     (λ c. omega (arith, case (c .before .before .before .before .before .before .before) .inside))

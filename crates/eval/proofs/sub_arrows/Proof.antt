@@ -1,6 +1,7 @@
 use mathlib.Core.Path.{refl}
 use native.Mathlib.Omega.{arith}
 use borrow.Author.Needs.{needs}
+use Rattle.eval.proofs.CodePlaces.{operand-1, operand-2}
 use Rattle.eval.proofs.RuleCases.{IsSubArrows, as-sub-arrows, sub-arrows-truth}
 use Rattle.eval.proofs.sub_arrows.Statement.{statement}
 use Rattle.eval.proofs.sub_arrows.Tie as tie
@@ -13,9 +14,9 @@ sub-arrows-spec =
     tie.close
     (tie.spec
     (λ c. omega (arith, case (c .before .before) .inside)) (λ c. search needs)
-    (λ c κs. let s = c .before .before .before in (s .pre .0, record { what = case s .A; stands = case s .first }, refl))
+    (λ c κs. let s = c .before .before .before in (s .pre .0, operand-1 (case s), refl))
     (λ c. search needs)
-    (λ c κs. let s = c .before .before .before .before .before .before in (s .pre .0, record { what = case s .B; stands = case s .second _ (c .before .before .eval-arrow .ensures .0 (case s .A) (case s .first) .ends) }, refl))
+    (λ c κs. let s = c .before .before .before .before .before .before in (s .pre .0, operand-2 (case s) (c .before .before .eval-arrow .ensures .0 (case s .A) (case s .first) .ends), refl))
     (λ c. search needs) (λ c. search needs)
     (λ c κs. (c .before .before .before .before .before .before .before .before .before .before .pre .0 .few, search needs, search needs))
     (λ c e h. let s = c .before .before .before .before .before .before .before .before .before .before .before in

@@ -10,7 +10,7 @@ use Rattle.seal.specs.Seal.{blockBytes}
 use Rattle.sheet.specs.Sheet.{present, sheetBytes, blockCount, store, graphOf}
 use Rattle.sheet.proofs.SoundWords.{sound-length}
 use Rattle.join_sheets.specs.Joined.{joinedGraph}
-use Rattle.join_sheets.proofs.BlocksJoined.{Begun, Inv, one-made, made-length, one-more, all-made, begun-sound}
+use Rattle.join_sheets.proofs.BlocksJoined.{Begun, Inv, one-made, one-more, all-made, begun-sound}
 use Rattle.join_sheets.proofs.join_blocks.Statement.{statement}
 use Rattle.join_sheets.proofs.join_blocks.Tie as tie
 
@@ -80,7 +80,7 @@ join-rows-requires c κs =
     let at = c .before .before .before in
     let l = at .loop in
     let e : blockBytes * l .b + blockBytes - blockBytes * l .b ≡ blockBytes = omega arith in (
-      block-length (l .first) (l .b) _ (made-length _ _ _ _ _ _ (l .inv)) (c .before .before .loop-test .taken) e,
+      block-length (l .first) (l .b) _ (l .inv .made .size) (c .before .before .loop-test .taken) e,
       block-length (second (begin (lines at))) (l .b) _ (second-size (begin (lines at))) (c .before .before .loop-test .taken) e,
       few (counted (lines at)),
     )
@@ -99,9 +99,9 @@ join-blocks-spec =
     (λ c. search needs) (λ c. omega (arith, first-size (start c))) (λ c. search needs) (λ c. search needs)
     (λ c. omega (arith, second-size (start (c .before)))) join-lines-requires (λ c. one-made _ _ _ _ _ (begun (c .before .before)))
     (λ c. search needs) (λ c. search needs) (λ c. search needs) (λ c. search needs)
-    (λ c. omega (arith, made-length _ _ _ _ _ _ (c .before .loop .inv), c .loop-test .taken))
+    (λ c. omega (arith, c .before .loop .inv .made .size, c .loop-test .taken))
     (λ c. search needs) (λ c. search needs)
     (λ c. omega (arith, second-size (begin (lines (c .before .before))), c .before .loop-test .taken))
     join-rows-requires (λ c. search needs) (λ c. search needs) loop-again
-    (λ c. made-length _ _ _ _ _ _ (c .before .loop .inv) ∙ sym (first-size (begin (lines (c .before)))))
+    (λ c. c .before .loop .inv .made .size ∙ sym (first-size (begin (lines (c .before)))))
     (λ c. all-made _ _ _ _ _ _ (c .before .loop .inv) _ (begun (lines (c .before))) (c .loop-test .left)))

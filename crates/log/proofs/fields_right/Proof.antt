@@ -6,7 +6,7 @@ use borrow.Author.Tests.{not-true, not-false}
 use denote.Ref.{now}
 use lib.ListN.{take, drop}
 use Rattle.log.specs.Log.{countRight, allZero}
-use Rattle.log.proofs.FieldLaws.{not-a-log, mark-wrong, count-wrong, zeros-left, count-small}
+use Rattle.log.proofs.FieldLaws.{not-a-log, mark-wrong, count-wrong, zeros-left, count-says}
 use Rattle.log.proofs.fields_right.Statement.{statement}
 use Rattle.log.proofs.fields_right.Tie as tie
 
@@ -29,7 +29,7 @@ returns-3 c =
 zeros-from-requires : tie.Need-zeros-from-requires
 zeros-from-requires c κs =
     let s = c .before .before .before .before .before .before .before .before .before .before in
-    let small : c .before .before .before .count .result ≤ 504 = count-small _ _ (sym (c .before .count-right .ensures) ∙ not-false _ (c .if3 .left)) in
+    let small : c .before .before .before .count .result ≤ 504 = count-says _ _ (sym (c .before .count-right .ensures) ∙ not-false _ (c .if3 .left)) .1 in
     (s .pre, omega arith)
 
 returns-4 : tie.Need-returns-4
@@ -42,8 +42,6 @@ returns-4 c =
     (sym (c .before .before .count-right .ensures ∙ ap₂ countRight (c .before .before .before .is-last .ensures) (c .before .before .before .before .count .ensures .0)) ∙ not-false _ (c .before .if3 .left)))
 
 pub fields-right-spec : {M : Type 1} → statement M
-fields-right-spec =
-    tie.close
-    (tie.spec
+fields-right-spec = tie.close (tie.spec
     (λ c. search needs) returns (λ c. search needs) (λ c κs. search needs) returns-2 (λ c κs. search needs) (λ c κs. search needs)
     (λ c κs. search needs) returns-3 (λ c. search needs) zeros-from-requires returns-4)

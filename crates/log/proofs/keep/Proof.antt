@@ -35,9 +35,7 @@ returns c =
     (l .inv .0) (c .loop-test .left) (l .inv .2)
 
 pub keep-spec : {M : Type 1} → statement M
-keep-spec =
-    tie.close
-    (tie.spec
+keep-spec = tie.close (tie.spec
     Inv-loop μ-loop (λ c κs. search needs) loop-holds (λ c. search needs) (λ c. search needs) (λ c. search needs) (λ c. search needs)
     (λ c. search needs) (λ c. search needs) loop-again (λ c. search needs)
     (λ c. c .before .loop .inv .1 ∙ sym (c .before .before .before .before .before .pre .3))

@@ -5,9 +5,7 @@ use Rattle.log.proofs.mark_right.Statement.{statement}
 use Rattle.log.proofs.mark_right.Tie as tie
 
 pub mark-right-spec : {M : Type 1} → statement M
-mark-right-spec =
-    tie.close
-    (tie.spec
+mark-right-spec = tie.close (tie.spec
     (λ c. or-yes _ _ (eq-eqb _ _ (c .if2 .taken)) ∙ sym (mark-begun _ _ (c .before .if1 .taken)))
     (λ c. or-no _ _ (ne-eqb _ _ (c .if2 .left)) ∙ sym (mark-begun _ _ (c .before .if1 .taken)))
     (λ c. or-yes _ _ (eq-eqb _ _ (c .if3 .taken)) ∙ sym (mark-not-begun _ _ (c .before .if1 .left)))

@@ -1,17 +1,13 @@
-use mathlib.Core.Path.{refl, sym, ap}
+use mathlib.Core.Path.{refl}
 use borrow.Author.Needs.{needs}
 use lib.ListN.{take}
-use Rattle.answer.specs.Answers.{asked}
-use Rattle.log.specs.Step.{stopped}
-use Rattle.log.proofs.StepLaws.{with-line}
+use Rattle.log.specs.Round.{stopped}
+use Rattle.log.proofs.RoundLaws.{with-line}
 use Rattle.log.proofs.stop.Statement.{statement}
 use Rattle.log.proofs.stop.Tie as tie
 
 returns : tie.Need-returns
-unfolding stopped
-returns c =
-    let s = c .before .before .args in
-    (λ edit sheet. sym (ap (λ a. stopped (asked a) (s .held .number) (take (s .held .kept) edit) sheet) (c .enum-told2 .given .1)), refl)
+returns c = unfold stopped in (λ edit sheet. rw (c .enum-told2 .given .1), refl)
 
 returns-2 : tie.Need-returns-2
 returns-2 c =

@@ -8,7 +8,7 @@ use denote.Ref.{now}
 use Rattle.answer.specs.Asked.{passed}
 use Rattle.seal.specs.Seal.{modulo257, sealRight}
 use Rattle.log.specs.Log.{fieldsRight, isBegun, askLogBlock}
-use Rattle.log.proofs.FieldLaws.{count-fits}
+use Rattle.log.proofs.FieldLaws.{count-says, right}
 use Rattle.log.proofs.TakeLaws.{cut-short, sums-wrong, too-many, fields-wrong, good, not-taken, kept-then, ends-edit, goes-on, begun-kept}
 use Rattle.log.proofs.take_block.Statement.{statement}
 use Rattle.log.proofs.take_block.Tie as tie
@@ -70,7 +70,7 @@ returns-4 c =
 keep-requires : tie.Need-keep-requires
 keep-requires c κs =
     let g = c .before .before in
-    let small = count-fits _ _ (sym (g .before .fields-right .ensures) ∙ not-false _ (g .if4 .left)) in
+    let small = count-says _ _ (right _ _ (sym (g .before .fields-right .ensures) ∙ not-false _ (g .if4 .left)) .few) .1 in
     let counted = c .before .count .ensures .0 in
     (g .before .before .before .before .before .if1 .left, counted, omega (arith, small, counted), s g .pre .0, s g .pre .1)
 
@@ -93,8 +93,6 @@ returns-6 c =
     )
 
 pub take-block-spec : {M : Type 1} → statement M
-take-block-spec =
-    tie.close
-    (tie.spec
+take-block-spec = tie.close (tie.spec
     returns (λ c κs. search needs) returns-2 returns-3 (λ c κs. search needs) returns-4 (λ c κs. search needs) keep-requires
     (λ c κs. search needs) (λ c. search needs) returns-5 (λ c. search needs) returns-6)

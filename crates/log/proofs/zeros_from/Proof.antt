@@ -33,7 +33,5 @@ returns-2 c =
     sym (l .inv .1 ∙ zeros-end (s .args .block .now) (s .pre .0) (l .i) (c .loop-test .left))
 
 pub zeros-from-spec : {M : Type 1} → statement M
-zeros-from-spec =
-    tie.close
-    (tie.spec
+zeros-from-spec = tie.close (tie.spec
     Inv-loop μ-loop (λ c. (c .pre .1, refl)) (λ c. search needs) returns (λ c. search needs) (λ c. search needs) loop-again returns-2)

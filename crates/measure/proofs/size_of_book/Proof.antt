@@ -2,8 +2,9 @@ use native.Mathlib.Omega.{arith}
 use borrow.Author.Needs.{needs}
 use mathlib.Core.Path.{refl}
 use Rattle.tree.specs.Sizes.{measures}
+use Rattle.ends.proofs.FirstSteps.{edit-long}
 use Rattle.measure.specs.EditMeasures.{Held}
-use Rattle.measure.proofs.RuleMeasures.{no-book, book-sized, book-kept, edit-room}
+use Rattle.measure.proofs.RuleMeasures.{no-book, book-sized, book-kept}
 use Rattle.measure.proofs.size_of_book.Statement.{statement}
 use Rattle.measure.proofs.size_of_book.Tie as tie
 
@@ -15,16 +16,14 @@ abbrev start : tie.After-add-book → tie.Start
 start c = c .before .before .before .before .before .before .before
 
 pub size-of-book-spec : {M : Type 1} → statement M
-size-of-book-spec =
-    tie.close
-    (tie.spec
+size-of-book-spec = tie.close (tie.spec
     (λ c. λ rules Z h g. no-book _ (c .if1 .taken) rules Z h _ _)
     (λ c. search needs)
     (λ c κs. (c .before .before .before .before .before .before .pre .0, refl))
     (λ c. search needs)
-    (λ c κs. let b = added c in let p = start b .pre in let a = b .add-book .ensures (p .0 .what) (p .0 .is) in
+    (λ c κs. let b = added c in let p = start b .pre in let e = p .1 in let a = b .add-book .ensures (p .0 .what) (p .0 .is) in
     let h : Held _ = record { long = b .add-book .kept .1 .0; M = measures (p .0 .what); holds = a .holds } in
-    (edit-room _ _ _ (p .2) (p .1), omega arith, p .3, p .2, omega (arith, a .number-is, p .0 .is .few), h, omega (arith, p .4)))
+    (record { what = e .what; stands = e .stands; room = omega (arith, edit-long _ _ (e .what) (e .stands), p .2) }, omega arith, p .3, p .2, omega (arith, a .number-is, p .0 .is .few), h, omega (arith, p .4)))
     (λ c. search needs) (λ c. search needs)
     (λ c. c .before .before .before .before .before .back .kept .1 .1 .1 .0)
     (λ c. c .before .before .before .before .before .back .kept .1 .1 .1 .1 .1 .0)

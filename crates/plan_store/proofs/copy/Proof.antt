@@ -13,11 +13,6 @@ Inv-loop to₀ from i₀ to i = (i ≤ length to) × (length to ≡ length from)
 abbrev μ-loop : tie.MeasureT-loop
 μ-loop to₀ from i₀ to i = length to - i
 
-loop-less : tie.Need-loop-less Inv-loop μ-loop
-loop-less c =
-    let l = c .before .before .loop in
-    omega (arith, length-set (l .to) (l .i) (getD (c .before .before .before .args .from .now) (l .i) 0), c .before .loop-test .taken)
-
 loop-again : tie.Need-loop-again Inv-loop μ-loop
 loop-again c =
     let l = c .before .before .loop in
@@ -29,6 +24,7 @@ pub copy-spec : {M : Type 1} → statement M
 copy-spec =
     tie.close
     (tie.spec
-    Inv-loop μ-loop (λ c. (search needs, c .pre, refl)) (λ c. search needs) (λ c. search needs) (λ c. search needs) loop-less loop-again
+    Inv-loop μ-loop (λ c. (search needs, c .pre, refl)) (λ c. search needs) (λ c. search needs) (λ c. search needs)
+    (λ c. simp length-set (omega (arith, c .before .loop-test .taken))) loop-again
     (λ c. c .before .loop .inv .1 ∙ sym (c .before .before .pre))
     (λ c. let l = c .before .loop in passed-all (l .to) _ (l .i) (c .loop-test .left) (l .inv .1) (l .inv .2)))

@@ -1,13 +1,14 @@
 use mathlib.Core.Path.{_≡_, sym, ap, _∙_}
 use mathlib.Core.List.{List, _++_}
-use Prim.Native.Nat.{ℕ, _+_, _-_, _<_}
+use Prim.Native.Nat.{ℕ, _+_, _-_}
 use native.Mathlib.Omega.{arith}
 use borrow.Author.Needs.{needs}
-use lib.ListN.{length, getD, take, drop}
+use lib.ListN.{length, take, drop}
 use Rattle.answer.specs.Asked.{passed}
 use Rattle.answer.specs.Answers.{asked}
+use Rattle.bitset.specs.Words.{Bytes}
 use Rattle.sheet.specs.Sheet.{sheetBytes}
-use Rattle.plan_store.specs.Store.{unfilled, placeStart}
+use Rattle.plan_store.specs.Store.{unfilled, placeStart, plansOf}
 use Rattle.plan_store.specs.Questions.{askFilled}
 use Rattle.plan_store.specs.Calls.{droppedStore}
 use Rattle.plan_store.proofs.Asks.{Filled, filled-told, place-part}
@@ -31,7 +32,7 @@ module _ (c : tie.After-enum-told) where
   held : Filled store name
   held = filled-told store name passes
 
-  small : (p : ℕ) → getD store p 0 < 256
+  small : Bytes store
   small p = omega (arith, c .before .before .before .before .slice-known .given p)
 
 -- the place is wiped
@@ -42,7 +43,7 @@ module _ (w : tie.After-wipe) where
   abbrev place : ℕ
   place = name told - 1
 
-  wiped : Replaced (store told) place unfilled
+  wiped : Replaced (plansOf (store told)) place unfilled
       (take (placeStart place) (store told) ++ (w .wipe .last .0 ++ drop (placeStart place + sheetBytes - placeStart place) (drop (placeStart place) (store told))))
   wiped =
       let k = held told in

@@ -6,13 +6,14 @@ use borrow.Author.Needs.{needs}
 use lib.ListN.{length, take, drop}
 use Rattle.answer.specs.Asked.{passed}
 use Rattle.answer.specs.Answers.{asked}
+use Rattle.answer.proofs.AskedLaws.{then-on}
 use Rattle.sheet.specs.Sheet.{sheetBytes, present, graphOf}
 use Rattle.sheet.specs.Questions.{Sound}
 use Rattle.sheet.proofs.SoundWords.{sound-length}
-use Rattle.plan_store.specs.Store.{filled, placeStart}
+use Rattle.plan_store.specs.Store.{filled, placeStart, plansOf}
 use Rattle.plan_store.specs.Questions.{askName, askKeep}
 use Rattle.plan_store.specs.Calls.{keptStore}
-use Rattle.plan_store.proofs.Asks.{first-stops, first-passes, Named, name-told, place-part}
+use Rattle.plan_store.proofs.Asks.{first-stops, Named, name-told, place-part}
 use Rattle.plan_store.proofs.StorePlaces.{length-place}
 use Rattle.plan_store.proofs.StoreWrites.{Replaced, sheet-plan, place-written}
 use Rattle.plan_store.proofs.StoreStages.{stops, goes}
@@ -61,7 +62,7 @@ module _ (w : tie.After-copy) where
   abbrev place : ℕ
   place = name told - 1
 
-  copied : Replaced (store told) place (filled (graphOf (sheet (asked-sheet told))))
+  copied : Replaced (plansOf (store told)) place (filled (graphOf (sheet (asked-sheet told))))
       (take (placeStart place) (store told) ++ (w .copy .last .0 ++ drop (placeStart place + sheetBytes - placeStart place) (drop (placeStart place) (store told))))
   copied =
       let t = asked-sheet told .before .before .before in
@@ -72,7 +73,7 @@ returns-3 : tie.Need-returns-3
 unfolding keptStore askKeep
 returns-3 c =
     let w = c .before .before .before .before .before .before in
-    goes _ _ _ (first-passes _ _ (sound (asked-sheet (told w))) ∙ passes (told w)) (copied w .headed _ (c .before .before .put-name .ensures))
+    goes _ _ _ (then-on (sound (asked-sheet (told w))) _ ∙ passes (told w)) (copied w .headed _ (c .before .before .put-name .ensures))
 
 pub keep-spec : {M : Type 1} → statement M
 keep-spec =
@@ -81,7 +82,7 @@ keep-spec =
     (λ c κs. search needs) (λ c. search needs) (λ c. search needs)
     (λ c. unfold keptStore askKeep in stops _ _ _ (c .enum-told2 .given .1) (first-stops _ _ (c .enum-told2 .given .1) (c .before .before .check .ensures)))
     (λ c κs. search needs) (λ c. search needs) (λ c. search needs) (λ c. search needs)
-    (λ c. unfold keptStore askKeep in stops _ _ _ (c .enum-told4 .given .1) (c .before .before .ask-name .ensures ∙ sym (first-passes _ _ (sound (c .before .before .before .before)))))
+    (λ c. unfold keptStore askKeep in stops _ _ _ (c .enum-told4 .given .1) (c .before .before .ask-name .ensures ∙ sym (then-on (sound (c .before .before .before .before)) _)))
     (λ c. let k = named c in omega arith) (λ c. let k = named c in omega arith) (λ c. let k = named c in omega arith)
     (λ c. let k = named c in omega arith) (λ c. search needs) (λ c. search needs) (λ c. let k = named c in omega arith) copy-requires
     (λ c. search needs) (λ c. search needs) (λ c. let k = copied (c .before .before) in omega arith)

@@ -1,8 +1,8 @@
-use mathlib.Core.Path.{_≡_, ap, _∙_}
+use mathlib.Core.Path.{ap, _∙_}
 use Prim.Native.Nat.{ℕ}
 use native.Mathlib.Omega.{arith}
 use borrow.Author.Needs.{needs}
-use lib.ListN.{length, set, length-set}
+use lib.ListN.{length-set}
 use Rattle.logic.specs.Steps.{update}
 use Rattle.bitset.specs.Words.{setOf, member}
 use Rattle.plan_store.specs.Store.{planCount, headBlock}
@@ -12,12 +12,6 @@ use Rattle.plan_store.proofs.put_name.Tie as tie
 
 with-name-requires : tie.Need-with-name-requires
 with-name-requires c κs = let s = c .before .before .before in (omega (arith, c .wide .ensures .0, head-told _ (s .pre .1) .low), s .pre .2)
-
-same-length : tie.Need-same-length
-same-length c =
-    let k = c .before .before .before .before .before .before .before .before .args .head .now in
-    let r : length (c .before .before .seal .last .0) ≡ length (set k 1 (c .before .before .before .before .with-name .result)) = c .before .before .seal .kept .0 in
-    r ∙ length-set k 1 (c .before .before .before .before .with-name .result)
 
 returns : tie.Need-returns
 returns c =
@@ -29,5 +23,5 @@ pub put-name-spec : {M : Type 1} → statement M
 put-name-spec =
     tie.close
     (tie.spec
-    (λ c. search needs) (λ c κs. search needs) with-name-requires (λ c. search needs) (λ c. search needs) (λ c κs. search needs) same-length
-    returns)
+    (λ c. search needs) (λ c κs. search needs) with-name-requires (λ c. search needs) (λ c. search needs) (λ c κs. search needs)
+    (λ c. c .before .before .seal .kept .0 ∙ simp length-set) returns)

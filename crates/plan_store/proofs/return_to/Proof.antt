@@ -6,13 +6,14 @@ use borrow.Author.Needs.{needs}
 use lib.ListN.{length}
 use Rattle.answer.specs.Asked.{passed}
 use Rattle.answer.specs.Answers.{asked}
+use Rattle.answer.proofs.AskedLaws.{then-on}
 use Rattle.sheet.specs.Sheet.{present}
 use Rattle.sheet.specs.Questions.{Sound}
 use Rattle.sheet.proofs.SoundWords.{sound-length}
 use Rattle.plan_store.specs.Store.{placeIn}
 use Rattle.plan_store.specs.Questions.{askFilled, askKept, askReturn}
 use Rattle.plan_store.specs.Calls.{returnedSheet}
-use Rattle.plan_store.proofs.Asks.{first-stops, first-passes, Filled, filled-told, place-part}
+use Rattle.plan_store.proofs.Asks.{first-stops, Filled, filled-told, place-part}
 use Rattle.plan_store.proofs.StorePlaces.{length-place}
 use Rattle.plan_store.proofs.StoreLaws.{place-sound}
 use Rattle.plan_store.proofs.StoreStages.{stops, goes}
@@ -31,7 +32,7 @@ returns-2 : tie.Need-returns-2
 unfolding returnedSheet askReturn
 returns-2 c =
     stops _ _ _ (c .enum-told4 .given .1)
-    (first-stops _ _ (c .enum-told4 .given .1) (c .before .before .ask-filled .ensures) ∙ sym (first-passes _ _ (sound (c .before .before .before))))
+    (first-stops _ _ (c .enum-told4 .given .1) (c .before .before .ask-filled .ensures) ∙ sym (then-on (sound (c .before .before .before)) _))
 
 -- the name too
 module _ (c : tie.After-enum-told3) where
@@ -54,7 +55,7 @@ module _ (c : tie.After-enum-told3) where
   held = filled-told store name passes
 
   last-asked : askReturn (start asked-sheet .args .sheet .now) store name book ≡ askKept (placeIn store (name - 1)) book
-  last-asked = unfold askReturn in first-passes _ _ (sound asked-sheet) ∙ first-passes _ _ passes
+  last-asked = unfold askReturn in then-on (sound asked-sheet) _ ∙ then-on passes _
 
 judge-kept-requires : tie.Need-judge-kept-requires
 judge-kept-requires c κs =

@@ -1,4 +1,4 @@
-use mathlib.Core.Path.{_≡_, refl, ap, ap₂, _∙_, subst}
+use mathlib.Core.Path.{_≡_, ap₂, _∙_, subst}
 use mathlib.Core.List.{List}
 use Prim.Native.Nat.{ℕ, _≤_, _<_, _-_, _*_, _%_, _+_, _/_}
 use native.Mathlib.Nat.{mul-le-mul, lt-of-le-of-lt, le-antisymm}
@@ -7,23 +7,16 @@ use native.Mathlib.Numerals.{add-one}
 use native.Mathlib.Omega.{arith}
 use borrow.Author.Needs.{needs}
 use Rattle.bitset.specs.Words.{Bytes}
-use Rattle.seal.specs.Lanes.{oddsAt, pairsAt, fourAt, beforeAt, laneSum, lanePlaces, upTo, total, weighed}
-use Rattle.seal.proofs.LaneTotals.{across, across-is, block-right}
+use Rattle.seal.specs.Lanes.{laneSum, lanePlaces, total, weighed}
+use Rattle.seal.proofs.LaneTotals.{Counted, counted-none, counted-more, counted-all, across-is}
 use Rattle.seal.proofs.block_totals.Statement.{statement}
 use Rattle.seal.proofs.block_totals.Tie as tie
 
 pub record Inv (l : List ℕ) (first second before odds z j : ℕ) : Type 0 where
   pub within : j ≤ 8
-  pub first-low : first ≤ 0x07F807F807F807F8 * j
-  pub second-low : second ≤ 0x07F807F807F807F8 * j
-  pub before-low : before ≤ 0x17E817E817E817E8 * j
-  pub odds-low : odds ≤ 0x07F807F807F807F8 * j
+  pub low : (first ≤ 0x07F807F807F807F8 * j) × (second ≤ 0x07F807F807F807F8 * j) × (before ≤ 0x17E817E817E817E8 * j) × (odds ≤ 0x07F807F807F807F8 * j)
   pub z-low : z ≤ 524280 * j
-  pub first-is : first ≡ upTo (λ i. fourAt pairsAt l (8 * i)) j
-  pub second-is : second ≡ upTo (λ i. fourAt pairsAt l (8 * i + 256)) j
-  pub before-is : before ≡ upTo (λ i. beforeAt l (8 * i) + beforeAt l (8 * i + 256)) j
-  pub odds-is : odds ≡ upTo (λ i. fourAt oddsAt l (8 * i) + fourAt oddsAt l (8 * i + 256)) j
-  pub z-is : z ≡ upTo (λ i. across l i * (8 - i)) j
+  pub counted : Counted l first second before odds z j
 
 abbrev Inv-loop : tie.InvT-loop
 Inv-loop block first₀ second₀ before₀ odds₀ z₀ j₀ first second before odds z j = Inv block first second before odds z j
@@ -32,8 +25,7 @@ abbrev μ-loop : tie.MeasureT-loop
 μ-loop block first₀ second₀ before₀ odds₀ z₀ j₀ first second before odds z j = 8 - j
 
 loop-holds : tie.Need-loop-holds Inv-loop μ-loop
-unfolding upTo
-loop-holds c = record { within = omega arith; first-low = omega arith; second-low = omega arith; before-low = omega arith; odds-low = omega arith; z-low = omega arith; first-is = refl; second-is = refl; before-is = refl; odds-is = refl; z-is = refl }
+loop-holds c = record { within = omega arith; low = omega arith; z-low = omega arith; counted = counted-none _ }
 
 -- a sum of lanes counted up to 8 times
 product : (x j : ℕ) → x % 0x10000 * (8 - j) ≤ 524280
@@ -71,25 +63,21 @@ eights-low : (c : tie.After-struct-known8 Inv-loop μ-loop) → let e = words c 
 eights-low c = halves-low _ _ (words c .before .four-words .ensures .1 .0) (words c .four-words2 .ensures .1 .0)
 
 loop-again : tie.Need-loop-again Inv-loop μ-loop
-unfolding upTo
 loop-again c =
     let l = at c .loop in
+    let k = block (at c) in
+    let small = are-bytes (at c) in
     let x = words c .before .four-words in
     let y = words c .four-words2 in
     let eight = x .result .sum + y .result .sum in
     rw (add-one (l .j))
     (record {
       within = words c .before .before .loop-test .taken;
-      first-low = omega (arith, l .inv .first-low, x .ensures .1 .0);
-      second-low = omega (arith, l .inv .second-low, y .ensures .1 .0);
-      before-low = omega (arith, l .inv .before-low, x .ensures .1 .1, y .ensures .1 .1);
-      odds-low = omega (arith, l .inv .odds-low, x .ensures .1 .2, y .ensures .1 .2);
+      low = omega (arith, l .inv .low, x .ensures .1, y .ensures .1);
       z-low = omega (arith, l .inv .z-low, product (eight + eight / 0x100000000 + (eight + eight / 0x100000000) / 0x10000) (l .j));
-      first-is = ap₂ _+_ (l .inv .first-is) (x .ensures .0 .0);
-      second-is = ap₂ _+_ (l .inv .second-is) (y .ensures .0 .0);
-      before-is = ap₂ _+_ (l .inv .before-is) (ap₂ _+_ (x .ensures .0 .1) (y .ensures .0 .1));
-      odds-is = ap₂ _+_ (l .inv .odds-is) (ap₂ _+_ (x .ensures .0 .2) (y .ensures .0 .2));
-      z-is = ap₂ _+_ (l .inv .z-is) (ap (_* (8 - l .j)) (across-is (block (at c)) (are-bytes (at c)) (l .j) eight (ap₂ _+_ (x .ensures .0 .0) (y .ensures .0 .0))));
+      counted =
+          counted-more k small (at c .before .before .pre) (l .inv .counted) (words c .before .before .loop-test .taken) _ _ _ _ _ _ _
+          (x .ensures .0 .0) (y .ensures .0 .0) (x .ensures .0 .1) (y .ensures .0 .1) (x .ensures .0 .2) (y .ensures .0 .2) (across-is k small (l .j) eight (ap₂ _+_ (x .ensures .0 .0) (y .ensures .0 .0)));
     })
 
 -- the totals, and what is taken off of t
@@ -100,15 +88,11 @@ right c =
     let l = ended c .loop in
     let k = block (ended c) in
     let e : l .j ≡ 8 = le-antisymm (l .inv .within) (c .before .before .before .before .loop-test .left) in
-    let v = subst (Inv k (l .first) (l .second) (l .before) (l .odds) (l .z)) e (l .inv) in
-    let both = block-right k (are-bytes (ended c)) (ended c .before .before .pre) (l .first) (l .second) (l .before) (l .odds) (l .z) (v .first-is) (v .second-is) (v .before-is) (v .odds-is) (v .z-is) in
+    let both = counted-all k (ended c .before .before .pre) (subst (Counted k (l .first) (l .second) (l .before) (l .odds) (l .z)) e (l .inv .counted)) in
     (both .0, ap₂ (λ x y. 8 * (l .z + 8 * (x + 4 * y))) (c .before .before .before .lane-sum .ensures .0) (c .before .before .lane-sum2 .ensures .0) ∙ both .1)
 
--- what is taken off is there
-there : (x w p off : ℕ) → x ≡ w + p → off ≡ p → off ≤ x
-there x w p off e f = omega arith
-
-less : (x w p off : ℕ) → x ≡ w + p → off ≡ p → x - off ≡ w
+-- what is taken off is there, and what is left
+less : (x w p off : ℕ) → x ≡ w + p → off ≡ p → (off ≤ x) × (x - off ≡ w)
 less x w p off e f = omega arith
 
 pub block-totals-spec : {M : Type 1} → statement M
@@ -124,5 +108,5 @@ block-totals-spec =
     (λ c. let l = at c .loop in record { fits = more-fits (l .z) _ (l .j) (l .inv .within) (l .inv .z-low) (product _ (l .j)) })
     (λ c. search needs) (λ c. search needs) loop-again (λ c. search needs) (λ c κs. search needs) (λ c κs. search needs) (λ c. search needs)
     (λ c. search needs) (λ c κs. search needs) (λ c. search needs) (λ c. search needs) (λ c. search needs) (λ c κs. search needs)
-    (λ c. there _ _ _ _ (right c .1) (c .places .ensures .0))
-    (λ c. (c .before .lane-sum3 .ensures .0 ∙ right c .0, less _ _ _ _ (right c .1) (c .places .ensures .0))))
+    (λ c. less _ _ _ _ (right c .1) (c .places .ensures .0) .0)
+    (λ c. (c .before .lane-sum3 .ensures .0 ∙ right c .0, less _ _ _ _ (right c .1) (c .places .ensures .0) .1)))

@@ -5,7 +5,8 @@ use native.Mathlib.Nat.{mul-le-mul, lt-of-le-of-lt, le-trans, le-add-left}
 use native.Mathlib.Omega.{arith}
 use borrow.Author.Needs.{needs}
 use lib.Dec.{lit<}
-use lib.ListN.{length, getD, take}
+use lib.ListN.{length, take}
+use Rattle.bitset.specs.Words.{Bytes}
 use Rattle.bitset.proofs.WordLaws.{length-putWord}
 use Rattle.seal.specs.Seal.{modulo257, stored, reseal}
 use Rattle.seal.specs.Lanes.{laneSum, lanePlaces}
@@ -59,8 +60,8 @@ changed c =
     let k = s .args .block .now in
     let put = stored-word l .store in
     let r = put .last .0 in
-    let small : (p : ℕ) → getD k p 0 < 256 = λ p. omega (arith, read-s l .before .before .slice-known .given p) in
-    let small′ : (p : ℕ) → getD r p 0 < 256 = λ p. omega (arith, l .before .before .slice-known2 .given p) in
+    let small : Bytes k = λ p. omega (arith, read-s l .before .before .slice-known .given p) in
+    let small′ : Bytes r = λ p. omega (arith, l .before .before .slice-known2 .given p) in
     let says = check-bytes k (s .pre .0) small (s .pre .2) in
     let was = stored-word l .before .before .lanes .ensures .0 in
     let is = l .lanes2 .ensures .0 in

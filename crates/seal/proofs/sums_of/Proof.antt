@@ -3,8 +3,10 @@ use Prim.Native.Nat.{_<_, _%_}
 use native.Mathlib.Omega.{arith}
 use borrow.Author.Needs.{needs}
 use lib.ListN.{take}
+use lib.Seq.{length-take-le}
+use Rattle.bitset.proofs.WordLaws.{part-small}
 use Rattle.seal.specs.Seal.{modulo257}
-use Rattle.seal.proofs.TotalLaws.{sums-total, sums-weighed, body-totals}
+use Rattle.seal.proofs.TotalLaws.{sums-total, sums-weighed, plain-totals}
 use Rattle.seal.proofs.sums_of.Statement.{statement}
 use Rattle.seal.proofs.sums_of.Tie as tie
 
@@ -12,7 +14,8 @@ use Rattle.seal.proofs.sums_of.Tie as tie
 totals-fit : (c : tie.After-totals-to) → (c .totals-to .result .s < 4294967296) × (c .totals-to .result .t < 4294967296)
 totals-fit c =
     let st = c .before .before in
-    let low = body-totals (st .args .block .now) (omega (arith, st .pre)) (λ p. omega (arith, c .before .shared-slice-known .given p)) in
+    let k = st .args .block .now in
+    let low = plain-totals (take 508 k) (length-take-le 508 k (omega (arith, st .pre))) (part-small k 508 0 (λ p. omega (arith, c .before .shared-slice-known .given p))) in
     (omega (arith, c .totals-to .ensures .0, low .0), omega (arith, c .totals-to .ensures .1, low .1))
 
 returns : tie.Need-returns

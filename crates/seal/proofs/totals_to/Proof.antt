@@ -32,7 +32,7 @@ loop-holds c =
     record { from = st .pre .1; to = omega arith; s-is = f .0 ∙ ap total (sym all); t-is = f .1 ∙ ap weighed (sym all) }
 
 -- a byte taken off
-module _ (l : List ℕ) (end s t i : ℕ) (v : Inv l end s t i) (h : end < i) (n : length l ≡ 512) where
+module _ {l : List ℕ} {end s t i : ℕ} (v : Inv l end s t i) (h : end < i) (n : length l ≡ 512) where
   last : (S l i ≡ S l (i - 1) + getD l (i - 1) 0) × (T l i ≡ T l (i - 1) + (S l (i - 1) + getD l (i - 1) 0))
   last = next-byte l (i - 1) i (omega arith) (omega (arith, v .to))
 
@@ -45,24 +45,6 @@ module _ (l : List ℕ) (end s t i : ℕ) (v : Inv l end s t i) (h : end < i) (n
   pub less : (b : ℕ) → b ≡ getD l (i - 1) 0 → Inv l end (s - b) (t - s) (i - 1)
   less b e = record { from = omega arith; to = omega (arith, v .to); s-is = omega (arith, v .s-is, last .0); t-is = omega (arith, v .s-is, v .t-is, last) }
 
-sub-t : tie.Need-sub-t Inv-loop μ-loop
-sub-t c =
-    let st = c .before .before .before .before in
-    let l = c .before .loop in
-    s-there (st .args .block .now) (st .args .end) (l .s) (l .t) (l .i) (l .inv) (c .loop-test .taken) (st .pre .0)
-
-sub-s : tie.Need-sub-s Inv-loop μ-loop
-sub-s c =
-    let st = c .before .before .before .before .before .before in
-    let l = c .before .before .before .loop in
-    byte-there (st .args .block .now) (st .args .end) (l .s) (l .t) (l .i) (l .inv) (c .before .before .loop-test .taken) (st .pre .0) (c .wide .result) (c .wide .ensures .0)
-
-loop-again : tie.Need-loop-again Inv-loop μ-loop
-loop-again c =
-    let st = c .before .before .before .before .before .before in
-    let l = c .before .before .before .loop in
-    less (st .args .block .now) (st .args .end) (l .s) (l .t) (l .i) (l .inv) (c .before .before .loop-test .taken) (st .pre .0) (c .wide .result) (c .wide .ensures .0)
-
 returns : tie.Need-returns Inv-loop μ-loop
 returns c =
     let st = c .before .before .before .before in
@@ -74,5 +56,10 @@ pub totals-to-spec : {M : Type 1} → statement M
 totals-to-spec =
     tie.close
     (tie.spec
-    Inv-loop μ-loop (λ c κs. search needs) loop-holds (λ c. search needs) sub-t (λ c. search needs) (λ c κs. search needs) sub-s
-    (λ c. search needs) loop-again returns)
+    Inv-loop μ-loop (λ c κs. search needs) loop-holds (λ c. search needs)
+    (λ c. s-there (c .before .loop .inv) (c .loop-test .taken) (c .before .before .before .before .pre .0))
+    (λ c. search needs) (λ c κs. search needs)
+    (λ c. let p = c .before .before in byte-there (p .before .loop .inv) (p .loop-test .taken) (p .before .before .before .before .pre .0) _ (c .wide .ensures .0))
+    (λ c. search needs)
+    (λ c. let p = c .before .before in less (p .before .loop .inv) (p .loop-test .taken) (p .before .before .before .before .pre .0) _ (c .wide .ensures .0))
+    returns)

@@ -5,7 +5,7 @@ use mathlib.Core.Path.{_≡_, sym, ap, _∙_}
 use lib.ListN.{drop}
 use Rattle.answer.specs.Asked.{outcome}
 use Rattle.text.specs.Questions.{readRules, askBook}
-use Rattle.text.specs.Rows.{limitsOf, stepAnswer}
+use Rattle.text.specs.Patterns.{limitsOf, turnAnswer}
 use Rattle.text.proofs.TextStages.{book-long, book-short, rules-end, rules-full, rules-next, rules-stopped}
 use Rattle.text.proofs.book_within.Statement.{statement}
 use Rattle.text.proofs.book_within.Tie as tie
@@ -19,13 +19,13 @@ abbrev μ-loop : tie.MeasureT-loop
 returns-3 : tie.Need-returns-3 Inv-loop μ-loop
 returns-3 c =
     c .book-answer .ensures
-    ∙ ap (stepAnswer 10) (c .before .before .before .read .ensures)
+    ∙ ap (turnAnswer 10) (c .before .before .before .read .ensures)
     ∙ rules-stopped _ _ _ _ (c .before .before .before .before .before .loop-test .taken) (c .before .before .before .before .if2 .left) (sym (c .before .before .before .read .ensures) ∙ c .before .enum-told .given .1)
     ∙ c .before .before .before .before .before .before .loop .inv
 
 loop-again : tie.Need-loop-again Inv-loop μ-loop
 loop-again c =
-    rules-next _ _ _ _ (c .before .before .before .before .before .loop-test .taken) (c .before .before .before .before .if2 .left) (sym (c .before .before .before .read .ensures) ∙ c .before .step .given .1)
+    rules-next _ _ _ _ (c .before .before .before .before .before .loop-test .taken) (c .before .before .before .before .if2 .left) (sym (c .before .before .before .read .ensures) ∙ c .before .turn .given .1)
     ∙ c .before .before .before .before .before .before .loop .inv
 
 pub book-within-spec : {M : Type 1} → statement M

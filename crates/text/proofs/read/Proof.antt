@@ -4,22 +4,22 @@ use native.Mathlib.Omega.{arith}
 use mathlib.Core.Path.{_≡_, sym, _∙_, subst}
 use Prim.Native.Nat.{_<_, _≤_, _+_, _*_, _-_}
 use lib.ListN.{length}
-use Rattle.text.specs.Rows.{rowPlan, limitsOf, stepAt}
-use Rattle.text.proofs.Entries.{row-small}
-use Rattle.text.proofs.Remaining.{Rows, no-rows, rows-set, remaining, to-begin, ended, row-above, missing, number-bad, number-good, code-wrong, code-on, code-deep, code-down}
+use Rattle.text.specs.Patterns.{patternFormat, limitsOf, turnAt}
+use Rattle.text.proofs.Entries.{pattern-small}
+use Rattle.text.proofs.Remaining.{Patterns, no-patterns, patterns-set, remaining, to-begin, ended, pattern-above, missing, number-bad, number-good, code-wrong, code-on, code-deep, code-down}
 use Rattle.text.proofs.read.Statement.{statement}
 use Rattle.text.proofs.read.Tie as tie
 
 abbrev Inv-loop : tie.InvT-loop
-Inv-loop text limits wanted at rows₀ level₀ row₀ p₀ rows level row p = (remaining text (limitsOf limits) rows row level p ≡ stepAt text (limitsOf limits) (rowPlan wanted 1) at) × (row < 65536) × (level ≤ limits .deepest) × (limits .deepest < 256) × Rows rows
+Inv-loop text limits wanted at patterns₀ level₀ pattern₀ p₀ patterns level pattern p = (remaining text (limitsOf limits) patterns pattern level p ≡ turnAt text (limitsOf limits) (patternFormat wanted 1) at) × (pattern < 65536) × (level ≤ limits .deepest) × (limits .deepest < 256) × Patterns patterns
 
 abbrev μ-loop : tie.MeasureT-loop
-μ-loop text limits wanted at rows₀ level₀ row₀ p₀ rows level row p = 2 * (length text - p) + level
+μ-loop text limits wanted at patterns₀ level₀ pattern₀ p₀ patterns level pattern p = 2 * (length text - p) + level
 
 loop-again : tie.Need-loop-again Inv-loop μ-loop
 loop-again c =
     let l = c .before .before .loop in
-    (row-above _ _ _ _ _ _ (c .before .if1 .taken) (c .if2 .left) ∙ l .inv .0, l .inv .4 .small _, omega (arith, l .inv .2), l .inv .3, l .inv .4)
+    (pattern-above _ _ _ _ _ _ (c .before .if1 .taken) (c .if2 .left) ∙ l .inv .0, l .inv .4 .small _, omega (arith, l .inv .2), l .inv .3, l .inv .4)
 
 returns-2 : tie.Need-returns-2 Inv-loop μ-loop
 returns-2 c =
@@ -55,8 +55,8 @@ loop-again-3 c =
     let l = c .before .before .before .before .before .before .before .before .loop in (
       code-on _ _ _ _ _ _ (l .inv .1) (c .before .before .before .before .before .before .before .if1 .left) (c .before .before .before .before .before .if4 .left)
           (c .before .before .before .before .before .before .if3 .left) (sym (c .before .before .before .sort-of .ensures) ∙ c .before .before .if6 .left) _
-          (c .before .row-of .ensures) (c .if7 .taken) (l .inv .2) ∙ l .inv .0,
-      subst (λ r. r < 65536) (sym (c .before .row-of .ensures)) (row-small _),
+          (c .before .pattern-of .ensures) (c .if7 .taken) (l .inv .2) ∙ l .inv .0,
+      subst (λ r. r < 65536) (sym (c .before .pattern-of .ensures)) (pattern-small _),
       l .inv .2,
       l .inv .3,
       l .inv .4,
@@ -75,12 +75,12 @@ loop-again-4 c =
     let l = c .before .before .before .before .before .before .before .before .before .before .loop in (
       code-down _ _ _ _ _ _ (l .inv .1) (c .before .before .before .before .before .before .before .before .before .if1 .left)
           (c .before .before .before .before .before .before .before .if4 .left) (c .before .before .before .before .before .before .before .before .if3 .left)
-          (sym (c .before .before .before .before .before .sort-of .ensures) ∙ c .before .before .before .before .if6 .left) _ (c .before .before .before .row-of .ensures)
+          (sym (c .before .before .before .before .before .sort-of .ensures) ∙ c .before .before .before .before .if6 .left) _ (c .before .before .before .pattern-of .ensures)
           (c .before .before .if7 .left) (omega (arith, l .inv .2, l .inv .3, l .inv .4 .all)) (c .if8 .left) ∙ l .inv .0,
-      subst (λ r. r < 65536) (sym (c .before .before .before .row-of .ensures)) (row-small _),
+      subst (λ r. r < 65536) (sym (c .before .before .before .pattern-of .ensures)) (pattern-small _),
       omega (arith, c .if8 .left),
       l .inv .3,
-      rows-set _ _ _ (l .inv .4) (omega (arith, l .inv .1)),
+      patterns-set _ _ _ (l .inv .4) (omega (arith, l .inv .1)),
     )
 
 pub read-spec : {M : Type 1} → statement M
@@ -88,7 +88,7 @@ read-spec =
     tie.close
     (tie.spec
     Inv-loop μ-loop (λ c. search needs)
-    (λ c. (to-begin _ _ _ _ _ (omega arith) (omega arith), omega arith, omega arith, omega arith, no-rows))
+    (λ c. (to-begin _ _ _ _ _ (omega arith) (omega arith), omega arith, omega arith, omega arith, no-patterns))
     (λ c. ended _ _ _ _ _ _ (c .before .if1 .taken) (c .if2 .taken) ∙ c .before .before .loop .inv .0)
     (λ c. search needs) (λ c. search needs)
     (λ c. omega (arith, c .before .before .loop .inv .2, c .before .before .loop .inv .3))

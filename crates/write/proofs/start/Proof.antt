@@ -1,34 +1,28 @@
 use native.Mathlib.Omega.{arith}
 use borrow.Author.Needs.{needs}
 use mathlib.Core.List.{_++_}
-use mathlib.Core.Path.{_≡_, refl, _∙_}
+use mathlib.Core.Path.{refl, _∙_}
 use denote.Ref.{now}
-use lib.ListN.{length, take, drop}
-use lib.Seq.{length-front, length-take-le}
+use lib.ListN.{drop}
+use lib.Seq.{length-front}
 use Rattle.write.specs.Work.{stackOf, behindOf}
-use Rattle.write.proofs.WorkParts.{last-replaced}
+use Rattle.write.proofs.WorkParts.{names-long, last-replaced}
 use Rattle.write.proofs.Finding.{linked-none}
-use Rattle.write.proofs.Storing.{kept-on}
 use Rattle.write.proofs.Rules.{start-way, start-rests}
 use Rattle.write.proofs.start.Statement.{statement}
 use Rattle.write.proofs.start.Tie as tie
 
-names : (s : tie.Start) → length (take 64 (now (s .args .work))) ≡ 64
-names s = length-take-le 64 (now (s .args .work)) (omega (arith, s .pre .1 .long))
-
 pub start-spec : {M : Type 1} → statement M
-start-spec =
-    tie.close
-    (tie.spec
+start-spec = tie.close (tie.spec
     (λ c. search needs)
     (λ c. omega (arith, c .before .before .before .pre .1 .long))
-    (λ c. omega (arith, names (c .before .before .before .before)))
-    (λ c κs. (refl, names (c .before .before .before .before)))
+    (λ c. let s = c .before .before .before .before in omega (arith, names-long (now (s .args .work)) (s .pre .1 .long)))
+    (λ c κs. let s = c .before .before .before .before in (refl, names-long (now (s .args .work)) (s .pre .1 .long)))
     (λ c κs. let s = c .before .before .before .before .before .before .before .before in let work = now (s .args .work) in let k = c .before .before .before .copy-last in
     let e = k .last .1 .0 ++ drop 64 work in (
       start-way (stackOf e) (behindOf e) (s .pre .0),
       record { short = s .pre .1 .short; long = length-front work (k .last .1 .0) 64 (k .kept .1 .0) ∙ s .pre .1 .long },
-      linked-none (now (s .args .edit)) e (kept-on (last-replaced work (k .last .1 .0) (k .kept .1 .0 ∙ names s) .last-is) (k .ensures)),
+      linked-none (now (s .args .edit)) e (rw (last-replaced work (k .last .1 .0) (k .kept .1 .0 ∙ names-long work (s .pre .1 .long)) .last-is) (k .ensures)),
     ))
     (λ c. let k = c .before .before .before .before .before .before .copy-last in c .before .before .walk .kept .1 .0 ∙ length-front (now (c .before .before .before .before .before .before .before .before .before .before .before .args .work)) (k .last .1 .0) 64 (k .kept .1 .0))
     (λ c. start-rests (c .before .before .walk .ensures .0) (c .before .before .walk .ensures .1)))

@@ -15,9 +15,7 @@ abbrev μ-loop : tie.MeasureT-loop
 μ-loop book edit from work₀ out₀ rest place₀ work out place = length book - place .at
 
 pub write-book-spec : {M : Type 1} → statement M
-write-book-spec =
-    tie.close
-    (tie.spec
+write-book-spec = tie.close (tie.spec
     Inv-loop μ-loop
     (λ c κs. let p = c .before .before .before .before .before .pre in (record { what = p .0 .Z; stands = p .0 .Z-at }, p .1))
     (λ c. (writing-first _ (c .before .before .before .before .before .before .before .before .pre .0), refl, c .before .before .start .ensures))

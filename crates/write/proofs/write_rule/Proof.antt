@@ -3,7 +3,8 @@ use borrow.Author.Needs.{needs}
 use mathlib.Core.Path.{_≡_, refl, _∙_}
 use denote.Ref.{now}
 use lib.ListN.{length, take}
-use lib.Seq.{length-front, length-take-le}
+use lib.Seq.{length-front}
+use Rattle.write.proofs.WorkParts.{names-long}
 use Rattle.write.proofs.Storing.{again}
 use Rattle.write.proofs.Rules.{rest-some, rule-written, still-started}
 use Rattle.write.proofs.write_rule.Statement.{statement}
@@ -12,20 +13,15 @@ use Rattle.write.proofs.write_rule.Tie as tie
 abbrev start : tie.After-write-way → tie.Start
 start c = c .before .before .before .before .before .before .before .before .before .before .before
 
-names : (s : tie.Start) → length (take 64 (now (s .args .work))) ≡ 64
-names s = length-take-le 64 (now (s .args .work)) (omega (arith, s .pre .1 .long))
-
 names-after : (c : tie.After-write-way) → length (take 64 (c .write-way .last .1 .1 .0)) ≡ 64
-names-after c = length-take-le 64 (c .write-way .last .1 .1 .0) (omega (arith, start c .pre .1 .long, c .write-way .kept .1 .1 .0))
+names-after c = names-long (c .write-way .last .1 .1 .0) (c .write-way .kept .1 .1 .0 ∙ start c .pre .1 .long)
 
 pub write-rule-spec : {M : Type 1} → statement M
-write-rule-spec =
-    tie.close
-    (tie.spec
+write-rule-spec = tie.close (tie.spec
     (λ c. omega (arith, c .before .before .before .before .pre .1 .long))
-    (λ c. omega (arith, names (c .before .before .before .before .before)))
+    (λ c. let s = c .before .before .before .before .before in omega (arith, names-long (now (s .args .work)) (s .pre .1 .long)))
     (λ c. search needs)
-    (λ c κs. (names (c .before .before .before .before .before .before), refl))
+    (λ c κs. let s = c .before .before .before .before .before .before in (names-long (now (s .args .work)) (s .pre .1 .long), refl))
     (λ c κs. let p = c .before .before .before .before .before .before .before .before .before .before .pre in (rest-some (p .0), p .1, p .0 .started .linked))
     (λ c. search needs)
     (λ c. let w = c .before .before .before .before .before in omega (arith, start w .pre .1 .long, w .write-way .kept .1 .1 .0))

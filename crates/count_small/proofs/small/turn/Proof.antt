@@ -30,8 +30,8 @@ module _ (c : tie.After-run-edit) where
     run-on : Loaded (start was .args .n) (c .run-edit .last .0)
     run-on = left-loaded _ (start was .pre .1) (start was .pre .2) (start was .args .x) Z (stand .edit-stands .range) (stand .first) _ _ _ (was .put-small .ensures) made
 
-keeps-requires : tie.Need-keeps-requires
-keeps-requires c κs =
+holds-requires : tie.Need-holds-requires
+holds-requires c κs =
     let d = c .before .before .before in
     let q = start d .pre .3 in
     (loaded-sound _ _ (put d), record { what = q .rules; stand = rules-on _ _ (put d) _ _ (q .stand .rules-stand) })
@@ -42,8 +42,8 @@ run-edit-requires c κs =
     let q = start d .pre .3 in
     (loaded-sound _ _ (put d), record { what = q .what; stands = edit-on _ _ (put d) _ _ (q .stand .edit-stands) })
 
-keeps-requires-2 : tie.Need-keeps-requires-2
-keeps-requires-2 c κs =
+holds-requires-2 : tie.Need-holds-requires-2
+holds-requires-2 c κs =
     let d = c .before .before .before in
     let q = start (was d) .pre .3 in
     let k = run-on d (q .rules) (q .what) (q .stand) in
@@ -58,11 +58,11 @@ returns c =
       λ rules Z stand.
           let e = was d .put-small .ensures in
           record {
-            before-is = d .before .before .keeps .ensures rules (rules-on _ _ (put (was d)) _ _ (stand .rules-stand)) ∙ ap (λ (g : Graph). holdAll g rules) (small-graph (s .args .n) (s .pre .1) (s .pre .2) (s .args .x) _ e);
-            next-is = c .keeps2 .ensures rules (rules-on _ _ (run-on d rules Z stand) _ _ (stand .rules-stand))
+            before-is = d .before .before .holds .ensures rules (rules-on _ _ (put (was d)) _ _ (stand .rules-stand)) ∙ ap (λ (g : Graph). holdAll g rules) (small-graph (s .args .n) (s .pre .1) (s .pre .2) (s .args .x) _ e);
+            next-is = c .holds2 .ensures rules (rules-on _ _ (run-on d rules Z stand) _ _ (stand .rules-stand))
                 ∙ ap (λ (g : Graph). holdAll g rules) (left-graph _ (s .pre .1) (s .pre .2) (s .args .x) Z (stand .edit-stands .range) (stand .first) _ _ _ e (made d rules Z stand));
           },
     )
 
 pub turn-spec : {M : Type 1} → statement M
-turn-spec = tie.close (tie.spec (λ c κs. search needs) keeps-requires run-edit-requires keeps-requires-2 (λ c. search needs) returns)
+turn-spec = tie.close (tie.spec (λ c κs. search needs) holds-requires run-edit-requires holds-requires-2 (λ c. search needs) returns)

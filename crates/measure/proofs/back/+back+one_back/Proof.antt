@@ -21,7 +21,7 @@ use Rattle.measure.proofs.back.+back+one_back.Lts-one_back as one-back-
 use Rattle.measure.proofs.numbers.copy.Reads as copy
 use Rattle.ends.proofs.end_of.Reads as end-of
 use Rattle.measure.proofs.keep.end_before.Reads as end-before
-use Rattle.measure.proofs.back.join_ways.Reads as join-ways
+use Rattle.measure.proofs.back.choose_ways.Reads as choose-ways
 use Rattle.measure.proofs.keep.keep_step.Reads as keep-step
 use Rattle.measure.proofs.keep.put_before.Reads as put-before
 use Rattle.ends.proofs.past.Reads as past
@@ -59,7 +59,7 @@ module _ (t : ℕ) where
   B = (push.Asked, push.Learnt, end-before.Asked, end-before.Learnt, one-back-below, one-back.Post)
 
   abbrev O : one-back-lts.Claims
-  O = (keep-step.Asked, keep-step.Learnt, step-back.Asked, step-back.Learnt, past.Asked, past.Learnt, end-of.Asked, end-of.Learnt, copy.Asked, copy.Learnt, back-below, back.Post, join-ways.Asked, join-ways.Learnt, put-before.Asked, put-before.Learnt)
+  O = (keep-step.Asked, keep-step.Learnt, step-back.Asked, step-back.Learnt, past.Asked, past.Learnt, end-of.Asked, end-of.Learnt, copy.Asked, copy.Learnt, back-below, back.Post, choose-ways.Asked, choose-ways.Learnt, put-before.Asked, put-before.Learnt)
 
   -- `back`: from the loop to the call of `push`, and to the start
   abbrev pushed : back-lts.At-loop B back-at back.Post back-Inv-loop back-μ-loop → back-lts.After-push B back-at back.Post back-Inv-loop back-μ-loop
@@ -78,7 +78,7 @@ module _ (t : ℕ) where
   abbrev second-done : one-back-lts.After-back-arg5 O one-back-at one-back.Post → one-back-lts.After-back O one-back-at one-back.Post
   second-done c = c .before .before .before .before .before .before .before .before .before
 
-  abbrev first-done : one-back-lts.After-join-ways-arg O one-back-at one-back.Post → one-back-lts.After-back2 O one-back-at one-back.Post
+  abbrev first-done : one-back-lts.After-choose-ways-arg O one-back-at one-back.Post → one-back-lts.After-back2 O one-back-at one-back.Post
   first-done c = c .before .before .before .before .before .before .before
 
   ways : (c : one-back-lts.After-end-of O one-back-at one-back.Post)
@@ -155,14 +155,14 @@ pub +back+one-back-spec : {M : Type 1} → statement M
     let p = started t e .pre .1 in let q = ways t e in let w = b .back .ensures .0 (q .parts .Q) (q .second-at) in let v = f .back2 .ensures .0 (q .parts .P) (q .first-at) in
     (omega (arith, q), omega (arith, q), omega (arith, p .0 .room, q, w .room, v .room), omega (arith, p .7, w .low, v .low, b .back .kept .1 .1 .1 .1 .1 .0, f .back2 .kept .1 .1 .1 .1 .1 .0)))
     (λ c. let f = first-done t (c .before .before .before .before .before .before .before) in f .back2 .kept .1 .1 .1 .0 ∙ second-done t (f .before) .back .kept .1 .1 .1 .0)
-    (λ c. let j = c .before .before .before .before .before .before in j .join-ways .kept .1 .1 .1 .1 .0 ∙ second-done t (first-done t (j .before) .before) .back .kept .1 .1 .1 .1 .0)
+    (λ c. let j = c .before .before .before .before .before .before in j .choose-ways .kept .1 .1 .1 .1 .0 ∙ second-done t (first-done t (j .before) .before) .back .kept .1 .1 .1 .1 .0)
     (λ c. let f = first-done t (c .before .before .before .before .before .before .before) in
     c .before .before .put-before .kept .1 .1 .1 .0 ∙ f .back2 .kept .1 .1 .1 .1 .1 .0 ∙ second-done t (f .before) .back .kept .1 .1 .1 .1 .1 .0)
     (λ c. let j = c .before .before .before .before .before .before in let f = first-done t (j .before) in let b = second-done t (f .before) in
     let e = split t (b .before) in let m = e .before .before .if1 .left in
     let k = b .before .before .before .before .before .copy .ensures in (
       λ Z h. (
-        choice-measured m (e .before .past .ensures) (e .end-of .ensures) _ k (b .back .ensures .0) (f .back2 .ensures .0) (j .join-ways .ensures) Z h,
+        choice-measured m (e .before .past .ensures) (e .end-of .ensures) _ k (b .back .ensures .0) (f .back2 .ensures .0) (j .choose-ways .ensures) Z h,
         choice-prefixed m (e .before .past .ensures) (e .end-of .ensures) _ k (b .back .ensures .0) (f .back2 .ensures .0) (c .before .before .put-before .ensures) Z h,
       ),
       kept-more (omega arith) (b .back .ensures .1) (f .back2 .ensures .1),

@@ -13,9 +13,7 @@ abbrev μ-loop : tie.MeasureT-loop
 μ-loop text at stack₀ top p₀ n₀ stack p n = length text - p
 
 pub push-spec : {M : Type 1} → statement M
-push-spec =
-    tie.close
-    (tie.spec
+push-spec = tie.close (tie.spec
     Inv-loop μ-loop
     (λ c. going-first _ (c .before .before .pre .1) (c .before .before .pre .0))
     (λ c. let r = c .before .loop .inv .some in omega (arith, edit-inside _ _ (r .what) (r .stands)))

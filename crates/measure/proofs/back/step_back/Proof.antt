@@ -5,13 +5,14 @@ use denote.Ref.{now}
 use mathlib.Core.Path.{_≡_, refl, _∙_}
 use Prim.Native.Nat.{_≤_, _<_, _-_, _+_}
 use native.Mathlib.Omega.{arith}
+use native.Mathlib.Nat.{mul-le-mul}
 use borrow.Author.Needs.{needs}
 use Rattle.tree.specs.Stack.{touched}
 use Rattle.ends.specs.Shapes.{cell}
 use Rattle.ends.proofs.NameCells.{named-lt}
 use Rattle.ends.proofs.TreePlaces.{fits}
 use Rattle.ends.proofs.FirstSteps.{editTag, editNumber, editTree, as-step, IsStep}
-use Rattle.measure.proofs.Stepping.{step-cell, step-measured, step-fits, step-product, low-level, few}
+use Rattle.measure.proofs.Stepping.{step-cell, step-measured, step-fits, low-level, few}
 use Rattle.measure.proofs.back.step_back.Statement.{statement}
 use Rattle.measure.proofs.back.step_back.Tie as tie
 
@@ -48,9 +49,7 @@ span c =
     let f = fits _ _ (editTree (s .pre .0 .what)) (q s .what) in (omega (arith, e), omega (arith, e, f, s .pre .2), omega (arith, q s .room, s .pre .2))
 
 pub step-back-spec : {M : Type 1} → statement M
-step-back-spec =
-    tie.close
-    (tie.spec
+step-back-spec = tie.close (tie.spec
     (λ c. omega (arith, q (c .before .before .before) .room)) (λ c κs. search needs)
     (λ c. let s = c .before .before .before .before in omega (arith, q s .room, s .pre .2))
     (λ c. omega (arith, q (c .before .before .before .before .before) .room))
@@ -67,7 +66,8 @@ step-back-spec =
     (λ c. omega (arith, span (c .before .before .before .before)))
     (λ c. let a = c .before .before .before .before in omega (arith, span a, few (two (start (found (lowered a)))) _ (c .extra .ensures)))
     (λ c. let a = c .before .before .before .before in let f = found (lowered a) in let s = start f in
-    omega (arith, step-product _ _ _ (q s) _ _ _ (step-fits _ _ _ (q s) _ _ _ (s .pre .1) (cell-is f) refl) (few (two s) _ (c .extra .ensures)) (span a .1)))
+    let m : c .extra .result + (a .scan .result - (s .args .at + 2)) ≤ 4098 = omega (arith, few (two s) _ (c .extra .ensures), span a .1) in
+    omega (arith, mul-le-mul (step-fits _ _ _ (q s) _ _ _ (s .pre .1) (cell-is f) refl) m))
     (λ c κs. search needs)
     (λ c. let a = c .before .before .before .before .before in omega (arith, a .scan .kept .1 .1 .1 .1 .0, long (lowered a)))
     (λ c. let a = c .before .before .before .before .before in simp length-set (a .scan .kept .1 .1 .1 .1 .0 ∙ simp length-set))

@@ -9,9 +9,7 @@ use Rattle.measure.proofs.book.add_rule.Statement.{statement}
 use Rattle.measure.proofs.book.add_rule.Tie as tie
 
 pub add-rule-spec : {M : Type 1} → statement M
-add-rule-spec =
-    tie.close
-    (tie.spec
+add-rule-spec = tie.close (tie.spec
     (λ c κs. let s = c .before .before .before in (record { what = tree (s .pre .0 .what); stands = rule-at _ _ (s .pre .0 .what) (s .pre .0 .stands) }, omega arith, s .pre .1))
     (λ c. search needs)
     (λ c. let s = c .before .before .before .before .before .before .before in omega (arith, c .before .before .before .scan .ensures (tree (s .pre .0 .what)) (rule-at _ _ (s .pre .0 .what) (s .pre .0 .stands)) .ends))

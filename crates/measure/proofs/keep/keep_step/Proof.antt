@@ -3,8 +3,9 @@ use Prim.Native.Nat.{_<_}
 use borrow.Author.Needs.{needs}
 use denote.Ref.{now}
 use Rattle.ends.proofs.TreePlaces.{fits}
+use Rattle.ends.proofs.NameCells.{named-lt}
 use Rattle.ends.proofs.FirstSteps.{editTree, as-step, IsStep}
-use Rattle.measure.proofs.Stepping.{step-cell, step-low, step-idle, step-kept}
+use Rattle.measure.proofs.Stepping.{step-cell, step-idle, step-kept}
 use Rattle.measure.proofs.keep.keep_step.Statement.{statement}
 use Rattle.measure.proofs.keep.keep_step.Tie as tie
 
@@ -15,12 +16,10 @@ abbrev start : tie.After-cell-of → tie.Start
 start c = c .before .before .before .before .before .before .before
 
 low : (c : tie.After-cell-of) → c .cell-of .result < 64
-low c = step-low _ _ _ (q (start c)) _ _ (c .before .before .name-code .ensures) (c .cell-of .ensures)
+low c = omega (arith, step-cell _ _ _ (q (start c)) _ _ (c .before .before .name-code .ensures) (c .cell-of .ensures), named-lt _ _ (q (start c) .named))
 
 pub keep-step-spec : {M : Type 1} → statement M
-keep-step-spec =
-    tie.close
-    (tie.spec
+keep-step-spec = tie.close (tie.spec
     (λ c. omega (arith, q (c .before .before .before .before) .room))
     (λ c κs. search needs)
     (λ c. let s = c .before .before .before .before .before in omega (arith, q s .room, s .pre .4))

@@ -10,9 +10,7 @@ abbrev μ-loop : tie.MeasureT-loop
 μ-loop text at end out₀ pos from₀ to₀ out from to = from
 
 pub put-before-spec : {M : Type 1} → statement M
-put-before-spec =
-    tie.close
-    (tie.spec
+put-before-spec = tie.close (tie.spec
     Inv-loop μ-loop (λ c. putting-first _ _ _ _ _ (c .pre .0)) (λ c. omega (arith, c .loop-test .taken))
     (λ c. let h = c .before .loop .inv in omega (arith, c .loop-test .taken, h .moved, h .high, c .before .before .pre .2))
     (λ c. let h = c .before .before .loop .inv in omega (arith, c .before .loop-test .taken, h .high, c .before .before .before .pre .1))

@@ -15,9 +15,7 @@ abbrev μ-loop : tie.MeasureT-loop
 μ-loop src out₀ i₀ out i = 130 - i
 
 pub copy-spec : {M : Type 1} → statement M
-copy-spec =
-    tie.close
-    (tie.spec
+copy-spec = tie.close (tie.spec
     Inv-loop μ-loop (λ c. (search needs, search needs, copy-none _ _)) (λ c. search needs) (λ c. search needs) (λ c. search needs)
     (λ c. search needs) (λ c. search needs) (λ c. search needs)
     (λ c. let l = c .before .before .loop in (search needs, length-set (l .out) (l .i) _ ∙ l .inv .1, copy-more _ _ _ (omega (arith, l .inv .1, c .before .loop-test .taken)) (l .inv .2)))

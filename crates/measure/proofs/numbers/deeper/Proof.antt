@@ -1,11 +1,12 @@
+use native.Mathlib.Omega.{arith}
 use borrow.Author.Needs.{needs}
-use Rattle.measure.proofs.Held.{deeper-none, deeper-some, deeper-beyond}
+use Rattle.tree.specs.Tree.{under}
+use Rattle.measure.proofs.Held.{under-two}
 use Rattle.measure.proofs.numbers.deeper.Statement.{statement}
 use Rattle.measure.proofs.numbers.deeper.Tie as tie
 
 pub deeper-spec : {M : Type 1} → statement M
-deeper-spec =
-    tie.close
-    (tie.spec
-    (λ c. deeper-none _ (c .if1 .taken)) (λ c. search needs) (λ c. deeper-some _ (c .before .if1 .left) (c .if2 .taken))
-    (λ c. deeper-beyond _ (c .if2 .left)))
+unfolding under
+deeper-spec = tie.close (tie.spec
+    (λ c. rw (c .if1 .taken)) (λ c. search needs) (λ c. omega (arith, under-two _ (c .before .if1 .left)))
+    (λ c. omega (arith, under-two _ (c .before .if1 .left))))

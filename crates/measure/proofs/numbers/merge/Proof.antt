@@ -15,9 +15,7 @@ abbrev μ-loop : tie.MeasureT-loop
 μ-loop t state₀ n h i₀ state i = 64 - i
 
 pub merge-spec : {M : Type 1} → statement M
-merge-spec =
-    tie.close
-    (tie.spec
+merge-spec = tie.close (tie.spec
     Inv-loop μ-loop (λ c. search needs) (λ c. search needs) (λ c κs. search needs) (λ c. search needs) (λ c. search needs)
     (λ c κs. search needs) (λ c κs. search needs) (λ c. (search needs, search needs, merging-none _ _))
     (λ c κs. let l = c .before .before in (l .before .before .before .before .before .before .before .before .before .before .pre .0, l .loop .inv .1, c .before .loop-test .taken))

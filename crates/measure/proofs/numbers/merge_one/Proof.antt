@@ -6,9 +6,7 @@ use Rattle.measure.proofs.numbers.merge_one.Statement.{statement}
 use Rattle.measure.proofs.numbers.merge_one.Tie as tie
 
 pub merge-one-spec : {M : Type 1} → statement M
-merge-one-spec =
-    tie.close
-    (tie.spec
+merge-one-spec = tie.close (tie.spec
     (λ c. search needs) (λ c. search needs) (λ c. search needs) (λ c. search needs) (λ c κs. search needs) (λ c. search needs)
     (λ c. search needs) (λ c. search needs) (λ c. search needs) (λ c. search needs) (λ c. search needs) (λ c κs. search needs)
     (λ c κs. search needs) (λ c κs. search needs) (λ c. search needs) (λ c. search needs) (λ c. search needs) (λ c. search needs)

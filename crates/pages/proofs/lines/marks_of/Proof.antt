@@ -29,9 +29,7 @@ loop-again c =
     )
 
 pub marks-of-spec : {M : Type 1} → statement M
-marks-of-spec =
-    tie.close
-    (tie.spec
+marks-of-spec = tie.close (tie.spec
     Inv-loop μ-loop (λ c. (search needs, setOf-zero _)) (λ c. search needs) (λ c. search needs) (λ c. search needs) (λ c. search needs)
     (λ c. search needs) loop-again
     (λ c. setOf-end _ _ _ _ (c .before .loop .inv .0) (c .loop-test .left) (c .before .loop .inv .1)))

@@ -21,9 +21,7 @@ returns : tie.Need-returns
 returns c = c .before .before .put-squares .ensures ∙ head-written _ (started (c .before .before .before .before .before .before))
 
 pub put-head-spec : {M : Type 1} → statement M
-put-head-spec =
-    tie.close
-    (tie.spec
+put-head-spec = tie.close (tie.spec
     (λ c. search needs) (λ c. search needs) (λ c. search needs)
     (λ c. omega (arith, c .before .pre, length-set (c .before .args .line .now) 0 (c .before .args .letter)))
     (λ c κs. search needs) (λ c κs. started (c .before .before .before) .whole)

@@ -22,9 +22,7 @@ returns c =
     c .before .before .put-squares .ensures ∙ line-written (start d .args .n) (start d .args .x) (start d .args .row) (started d)
 
 pub put-line-spec : {M : Type 1} → statement M
-put-line-spec =
-    tie.close
-    (tie.spec
+put-line-spec = tie.close (tie.spec
     (λ c. search needs) (λ c. search needs) (λ c. search needs) (λ c κs. search needs)
     (λ c. omega (arith, simp length-set at (started (c .before .before) .whole)))
     (λ c κs. started (c .before .before .before) .whole)

@@ -13,9 +13,7 @@ abbrev μ-loop : tie.MeasureT-loop
 μ-loop line₀ n row j₀ line j = 60 - j
 
 pub put-squares-spec : {M : Type 1} → statement M
-put-squares-spec =
-    tie.close
-    (tie.spec
+put-squares-spec = tie.close (tie.spec
     Inv-loop μ-loop (λ c. no-squares (c .before .pre)) (λ c κs. search needs) (λ c. search needs) (λ c. search needs) (λ c. search needs)
     (λ c. search needs)
     (λ c. square-more (c .before .before .loop .inv) _ (c .before .loop-test .taken) (c .square .ensures))

@@ -35,7 +35,5 @@ returns-2 c =
     sym (l .inv .1 ∙ same-end _ _ (l .i) (omega arith) (omega arith))
 
 pub same-spec : {M : Type 1} → statement M
-same-spec =
-    tie.close
-    (tie.spec
+same-spec = tie.close (tie.spec
     Inv-loop μ-loop loop-holds (λ c. search needs) (λ c. search needs) returns (λ c. search needs) (λ c. search needs) loop-again returns-2)

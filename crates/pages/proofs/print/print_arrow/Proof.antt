@@ -1,4 +1,4 @@
-use mathlib.Core.Path.{sym, _∙_, ap}
+use mathlib.Core.Path.{_∙_, ap}
 use denote.Ref.{now}
 use lib.ListN.{length}
 use Rattle.answer.specs.Outputs.{writtenLength, writtenOutput}
@@ -38,9 +38,7 @@ returns-3 c =
     (p .put-page .ensures .0 ∙ ap writtenLength asks, p .put-page .ensures .1 ∙ ap (λ q. writtenOutput q (now (s .out))) asks)
 
 pub print-arrow-spec : {M : Type 1} → statement M
-print-arrow-spec =
-    tie.close
-    (tie.spec
+print-arrow-spec = tie.close (tie.spec
     (λ c κs. search needs) (λ c. search needs) returns (λ c. search needs) returns-2
     (λ c κs. let e = c .before in let k = e .before .before .before in (done-sound present _ (k .check .result) (k .check .ensures) (e .before .enum-told .given .1), e .if1 .left))
     (λ c. search needs) returns-3)

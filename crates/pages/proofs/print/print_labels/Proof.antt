@@ -1,4 +1,4 @@
-use mathlib.Core.Path.{sym, _∙_, ap}
+use mathlib.Core.Path.{_∙_, ap}
 use denote.Ref.{now}
 use lib.ListN.{length}
 use Rattle.answer.specs.Outputs.{writtenLength, writtenOutput}
@@ -29,9 +29,7 @@ returns-2 c =
     (p .put-page .ensures .0 ∙ ap writtenLength asks, p .put-page .ensures .1 ∙ ap (λ q. writtenOutput q (now (s .out))) asks)
 
 pub print-labels-spec : {M : Type 1} → statement M
-print-labels-spec =
-    tie.close
-    (tie.spec
+print-labels-spec = tie.close (tie.spec
     (λ c κs. search needs) (λ c. search needs) returns (λ c. search needs)
     (λ c κs. let k = c .before .before .before in (done-sound present _ (k .check .result) (k .check .ensures) (c .before .enum-told .given .1), tt))
     (λ c. search needs) returns-2)

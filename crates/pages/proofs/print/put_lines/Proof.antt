@@ -53,9 +53,7 @@ returns c =
     ∙ ap (λ n. writtenAtStart (chunks (linesOf n (blockShown (s .args .shown))) 0 (λ j. setLine n j (set j))) (s .args .out .now)) (s .pre .1)
 
 pub put-lines-spec : {M : Type 1} → statement M
-put-lines-spec =
-    tie.close
-    (tie.spec
+put-lines-spec = tie.close (tie.spec
     Inv-loop μ-loop (λ c. (search needs, grown-first)) (λ c. search needs) (λ c. search needs) (λ c. search needs) (λ c. search needs)
     (λ c. omega (arith, room c, grown-length (c .before .loop .inv .1)))
     line-word-requires

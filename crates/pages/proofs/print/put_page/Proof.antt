@@ -66,9 +66,7 @@ returns-2 c =
     )
 
 pub put-page-spec : {M : Type 1} → statement M
-put-page-spec =
-    tie.close
-    (tie.spec
+put-page-spec = tie.close (tie.spec
     (λ c κs. search needs) (λ c κs. search needs) (λ c. search needs) (λ c. search needs) returns (λ c. search needs) (λ c. search needs)
     (λ c. search needs) (λ c κs. search needs) (λ c. search needs) (λ c. search needs) (λ c. search needs) put-lines-requires
     (λ c. search needs) returns-2)

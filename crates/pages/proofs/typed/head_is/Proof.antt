@@ -29,8 +29,6 @@ returns-2 c =
     ∙ sym (head-same (s .n) (now (s .page)) (blockShown (s .shown)) (other .if1 .left ∙ size (other .before)))
 
 pub head-is-spec : {M : Type 1} → statement M
-head-is-spec =
-    tie.close
-    (tie.spec
+head-is-spec = tie.close (tie.spec
     (λ c κs. search needs) (λ c. search needs) (λ c. search needs) returns (λ c. search needs) (λ c κs. search needs) (λ c. search needs)
     (λ c. search needs) (λ c. search needs) (λ c. search needs) (λ c κs. search needs) returns-2)

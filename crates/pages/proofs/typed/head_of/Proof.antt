@@ -24,9 +24,7 @@ returns-4 c =
     names-none _ _ (other (k .before .before .before .before)) (k .if3 .taken) (sym (c .before .head-is2 .ensures) ∙ c .if4 .left)
 
 pub head-of-spec : {M : Type 1} → statement M
-head-of-spec =
-    tie.close
-    (tie.spec
+head-of-spec = tie.close (tie.spec
     (λ c κs. search needs)
     (λ c. names-labels _ _ (sym (c .before .head-is .ensures) ∙ c .if1 .taken))
     (λ c. no-whole-head _ _ (other (c .before)) (c .if2 .taken)) (λ c. search needs) (λ c. search needs) (λ c. search needs)

@@ -71,9 +71,7 @@ returns-2 c =
     (all-read (g l) (b l) (page l) (start l .args .m) (l .loop .sets) (l .loop .x) (c .loop-test .left) (l .loop .inv), λ e i k. l .loop .inv .read i (omega (arith, c .loop-test .left)))
 
 pub read-lines-spec : {M : Type 1} → statement M
-read-lines-spec =
-    tie.close
-    (tie.spec
+read-lines-spec = tie.close (tie.spec
     Inv-loop μ-loop (λ c κs. search needs) (λ c κs. search needs)
     (λ c. none-read _ _ _ _ _ (c .before .before .before .before .before .pre .3))
     (λ c. search needs) (λ c. search needs) (λ c. search needs) (λ c. search needs) (λ c. search needs) (λ c. search needs)

@@ -4,7 +4,6 @@ use native.Mathlib.Omega.{arith}
 use denote.Ref.{now}
 use Rattle.answer.specs.Answers.{asked}
 use Rattle.answer.specs.Asked.{passed}
-use Rattle.logic.specs.Graph.{Graph}
 use Rattle.sheet.specs.Sheet.{present, graphOf}
 use Rattle.sheet.specs.Questions.{Sound}
 use Rattle.sheet.proofs.BitReadLaws.{done-sound}
@@ -82,9 +81,7 @@ returns-4 c =
     (l .0, p .put-sets .ensures (now (begin h .args .page)) (λ x i. r .read-lines .ensures .1 (ap asked (told .enum-told4 .given .1)) x (omega (arith, m, i))) ∙ l .1)
 
 pub type-page-spec : {M : Type 1} → statement M
-type-page-spec =
-    tie.close
-    (tie.spec
+type-page-spec = tie.close (tie.spec
     (λ c κs. search needs) (λ c. search needs) (λ c. search needs) (λ c. search needs) returns (λ c κs. sound (c .before))
     (λ c κs. search needs) (λ c. search needs) (λ c. search needs) (λ c. search needs) returns-2 (λ c κs. search needs) (λ c. search needs)
     read-lines-requires (λ c. search needs) (λ c. search needs) (λ c. search needs) returns-3

@@ -23,11 +23,6 @@ module _ (c : tie.In-loop Inv-loop μ-loop) (Zs : List Edit) (e : EditsAt (c .be
   below : c .before .loop .i < length Zs
   below = omega (arith, c .loop-test .taken, e .enough)
 
-returns : tie.Need-returns Inv-loop μ-loop
-returns c Zs e =
-    let q : c .before .loop .i ≡ c .before .before .before .args .count = omega (arith, c .before .loop .inv .0, c .loop-test .left) in
-    subst (λ (k : ℕ). EditsStand (e .limits) (c .before .before .before .args .edits .now) (c .before .loop .at) (drop k Zs)) q (c .before .loop .inv .1 Zs e .stand)
-
 pub behind-spec : {M : Type 1} → statement M
 behind-spec =
     tie.close
@@ -37,4 +32,5 @@ behind-spec =
     (λ c. omega (arith, c .before .loop-test .taken)) (λ c. omega (arith, c .before .loop-test .taken))
     (λ c. let l = c .before in
     (omega (arith, l .loop-test .taken), λ Zs e. others-stand (from l Zs e) (below l Zs e) (c .end-of .ensures _ (next-at (from l Zs e) (below l Zs e)))))
-    returns)
+    (λ c Zs e. let l = c .before .loop in let s = c .before .before .before .args in let q : l .i ≡ s .count = omega (arith, l .inv .0, c .loop-test .left) in
+    subst (λ (k : ℕ). EditsStand (e .limits) (s .edits .now) (l .at) (drop k Zs)) q (l .inv .1 Zs e .stand)))

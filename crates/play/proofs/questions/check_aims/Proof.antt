@@ -1,49 +1,29 @@
-use mathlib.Core.Path.{_≡_, sym, ap, _∙_}
-use Prim.Native.Nat.{ℕ}
+use mathlib.Core.Path.{sym, ap, _∙_}
 use borrow.Author.Needs.{needs}
-use Rattle.answer.specs.Asked.{outcome}
 use Rattle.answer.specs.Answers.{asked}
-use Rattle.answer.proofs.AnswerLaws.{learned}
-use Rattle.sheet.specs.Sheet.{graphOf}
 use Rattle.sheet.specs.Questions.{Sound}
-use Rattle.text.specs.Reading.{textLimits}
-use Rattle.text.specs.Questions.{askBook, askRule}
-use Rattle.play.proofs.PlayStages.{sheet-stops, book-stops, goal-last}
+use Rattle.judge.proofs.SheetAndBook.{sheet-refused, book-refused, book-learned}
+use Rattle.play.proofs.PlayStages.{both-stop, goal-last}
 use Rattle.play.proofs.questions.check_aims.Statement.{statement}
 use Rattle.play.proofs.questions.check_aims.Tie as tie
 
--- the sheet has passed
-module _ (c : tie.After-enum-told) where
-  abbrev start : tie.Start
-  start = c .before .before .before .before .before .before
+sound : (c : tie.After-enum-told) → Sound (c .before .before .before .before .before .before .args .sheet .now)
+sound c = sym (c .before .before .check .ensures) ∙ ap asked (c .enum-told .given .1)
 
-  abbrev nodes : ℕ
-  nodes = graphOf (start .args .sheet .now) .n
-
-  sound : Sound (start .args .sheet .now)
-  sound = sym (c .before .before .check .ensures) ∙ ap asked (c .enum-told .given .1)
-
--- the book is asked
-module _ (c : tie.After-check-book) where
-  abbrev told : tie.After-enum-told
-  told = c .before .before
-
-  read : asked (c .check-book .result) ≡ outcome (askBook (textLimits (nodes told)) (start told .args .book .now))
-  read = c .check-book .ensures ∙ ap (λ (k : ℕ). outcome (askBook (textLimits k) (start told .args .book .now))) (c .before .node-count .ensures .0)
+returns-2 : tie.Need-returns-2
+returns-2 c =
+    let b = c .before .before in let no = c .enum-told4 .given .1 in
+    both-stop _ _ _ (book-refused _ _ (sound (b .before .before)) (b .before .node-count .ensures .0) (b .check-book .ensures) no) no
 
 returns-3 : tie.Need-returns-3
 returns-3 c =
-    let b = c .before .before .before in
-    let s = start (told b) in
-    goal-last _ _ _ (sound (told b)) (learned _ (sym (ap asked (c .before .enum-told3 .given .1)) ∙ read b)) (c .check-goal .result)
-    (c .check-goal .ensures ∙ ap (λ (k : ℕ). outcome (askRule (textLimits k) (s .args .goal .now))) (b .before .node-count .ensures .0))
+    let b = c .before .before .before in let n = b .before .node-count .ensures .0 in
+    goal-last _ _ _ n (book-learned _ _ (sound (b .before .before)) n (b .check-book .ensures) (c .before .enum-told3 .given .1)) (c .check-rule .result) (c .check-rule .ensures)
 
 pub check-aims-spec : {M : Type 1} → statement M
 check-aims-spec =
     tie.close
     (tie.spec
     (λ c κs. search needs) (λ c. search needs) (λ c. search needs)
-    (λ c. sheet-stops _ _ _ _ (c .before .before .check .ensures) (c .enum-told2 .given .1))
-    (λ c κs. sound c) (λ c κs. search needs) (λ c. search needs) (λ c. search needs)
-    (λ c. book-stops _ _ _ (sound (told (c .before .before))) _ (read (c .before .before)) (c .enum-told4 .given .1))
-    (λ c κs. search needs) returns-3)
+    (λ c. let no = c .enum-told2 .given .1 in both-stop _ _ _ (sheet-refused _ _ (c .before .before .check .ensures) no) no)
+    (λ c κs. sound c) (λ c κs. search needs) (λ c. search needs) (λ c. search needs) returns-2 (λ c κs. search needs) returns-3)

@@ -1,7 +1,7 @@
 use mathlib.Core.Path.{sym, _∙_}
 use borrow.Author.Needs.{needs}
 use borrow.Author.Tests.{not-true, not-false}
-use Rattle.play.proofs.PlayStages.{out-of-range, by-filling}
+use Rattle.play.specs.Questions.{listsRight}
 use Rattle.play.proofs.questions.lists_right.Statement.{statement}
 use Rattle.play.proofs.questions.lists_right.Tie as tie
 
@@ -10,6 +10,6 @@ lists-right-spec =
     tie.close
     (tie.spec
     (λ c κs. search needs)
-    (λ c. out-of-range _ _ _ _ (sym (c .before .in-range .ensures) ∙ not-true _ (c .if1 .taken)))
+    (λ c. unfold listsRight in rw (sym (c .before .in-range .ensures) ∙ not-true _ (c .if1 .taken)))
     (λ c κs. search needs)
-    (λ c. c .fill .ensures ∙ by-filling _ _ _ _ (sym (c .before .before .in-range .ensures) ∙ not-false _ (c .before .if1 .left))))
+    (λ c. unfold listsRight in rw (sym (c .before .before .in-range .ensures) ∙ not-false _ (c .before .if1 .left)) (c .fill .ensures)))

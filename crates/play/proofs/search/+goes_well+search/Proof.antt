@@ -11,7 +11,7 @@ use Rattle.sheet.specs.Sheet.{sheetBytes, graphOf}
 use Rattle.game.specs.Game.{Game}
 use Rattle.play.specs.Standing.{GameStands}
 use Rattle.play.proofs.Moves.{over-ours, over-theirs, goes-by}
-use Rattle.play.proofs.Trying.{Trying, as-many, copy-n, none-tried, here-stands, no-use, no-edit, found-edit, found-none, found-pass, found-no-pass}
+use Rattle.play.proofs.Trying.{Trying, copy-stands, none-tried, here-stands, no-use, no-edit, found-edit, found-none, found-pass, found-no-pass}
 use Rattle.play.proofs.search.goes_well.Reads as goes-well
 use Rattle.play.proofs.search.goes_well.Kinds as goes-well-kinds
 use Rattle.play.proofs.search.+goes_well+search.Lts-goes_well as goes-well-lts
@@ -19,7 +19,7 @@ use Rattle.play.proofs.search.search.Reads as search′
 use Rattle.play.proofs.search.search.Kinds as search-kinds
 use Rattle.play.proofs.search.+goes_well+search.Lts-search as search-lts
 use Rattle.play.proofs.search.count_of.Reads as count-of-reads
-use Rattle.play.proofs.search.holds.Reads as holds-reads
+use Rattle.judge.proofs.holds.Reads as holds-reads
 use Rattle.play.proofs.search.make.Reads as make-reads
 use Rattle.play.proofs.search.may_leave.Reads as may-leave-reads
 use Rattle.play.proofs.search.start_of.Reads as start-of-reads
@@ -103,7 +103,7 @@ pub +goes-well+search-spec : {M : Type 1} → statement M
     let l = k .before .before .before in
     let q = l .before .before .before .before .before .before .before .pre .1 .1 in
     let here = here-stands _ _ _ _ _ _ _ (q .what) (q .stands) _ _ _ (l .loop .inv .2 (q .what) (q .stands)) _ (l .before .before .count-of .ensures) (k .before .before .loop-test .taken) in
-    (k .make .ensures .0, record { what = q .what .book; stand = as-many _ _ _ _ _ _ (q .what) (copy-n (k .make .ensures .1 _ here)) (q .stands) .rules }))
+    (k .make .ensures .0, record { what = q .what .book; stand = copy-stands (k .make .ensures .1 _ here) (q .stands) .rules }))
     -- slice-aggregate-goes-well
     (λ c. sym (c .before .before .before .before .before .make .kept .1 .1 .1 .0 ∙ c .before .before .before .before .before .before .before .before .loop .inv .1))
     -- sub-goes-well
@@ -115,7 +115,7 @@ pub +goes-well+search-spec : {M : Type 1} → statement M
     let s = l .before .before .before .before .before .before .before in
     let q = s .pre .1 .1 in
     let here = here-stands _ _ _ _ _ _ _ (q .what) (q .stands) _ _ _ (l .loop .inv .2 (q .what) (q .stands)) _ (l .before .before .count-of .ensures) (k .before .before .loop-test .taken) in
-    (omega (arith, s .pre .0, s .pre .1 .2), (k .make .ensures .0, record { what = q .what; stands = as-many _ _ _ _ _ _ (q .what) (copy-n (k .make .ensures .1 _ here)) (q .stands) })))
+    (omega (arith, s .pre .0, s .pre .1 .2), (k .make .ensures .0, record { what = q .what; stands = copy-stands (k .make .ensures .1 _ here) (q .stands) })))
     -- returns
     (λ c G st.
     let m = c .before .before .before .before in
@@ -124,7 +124,7 @@ pub +goes-well+search-spec : {M : Type 1} → statement M
     let n = p .before .before .before .before .before .count-of .ensures in
     let l = p .before .before .loop-test .taken in
     let o = p .make .ensures .1 _ (here-stands _ _ _ _ _ _ _ G st _ _ _ t _ n l) in
-    let k = as-many _ _ _ _ _ _ G (copy-n o) st in
+    let k = copy-stands o st in
     found-edit _ _ _ _ _ _ _ G st _ _ _ t _ n l _ _ o _ (m .may-leave .ensures G (k .rules)) (c .before .before .before .if1 .taken) _ (c .before .goes-well .ensures G k) (c .if2 .taken))
     -- add-i
     (λ c. omega (arith, c .before .before .before .before .before .before .before .before .before .count-of .ok))
@@ -140,7 +140,7 @@ pub +goes-well+search-spec : {M : Type 1} → statement M
           let n = p .before .before .before .before .before .count-of .ensures in
           let l = p .before .before .loop-test .taken in
           let o = p .make .ensures .1 _ (here-stands _ _ _ _ _ _ _ G st _ _ _ t _ n l) in
-          let k = as-many _ _ _ _ _ _ G (copy-n o) st in
+          let k = copy-stands o st in
           let m = c .before .may-leave .ensures G (k .rules) in
           ⊎-elim (λ w. no-use _ _ _ _ _ _ _ G st _ _ _ t _ n l _ _ o _ m (w .0 .taken) _ (w .2 .ensures G k) (w .3 .left) _ (w .4))
           (λ w. no-edit _ _ _ _ _ _ _ G st _ _ _ t _ n l _ _ o _ m (w .0 .left) _ (w .1)) (c .if1 .came),

@@ -11,8 +11,6 @@ returns c =
     line-made (st .args .number) (st .args .place) _ (c .before .before .before .before .write-digits .ensures) _ (c .before .write-digits2 .ensures)
 
 pub line-spec : {M : Type 1} → statement M
-line-spec =
-    tie.close
-    (tie.spec
+line-spec = tie.close (tie.spec
     (λ c. search needs) (λ c. search needs) (λ c. search needs) (λ c κs. search needs) (λ c. search needs) (λ c. search needs)
     (λ c. simp length-append (omega (arith, c .out2 .given))) (λ c κs. search needs) (λ c. search needs) returns)

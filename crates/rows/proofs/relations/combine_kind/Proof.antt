@@ -1,10 +1,10 @@
-use mathlib.Core.Path.{_≡_, ap₂, _∙_}
-use Prim.Native.Nat.{_≤_, _-_}
+use mathlib.Core.Path.{_≡_, sym, ap, ap₂, _∙_}
+use Prim.Native.Nat.{ℕ, _≤_, _-_}
 use native.Mathlib.Omega.{arith}
 use borrow.Author.Needs.{needs}
 use lib.ListN.{length, getD, length-set}
 use Rattle.rows.specs.Operations.{arrowOperation}
-use Rattle.rows.proofs.OperationLaws.{Changed, changed-none, changed-more, rows-combined-kind}
+use Rattle.rows.proofs.OperationLaws.{Changed, changed-none, changed-more, rows-combined}
 use Rattle.bitset.specs.Words.{setOf, combined}
 use Rattle.sheet.specs.Sheet.{graphOf}
 use Rattle.rows.proofs.relations.combine_kind.Statement.{statement}
@@ -28,4 +28,5 @@ combine-kind-spec =
     (λ c. let l = c .before .before .before .before .loop in
     (search needs, simp length-set (l .inv .1), changed-more (search needs) (l .inv .2) (c .combined-row .ensures ∙ ap₂ (combined (arrowOperation (c .before .before .before .before .before .before .before .args .c))) (l .inv .2 .rest (l .i) (omega arith)) (c .before .row-word .ensures))))
     (λ c. omega (arith, c .before .before .before .before .pre .4))
-    (λ c. (λ v p. rows-combined-kind _ (c .before .before .before .before .args .c) (c .before .before .before .before .pre .1) (omega (arith, c .before .before .before .before .pre .2)) (c .loop-test .left) p (c .before .loop .inv .2), c .before .loop .inv .1)))
+    (λ c. let s = c .before .before .before .before in let w = graphOf (s .args .sheet .now) .joined (s .args .k .0) in
+    (λ v p. rows-combined w (s .args .c) (omega (arith, s .pre .2)) (c .loop-test .left) p (λ i l. ap (λ (m : ℕ). setOf m (w i)) (sym (s .pre .1))) (c .before .loop .inv .2), c .before .loop .inv .1)))

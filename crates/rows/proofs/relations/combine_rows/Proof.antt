@@ -30,4 +30,4 @@ combine-rows-spec =
           (c .combined-row .ensures ∙ ap (λ (x : ℕ). combined (arrowOperation (c .before .before .before .before .before .before .before .args .c)) x (getD (c .before .before .before .before .before .before .before .args .b .now) (l .i) 0)) (l .inv .2 .rest (l .i) (omega arith))),
     ))
     (λ c. omega (arith, c .before .before .before .before .pre .1))
-    (λ c. (λ v w p q. rows-combined (c .before .before .before .before .args .c) (omega (arith, c .before .before .before .before .pre .0)) (c .loop-test .left) p q (c .before .loop .inv .2), c .before .loop .inv .1)))
+    (λ c. (λ v w p q. rows-combined w (c .before .before .before .before .args .c) (omega (arith, c .before .before .before .before .pre .0)) (c .loop-test .left) p (q .row) (c .before .loop .inv .2), c .before .loop .inv .1)))

@@ -43,12 +43,9 @@ module _ (p : tie.At-loop Inv-loop μ-loop) where
   abbrev nodes : Nodes
   nodes = isNode (graphIn φ t)
 
-  -- the part that is lent
-  abbrev k : List ℕ
-  k = take (blockBytes * b + blockBytes - blockBytes * b) (drop (blockBytes * b) t)
-
-  told : Told φ k b n (p .before .nodes-told .result) nodes
-  told = told-of φ t n _ refl (p .before .nodes-told .ensures φ refl) b k (part-is t b)
+  -- of the part that is lent
+  told : Told φ (take (blockBytes * b + blockBytes - blockBytes * b) (drop (blockBytes * b) t)) b n (p .before .nodes-told .result) nodes
+  told = told-of φ t n _ refl (p .before .nodes-told .ensures φ refl) b _ (part-is t b)
 
 answer : (p : tie.After-ask-block Inv-loop μ-loop) → let q = p .before .before .before in asked (p .ask-block .result) ≡ askBlock (φ q) (n q) (nodes q) (b q) (blockOf (t q) (b q))
 answer p = let q = p .before .before .before in p .ask-block .ensures (nodes q) (told q) ∙ ap (askBlock (φ q) (n q) (nodes q) (b q)) (part-is (t q) (b q))

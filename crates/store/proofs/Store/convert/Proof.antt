@@ -3,8 +3,9 @@ use mathlib.Core.List.{List, _++_}
 use Prim.Native.Nat.{ℕ, _+_, _-_, _*_, _≤_, _<_}
 use native.Mathlib.Omega.{arith}
 use borrow.Author.Needs.{needs}
-use lib.ListN.{length, getD, take, drop}
+use lib.ListN.{length, take, drop}
 use Rattle.answer.specs.Answers.{asked}
+use Rattle.bitset.specs.Words.{Bytes}
 use Rattle.seal.specs.Seal.{blockBytes, Form, reseal}
 use Rattle.seal.specs.Forms.{formOf}
 use Rattle.sheet.specs.Sheet.{present, former, blockCount, sheetBytes, store, graphIn}
@@ -44,7 +45,7 @@ module _ (p : tie.After-enum-told Inv-loop μ-loop) where
   size : length card ≡ sheetBytes
   size = sound-length (former f) card sound
 
-  bytes : (i : ℕ) → getD card i 0 < 256
+  bytes : Bytes card
   bytes i = omega (arith, known .slice-known .given i)
 
 -- it has its nodes in use

@@ -17,7 +17,5 @@ returns c =
     c .bit-numbers .ensures ∙ ap bitNumbers (c .before .arrow-bit .ensures ∙ bytes-asked)
 
 pub zamiathen-arrow-bit-spec : {M : Type 1} → statement M
-zamiathen-arrow-bit-spec =
-    tie.close
-    (tie.spec
+zamiathen-arrow-bit-spec = tie.close (tie.spec
     (λ c κs. search needs) (λ c κs. search needs) (λ c κs. search needs) (λ c κs. search needs) (λ c κs. search needs) returns)

@@ -1,6 +1,6 @@
 use borrow.Author.Needs.{needs}
 use native.Mathlib.Omega.{arith}
-use mathlib.Core.Path.{_≡_, ap, ap₂, _∙_}
+use mathlib.Core.Path.{ap, ap₂, _∙_}
 use Rattle.sheet.specs.Questions.{askLabelBit}
 use Rattle.suite.specs.Numbers.{bitNumbers}
 use Rattle.suite.proofs.ByteLaws.{label-bit-byte}
@@ -18,7 +18,4 @@ returns c =
     ∙ label-bit-byte t (λ p. omega (arith, c .before .before .before .before .shared-slice-known .given p)) (st .args .label) (st .args .node))
 
 pub zamiathen-label-bit-spec : {M : Type 1} → statement M
-zamiathen-label-bit-spec =
-    tie.close
-    (tie.spec
-    (λ c κs. search needs) (λ c κs. search needs) (λ c κs. search needs) (λ c κs. search needs) returns)
+zamiathen-label-bit-spec = tie.close (tie.spec (λ c κs. search needs) (λ c κs. search needs) (λ c κs. search needs) (λ c κs. search needs) returns)

@@ -24,13 +24,13 @@ returns-2 c =
     record { memory = search needs; starts = search needs; contents = ap (λ (l : List ℕ). take (length l) text) size }
 
 part-result-end-3 : tie.Need-part-result-end-3
-part-result-end-3 c = rule-inside _ _ (c .before .before .before .before .before .before .limits-for .ensures) (c .before .before .before .before .if1 .left) (sym (c .before .before .before .read .ensures) ∙ c .before .step .given .1)
+part-result-end-3 c = rule-inside _ _ (c .before .before .before .before .before .before .limits-for .ensures) (c .before .before .before .before .if1 .left) (sym (c .before .before .before .read .ensures) ∙ c .before .turn .given .1)
 
 returns-3 : tie.Need-returns-3
 unfolding firstPart
 returns-3 c =
     let text = now (c .before .before .before .before .before .before .before .before .before .args .text) in
-    let size = the-rule text _ (c .before .before .before .before .before .before .before .limits-for .ensures) (c .before .before .before .before .before .if1 .left) (sym (c .before .before .before .before .read .ensures) ∙ c .before .before .step .given .1) in
+    let size = the-rule text _ (c .before .before .before .before .before .before .before .limits-for .ensures) (c .before .before .before .before .before .if1 .left) (sym (c .before .before .before .before .read .ensures) ∙ c .before .before .turn .given .1) in
     record { memory = search needs; starts = search needs; contents = ap (λ (k : ℕ). take k text) size }
 
 pub first-rule-spec : {M : Type 1} → statement M

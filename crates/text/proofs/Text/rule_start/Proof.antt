@@ -7,7 +7,7 @@ use denote.Ref.{now}
 use Rattle.logic.specs.Syntax.{rule}
 use Rattle.text.specs.Reading.{textLimits, expr}
 use Rattle.text.specs.Questions.{rulesEnd, ruleStart}
-use Rattle.text.specs.Rows.{limitsOf}
+use Rattle.text.specs.Patterns.{limitsOf}
 use Rattle.text.proofs.TextStages.{was-read, start-here, start-next, start-stopped}
 use Rattle.text.proofs.Text.rule_start.Statement.{statement}
 use Rattle.text.proofs.Text.rule_start.Tie as tie
@@ -29,7 +29,7 @@ returns c =
 
 loop-again : tie.Need-loop-again Inv-loop μ-loop
 loop-again c =
-    let e = sym (c .before .before .before .read .ensures) ∙ c .before .step .given .1 in
+    let e = sym (c .before .before .before .read .ensures) ∙ c .before .turn .given .1 in
     let l = c .before .before .before .before .before .loop in
     (was-read _ _ (expr rule) _ e .inside (l .inv .0), start-next _ _ (l .left) _ (search needs) e ∙ l .inv .1)
 

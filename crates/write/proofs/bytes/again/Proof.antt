@@ -12,9 +12,7 @@ abbrev μ-loop : tie.MeasureT-loop
 μ-loop out₀ from n pos i₀ out i = n - i
 
 pub again-spec : {M : Type 1} → statement M
-again-spec =
-    tie.close
-    (tie.spec
+again-spec = tie.close (tie.spec
     Inv-loop μ-loop
     (λ c. (omega arith, coded-none _ _ _ _ _ (omega (arith, c .pre .0, c .pre .1))))
     (λ c. omega (arith, c .loop-test .taken, c .before .before .pre .0))

@@ -12,9 +12,7 @@ abbrev μ-loop : tie.MeasureT-loop
 μ-loop text at n out₀ pos i₀ out i = n - i
 
 pub copy-spec : {M : Type 1} → statement M
-copy-spec =
-    tie.close
-    (tie.spec
+copy-spec = tie.close (tie.spec
     Inv-loop μ-loop (λ c. (omega arith, coded-none _ _ _ _ _ (c .pre .0)))
     (λ c. omega (arith, c .before .loop .inv .0, c .loop-test .taken, c .before .before .pre .0, c .before .before .good .0 .0))
     (λ c. omega (arith, c .before .loop-test .taken, c .before .before .before .pre .0))

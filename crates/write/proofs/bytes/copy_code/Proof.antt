@@ -24,9 +24,7 @@ three : (c : tie.Joined2) → Done (c .before .before .before) 3 (c .if2 .out)
 three c = let s = c .before .before .before in ⊎-elim (λ w. subst (Done s 3) (sym (w .2)) (coded-more (two (c .before)) (w .0 .taken))) (λ w. subst (Done s 3) (sym (w .1)) (coded-stay (two (c .before)) (w .0 .left))) (c .if2 .came)
 
 pub copy-code-spec : {M : Type 1} → statement M
-copy-code-spec =
-    tie.close
-    (tie.spec
+copy-code-spec = tie.close (tie.spec
     (λ c. search needs) (λ c. search needs) (λ c. search needs) (λ c. search needs) (λ c. search needs)
     (λ c. omega (arith, c .before .before .before .pre .3, c .before .if1 .taken, coded-long (one (c .before .before .before))))
     (λ c. search needs) (λ c. search needs) (λ c. search needs)

@@ -9,9 +9,7 @@ use Rattle.write.proofs.bytes.put_two.Statement.{statement}
 use Rattle.write.proofs.bytes.put_two.Tie as tie
 
 pub put-two-spec : {M : Type 1} → statement M
-put-two-spec =
-    tie.close
-    (tie.spec
+put-two-spec = tie.close (tie.spec
     (λ c. search needs) (λ c. search needs)
     (λ c. omega (arith, c .pre, length-set (now (c .args .out)) (c .args .pos) (c .args .a)))
     (λ c. search needs)

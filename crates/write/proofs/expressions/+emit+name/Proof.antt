@@ -8,7 +8,7 @@ use Prim.Native.Nat.{ℕ, _<_, _≤_, _-_, _+_, _*_}
 use native.Mathlib.Omega.{arith}
 use borrow.Author.Needs.{needs}
 use Rattle.tree.specs.Tree.{Tree, treeCode, graft}
-use Rattle.tree.specs.Stack.{Step, env, inner}
+use Rattle.tree.specs.Stack.{Substitution, env, inner}
 use Rattle.ends.specs.Shapes.{At}
 use Rattle.write.specs.Laid.{Wrote}
 use Rattle.write.specs.Offsets.{StepAt, StackIs}
@@ -104,8 +104,8 @@ module _ (t : ℕ) where
       parts.NameWrote (now (a .edit)) (stackOf (now (a .work))) (getD (now (a .work)) (1430 + (a .j - 1)) 0) (a .of .code) (a .of .number)
       (set (now (a .out)) (a .pos) (c .before .before .lead .result)) (a .pos + 1) (c .if1 .p) (c .if1 .out)
   older c =
-      ⊎-elim (λ w. parts.name-wrote-as (w .5) (w .6) (parts.bare-wrote (w .0 .taken) (w .2 .ensures) (w .2 .kept .1 .1 .0)))
-      (λ w. parts.name-wrote-as (w .5) (w .6) (record { each = w .2 .ensures; long = w .2 .kept .1 .1 .1 .1 .0 })) (c .if1 .came)
+      ⊎-elim (λ w. rw (w .5, w .6) (parts.bare-wrote (w .0 .taken) (w .2 .ensures) (w .2 .kept .1 .1 .0)))
+      (λ w. rw (w .5, w .6) (record { each = w .2 .ensures; long = w .2 .kept .1 .1 .1 .1 .0 })) (c .if1 .came)
 
   older-count : (c : name-lts.Joined1 name-claims name-at name.Post) → let s = c .before .before .before .before .before .before .before .before in c .if1 .p ≡ s .args .pos + 1 + length (treeCode (env (hit s .below) (s .args .of .code) (s .args .of .number)))
   older-count c = let p = c .before .before .before .before .before .before .before .before .pre .1 in parts.older-count (p .0) (p .2) (p .1) (older c)
@@ -122,11 +122,11 @@ module _ (t : ℕ) where
 
   -- the whole, once the expression is written
   put : (c : name-lts.After-put-not name-claims name-at name.Post) → {r : ℕ} {o : List ℕ} → let a = c .before .before .before .before .before .before .before .before .before .before .args in
-      ((σ : List Step) (x : Tree) → a .j - 1 ≡ length σ → StackIs (now (a .edit)) (stackOf (now (a .work))) σ → At (now (a .edit)) (getD (now (a .work)) (64 + (a .j - 1)) 0 + 2) x → Wrote (c .put-not .last .1 .0) (c .put-not .result) (treeCode (graft (env σ) x)) r o)
-      → (σ : List Step) → a .j ≡ lastIn (now (a .edit)) (stackOf (now (a .work))) (length σ) (a .of .code) (a .of .number) → StackIs (now (a .edit)) (stackOf (now (a .work))) σ → Wrote (now (a .out)) (a .pos) (treeCode (env σ (a .of .code) (a .of .number))) r o
+      ((σ : List Substitution) (x : Tree) → a .j - 1 ≡ length σ → StackIs (now (a .edit)) (stackOf (now (a .work))) σ → At (now (a .edit)) (getD (now (a .work)) (64 + (a .j - 1)) 0 + 2) x → Wrote (c .put-not .last .1 .0) (c .put-not .result) (treeCode (graft (env σ) x)) r o)
+      → (σ : List Substitution) → a .j ≡ lastIn (now (a .edit)) (stackOf (now (a .work))) (length σ) (a .of .code) (a .of .number) → StackIs (now (a .edit)) (stackOf (now (a .work))) σ → Wrote (now (a .out)) (a .pos) (treeCode (env σ (a .of .code) (a .of .number))) r o
   put c w σ e i =
-      let p = c .before .before .before .before .before .before .before .before .before .before .pre .1 in
-      let H = parts.last-hit (found-as e i) (p .0) in let A = hit-at (p .2) (p .0) H in
+      let s = c .before .before .before .before .before .before .before .before .before .before in let p = s .pre .1 in
+      let H = found-as e i .some (s .args .j - 1) (omega (arith, p .0)) in let A = hit-at (p .2) (p .0) H in
       parts.hit-wrote H _ (A .op-is) (c .before .before .before .before .lead .ensures) (older (c .before .before) .each (H .below) (hit-older (p .2) e (p .0) H .0) (H .stands)) (c .put-not .ensures)
       (w (H .below) (H .s .what) (H .len) (H .stands) (A .what-at))
 
@@ -149,8 +149,8 @@ pub +emit+name-spec : {M : Type 1} → statement M
     (λ c. omega (arith, named t (c .before .before .before) .in-text))
     (λ c. let n = c .before .before .before in
     parts.name-shown (looped t (n .before) .loop .inv) (n .before .before .before .loop-test .taken) _ (n .before .shape .ensures) (n .if1 .taken) (c .before .find .ensures .0)
-    (⊎-elim (λ w. parts.name-wrote-as (w .5) (w .6) (parts.bare-wrote (w .0 .taken) (w .2 .ensures) (w .2 .kept .1 .1 .0)))
-    (λ w. parts.name-wrote-as (w .5) (w .6) (record { each = w .2 .ensures; long = w .2 .kept .1 .1 .1 .1 .0 })) (c .if2 .came)))
+    (⊎-elim (λ w. rw (w .5, w .6) (parts.bare-wrote (w .0 .taken) (w .2 .ensures) (w .2 .kept .1 .1 .0)))
+    (λ w. rw (w .5, w .6) (record { each = w .2 .ensures; long = w .2 .kept .1 .1 .1 .1 .0 })) (c .if2 .came)))
     (λ c κs. let g = headed t (c .before) in (g .on, omega arith, g .in-text, omega (arith, looped t (c .before .before) .loop .inv .long, g .fits)))
     (λ c. let n = c .before .before .before .before in omega (arith, headed t n .in-text, called t (looped t (n .before)) .good .0 .0))
     (λ c. search needs)

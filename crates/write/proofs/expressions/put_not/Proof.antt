@@ -7,9 +7,7 @@ use Rattle.write.proofs.expressions.put_not.Statement.{statement}
 use Rattle.write.proofs.expressions.put_not.Tie as tie
 
 pub put-not-spec : {M : Type 1} → statement M
-put-not-spec =
-    tie.close
-    (tie.spec
+put-not-spec = tie.close (tie.spec
     (λ c. omega (arith, simp (eq-eqb _ _ (c .if1 .taken)) at (c .before .pre)))
     (λ c. omega (arith, simp (eq-eqb _ _ (c .if1 .taken)) at (c .before .pre)))
     (λ c. search needs)

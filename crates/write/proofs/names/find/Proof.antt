@@ -13,9 +13,7 @@ abbrev μ-loop : tie.MeasureT-loop
 μ-loop edit work h c k i j₀ j = j
 
 pub find-spec : {M : Type 1} → statement M
-find-spec =
-    tie.close
-    (tie.spec
+find-spec = tie.close (tie.spec
     Inv-loop μ-loop (λ c κs. search needs)
     (λ c. omega (arith, c .cell-of .ensures, named-lt _ _ (c .before .before .before .pre .1)))
     (λ c. omega (arith, c .before .cell-of .ensures, named-lt _ _ (c .before .before .before .before .pre .1), c .before .before .before .before .pre .0 .long))

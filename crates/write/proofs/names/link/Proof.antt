@@ -18,9 +18,7 @@ low : (c : tie.After-cell-of) → (c .cell-of .result < 64) × (length (now (c .
 low c = (omega (arith, cell-is c, named-lt _ _ (c .before .before .before .before .before .before .pre .3)), c .before .before .before .before .before .before .pre .2)
 
 pub link-spec : {M : Type 1} → statement M
-link-spec =
-    tie.close
-    (tie.spec
+link-spec = tie.close (tie.spec
     (λ c. search needs) (λ c κs. search needs) (λ c. search needs) (λ c. search needs) (λ c κs. search needs) (λ c. omega (arith, low c))
     (λ c. omega (arith, low (c .before))) (λ c. search needs) (λ c. search needs) (λ c. search needs) (λ c. search needs)
     (λ c. search needs) (λ c. omega (arith, low (c .before))) (λ c. simp length-set (omega (arith, low (c .before)))) (λ c. search needs)

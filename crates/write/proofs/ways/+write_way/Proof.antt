@@ -1,5 +1,5 @@
 use lib.ListN.{length, set, take, drop, length-set}
-use lib.Seq.{length-take-le}
+use Rattle.write.proofs.WorkParts.{names-long}
 use denote.Ref.{now}
 use mathlib.Core.Path.{_≡_, refl, sym, _∙_}
 use mathlib.Core.List.{List, _++_}
@@ -10,11 +10,11 @@ use Rattle.write.specs.Work.{stackOf, behindOf}
 use Rattle.write.specs.Links.{SomeLinks}
 use Rattle.write.specs.Ways.{SomeCarried}
 use Rattle.ends.proofs.FirstSteps.{edit-inside}
-use Rattle.write.proofs.Finding.{some-links, kept-all}
+use Rattle.write.proofs.Finding.{kept-all}
 use Rattle.ends.proofs.Kept.{kept-more}
 use Rattle.write.proofs.Walking.{at-end, at-choice, way-low}
-use Rattle.write.proofs.Storing.{written-on, Branch, branch, Again, again, stored-back}
-use Rattle.write.proofs.WrittenWays.{rested, place-inside, end-some, end-carried, end-read, first-shown, ways-some, first-further, first-long, second-room, second-opened, second-further, choice-carried}
+use Rattle.write.proofs.Storing.{Branch, branch, Again, again, stored-back}
+use Rattle.write.proofs.WrittenWays.{rested, end-some, end-carried, end-read, first-shown, ways-some, first-further, first-long, second-room, second-opened, second-further, choice-carried}
 use borrow.Fn.Kinds.{In}
 use borrow.Fn.PlainCycle.{Measures, is, falls, and}
 use Rattle.write.proofs.ways.write_way.Reads as write-way
@@ -65,7 +65,7 @@ module _ (t : ℕ) where
   deep c = let p = start c .pre .1 .1 in let l = way-low (rest c .way) (p .short) in (l .0, l .1, c .walk .kept .1 .0 ∙ p .long)
 
   links : (c : write-way-lts.After-walk claims write-way-at write-way.Post) → SomeLinks (now (start c .args .edit)) (c .walk .last .1 .0) (c .walk .result .h)
-  links c = some-links (c .walk .ensures .1 .linked) (omega (arith, deep c .0)) (deep c .2)
+  links c = record { top = c .walk .result .h; high = omega arith; room = omega (arith, deep c .0); long = deep c .2; linked = c .walk .ensures .1 .linked }
 
   -- the work array for the ways of a 35, once they are found
   abbrev work : write-way-lts.After-ways-at claims write-way-at write-way.Post → List ℕ
@@ -79,9 +79,6 @@ module _ (t : ℕ) where
       let p = start (walked c) .pre .1 in let k = walked c .walk in
       branch (p .0) (p .1) (k .kept .1 .0) (k .ensures .0) (k .ensures .1) (c .before .before .before .before .before .before .if1 .left) (c .before .before .before .open-first .ensures) (c .ways-at .ensures .0) (c .ways-at .ensures .1)
 
-  names-long : (c : write-way-lts.After-ways-at claims write-way-at write-way.Post) → length (take 64 (work c)) ≡ 64
-  names-long c = length-take-le 64 (work c) (omega (arith, forked c .fits .long))
-
   -- and the second, once the first is written
   renewed : (c : write-way-lts.After-copy-last2 claims write-way-at write-way.Post) → let w = first-done c in let f = found w in let s = start (walked f) .args in let r = walked f .walk .result in let u = f .before .before .before .open-first in
       Again (now (s .text)) (s .place .at) (now (s .edit)) (work f) (u .result .at) (r .h) (r .d + 1) (u .last .1 .1 .1 .0) (u .result .pos)
@@ -90,9 +87,6 @@ module _ (t : ℕ) where
       let w = first-done c in let b = forked (found w) in let v = w .write-way in
       again (v .last .1 .1 .0) (b .linked) (b .fits) (v .kept .1 .1 .0) (v .ensures .0) (v .ensures .1) (w .before .before .before .before .before .copy-last .ensures) (c .copy-last2 .ensures) (c .copy-last2 .kept .1 .0)
 
-  kept-names : (c : write-way-lts.After-write-way claims write-way-at write-way.Post) → length (take 64 (c .write-way .last .1 .1 .0)) ≡ 64
-  kept-names c = length-take-le 64 (c .write-way .last .1 .1 .0) (omega (arith, forked (found c) .fits .long, c .write-way .kept .1 .1 .0))
-
   wide : (c : write-way-lts.After-write-way claims write-way-at write-way.Post) → length (c .write-way .last .1 .1 .1 .1 .0) ≡ length (now (start (walked (found c)) .args .out))
   wide c = c .write-way .kept .1 .1 .1 .1 .0 ∙ found c .before .before .before .open-first .kept .1 .1 .1 .0
 
@@ -100,7 +94,7 @@ pub +write-way-spec : {M : Type 1} → statement M
 +write-way-spec = close μ-write-way
     (λ t. write-way-lts.spec (claims t) (write-way-at t) write-way.Post
     (λ c κs. let p = c .before .before .before .before .before .pre .1 in (p .0 .way, p .1, p .2))
-    (λ c. place-inside (rest t (c .before .before .before)))
+    (λ c. let w = rest t (c .before .before .before) .way in edit-inside _ _ (w .what) (w .way .here))
     (λ c κs. let k = c .before .before .before .before .before .before in let m = c .before .before .if1 .taken in
     (end-some (rest t k) m (at-end _ _ (k .walk .ensures .0 .rests) m), links t k))
     (λ c. c .before .before .before .before .before .before .before .before .before .walk .kept .1 .0)
@@ -108,7 +102,7 @@ pub +write-way-spec : {M : Type 1} → statement M
     (λ c. let k = c .before .before .before .before .before .before .before .before .before in let w = k .walk .ensures in
     let m = c .before .before .before .before .before .if1 .taken in
     let e = c .before .before .emit .ensures in (
-      written-on refl (w .1 .behind-same) (end-carried (w .0) m (at-end _ _ (w .0 .rests) m) (λ σ x l i a. e σ x l i a .0)),
+      rw (w .1 .behind-same) (end-carried (w .0) m (at-end _ _ (w .0 .rests) m) (λ σ x l i a. e σ x l i a .0)),
       w .1 .kept,
       end-read (rest t k) (λ σ x l i a. e σ x l i a .1),
     ))
@@ -120,16 +114,16 @@ pub +write-way-spec : {M : Type 1} → statement M
     (λ c. let f = c .before .before .before in let v = rest t (walked t f) .way in let q = forked t f .chosen (v .what) (v .way .here) in
     omega (arith, edit-inside _ _ (q .W) (q .next-at), start t (walked t f) .pre .1 .1 .short))
     (λ c. omega (arith, deep t (walked t (c .before .before .before)))) (λ c. omega (arith, deep t (walked t (c .before .before .before))))
-    (λ c. omega (arith, forked t (c .before .before .before) .fits .long)) (λ c. omega (arith, names-long t (c .before .before .before .before)))
-    (λ c. search needs) (λ c κs. (names-long t (c .before .before .before .before .before), refl))
+    (λ c. omega (arith, forked t (c .before .before .before) .fits .long)) (λ c. let f = c .before .before .before .before in omega (arith, names-long (work t f) (forked t f .fits .long)))
+    (λ c. search needs) (λ c κs. let f = c .before .before .before .before .before in (names-long (work t f) (forked t f .fits .long), refl))
     (λ c. omega (arith, deep t (walked t (c .before .before .before .before .before .before .before .before)) .1))
     (λ c κs. let d = c .before .before .before .before .before .before .before .before .before .before in let b = forked t d in
     let o = d .before .before .before .open-first .kept .1 .1 .1 .0 in let f = first-further (b .chosen) (b .low) (b .some) (b .opened) (b .behind) o in
     (omega (arith, start t (walked t d) .pre .0, f .on, f .inside, o), (f .some, b .fits, b .linked)))
     (λ c. search needs)
     (λ c. let w = c .before .before .before .before .before in omega (arith, forked t (found t w) .fits .long, w .write-way .kept .1 .1 .0))
-    (λ c. omega (arith, kept-names t (c .before .before .before .before .before .before)))
-    (λ c κs. let w = c .before .before .before .before .before .before in (w .before .before .before .before .before .copy-last .kept .1 .0, kept-names t w))
+    (λ c. let w = c .before .before .before .before .before .before in omega (arith, names-long (w .write-way .last .1 .1 .0) (w .write-way .kept .1 .1 .0 ∙ forked t (found t w) .fits .long)))
+    (λ c κs. let w = c .before .before .before .before .before .before in (w .before .before .before .before .before .copy-last .kept .1 .0, names-long (w .write-way .last .1 .1 .0) (w .write-way .kept .1 .1 .0 ∙ forked t (found t w) .fits .long)))
     (λ c. let k = walked t (found t (first-done t (c .before .before .before))) in
     let d = c .before .before .before .before .before .before .before .before .before .before .before .before .before .before .before .before .before .before .before .before .before .before .before .before .before .before .before in
     omega (arith, first-shown (rest t k) (at-choice _ _ (k .walk .ensures .0 .rests) (d .if1 .left)) .fits, start t k .good .1 .1 .1 .1 .0 .0))

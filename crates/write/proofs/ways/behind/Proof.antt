@@ -7,9 +7,7 @@ use Rattle.write.proofs.ways.behind.Statement.{statement}
 use Rattle.write.proofs.ways.behind.Tie as tie
 
 pub behind-spec : {M : Type 1} → statement M
-behind-spec =
-    tie.close
-    (tie.spec
+behind-spec = tie.close (tie.spec
     (λ c. let w = c .before .before .pre in inside _ _ (w .what) (w .stands))
     (λ c κs. let w = c .before .before .pre in code-at _ _ (w .what) (w .stands))
     (λ c. let s = c .before .before .before .before in omega (arith, inside _ _ (s .pre .what) (s .pre .stands), s .good .0 .0))
