@@ -202,40 +202,14 @@ static void print_rule(size_t place) {
     printf("\n               \"%s\"\n", book.parts[place].why);
 }
 
-/* Who breaks a rule on a sheet? Of 21 E F it is each node i for which 23 i 05 07 05 E F holds, of 22 R S each pair for
- * which 24 i j 15 R S does, and of 25 K L who breaks K or L. A closed node breaks none. A rule of more than 29 levels
- * cannot be asked so: then nobody is shown. */
-static void print_breakers(const uint8_t *bytes, const uint8_t *rule, size_t length) {
-    uint8_t asked[ZAMIATHEN_TEXT_BYTES + 4];
-    if (rule[0] == 0x25) {
-        size_t first = zamiathen_first_rule(rule + 1, length - 1).length;
-        print_breakers(bytes, rule + 1, first);
-        print_breakers(bytes, rule + 1 + first, length - 1 - first);
-    }
-    if (rule[0] != 0x21 && rule[0] != 0x22)
-        return;
-    size_t head = rule[0] == 0x21 ? 5 : 4;
-    memcpy(asked + head, rule + 1, length - 1);
-    for (uint8_t i = 0; i < node_count; i++) {
-        memcpy(asked, (uint8_t[]){0x23, i, 0x05, 0x07, 0x05}, head);
-        if (rule[0] == 0x21 && zamiathen_judge(bytes, sizeof sheet, asked, head + length - 1).number == ZAMIATHEN_DONE)
+/* Who breaks the first rule of a text on the sheet. Of a carried rule it is who would break the rule after the edit. */
+static void print_witness(const uint8_t *rule, size_t length) {
+    zamiathen_witnessed w = zamiathen_witness(sheet, sizeof sheet, rule, length);
+    for (size_t i = 0; i < node_count && w.kind == ZAMIATHEN_WITNESS_NODE; i++)
+        if (w.nodes >> i & 1)
             printf("               broken by %s\n", nodes[i]);
-        for (uint8_t j = 0; j < node_count && rule[0] == 0x22; j++) {
-            memcpy(asked, (uint8_t[]){0x24, i, j, 0x15}, head);
-            if (zamiathen_judge(bytes, sizeof sheet, asked, head + length - 1).number == ZAMIATHEN_DONE)
-                printf("               broken by the pair %s, %s\n", nodes[i], nodes[j]);
-        }
-    }
-}
-
-/* Who would break a rule of the book after an edit: the edit is carried out on a copy of the sheet. */
-static void print_breakers_after(const struct text *edit, size_t place) {
-    uint8_t after[ZAMIATHEN_SHEET_BYTES];
-    size_t start = zamiathen_rule_start(book.bytes, book.length, node_count, place);
-    size_t end = zamiathen_rule_start(book.bytes, book.length, node_count, place + 1);
-    memcpy(after, sheet, sizeof after);
-    if (zamiathen_apply(after, sizeof after, edit->bytes, edit->length).number == ZAMIATHEN_DONE)
-        print_breakers(after, book.bytes + start, end - start);
+    if (w.kind == ZAMIATHEN_WITNESS_PAIR)
+        printf("               broken by the pair %s, %s\n", nodes[w.first], nodes[w.second]);
 }
 
 /* What the broken rule asks of the sheet as it is. Carried back, it stands at the start of the scratch. Where it keeps the
@@ -260,9 +234,9 @@ static void judge_sheet(void) {
     } else if (j.number == ZAMIATHEN_RULE_BROKEN) {
         printf("the sheet breaks\n");
         print_rule(j.place);
-        print_breakers(sheet, book.bytes + j.start, j.length);
+        print_witness(book.bytes + j.start, j.length);
     } else {
-        printf("refused.\n");
+        printf("%s\n", zamiathen_text(j.number));
     }
 }
 
@@ -272,17 +246,17 @@ static void enter_edit(const struct text *edit) {
                                               scratch, sizeof scratch);
     printf("   zamiathen_enter answers %02zu %05zu: ", answer.number, answer.place);
     if (answer.number == ZAMIATHEN_DONE) {
-        printf("entered.\n");
+        printf(memcmp(before, sheet, sizeof sheet) == 0 ? "entered; it changes nothing.\n" : "entered.\n");
         print_changes();
     } else if (answer.number == ZAMIATHEN_RULE_BROKEN) {
         printf("refused. The sheet after it would break\n");
         print_rule(answer.place);
-        print_breakers_after(edit, answer.place);
+        print_witness(scratch, sizeof scratch);
         print_condition();
         if (memcmp(before, sheet, sizeof sheet) == 0)
             printf("   The sheet is as it was, to the byte.\n");
     } else {
-        printf("refused.\n");
+        printf("%s\n", zamiathen_text(answer.number));
     }
 }
 

@@ -12,43 +12,14 @@ import layout
 from source import fault, hexadecimal
 
 LONGEST = 4096
-OF_A_TEXT = {
-    1: f"has more than {LONGEST} bytes; this is the first too many",
-    2: "ends where a byte is wanted",
-    3: "has a byte here that is no code of the sort wanted",
-    4: "is deeper than level 32 here",
-    5: "has a label, arrow or node number or a count here that is out of range",
-}
-IN_A_TEXT = {10 + n: f"the book {words}" for n, words in OF_A_TEXT.items()}
-IN_A_TEXT |= {20 + n: f"the edit {words}" for n, words in OF_A_TEXT.items()}
-IN_A_TEXT |= {
-    16: "the book has more than 32 rules; the 33rd begins here",
-    26: "the edit has ended, and bytes follow",
-    41: "this rule does not hold",
-}
-IN_A_BLOCK = {
-    2: "the check bytes of a block of the sheet are wrong",
-    3: "the head of a block of the sheet is wrong, or no node is in use",
-    4: "a byte or bit of a block of the sheet that must be zero is not",
-}
-IN_A_LOG = {
-    52: "the check bytes of a block of the log are wrong",
-    53: "a block of the log is not the one due here, is cut short, is one too many, or is missing",
-}
-WITHOUT_PLACE = {
-    0: "done",
-    1: f"the sheet is not {layout.SHEET} bytes long",
-    5: "a blank sheet cannot have so many nodes, or none",
-    7: "the sheet has no label, arrow or node of this number",
-    31: "the carried book would pass 16384 bytes",
-    32: "the carried book would pass 255 levels",
-    55: "the store's length, its head, a sheet kept in it or an unfilled place is wrong",
-    56: "the name is not from 1 to 7",
-    57: "nothing is kept under the name",
-    61: "n of the small sheets is not from 1 to 3, or another label or arrow than 0 is named",
-    62: "a list of edits, their lengths or the number of moves is outside its range",
-    99: "the program's input ended early",
-}
+HEADER = os.path.join(os.path.dirname(os.path.abspath(__file__)), os.pardir, "include", "zamiathen.h")
+# the sentences of zamiathen_text, and that of the programs
+with open(HEADER, encoding="utf-8") as header:
+    TEXTS = {int(number): text for number, text in re.findall(r'case (\d+): return "(.*)";', header.read())}
+TEXTS[99] = "The program's input ended early."
+IN_A_TEXT = [11, 12, 13, 14, 15, 16, 21, 22, 23, 24, 25, 26, 41]
+IN_A_BLOCK = [2, 3, 4]
+IN_A_LOG = [52, 53]
 
 
 def shown(line, first, behind):
@@ -87,42 +58,46 @@ def in_a_text(file, number, place):
     return marked(text, place, place + 1)
 
 
-def explained(file, number, place):
-    if number in IN_A_TEXT:
-        return [IN_A_TEXT[number]] + in_a_text(file, number, place)
+def placed(file, number, place):
+    """What the place of an answer is, where it is no byte of a text and not 0."""
     if number in IN_A_BLOCK:
         if place * layout.BLOCK >= layout.SHEET:
             fault(file, f"a sheet has no block {place}")
         of = "the labels" if place == layout.LABEL_BLOCK else f"arrow {place - layout.arrow_block(0)}"
-        return [f"{IN_A_BLOCK[number]}: block {place}, {of}"]
+        return f"block {place}, {of}"
     if number == 33:
-        return [f"scratch or output is too short: {place} bytes are needed"]
+        return f"{place} bytes are needed"
     if number == 51:
         if place > layout.NODES:
             fault(file, f"a page has no line {place}")
-        where = "its length or its head" if place == 0 else f"line {place}, counted from 0"
-        return [f"the page is not one that a sheet of this n with these nodes in use prints: {where}"]
+        return "its length or its head" if place == 0 else f"line {place}, counted from 0"
     if number == 54:
         if place >= layout.NODES:
             fault(file, f"a sheet has no node {place}")
-        return [f"node {place} cannot be closed: it has a label or an arrow, or is the only one in use"]
+        return f"node {place}"
     if number == 58:
         if not layout.NODES < place <= 2 * layout.NODES:
             fault(file, f"58 is answered for more than {layout.NODES} nodes and at most {2 * layout.NODES}, not for {place}")
-        return [f"the two sheets have {place} nodes together, and a sheet has {layout.NODES} at most"]
+        return f"{place} nodes"
     if number == 59:
-        return [f"step {place} of the shortened rule, counted from 0, is cut, has an unknown law, or does not fit"]
+        return f"step {place}, counted from 0"
     if number == 60:
-        return [f"the steps make another text than the one sent: the first difference is at byte {place}, counted from 0"]
+        return f"byte {place}, counted from 0"
     if number in IN_A_LOG:
         if place > layout.LOG_BLOCKS:
             fault(file, f"no block {place} of a log is read")
-        return [f"{IN_A_LOG[number]}: block {place}, counted from 0"]
-    if number not in WITHOUT_PLACE:
-        fault(file, f"no call answers {number:02}")
+        return f"block {place}, counted from 0"
     if place != 0:
         fault(file, f"the place of {number:02} is 0")
-    return [WITHOUT_PLACE[number]]
+    return ""
+
+
+def explained(file, number, place):
+    if number not in TEXTS:
+        fault(file, f"no call answers {number:02}")
+    if number in IN_A_TEXT:
+        return [TEXTS[number]] + in_a_text(file, number, place)
+    return [f"{TEXTS[number]} {placed(file, number, place)}".rstrip()]
 
 
 def main(arguments):

@@ -1,8 +1,9 @@
-/* Station sheets: make a blank sheet, ask whether a sheet is sound, convert an old card, read a sheet's bits, print its
- * blocks as pages and type pages back, judge a rule book on it, rewrite a stored book, join two edits into one, carry a
- * book back through an edit, check a carried rule that another tool has shortened, change the sheet by an edit, with a
- * book or without one, close and open its nodes, keep sheets in a store and return to them, join two sheets into one,
- * count the small sheets that survive an edit, and play a game on a sheet.
+/* Station sheets: make a blank sheet, ask whether a sheet is sound, convert an old card, read a sheet's bits and sets of
+ * nodes, print its blocks as pages and type pages back, judge a rule book on it, ask who breaks a rule, rewrite a stored
+ * book, join two edits into one, carry a book back through an edit, check a carried rule that another tool has
+ * shortened, change the sheet by an edit, with a book or without one, cut an edit into the blocks of a log, close and
+ * open its nodes, keep sheets in a store and return to them, join two sheets into one, count the small sheets that
+ * survive an edit, and play a game on a sheet.
  *
  * Link with libzamiathen.a:  cc program.c $(pkg-config --cflags --libs zamiathen)
  *
@@ -12,8 +13,9 @@
  * zamiathen_return, the store of zamiathen_store_blank, zamiathen_keep and zamiathen_drop, the card of
  * zamiathen_convert_255 and zamiathen_convert_257, the first sheet of zamiathen_join_sheets, the scratch of
  * zamiathen_enter and the output of zamiathen_print_arrow, zamiathen_print_labels, zamiathen_rewrite,
- * zamiathen_join_edits and zamiathen_carry_back share no byte with any other buffer of the call. A pointer may be NULL
- * only when its length is 0. There is no other demand: any bytes, any length and any number get an answer.
+ * zamiathen_join_edits, zamiathen_carry_back and zamiathen_log_edit share no byte with any other buffer of the call. A
+ * pointer may be NULL only when its length is 0. There is no other demand: any bytes, any length and any number get an
+ * answer.
  *
  * Threads. The library keeps no state, allocates nothing and takes no lock. Calls may run at the same time in any
  * number of threads as long as no buffer that one call writes is read or written by another.
@@ -36,14 +38,18 @@ extern "C" {
  * when a call is added. Sheets written under 4 and 5 have today's form; a card written under 1 is converted by
  * zamiathen_convert_255, one written under 2 or 3 by zamiathen_convert_257. As one number: 1000 * first + second. */
 #define ZAMIATHEN_VERSION_FIRST 6
-#define ZAMIATHEN_VERSION_SECOND 0
+#define ZAMIATHEN_VERSION_SECOND 1
 #define ZAMIATHEN_VERSION (1000 * ZAMIATHEN_VERSION_FIRST + ZAMIATHEN_VERSION_SECOND)
+
+/* The ZAMIATHEN_VERSION of the header that the library was built with, to be compared with the program's own. */
+size_t zamiathen_version(void);
 
 /* Sizes. */
 #define ZAMIATHEN_SHEET_BYTES 8704    /* a sheet has just this length */
 #define ZAMIATHEN_STORE_BYTES 61440   /* a store has just this length */
 #define ZAMIATHEN_TEXT_BYTES 4096     /* the longest book and the longest edit; suffices for a rewritten book, a joined edit */
 #define ZAMIATHEN_CARRIED_BYTES 16384 /* the longest carried book, and the longest single carried rule (zamiathen_enter) */
+#define ZAMIATHEN_LOG_BYTES 4608      /* suffices for the blocks of every edit (zamiathen_log_edit) */
 #define ZAMIATHEN_LINE_BYTES 64       /* a line of a page, its line feed included */
 #define ZAMIATHEN_PAGE_BYTES 3904     /* the longest page, of an arrow kind at 60 nodes; a label page has 3200 */
 #define ZAMIATHEN_STACK_BYTES 262144  /* measured: 230,960 at 255 levels, the deepest carried rule */
@@ -132,6 +138,48 @@ enum zamiathen_number {
                                * are not that of the bytes lent as edits */
 };
 
+/* A sentence for each number, to be shown to people. */
+static inline const char *zamiathen_text(size_t number) {
+    switch (number) {
+    case 0: return "Done.";
+    case 1: return "The sheet is not 8,704 bytes long.";
+    case 2: return "The check bytes of a block of the sheet are wrong.";
+    case 3: return "The head of a block of the sheet is wrong, or no node is in use.";
+    case 4: return "A byte or bit of the sheet that must be zero is not.";
+    case 5: return "A blank sheet has 1 to 60 nodes.";
+    case 7: return "The sheet has no label, arrow or node of this number.";
+    case 11: return "The book has more than 4,096 bytes.";
+    case 12: return "The book ends where a byte is wanted.";
+    case 13: return "A byte of the book is not a code of the sort wanted.";
+    case 14: return "The book is too deep.";
+    case 15: return "A label, arrow or node number or a count in the book is out of range.";
+    case 16: return "The book has more than 32 rules, or more follows the one rule wanted.";
+    case 21: return "The edit has more than 4,096 bytes.";
+    case 22: return "The edit ends where a byte is wanted.";
+    case 23: return "A byte of the edit is not a code of the sort wanted.";
+    case 24: return "The edit is too deep.";
+    case 25: return "A label, arrow or node number or a count in the edit is out of range.";
+    case 26: return "Bytes follow the end of the edit.";
+    case 31: return "The book, carried back, would have more than 16,384 bytes.";
+    case 32: return "The book, carried back, would have more than 255 levels.";
+    case 33: return "The scratch or output is too short.";
+    case 41: return "A rule is broken.";
+    case 51: return "The page is not one that such a sheet prints.";
+    case 52: return "The check bytes of a block of the log are wrong.";
+    case 53: return "A block of the log is wrong or cut short, or the log ends inside an edit.";
+    case 54: return "The node has a label or an arrow, or is the only one in use.";
+    case 55: return "The store, or a sheet kept in it, is not sound.";
+    case 56: return "The name of a plan is from 1 to 7.";
+    case 57: return "Nothing is kept under this name.";
+    case 58: return "The two sheets have more than 60 nodes together.";
+    case 59: return "A step is cut, its law is unknown, or it does not fit.";
+    case 60: return "The text that the steps make is not the one sent.";
+    case 61: return "Small sheets have 1 to 3 nodes, and name no other label and arrow than 0.";
+    case 62: return "The lists of edits, their lengths or the number of moves are out of range.";
+    default: return "This version has no such number.";
+    }
+}
+
 /* The answer: a number of enum zamiathen_number, and its place. */
 typedef struct {
     size_t number, place;
@@ -142,6 +190,12 @@ typedef struct {
     size_t number, place, bit;
 } zamiathen_bit;
 
+/* An answer with a set of nodes, bit i for node i, and a count: 0 after every number but done. */
+typedef struct {
+    size_t number, place, count;
+    uint64_t set;
+} zamiathen_node_set;
+
 /* An answer with a length in bytes: 0 after every number but done. */
 typedef struct {
     size_t number, place, length;
@@ -151,6 +205,19 @@ typedef struct {
 typedef struct {
     size_t number, place, start, length;
 } zamiathen_judged;
+
+/* Who breaks a rule, and the answer with it: by kind one node, or a pair; all of it 0 after every number but done. */
+enum zamiathen_witness_kind {
+    ZAMIATHEN_WITNESS_HOLDS = 0,  /* the rule holds */
+    ZAMIATHEN_WITNESS_NODE = 1,   /* first is the lowest node that breaks it, nodes are all of them */
+    ZAMIATHEN_WITNESS_PAIR = 2,   /* first and second are the lowest pair that breaks it, by first and then by second */
+    ZAMIATHEN_WITNESS_UNNAMED = 3 /* it is broken, and no node and no pair is named */
+};
+
+typedef struct {
+    size_t number, place, kind, first, second;
+    uint64_t nodes;
+} zamiathen_witnessed;
 
 /* An answer with four counts of small sheets: 0 each after every number but done. */
 typedef struct {
@@ -226,6 +293,16 @@ zamiathen_bit zamiathen_label_bit(const uint8_t *sheet, size_t sheet_length, siz
  * the arrow below 16, and are both nodes below n? Writes nothing. Each call asks the whole sheet. */
 zamiathen_bit zamiathen_arrow_bit(const uint8_t *sheet, size_t sheet_length, size_t arrow, size_t from, size_t to);
 
+/* n, as count, and the nodes in use. Asks 1 to 4. Writes nothing. */
+zamiathen_node_set zamiathen_nodes(const uint8_t *sheet, size_t sheet_length);
+
+/* The nodes that have a label, and how many they are. Asks 1 to 4, then 7: is the label below 48? Writes nothing. */
+zamiathen_node_set zamiathen_label_set(const uint8_t *sheet, size_t sheet_length, size_t label);
+
+/* The nodes to which arrows of a kind go from a node, and how many they are. Asks 1 to 4, then 7: is the arrow below 16
+ * and the node below n? Writes nothing. */
+zamiathen_node_set zamiathen_row_set(const uint8_t *sheet, size_t sheet_length, size_t arrow, size_t from);
+
 /*
  * Pages
  *
@@ -268,6 +345,23 @@ size_t zamiathen_rule_start(const uint8_t *book, size_t book_length, size_t n, s
 
 /* Does each rule of the book hold on the sheet? Asks 1 to 4, 11 to 16, then 41. Writes nothing. */
 zamiathen_judged zamiathen_judge(const uint8_t *sheet, size_t sheet_length, const uint8_t *book, size_t book_length);
+
+/* Who breaks a rule on the sheet? The rule is the first of a text, and may have 16,384 bytes and 255 levels, as a carried
+ * rule has; what stands after it is not looked at, and of a longer text no more than its first 16,384 bytes. Asks 1 to 4,
+ * then 12 to 15 of the rule. Writes nothing.
+ *
+ * 21 E F is broken by the nodes of E that are not in F, 22 R S by the pairs of R that are not in S, 23 i E and 24 i j R
+ * by that node and that pair. 25 K L is broken by what breaks K, or, where K holds, by what breaks L; 26 K L by what
+ * breaks L; of 27 K nothing is named. Of kind 1, nodes is the set of all nodes that break the 21 or 23 that first was
+ * taken from; else it is 0.
+ *
+ * After 41 of zamiathen_judge the rule is that part of the book. After 41 of zamiathen_enter the broken rule, carried
+ * back, stands at the start of the scratch: asked of the sheet, which is as it was, and the scratch, this call names who
+ * would break the rule on the sheet after the edit. After 41 of zamiathen_return the kept sheet stands
+ * in the store, from byte 512 + 8704 * (name - 1) on. After 41 of zamiathen_close or zamiathen_open there is no sheet
+ * to ask. */
+zamiathen_witnessed zamiathen_witness(const uint8_t *sheet, size_t sheet_length, const uint8_t *rule,
+                                      size_t rule_length);
 
 /* Rewrites a stored book, in which a count may be any byte, into one whose counts are in range: from the inside out an
  * 0A with the count 0 becomes 01, one with a count above 60 becomes 02, an 0B with a count of 60 or more becomes 01,
@@ -329,9 +423,18 @@ zamiathen_length zamiathen_carry_back(const uint8_t *book, size_t book_length, c
  * book, also where that one comes after a broken one; its place is that rule's length. ZAMIATHEN_CARRIED_BYTES suffice
  * for every book and edit, and no fewer do: a book of one rule may be carried to just that length. A caller with a
  * shorter scratch gets the answers, and the sheet, that it would get with those, wherever it does not get 33. 31 and 32
- * measure the whole carried book, whatever the scratch. */
+ * measure the whole carried book, whatever the scratch.
+ *
+ * An edit may leave the sheet as it was and be done: whether anything changed is seen by comparing the sheet's bytes
+ * with a copy from before the call. */
 zamiathen_answer zamiathen_enter(uint8_t *sheet, size_t sheet_length, const uint8_t *book, size_t book_length,
                                  const uint8_t *edit, size_t edit_length, uint8_t *scratch, size_t scratch_length);
+
+/* Cuts an edit into blocks of a log, 512 bytes for each 504 of the edit or part of them, and answers their length: the
+ * program `replay` reads these blocks as that edit. The bytes may have any value; whether they are an edit is not asked.
+ * Asks 22 (is there a byte?), 21, then 33. Done writes the blocks at the start of the output and leaves the rest of it;
+ * every other answer leaves the output as it was. A log is such blocks one after the other, up to 65,535. */
+zamiathen_length zamiathen_log_edit(const uint8_t *edit, size_t edit_length, uint8_t *output, size_t output_length);
 
 /*
  * Closing and opening

@@ -1,6 +1,6 @@
-/* How much stack zamiathen_enter takes on the deepest carried rules there can be, 255 levels, and zamiathen_play in games of
- * six moves with edits and rules of 32 levels: each call runs in a thread
- * of its own, whose stack was filled with a pattern before. Prints the bytes that no longer hold it, less those of a
+/* How much stack zamiathen_enter and zamiathen_witness take on the deepest carried rules there can be, 255 levels, and
+ * zamiathen_play in games of six moves with edits and rules of 32 levels: each call runs in a thread of its own, whose
+ * stack was filled with a pattern before. Prints the bytes that no longer hold it, less those of a
  * thread that does nothing. They must not pass ZAMIATHEN_STACK_BYTES. */
 #include "zamiathen.h"
 
@@ -119,6 +119,51 @@ static void branches(const char *what, const char *open, const char *close) {
     report(what);
 }
 
+/* The witness of a rule of 255 levels: 25s or 26s, or an expression, down to the last. */
+static zamiathen_witnessed found;
+static size_t rule_length;
+
+static void *witness(void *unused) {
+    found = zamiathen_witness(sheet, sizeof sheet, scratch, rule_length);
+    return unused;
+}
+
+static void add(const char *hex, size_t times) {
+    for (struct text text; times > 0; times--) {
+        text.length = 0;
+        put(&text, hex);
+        memcpy(scratch + rule_length, text.bytes, text.length);
+        rule_length += text.length;
+    }
+}
+
+static void report_witness(const char *what, const char *open, size_t times, const char *rule, const char *close) {
+    rule_length = 0;
+    add(open, times);
+    add(rule, 1);
+    add(close, times);
+    size_t bytes = changed_stack(witness) - changed_stack(nothing);
+    printf("%-52s %02zu %05zu %8zu\n", what, found.number, found.place, bytes);
+    if (found.number == ZAMIATHEN_DONE && found.kind == ZAMIATHEN_WITNESS_NODE && bytes <= ZAMIATHEN_STACK_BYTES)
+        passed++;
+    else
+        failed++;
+}
+
+static void report_expression(const char *what, const char *open, size_t times, const char *node, const char *close) {
+    rule_length = 0;
+    add("21 01", 1);
+    add(open, times);
+    add(node, 1);
+    add(close, times);
+    size_t bytes = changed_stack(witness) - changed_stack(nothing);
+    printf("%-52s %02zu %05zu %8zu\n", what, found.number, found.place, bytes);
+    if (found.number == ZAMIATHEN_DONE && bytes <= ZAMIATHEN_STACK_BYTES)
+        passed++;
+    else
+        failed++;
+}
+
 /* A game of six moves: the book is the goal, too, and both sides have the edit. */
 static uint8_t edits[2 * ZAMIATHEN_TEXT_BYTES];
 static size_t lengths[2];
@@ -183,6 +228,12 @@ int main(void) {
     report("253 steps on one label");
     branches("30 branches, each in the first way of another", "35 21 01 01", "30 30");
     branches("30 branches, each in the second way of another", "35 21 01 01 30", "30");
+    printf("%-52s %-8s %8s\n", "witness, a rule of 255 levels", "answer", "bytes");
+    report_witness("25, first rule below", "25", 253, "21 01 02", "21 01 01");
+    report_witness("25, second rule below", "25 21 01 01", 253, "21 01 02", "");
+    report_witness("26, second rule below", "26 21 01 02", 253, "21 01 02", "");
+    report_expression("05 below 05", "05", 253, "01", "");
+    report_expression("08 in the expression of a 16 in the arrow of an 08", "08 16 11 0F", 126, "02", "01");
     printf("%-52s %-8s %8s\n", "play, six moves, 32 levels", "answer", "bytes");
     deep_game("12 below 12", "22", "33 00", "12", "11 00", "", 30);
     deep_game("13, second operand below", "22", "33 00", "13 11 0F", "11 00", "", 30);

@@ -1269,6 +1269,102 @@ static void play(void) {
     }
 }
 
+/* Who breaks a rule on sheet T: kind, nodes or pair; the rule that is carried back names who would break it after. */
+static void witnessed(const char *rule, size_t number, size_t place, zamiathen_witnessed wanted) {
+    struct text text = {.length = 0};
+    start();
+    put(&text, rule);
+    zamiathen_witnessed found = zamiathen_witness(sheet, whole, text.bytes, text.length);
+    answered(rule, (zamiathen_answer){found.number, found.place}, number, place);
+    same(rule, found.kind == wanted.kind && found.first == wanted.first && found.second == wanted.second &&
+                   found.nodes == wanted.nodes);
+    left_alone(rule);
+}
+
+static void witnesses(void) {
+    const zamiathen_witnessed none = {0};
+    witnessed("21 03 00 01", 0, 0, none);
+    witnessed("21 01 03 00", 0, 0, (zamiathen_witnessed){.kind = ZAMIATHEN_WITNESS_NODE, .first = 2, .nodes = 4});
+    witnessed("21 01 03 01", 0, 0, (zamiathen_witnessed){.kind = ZAMIATHEN_WITNESS_NODE, .first = 0, .nodes = 3});
+    witnessed("23 01 03 01", 0, 0, (zamiathen_witnessed){.kind = ZAMIATHEN_WITNESS_NODE, .first = 1, .nodes = 2});
+    witnessed("22 11 00 17 00 02", 0, 0, (zamiathen_witnessed){.kind = ZAMIATHEN_WITNESS_PAIR, .first = 1, .second = 2});
+    witnessed("24 02 00 11 00", 0, 0, (zamiathen_witnessed){.kind = ZAMIATHEN_WITNESS_PAIR, .first = 2, .second = 0});
+    witnessed("27 21 03 00 01", 0, 0, (zamiathen_witnessed){.kind = ZAMIATHEN_WITNESS_UNNAMED});
+    witnessed("25 23 02 03 00 23 00 03 01", 0, 0, (zamiathen_witnessed){.kind = 1, .first = 2, .nodes = 4});
+    witnessed("25 23 02 03 01 23 00 03 01", 0, 0, (zamiathen_witnessed){.kind = 1, .first = 0, .nodes = 1});
+    witnessed("26 23 02 03 00 23 00 03 01", 0, 0, (zamiathen_witnessed){.kind = 1, .first = 0, .nodes = 1});
+    witnessed("21 01 02 FF FF", 0, 0, (zamiathen_witnessed){.kind = 1, .first = 0, .nodes = 7});
+    witnessed("", 12, 0, none);
+    witnessed("21 01", 12, 2, none);
+    witnessed("31 01 01 30", 13, 0, none);
+    witnessed("23 03 01", 15, 1, none);
+    start();
+    answered("witness on a short sheet", (zamiathen_answer){zamiathen_witness(sheet, whole - 1, NULL, 0).number, 0}, 1, 0);
+
+    struct text book = {.length = 0}, edit = {.length = 0};
+    put(&book, "23 00 03 00 21 03 01 04 02");
+    put(&edit, "31 01 04 01 31 01 04 00 30");
+    start();
+    zamiathen_answer answer = zamiathen_enter(sheet, whole, book.bytes, book.length, edit.bytes, edit.length, scratch, room);
+    zamiathen_witnessed found = zamiathen_witness(sheet, whole, scratch, room);
+    answered("enter of two too many", answer, 41, 1);
+    same("who would break the rule", found.number == 0 && found.kind == 1 && found.first == 0 && found.nodes == 3);
+}
+
+/* Sets of nodes on sheet T, the version, a sentence for each number, and an edit's blocks of a log. */
+static void set_read(const char *what, zamiathen_node_set found, size_t number, size_t place, size_t count, uint64_t set) {
+    answered(what, (zamiathen_answer){found.number, found.place}, number, place);
+    same(what, found.count == count && found.set == set);
+    left_alone(what);
+}
+
+static void node_sets(void) {
+    start();
+    set_read("nodes", zamiathen_nodes(sheet, whole), 0, 0, 3, 7);
+    set_read("label 0", zamiathen_label_set(sheet, whole, 0), 0, 0, 2, 3);
+    set_read("label 1", zamiathen_label_set(sheet, whole, 1), 0, 0, 1, 4);
+    set_read("label 47", zamiathen_label_set(sheet, whole, 47), 0, 0, 0, 0);
+    set_read("label 48", zamiathen_label_set(sheet, whole, 48), 7, 0, 0, 0);
+    set_read("label 256", zamiathen_label_set(sheet, whole, 256), 7, 0, 0, 0);
+    set_read("row 0 of arrow 0", zamiathen_row_set(sheet, whole, 0, 0), 0, 0, 1, 4);
+    set_read("row 2 of arrow 0", zamiathen_row_set(sheet, whole, 0, 2), 0, 0, 0, 0);
+    set_read("row 3 of arrow 0", zamiathen_row_set(sheet, whole, 0, 3), 7, 0, 0, 0);
+    set_read("row 0 of arrow 16", zamiathen_row_set(sheet, whole, 16, 0), 7, 0, 0, 0);
+    set_read("nodes of a short sheet", zamiathen_nodes(sheet, whole - 1), 1, 0, 0, 0);
+    same("version", zamiathen_version() == ZAMIATHEN_VERSION);
+}
+
+static void texts(void) {
+    const char *other = zamiathen_text(1000);
+    static const size_t numbers[] = {0,  1,  2,  3,  4,  5,  7,  11, 12, 13, 14, 15, 16, 21, 22, 23, 24, 25,
+                                     26, 31, 32, 33, 41, 51, 52, 53, 54, 55, 56, 57, 58, 59, 60, 61, 62};
+    for (size_t i = 0; i < sizeof numbers / sizeof *numbers; i++) {
+        const char *text = zamiathen_text(numbers[i]);
+        same("text of a number", strcmp(text, other) != 0 && text[strlen(text) - 1] == '.');
+        for (size_t j = 0; j < i; j++)
+            same("two texts", strcmp(text, zamiathen_text(numbers[j])) != 0);
+    }
+    same("text of no number", strcmp(zamiathen_text(6), other) == 0);
+}
+
+static void log_blocks(void) {
+    uint8_t edit[ZAMIATHEN_TEXT_BYTES + 1], block[512] = {3, 3, 2, 0, 0x30, 0xFF};
+    memset(edit, 0x30, sizeof edit);
+    edit[1] = 0xFF;
+    start();
+    seal_block(block);
+    measured("a log of two bytes", zamiathen_log_edit(edit, 2, scratch, room), 0, 0, 512);
+    left("a log of two bytes", block, 512);
+    start();
+    measured("a log of no byte", zamiathen_log_edit(edit, 0, scratch, room), 22, 0, 0);
+    measured("a log of too many", zamiathen_log_edit(edit, sizeof edit, scratch, room), 21, 0, 0);
+    measured("a log without room", zamiathen_log_edit(edit, 505, scratch, 1023), 33, 1024, 0);
+    left_alone("a log that is refused");
+    measured("a log of 9 blocks", zamiathen_log_edit(edit, sizeof edit - 1, scratch, room), 0, 0, ZAMIATHEN_LOG_BYTES);
+    same("the first block", scratch[0] == 3 && scratch[1] == 1 && scratch[2] == 0xF8 && scratch[3] == 1);
+    same("the last block", scratch[8 * 512 + 1] == 2 && scratch[8 * 512 + 2] == 64 && scratch[8 * 512 + 4] == 0x30);
+}
+
 int main(void) {
     examples();
     changes();
@@ -1299,6 +1395,10 @@ int main(void) {
     steps_of_a_tool();
     counts();
     play();
+    witnesses();
+    node_sets();
+    texts();
+    log_blocks();
     empty_buffers();
     printf("%d passed, %d failed\n", passed, failed);
     return failed != 0;

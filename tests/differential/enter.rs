@@ -12,7 +12,7 @@ use reference::clerk::Clerk;
 use reference::graph::{Graph, Pairs};
 use reference::meaning::{first_broken, holds};
 use reference::syntax::{Coded, Node, Rule};
-use reference::{reader, sheet};
+use reference::{reader, sheet, witness};
 
 /// What a call of enter is lent.
 struct Call<'c> {
@@ -39,8 +39,23 @@ impl Call<'_> {
     }
 
     fn compare(&self, tally: &mut Tally) {
-        tally.compare("enter", &self.library(), &self.reference(), &self.inputs());
+        let wanted = self.reference();
+        tally.compare("enter", &self.library(), &wanted, &self.inputs());
+        if wanted.numbers[0] == 41 {
+            foretold(tally, self, wanted.numbers[1]);
+        }
     }
+}
+
+/// After 41 the scratch names, on the sheet before, who would break the rule on the sheet after the edit.
+fn foretold(tally: &mut Tally, call: &Call, place: usize) {
+    let (mut bytes, mut scratch) = (call.sheet.to_vec(), call.scratch.to_vec());
+    calls::enter(&mut bytes, call.book, call.edit, &mut scratch);
+    let after = calls::apply_on(&sheet::read(&bytes), call.edit).expect("the edit was read");
+    let rules = reader::book(call.book, after.n).expect("the book was read");
+    let told = witness::witness(&after, &rules[place].rule);
+    assert!(told.kind > 0, "the rule is broken after the edit");
+    compare::witness(tally, "witness after 41", &bytes, &scratch, (DONE, told));
 }
 
 /// Gives the length of the carried book, which is 0 when it is refused.
@@ -245,6 +260,9 @@ fn run(tally: &mut Tally, random: &mut Random, opening: &Opening, book: &[u8], m
         let wanted = Outcome::of_answer(called.answer, lent);
         let inputs = Call { sheet: &bytes, book, edit: &edit, scratch: &before };
         tally.compare("enter in a run", &found, &wanted, &inputs.inputs());
+        if called.answer.number == 41 {
+            foretold(tally, &inputs, called.answer.place);
+        }
         bytes = after;
     }
 }

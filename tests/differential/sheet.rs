@@ -3,7 +3,7 @@
 use common::compare::{Lent, Outcome, Tally};
 use common::library::{
     zamiathen_arrow_bit, zamiathen_blank, zamiathen_check, zamiathen_convert_255, zamiathen_convert_257,
-    zamiathen_judge, zamiathen_label_bit,
+    zamiathen_judge, zamiathen_label_bit, zamiathen_label_set, zamiathen_nodes, zamiathen_row_set, CNodeSet,
 };
 use common::random::Random;
 use common::terms::Names;
@@ -71,6 +71,27 @@ fn arrow_bit(tally: &mut Tally, bytes: &[u8], arrow: usize, from: usize, to: usi
     let found = Outcome::new(&[found.number, found.place, found.bit], vec![lent]);
     let wanted = bit_outcome(sheet::arrow_bit(bytes, arrow, from, to), bytes);
     tally.compare("arrow bit", &found, &wanted, &[("sheet", bytes), ("arrow", &arrow.to_le_bytes()), ("from", &from.to_le_bytes()), ("to", &to.to_le_bytes())]);
+}
+
+/// A set of nodes that was asked for.
+fn node_set(tally: &mut Tally, what: &'static str, found: CNodeSet, wanted: Asked<(usize, u64)>, inputs: &[(&str, &[u8])]) {
+    let answer = answer_of(&wanted);
+    let (count, set) = wanted.unwrap_or_default();
+    let found = Outcome::new(&[found.number, found.place, found.count, found.set as usize], vec![]);
+    let wanted = Outcome::new(&[answer.number, answer.place, count, set as usize], vec![]);
+    tally.compare(what, &found, &wanted, inputs);
+}
+
+fn node_sets(tally: &mut Tally, bytes: &[u8], label: usize, arrow: usize, from: usize) {
+    let lent = Lent::of(bytes);
+    let sheet = || (lent.ptr(), lent.len());
+    let found = unsafe { zamiathen_nodes(sheet().0, sheet().1) };
+    node_set(tally, "nodes", found, sheet::nodes(bytes), &[("sheet", bytes)]);
+    let found = unsafe { zamiathen_label_set(sheet().0, sheet().1, label) };
+    node_set(tally, "label set", found, sheet::label_set(bytes, label), &[("sheet", bytes), ("label", &label.to_le_bytes())]);
+    let found = unsafe { zamiathen_row_set(sheet().0, sheet().1, arrow, from) };
+    node_set(tally, "row set", found, sheet::row_set(bytes, arrow, from), &[("sheet", bytes), ("arrow", &arrow.to_le_bytes()), ("from", &from.to_le_bytes())]);
+    assert!(lent.all() == Lent::of(bytes).all(), "the sheet is only read");
 }
 
 fn fixed_sheet() -> Vec<u8> {
@@ -250,6 +271,7 @@ fn bit_reads(tally: &mut Tally, random: &mut Random, bytes: &[u8], n: usize) {
     let (i, j) = (number(random, n), number(random, n));
     label_bit(tally, bytes, number(random, 48), i);
     arrow_bit(tally, bytes, number(random, 16), i, j);
+    node_sets(tally, bytes, number(random, 48), number(random, 16), i);
 }
 
 /// All bits of one sheet.
@@ -258,6 +280,7 @@ fn all_bits(tally: &mut Tally) {
     let bytes = sheet::store(&graphs::graph(&mut random, Names { n: 9, labels: 48, arrows: 16 }));
     for i in 0..=10 {
         (0..=48).for_each(|label| label_bit(tally, &bytes, label, i));
+        (0..=48).for_each(|label| node_sets(tally, &bytes, label, label % 17, i));
         for j in 0..=10 {
             (0..=16).for_each(|arrow| arrow_bit(tally, &bytes, arrow, i, j));
         }

@@ -1,4 +1,4 @@
-//! Document 01 and the landed items of document 02 written a second time, in plain Rust, from the papers alone.
+//! Document 01, the landed items of document 02 and the calls that came after them, written a second time, in plain Rust, from the papers alone.
 //!
 //! The proved library is compared with this one by the programs in `tests/differential`. It is meant to be read
 //! beside the papers: a set has one `bool` for each node, a relation one for each pair, texts are read into trees, and an edit is
@@ -23,3 +23,4 @@ pub mod rewrite;
 pub mod sheet;
 pub mod steps;
 pub mod syntax;
+pub mod witness;

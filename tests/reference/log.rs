@@ -2,6 +2,7 @@
 
 use crate::answer::{answer_of, refuse, Answer, Asked, DONE};
 use crate::calls::enter;
+use crate::reader::LONGEST;
 use crate::sheet::{BLOCK, PRESENT, SHEET};
 
 const CONTENT: usize = 504;
@@ -72,6 +73,34 @@ pub fn edits(log: &[u8]) -> (Vec<Vec<u8>>, Answer) {
     }
     let end: Asked<()> = if begun.is_some() { refuse(53, log.len() / BLOCK) } else { Ok(()) };
     (finished, answer_of(&end))
+}
+
+/// The blocks that hold an edit's bytes, 1 to 4,096 of any value: 22, then 21.
+pub fn made(edit: &[u8]) -> Asked<Vec<u8>> {
+    if edit.is_empty() {
+        return refuse(22, 0);
+    }
+    if edit.len() > LONGEST {
+        return refuse(21, 0);
+    }
+    let parts: Vec<&[u8]> = edit.chunks(CONTENT).collect();
+    let block = |(i, part): (usize, &&[u8])| {
+        let mark = u8::from(i == 0) + 2 * u8::from(i + 1 == parts.len());
+        let mut block = [&[3, mark][..], &(part.len() as u16).to_le_bytes(), part].concat();
+        block.resize(BLOCK, 0);
+        PRESENT.seal(&mut block);
+        block
+    };
+    Ok(parts.iter().enumerate().flat_map(block).collect())
+}
+
+/// Written into an output: 33 where it is too short.
+pub fn log_edit(edit: &[u8], out: &mut [u8]) -> (Answer, usize) {
+    let blocks = made(edit).and_then(|blocks| if out.len() < blocks.len() { refuse(33, blocks.len()) } else { Ok(blocks) });
+    if let Ok(blocks) = &blocks {
+        out[..blocks.len()].copy_from_slice(blocks);
+    }
+    (answer_of(&blocks), blocks.map_or(0, |blocks| blocks.len()))
 }
 
 /// The sheet, the book and the log of an input that does not end before the log.

@@ -79,6 +79,13 @@ pub fn carried_rule(text: &[u8]) -> Asked<Rule> {
     Ok(placed.rule)
 }
 
+/// The first rule of a text by the limits of a carried rule: 12 to 15. No more than 16,384 bytes of the text are looked at.
+pub fn first_carried(text: &[u8], n: usize) -> Asked<Rule> {
+    let text = &text[..text.len().min(LONGEST_CARRIED)];
+    let mut reader = Reader { text, at: 0, n, last_level: LAST_LEVEL_CARRIED, counts: COUNTS, tens: 10 };
+    Ok(reader.placed_rule()?.rule)
+}
+
 /// Where each rule of a text of any length starts, as far as rules can be read, and then where the last of them ends.
 pub fn rule_starts(text: &[u8], n: usize) -> Vec<usize> {
     let mut reader = Reader { text, at: 0, n, last_level: LAST_LEVEL, counts: COUNTS, tens: 10 };

@@ -245,3 +245,34 @@ pub fn arrow_bit(sheet: &[u8], arrow: usize, from: usize, to: usize) -> Asked<bo
 pub fn check(sheet: &[u8]) -> Answer {
     answer_of(&ask(sheet))
 }
+
+/// n and the nodes in use, as a word whose bit i is node i.
+pub fn nodes(sheet: &[u8]) -> Asked<(usize, u64)> {
+    ask(sheet)?;
+    let graph = read(sheet);
+    Ok((graph.n, word(&graph.in_use).1))
+}
+
+/// How many nodes have a label, and which.
+pub fn label_set(sheet: &[u8], label: usize) -> Asked<(usize, u64)> {
+    ask(sheet)?;
+    match read(sheet).labels.get(label) {
+        Some(nodes) => Ok(word(nodes)),
+        None => refuse(7, 0),
+    }
+}
+
+/// How many arrows of a kind go from a node, and to which.
+pub fn row_set(sheet: &[u8], arrow: usize, from: usize) -> Asked<(usize, u64)> {
+    let n = ask(sheet)?;
+    match read(sheet).arrows.get(arrow) {
+        Some(pairs) if from < n => Ok(word(pairs.row(from))),
+        _ => refuse(7, 0),
+    }
+}
+
+/// How many nodes are in a set, and the set as a word.
+fn word(nodes: &[bool]) -> (usize, u64) {
+    let set = nodes.iter().enumerate().fold(0, |set, (i, member)| set | u64::from(*member) << i);
+    (nodes.iter().filter(|member| **member).count(), set)
+}

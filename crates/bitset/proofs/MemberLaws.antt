@@ -1,6 +1,6 @@
 -- A set member by member: the lowest of them, and what is left without one.
 use mathlib.Core.Path.{_≡_, refl, sym, ap, ap₂, _∙_, subst}
-use mathlib.Core.Bool.{true, true≢false, and-true}
+use mathlib.Core.Bool.{true, false, true≢false, and-true}
 use mathlib.Core.Logic.{⊎-elim}
 use Prim.Native.Nat.{ℕ, zero, suc, _+_, _-_, _*_, _/_, _%_, _^_, _≤_, _<_, min}
 use native.Mathlib.Nat.{pow-suc, pow-succ', zero-lt-suc, div-one, div-div-eq-div-mul, div-lt-iff-lt-mul, eq-or-lt-of-le, le-of-suc-le-suc}
@@ -10,9 +10,10 @@ use lib.Count.{trailingZeros, under}
 use lib.Pow.{pow-pos}
 use borrow.Author.Tests.{eq-eqb, ne-eqb}
 use Rattle.logic.specs.Graph.{Nodes}
+use Rattle.logic.specs.Witness.{IsLowest}
 use Rattle.logic.proofs.Below.{leave, leave-below}
 use Rattle.bitset.specs.Words.{digit, setOf, member}
-use Rattle.bitset.proofs.SetLaws.{setOf-cong, setOf-member-lt, member-beyond}
+use Rattle.bitset.proofs.SetLaws.{setOf-lt, setOf-cong, setOf-member-lt, member-setOf, member-beyond}
 use Rattle.bitset.proofs.BitLaws.{below-or-not}
 
 -- with its closing zeros divided out, a number is odd
@@ -29,12 +30,35 @@ first-digit (suc d) q h k = go (q % 2) refl (λ (e : q % 2 ≡ 0). first-digit d
 pub first-member : (x : ℕ) → 0 < x → x < 2 ^ 64 → member x (trailingZeros 64 x) ≡ true
 first-member x h k = unfold member in eq-eqb _ 1 (first-digit 64 x h k)
 
+-- before its lowest member a set has none
+before-first : (d q i : ℕ) → i < trailingZeros d q → q / 2 ^ i % 2 ≡ 0
+unfolding trailingZeros
+before-first zero q i h = absurd (omega arith)
+before-first (suc d) q i h = go (q % 2) refl i h (before-first d (q / 2)) where
+  go : (r : ℕ) → q % 2 ≡ r → (i : ℕ) → i < under r (trailingZeros d (q / 2)) → ((j : ℕ) → j < trailingZeros d (q / 2) → q / 2 / 2 ^ j % 2 ≡ 0) → q / 2 ^ i % 2 ≡ 0
+  go zero e zero l ih = ap (λ (x : ℕ). x % 2) (div-one q) ∙ e
+  go zero e (suc i) l ih = ap (λ (x : ℕ). x % 2) (ap (λ (x : ℕ). q / x) (pow-succ' 2 i) ∙ sym (div-div-eq-div-mul q 2 (2 ^ i))) ∙ ih i (omega arith)
+  go (suc r) e i l ih = absurd (omega arith)
+
+pub none-before-first : (x i : ℕ) → i < trailingZeros 64 x → member x i ≡ false
+none-before-first x i l = unfold member in ne-eqb _ 1 (λ (z : x / 2 ^ i % 2 ≡ 1). omega (arith, before-first 64 x i l))
+
 -- a member of a set of the nodes below n is below n
 pub member-small : (n x i : ℕ) → x < 2 ^ n → member x i ≡ true → i < n
 member-small n x i h e = ⊎-elim
     (λ (l : i < n). l)
     (λ (l : n ≤ i). absurd (true≢false (sym e ∙ ap (λ (y : ℕ). member y i) (sym (setOf-member-lt n x h)) ∙ member-beyond n (member x) i l)))
     (below-or-not i n)
+
+-- the lowest digit of the word of a set is its lowest member
+pub first-is-lowest : (n : ℕ) (v : Nodes) (x r : ℕ) → n ≤ 64 → x ≡ setOf n v → member x r ≡ true → r ≡ trailingZeros 64 x → IsLowest n v r
+first-is-lowest n v x r h e m t =
+    let l = member-small n x r (subst (λ (y : ℕ). y < 2 ^ n) (sym e) (setOf-lt n v)) m in
+    record {
+      below = l;
+      is-in = sym (member-setOf n v r l) ∙ ap (λ (y : ℕ). member y r) (sym e) ∙ m;
+      first = λ j k. sym (member-setOf n v j (omega arith)) ∙ ap (λ (y : ℕ). member y j) (sym e) ∙ none-before-first x j (omega arith);
+    }
 
 -- a set without one of its members
 pub setOf-leave : (n i : ℕ) (p : Nodes) → i < n → p i ≡ true → setOf n p ≡ setOf n (leave p i) + 2 ^ i

@@ -14,7 +14,8 @@ use Rattle.logic.specs.Limits.{Kind, Ranges, fits, InRange}
 use Rattle.logic.specs.Arity.{Nullary, all·, none·, label·, nominal·, arrowKind·, pair·, Unary, complement·, reversed·, nodeIn·, pairIn·, notRule·, Binary, and·, or·, some·, every·, atLeast·, atMost·, union·, common·, minus·, endingIn·, subNodes·, subArrows·, both·, either·, build0, build1, build2, numbers0, numbers1, numbers2, byArity}
 
 -- A code's operands: `byArity` goes over them as its case says, `substitute` under the code.
-module _ {ℓ} (P : (s : Sort) → Expr s → Type ℓ) (leaf : (s : Sort) (b : Nullary s) → P s (build0 b)) (one : (u t : Sort) (b : Unary u t) (x : Expr u) → P u x → P t (build1 b x)) (two : (u v t : Sort) (b : Binary u v t) (x : Expr u) (y : Expr v) → P u x → P v y → P t (build2 b x y)) (f : ℕ → Expr node) (h : ℕ → Expr arrow) where
+module _ {ℓ} (P : (s : Sort) → Expr s → Type ℓ) (leaf : (s : Sort) (b : Nullary s) → P s (build0 b)) (one : (u t : Sort) (b : Unary u t) (x : Expr u) → P u x → P t (build1 b x))
+    (two : (u v t : Sort) (b : Binary u v t) (x : Expr u) (y : Expr v) → P u x → P v y → P t (build2 b x y)) (f : ℕ → Expr node) (h : ℕ → Expr arrow) where
   alike-1 : {u t : Sort} (b : Unary u t) (x : Expr u)
       → (byArity P leaf one two (build1 b x) ≡ one u t b x (byArity P leaf one two x)) × (substitute f h (build1 b x) ≡ build1 b (substitute f h x))
   unfolding byArity substitute build1

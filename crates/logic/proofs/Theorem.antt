@@ -13,11 +13,11 @@ use Rattle.logic.specs.Arity.{Nullary, all·, none·, label·, nominal·
 use Rattle.logic.proofs.ArityLaws.{substitute-1, substitute-2, value-1, value-2}
 
 -- the graph on which label k is f k and arrow a is h a, as g has them
-abbrev through : Graph → (ℕ → Expr node) → (ℕ → Expr arrow) → Graph
+abbrev pub through : Graph → (ℕ → Expr node) → (ℕ → Expr arrow) → Graph
 through g f h = record { n = g .n; inUse = g .inUse; labelled = λ k. value g (f k); joined = λ a. value g (h a) }
 
 module _ (g : Graph) (f : ℕ → Expr node) (h : ℕ → Expr arrow) where
-  value-substitute : {s : Sort} (e : Expr s) → value g (substitute f h e) ≡ value (through g f h) e
+  pub value-substitute : {s : Sort} (e : Expr s) → value g (substitute f h e) ≡ value (through g f h) e
   unfolding value substitute build0 isNode
   value-substitute e = byArity (λ s e. value g (substitute f h e) ≡ value (through g f h) e) (λ s b. leaf b)
       (λ u t b x p. rw (substitute-1 f h b x) (value-1 g _ _ b (substitute f h x) x p))
@@ -36,7 +36,7 @@ of-cond f true x y = refl
 of-cond f false x y = refl
 
 -- to update a table of expressions is to update the table of their values
-value-update : (g : Graph) {s : Sort} (f : ℕ → Expr s) (k : ℕ) (F : Expr s) → (λ x. value g (update f k F x)) ≡ update (λ x. value g (f x)) k (value g F)
+pub value-update : (g : Graph) {s : Sort} (f : ℕ → Expr s) (k : ℕ) (F : Expr s) → (λ x. value g (update f k F x)) ≡ update (λ x. value g (f x)) k (value g F)
 value-update g f k F = unfold update in fun-ext (λ x. of-cond (value g) (eqb x k) F (f x))
 
 -- a rule in which label k is replaced by F says what the rule says where label k is F

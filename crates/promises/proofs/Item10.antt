@@ -64,7 +64,7 @@ module _ (sheet book edit scratch : List ℕ) where
           rest = stays (longestRule (before ++ (last ∷ []))) (omega arith);
         }
 
-  after-41 : (p : ℕ) → answer ≡ refused 41 p → (w : Written sheet book edit scratch) × (length (w .before) ≡ p)
+  pub after-41 : (p : ℕ) → answer ≡ refused 41 p → (w : Written sheet book edit scratch) × (length (w .before) ≡ p)
   unfolding left
   after-41 p e =
       let s : ScratchWritten sheet book edit scratch = leaves .scratch-written sheet book edit scratch p (inr e) in

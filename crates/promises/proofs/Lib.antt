@@ -33,3 +33,4 @@ pub mod EventRuns
 pub mod SheetFirst
 pub mod JoinedCarriedOut
 pub mod EventKept
+pub mod Witnesses

@@ -16,6 +16,8 @@ use Rattle.promises.proofs.Item10.{item-10}
 use Rattle.promises.proofs.Item11.{item-11}
 use Rattle.promises.proofs.Item12.{item-12}
 use Rattle.promises.proofs.Item13.{item-13}
+use Rattle.log_edit.proofs.LoggedEdits.{logged-edits}
+use Rattle.promises.proofs.Witnesses.{witnesses}
 
 pub promises : Promises
 promises = record {
@@ -35,4 +37,6 @@ promises = record {
   item-11 = item-11;
   item-12 = item-12;
   item-13 = item-13;
+  witnesses = witnesses;
+  logged-edits = logged-edits;
 }

@@ -23,3 +23,4 @@ pub mod Plans
 pub mod Played
 pub mod Promises
 pub mod StoreCalls
+pub mod Witnesses

@@ -12,6 +12,7 @@ use Rattle.answer.specs.Asked.{_>>_, is, passed}
 use Rattle.logic.specs.Limits.{labelCount, arrowCount}
 use Rattle.sheet.specs.Sheet.{graphIn, graphOf}
 use Rattle.sheet.specs.Questions.{askSheet, askLabelBit, askArrowBit}
+use Rattle.node_sets.specs.NodeSets.{members, askLabelSet, askRowSet}
 
 -- Below m, which no byte passes, a number is found exactly when its byte is,
 below : (x m : ℕ) → m ≤ 255 → ltb (min x 255) m ≡ ltb x m
@@ -24,8 +25,8 @@ below x m h = go (decLt x m) where
 itself : (x m : ℕ) → m ≤ 255 → ltb x m ≡ true → min x 255 ≡ x
 itself x m h e = let l : x < m = ltb-true x m e in omega arith
 
--- Two ranges that are one, with the same bit where it is met, are asked alike.
-alike : (p q x y : Bool) → p ≡ q → (q ≡ true → x ≡ y) → (is p 7 0 >> passed x) ≡ (is q 7 0 >> passed y)
+-- Two ranges that are one, with the same bit or set where it is met, are asked alike.
+alike : {A : Type 0} (p q : Bool) (x y : A) → p ≡ q → (q ≡ true → x ≡ y) → (is p 7 0 >> passed x) ≡ (is q 7 0 >> passed y)
 unfolding _>>_ is
 alike p true x y e f = ap (λ b. is b 7 0 >> passed x) e ∙ ap passed (f refl)
 alike p false x y e f = ap (λ b. is b 7 0 >> passed x) e
@@ -55,3 +56,18 @@ module _ (t : List ℕ) (bytes : (p : ℕ) → getD t p 0 < 256) where
       let ei : min i 255 ≡ i = itself i (graphOf t .n) few (nodes .0) in
       let ej : min j 255 ≡ j = itself j (graphOf t .n) few (nodes .1) in
       cc))
+
+  pub label-set-byte : (k : ℕ) → askLabelSet t (min k 255) ≡ askLabelSet t k
+  unfolding askLabelSet
+  label-set-byte k =
+      ap (askSheet t >>_)
+      (alike _ _ _ _ (below k labelCount (omega arith)) (λ e. ap (λ (l : ℕ). members (graphOf t .n) (graphOf t .labelled l)) (itself k labelCount (omega arith) e)))
+
+  pub row-set-byte : (a i : ℕ) → askRowSet t (min a 255) (min i 255) ≡ askRowSet t a i
+  unfolding askRowSet
+  row-set-byte a i =
+      ap (askSheet t >>_)
+      (alike _ _ _ _ (ap₂ _&&_ (below a arrowCount (omega arith)) (below i (graphOf t .n) few))
+      (λ e.
+      let both = and-eq-true-iff (ltb a arrowCount) (ltb i (graphOf t .n)) .0 e in
+      ap₂ (λ (b j : ℕ). members (graphOf t .n) (graphOf t .joined b j)) (itself a arrowCount (omega arith) (both .0)) (itself i (graphOf t .n) few (both .1))))

@@ -12,8 +12,11 @@ mod nodes;
 mod paper;
 mod plans;
 mod rules;
+mod sets;
 mod sheets;
 mod small;
+mod version;
+mod witnesses;
 
 // Number and place of an answer, 0 and 0 for done.
 #[repr(C)]

@@ -87,7 +87,7 @@ fn bit_numbers(read: BitRead) -> BitNumbers
 }
 
 // The byte of a number; 255, which no label, arrow or node has, for every number above.
-fn byte(x: usize) -> u8
+pub fn byte(x: usize) -> u8
     ensures { λ r. ⌜ r ≡ min x 255 ⌝ }
 {
     if x < 255 { x as u8 } else { 255 }

@@ -118,7 +118,8 @@ module _ (text : List ℕ) (ρ : Limits) where
           opened-at (andThen (headAt text (ρ .deepest) ((pattern % 16 + 4) % 16) (level + 1) at) next) k (at-deeper text ρ (pattern % 16) level at l k ∙ at-here text ρ (pattern % 16 + 4) (level + 1) at (omega arith))
           ∙ then-then (headAt text (ρ .deepest) ((pattern % 16 + 4) % 16) (level + 1) at) next left
           ∙ ap (λ x. andThen (headAt text (ρ .deepest) x (level + 1) at) (λ p. andThen (next p) left)) e
-          ∙ then-same (headAt text (ρ .deepest) (12 + pattern % 16 % 4) (level + 1) at) (λ p. andThen (next p) left) (λ p. remaining (set patterns level (pattern / 16)) (patternOf (getD text at 0)) (level + 1) p) (λ p. then-same (next p) left (above (set patterns level (pattern / 16)) (level + 1)) pushed)
+          ∙ then-same (headAt text (ρ .deepest) (12 + pattern % 16 % 4) (level + 1) at) (λ p. andThen (next p) left) (λ p. remaining (set patterns level (pattern / 16)) (patternOf (getD text at 0)) (level + 1) p)
+          (λ p. then-same (next p) left (above (set patterns level (pattern / 16)) (level + 1)) pushed)
         where
           pushed : (p : ℕ) → remaining patterns (pattern / 16) level p ≡ above (set patterns level (pattern / 16)) (level + 1) p
           pushed p =

@@ -160,31 +160,35 @@ module _ (t : List ℕ) (ρ : Limits) where
           let k : p < length t = omega (arith, r .inside (omega arith)) in
           one-read (r .reading ∙ ap (λ rest. got (r .thing) rest p) (drop-cons t p 0 k))
 
+-- THE FIRST RULE of a text
+module _ (t : List ℕ) (ρ : Limits) where
+  pub first-same : {q : Limits} → ρ ≡ q → outcome (askFirst ρ t) ≡ outcome (askFirst q t)
+  first-same e = ap (λ q. outcome (askFirst q t)) e
+
+  first-refused : ρ .longest < length t → askFirst ρ t ≡ refused 11 0
+  first-refused long = unfold askFirst in not-then 11 0 (first (readAs ρ (expr rule) t 0)) (lt-leb (length t) (ρ .longest) long)
+
+  first-asked : length t ≤ ρ .longest → askFirst ρ t ≡ first (readAs ρ (expr rule) t 0)
+  first-asked short = unfold askFirst in so-then 11 0 (first (readAs ρ (expr rule) t 0)) (le-leb (length t) (ρ .longest) short)
+
+  pub first-long : ρ .longest < length t → refused 11 0 ≡ outcome (askFirst ρ t)
+  first-long long = sym (outcome-ends (first-refused long))
+
+  pub first-answer : length t ≤ ρ .longest → turnAnswer 10 (turnAt t ρ (patternFormat 14 1) 0) ≡ outcome (askFirst ρ t)
+  unfolding first outcome turnOf
+  first-answer short = ap (turnAnswer 10) (one-thing t ρ (expr rule) 0) ∙ go (readAs ρ (expr rule) t 0) ∙ ap outcome (sym (first-asked short)) where
+    go : (x : Read (Expr rule)) → turnAnswer 10 (turnOf x) ≡ outcome (first x)
+    go (got K rest q) = refl
+    go (fault why q) = stop-answer 10 why q
+
 -- RULE END
 module _ (t : List ℕ) (ρ : Limits) (all-nodes : ρ ≡ textLimits maxNodes) where
-  first-asked : {x : Asked (Expr rule)} → askFirst ρ t ≡ x → x ≡ askRuleEnd t
-  first-asked e = sym e ∙ ap (λ q. askFirst q t) all-nodes
-
-  module _ (long : ρ .longest < length t) where
-    asked-long : refused 11 0 ≡ askRuleEnd t
-    asked-long = unfold askFirst in first-asked (not-then 11 0 (first (readAs ρ (expr rule) t 0)) (lt-leb (length t) (ρ .longest) long))
-
-    pub first-long : refused 11 0 ≡ outcome (askRuleEnd t)
-    first-long = sym (outcome-ends (sym asked-long))
-
-    pub no-rule-long : [] ≡ firstRule t
-    no-rule-long = unfold firstRule in sym (after-ends (sym asked-long) code [])
+  pub no-rule-long : ρ .longest < length t → [] ≡ firstRule t
+  no-rule-long long = unfold firstRule in sym (after-ends (ap (λ q. askFirst q t) (sym all-nodes) ∙ first-refused t ρ long) code [])
 
   module _ (short : length t ≤ ρ .longest) where
     asked-first : {x : Read (Expr rule)} → readAs ρ (expr rule) t 0 ≡ x → first x ≡ askRuleEnd t
-    asked-first e = unfold askFirst in first-asked (so-then 11 0 (first (readAs ρ (expr rule) t 0)) (le-leb (length t) (ρ .longest) short) ∙ ap first e)
-
-    pub first-answer : turnAnswer 10 (turnAt t ρ (patternFormat 14 1) 0) ≡ outcome (askRuleEnd t)
-    unfolding first outcome turnOf
-    first-answer = ap (turnAnswer 10) (one-thing t ρ (expr rule) 0) ∙ go (readAs ρ (expr rule) t 0) ∙ ap outcome (asked-first refl) where
-      go : (x : Read (Expr rule)) → turnAnswer 10 (turnOf x) ≡ outcome (first x)
-      go (got K rest q) = refl
-      go (fault why q) = stop-answer 10 why q
+    asked-first e = sym (ap first e) ∙ sym (first-asked t ρ short) ∙ ap (λ q. askFirst q t) all-nodes
 
     pub no-rule : {s : Stop} → turnAt t ρ (patternFormat 14 1) 0 ≡ Stopped s → [] ≡ firstRule t
     no-rule e = unfold firstRule first after in ap (λ q. after q code []) (asked-first (was-fault t ρ (expr rule) 0 e .reading))

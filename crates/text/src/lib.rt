@@ -11,7 +11,7 @@ ghost use Rattle.text.specs.Patterns.{itemOf, patternOf, sortOf, pattern
 ghost use Rattle.answer.specs.Answers.{asked};
 ghost use Rattle.answer.specs.Asked.{outcome};
 ghost use Rattle.text.specs.Reading.{textLimits, formerLimits, carriedLimits};
-ghost use Rattle.text.specs.Questions.{askBook, askRule, askEdit, askRuleEnd, firstPart, ruleStart};
+ghost use Rattle.text.specs.Questions.{askBook, askFirst, askRule, askEdit, askRuleEnd, firstPart, ruleStart};
 ghost use Rattle.text.specs.Part.{PartOf};
 
 // What is wrong with the bytes, and where: 12 to 15 of a book, 22 to 25 of an edit.
@@ -271,6 +271,16 @@ fn rule_within(text: &[u8], limits: Limits) -> Answer
     Answer::Done
 }
 
+// Does a text begin with a rule within the limits? 11 to 15.
+fn first_within(text: &[u8], limits: Limits) -> Answer
+    ensures { λ r. ⌜ asked r ≡ outcome (askFirst (limitsOf limits) (now (text .entry))) ⌝ }
+{
+    if text.len() > limits.longest as usize {
+        return Answer::Refused(Refusal::BookLength { place: 0 });
+    }
+    book_answer(read(text, limits, RULE, 0))
+}
+
 // Texts. Each function goes over a text once.
 pub struct Text;
 
@@ -368,10 +378,15 @@ impl Text {
         ensures { λ r. ⌜ asked r ≡ outcome (askRuleEnd (now (text .entry))) ⌝ }
     {
         let limits = limits_for(Text::NODES);
-        if text.len() > limits.longest as usize {
-            return Answer::Refused(Refusal::BookLength { place: 0 });
-        }
-        book_answer(read(text, limits, RULE, 0))
+        first_within(text, limits)
+    }
+
+    // Does a text begin with a carried rule, for n nodes? 11 to 15.
+    pub fn check_first_carried(text: &[u8], n: usize) -> Answer
+        ensures { λ r. ⌜ asked r ≡ outcome (askFirst (carriedLimits n) (now (text .entry))) ⌝ }
+    {
+        let limits = carried_limits(n);
+        first_within(text, limits)
     }
 
     // Where rule i of a book stands, from 0: behind i rules; the book's length where there are not so many, or where they can't be read.

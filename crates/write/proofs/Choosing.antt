@@ -42,7 +42,8 @@ module _ (edit : List ℕ) (at : ℕ) (m : getD edit at 0 ≡ 0x35) where
         ends = omega (arith, a, b′, c′, q .long);
       }
 
-  pub chosen : {first second next : ℕ} → ((t : Tree) → At edit (at + 1) t → first ≡ at + 1 + size t) → ((Y : Edit) → EditAt edit first Y → second ≡ first + length (editCode Y)) → ((Y : Edit) → EditAt edit second Y → next ≡ second + length (editCode Y)) → (Z : Edit) → EditAt edit at Z → Chosen edit at first second next Z
+  pub chosen : {first second next : ℕ} → ((t : Tree) → At edit (at + 1) t → first ≡ at + 1 + size t) → ((Y : Edit) → EditAt edit first Y → second ≡ first + length (editCode Y))
+      → ((Y : Edit) → EditAt edit second Y → next ≡ second + length (editCode Y)) → (Z : Edit) → EditAt edit at Z → Chosen edit at first second next Z
   chosen {first} {second} f g k Z h =
       let q = as-choose edit at Z h m in
       let a = f (tree (q .K)) (q .what) in

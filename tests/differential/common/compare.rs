@@ -1,7 +1,8 @@
 //! The outcome of a call, on both sides, and the count of comparisons.
 
-use crate::library::zamiathen_enter;
+use crate::library::{zamiathen_enter, zamiathen_witness};
 use reference::answer::Answer;
+use reference::witness::Witness;
 use std::collections::BTreeMap;
 
 /// Bytes on each side of a lent buffer that no call may touch; an odd number, so that buffers begin anywhere.
@@ -77,6 +78,17 @@ pub fn enter(sheet: &[u8], book: &[u8], edit: &[u8], scratch: &[u8]) -> ([usize;
         )
     };
     ([found.number, found.place], [sheet, book, edit, scratch])
+}
+
+/// Asks who breaks the first rule of a text, and compares.
+pub fn witness(tally: &mut Tally, what: &'static str, sheet: &[u8], text: &[u8], wanted: (Answer, Witness)) {
+    let (lent, lent_text) = (Lent::of(sheet), Lent::of(text));
+    let found = unsafe { zamiathen_witness(lent.ptr(), lent.len(), lent_text.ptr(), lent_text.len()) };
+    let numbers = [found.number, found.place, found.kind, found.first, found.second, found.nodes as usize];
+    let (answer, told) = wanted;
+    let wanted = [answer.number, answer.place, told.kind, told.first, told.second, told.nodes as usize];
+    let lent = [Outcome::new(&numbers, vec![lent, lent_text]), Outcome::new(&wanted, vec![Lent::of(sheet), Lent::of(text)])];
+    tally.compare(what, &lent[0], &lent[1], &[("sheet", sheet), ("rule", text)]);
 }
 
 /// How many comparisons agreed, and how often each answer number came.

@@ -43,8 +43,32 @@ pub struct CPlayed {
     pub edit: usize,
 }
 
+#[repr(C)]
+pub struct CWitnessed {
+    pub number: usize,
+    pub place: usize,
+    pub kind: usize,
+    pub first: usize,
+    pub second: usize,
+    pub nodes: u64,
+}
+
+#[repr(C)]
+pub struct CNodeSet {
+    pub number: usize,
+    pub place: usize,
+    pub count: usize,
+    pub set: u64,
+}
+
 #[link(name = "suite", kind = "static")]
 extern "C" {
+    pub fn zamiathen_version() -> usize;
+    pub fn zamiathen_nodes(sheet: *const u8, sheet_length: usize) -> CNodeSet;
+    pub fn zamiathen_label_set(sheet: *const u8, sheet_length: usize, label: usize) -> CNodeSet;
+    pub fn zamiathen_row_set(sheet: *const u8, sheet_length: usize, arrow: usize, from: usize) -> CNodeSet;
+    pub fn zamiathen_log_edit(edit: *const u8, edit_length: usize, output: *mut u8, output_length: usize) -> CLength;
+    pub fn zamiathen_witness(sheet: *const u8, sheet_length: usize, rule: *const u8, rule_length: usize) -> CWitnessed;
     pub fn zamiathen_blank(sheet: *mut u8, sheet_length: usize, n: usize) -> CAnswer;
     pub fn zamiathen_check(sheet: *const u8, sheet_length: usize) -> CAnswer;
     pub fn zamiathen_convert_255(card: *mut u8, card_length: usize) -> CAnswer;

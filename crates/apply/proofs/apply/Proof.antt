@@ -4,9 +4,7 @@ use Rattle.apply.proofs.apply.Statement.{statement}
 use Rattle.apply.proofs.apply.Tie as tie
 
 pub apply-spec : {M : Type 1} → statement M
-apply-spec =
-    tie.close
-    (tie.spec
+apply-spec = tie.close (tie.spec
     (λ c κs. search needs) (λ c. search needs) (λ c. search needs) (λ c. search needs)
     (λ c. let a = sheet-refused _ _ _ _ (c .before .before .check .ensures) (c .enum-told2 .given .1) in (a .answer, a .sheet-is))
     (λ c κs. sheet-sound _ _ (c .before .before .before .check .ensures) (c .before .enum-told .given .1))

@@ -13,9 +13,7 @@ abbrev step : (s : tie.Start) → IsStep (ranges (s .args .n)) (now (s .args .ed
 step s = as-arrow _ _ _ (s .pre .1 .what) (s .pre .1 .stands) (s .pre .2) (s .pre .3)
 
 pub arrow-step-spec : {M : Type 1} → statement M
-arrow-step-spec =
-    tie.close
-    (tie.spec
+arrow-step-spec = tie.close (tie.spec
     (λ c. omega (arith, step (c .before .before .before) .room)) (λ c. omega (arith, step (c .before .before .before) .room))
     (λ c. omega (arith, step (c .before .before .before .before) .room))
     (λ c. omega (arith, step (c .before .before .before .before .before) .room))

@@ -12,9 +12,7 @@ abbrev step : (s : tie.Start) → IsStep (ranges (s .args .n)) (now (s .args .ed
 step s = as-label _ _ _ (s .pre .1 .what) (s .pre .1 .stands) (s .pre .2) (s .pre .3)
 
 pub label-step-spec : {M : Type 1} → statement M
-label-step-spec =
-    tie.close
-    (tie.spec
+label-step-spec = tie.close (tie.spec
     (λ c. omega (arith, step (c .before .before .before) .room)) (λ c. omega (arith, step (c .before .before .before) .room))
     (λ c. omega (arith, step (c .before .before .before .before) .room))
     (λ c. omega (arith, step (c .before .before .before .before .before) .room))

@@ -10,9 +10,7 @@ use Rattle.apply.proofs.run_edit.Statement.{statement}
 use Rattle.apply.proofs.run_edit.Tie as tie
 
 pub run-edit-spec : {M : Type 1} → statement M
-run-edit-spec =
-    tie.close
-    (tie.spec
+run-edit-spec = tie.close (tie.spec
     (λ c κs. search needs) (λ c κs. search needs)
     (λ c κs. let s = c .before .before .before .before .before .before .before in let n = c .before .before .before .node-count .ensures .0 in
     (ready-first _ _ _ (λ p. omega (arith, c .before .before .before .before .before .before .slice-known .given p)) (s .pre .0) n (c .before .all-nodes .ensures), subst (λ (m : ℕ). SomeEditStands (ranges m) (now (s .args .edit)) (s .args .at)) (sym n) (s .pre .1)))

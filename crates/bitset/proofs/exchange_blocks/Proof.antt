@@ -15,9 +15,7 @@ abbrev μ-loop : tie.MeasureT-loop
 μ-loop rows₀ s m b₀ rows b = 64 - b
 
 pub exchange-blocks-spec : {M : Type 1} → statement M
-exchange-blocks-spec =
-    tie.close
-    (tie.spec
+exchange-blocks-spec = tie.close (tie.spec
     Inv-loop μ-loop
     (λ c. (low-none (c .before .pre .0), c .before .pre .1, done-none))
     (λ c κs. let s = c .before .before .before .before in let l = c .before .before .loop in (s .pre .0, l .inv .0, low-room (s .pre .0) _ (l .inv .0) (c .before .loop-test .taken), l .inv .1))

@@ -15,9 +15,7 @@ abbrev μ-loop : tie.MeasureT-loop
 μ-loop rows₀ b s m end i₀ rows i = b + s - i
 
 pub exchange-rows-spec : {M : Type 1} → statement M
-exchange-rows-spec =
-    tie.close
-    (tie.spec
+exchange-rows-spec = tie.close (tie.spec
     Inv-loop μ-loop (λ c. search needs)
     (λ c. (search needs, search needs, search needs, c .before .pre .3, moving-none))
     (λ c. search needs) (λ c. search needs) (λ c. search needs) (λ c. search needs) (λ c. search needs) (λ c κs. search needs)

@@ -12,7 +12,5 @@ returns c =
     (ap₂ (λ (x y : ℕ). x + y * 0x100000000) (c .before .half .ensures .0) (c .half2 .ensures .0) ∙ halves (st .args .s .now) (st .args .at))
 
 pub load-spec : {M : Type 1} → statement M
-load-spec =
-    tie.close
-    (tie.spec
+load-spec = tie.close (tie.spec
     (λ c κs. search needs) (λ c. search needs) (λ c κs. search needs) (λ c. search needs) (λ c. search needs) returns)

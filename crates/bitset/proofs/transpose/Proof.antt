@@ -20,9 +20,7 @@ done c =
     (fifth c .before .before .before .before .exchange-blocks4 .ensures .0) (fifth c .exchange-blocks5 .ensures .0) (c .exchange-blocks6 .ensures .0)
 
 pub transpose-spec : {M : Type 1} → statement M
-transpose-spec =
-    tie.close
-    (tie.spec
+transpose-spec = tie.close (tie.spec
     (λ c κs. (six .of-32, c .before .before .pre))
     (λ c κs. (six .of-16, c .before .before .before .exchange-blocks .ensures .1))
     (λ c κs. (six .of-8, c .before .before .before .exchange-blocks2 .ensures .1))

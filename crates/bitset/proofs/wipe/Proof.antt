@@ -19,9 +19,7 @@ loop-again c =
     (omega (arith, length-set (l .s) (l .i) 0, c .loop-test .taken), length-set (l .s) (l .i) 0 ∙ l .inv .1, wiped (l .s) (l .i) (c .loop-test .taken) (l .inv .2))
 
 pub wipe-spec : {M : Type 1} → statement M
-wipe-spec =
-    tie.close
-    (tie.spec
+wipe-spec = tie.close (tie.spec
     Inv-loop μ-loop (λ c. (search needs, refl, refl)) (λ c. search needs) (λ c. search needs)
     (λ c. omega (arith, length-set (c .before .loop .s) (c .before .loop .i) 0, c .loop-test .taken))
     loop-again (λ c. c .before .loop .inv .1)

@@ -42,9 +42,7 @@ room : (b : Behind) → Room b
 room b = let h = behind-in (now (start b .args .text)) (start b .args .at) (start b .pre .0) in (omega (arith, b .behind .ensures), omega (arith, b .behind .ensures), start b .pre .1, start b .pre .2)
 
 pub again-spec : {M : Type 1} → statement M
-again-spec =
-    tie.close
-    (tie.spec
+again-spec = tie.close (tie.spec
     Inv-loop μ-loop (λ c κs. search needs) (λ c. omega (arith, room c)) (λ c. omega (arith, room c)) (λ c. omega (arith, room c))
     (λ c. again-short _ _ _ _ (c .before .behind .ensures) (c .if1 .taken))
     (λ c. (omega arith, all-none _))

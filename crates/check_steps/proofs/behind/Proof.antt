@@ -13,9 +13,7 @@ abbrev μ-loop : tie.MeasureT-loop
 μ-loop text at p₀ numbers₀ wanted₀ p numbers wanted = length text - p
 
 pub behind-spec : {M : Type 1} → statement M
-behind-spec =
-    tie.close
-    (tie.spec
+behind-spec = tie.close (tie.spec
     Inv-loop μ-loop (λ c. passing-first _ _ (c .before .pre .0))
     (λ c. let r = c .before .loop .inv in omega (arith, r .low, r .few, r .on, c .before .before .before .pre .1))
     (λ c. passing-none _ _ (c .before .before .loop .inv) (c .if1 .taken))

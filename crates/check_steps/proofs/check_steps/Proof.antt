@@ -63,9 +63,7 @@ module _ (m : tie.After-make-steps) where
   unfit e = answer-unfit _ (read reading) steps sent (subst Of e stepped)
 
 pub check-steps-spec : {M : Type 1} → statement M
-check-steps-spec =
-    tie.close
-    (tie.spec
+check-steps-spec = tie.close (tie.spec
     (λ c κs. search needs) (λ c. search needs)
     (λ c. rule-refused _ _ _ _ _ (c .before .before .check-carried-rule .ensures) (c .enum-told .given .1))
     (λ c. search needs) (λ c. search needs) (λ c κs. rule-short _ (read (c .before))) (λ c. search needs)

@@ -12,9 +12,7 @@ abbrev μ-loop : tie.MeasureT-loop
 μ-loop text sent i₀ i = length text - i
 
 pub compare-spec : {M : Type 1} → statement M
-compare-spec =
-    tie.close
-    (tie.spec
+compare-spec = tie.close (tie.spec
     Inv-loop μ-loop (λ c. comparing-first _ _)
     (λ c. comparing-short (c .before .before .loop .inv) (c .before .loop-test .taken) (c .if1 .taken))
     (λ c. search needs) (λ c. search needs)

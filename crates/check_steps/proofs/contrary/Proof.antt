@@ -6,9 +6,7 @@ use Rattle.check_steps.proofs.contrary.Statement.{statement}
 use Rattle.check_steps.proofs.contrary.Tie as tie
 
 pub contrary-spec : {M : Type 1} → statement M
-contrary-spec =
-    tie.close
-    (tie.spec
+contrary-spec = tie.close (tie.spec
     (λ c. omega (arith, c .before .pre .0, c .before .pre .1)) (λ c κs. search needs)
     (λ c. contrary-none _ _ _ (c .before .again .ensures) (c .if1 .taken))
     (λ c. omega (arith, c .if1 .left))

@@ -11,9 +11,7 @@ abbrev μ-loop : tie.MeasureT-loop
 μ-loop text₀ at from n i₀ text i = n - i
 
 pub cut-spec : {M : Type 1} → statement M
-cut-spec =
-    tie.close
-    (tie.spec
+cut-spec = tie.close (tie.spec
     Inv-loop μ-loop (λ c. c .pre .1) (λ c. moving-first _ _ _ (c .pre .0) (c .pre .1))
     (λ c. omega (arith, c .loop-test .taken, c .before .before .pre .1, c .before .before .good .0 .0))
     (λ c. omega (arith, c .before .loop-test .taken, c .before .before .before .pre .1, moving-length _ _ _ (c .before .before .before .pre .0) (c .before .before .before .pre .1) (c .before .before .loop .inv)))

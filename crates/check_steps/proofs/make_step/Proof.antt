@@ -25,9 +25,7 @@ left c =
     step-left _ _ _ (f .before .right-side .ensures) (f .if1 .left) (p .put-byte .ensures) (c .cut .ensures)
 
 pub make-step-spec : {M : Type 1} → statement M
-make-step-spec =
-    tie.close
-    (tie.spec
+make-step-spec = tie.close (tie.spec
     (λ c κs. c .before .before .pre) (λ c. search needs)
     (λ c. leaves-none _ _ _ (sym (c .before .right-side .ensures) ∙ c .if1 .taken))
     (λ c κs. bounds (c .before) .high)

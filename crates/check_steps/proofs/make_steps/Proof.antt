@@ -34,9 +34,7 @@ onward m =
     (m .before .before .law-number .ensures) (m .make-step .ensures .0) (m .make-step .ensures .1)
 
 pub make-steps-spec : {M : Type 1} → statement M
-make-steps-spec =
-    tie.close
-    (tie.spec
+make-steps-spec = tie.close (tie.spec
     Inv-loop μ-loop (λ c. leading-first _ (c .before .before .pre)) (λ c. search needs) (λ c. c .before .before .loop .inv .same-length)
     (λ c. leading-cut (c .before .before .loop .inv) (c .before .loop-test .taken) (c .if1 .taken))
     (λ c. search needs) (λ c. search needs) (λ c. omega (arith, c .before .before .if1 .left)) (λ c κs. search needs) (λ c. search needs)

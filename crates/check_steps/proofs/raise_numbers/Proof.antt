@@ -13,9 +13,7 @@ abbrev μ-loop : tie.MeasureT-loop
 μ-loop text work₀ p₀ numbers₀ work p numbers = length text - p
 
 pub raise-numbers-spec : {M : Type 1} → statement M
-raise-numbers-spec =
-    tie.close
-    (tie.spec
+raise-numbers-spec = tie.close (tie.spec
     Inv-loop μ-loop (λ c. raising-first _ _) (λ c. search needs) (λ c κs. search needs)
     (λ c. omega (arith, raising-length (c .before .before .before .loop .inv) (c .before .before .before .before .before .before .pre), c .before .before .loop-test .taken, c .before .before .before .before .before .before .pre))
     (λ c κs. search needs) (λ c. search needs) (λ c. search needs)

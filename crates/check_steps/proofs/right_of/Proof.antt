@@ -8,9 +8,7 @@ use Rattle.check_steps.proofs.right_of.Tie as tie
 
 pub right-of-spec : {M : Type 1} → statement M
 unfolding secondBytes
-right-of-spec =
-    tie.close
-    (tie.spec
+right-of-spec = tie.close (tie.spec
     (λ c κs. (omega (arith, c .before .before .pre .0), c .before .before .pre .1))
     (λ c. c .contrary .ensures ∙ right-4 _ _ _ (c .before .if1 .taken))
     (λ c. omega (arith, c .before .before .before .pre .0, c .before .before .before .pre .1))

@@ -7,9 +7,7 @@ use Rattle.check_steps.proofs.right_side.Tie as tie
 
 pub right-side-spec : {M : Type 1} → statement M
 unfolding firstBytes secondBytes
-right-side-spec =
-    tie.close
-    (tie.spec
+right-side-spec = tie.close (tie.spec
     (λ c. omega (arith, c .before .pre .0)) (λ c. side-short _ _ _ (c .if1 .taken))
     (λ c. side-unknown _ _ _ (c .before .if1 .left) (c .if2 .taken))
     (λ c. omega (arith, c .before .before .if1 .left)) (λ c. omega (arith, c .before .if2 .left))

@@ -36,9 +36,7 @@ returns-2 c =
     rw no (ask-stops _ _ _ (book-refused _ _ (sound (at-sheet t)) (t .before .node-count .ensures .0) (t .check-book .ensures) no))
 
 pub ask-spec : {M : Type 1} → statement M
-ask-spec =
-    tie.close
-    (tie.spec
+ask-spec = tie.close (tie.spec
     (λ c κs. search needs) (λ c. search needs) (λ c. search needs) returns (λ c κs. sound c) (λ c κs. search needs) (λ c. search needs)
     (λ c. search needs) returns-2
     (λ c. in-range _ _ _ (rules (c .before) .is) (omega (arith, c .before .before .before .before .node-count .ensures .0, c .if1 .taken)))

@@ -23,9 +23,7 @@ returns-3 c =
     (c .with-use .ensures (graphOf (s .args .sheet .now)) (omega (arith, few)) (s .pre .1) (c .before .all-nodes .ensures))
 
 pub can-close-spec : {M : Type 1} → statement M
-can-close-spec =
-    tie.close
-    (tie.spec
+can-close-spec = tie.close (tie.spec
     (λ c κs. search needs)
     (λ c. kept-label _ _ (sym (c .before .has-label .ensures) ∙ c .if1 .taken))
     (λ c κs. search needs) returns-2 (λ c κs. search needs) with-use-requires returns-3)

@@ -50,9 +50,7 @@ judged c =
     let k = known (passed (in-use u .before)) in close-judged _ _ _ (k .ready) (used (in-use u)) (may u) (r .judge-with .ensures (k .rules) (k .ready .stand))
 
 pub close-spec : {M : Type 1} → statement M
-close-spec =
-    tie.close
-    (tie.spec
+close-spec = tie.close (tie.spec
     (λ c κs. search needs) (λ c. search needs) (λ c. search needs) (λ c. search needs)
     (λ c. close-stops _ _ _ (c .before .before .ask .ensures) (c .enum-told2 .given .1))
     (λ c. omega (arith, known c .ready .below, known c .within .few-nodes))

@@ -29,9 +29,7 @@ loop-again : tie.Need-loop-again Inv-loop μ-loop
 loop-again c = (search needs, none-next _ _ (c .before .before .before .loop .inv .1) (kind-touched (c .before) ∙ c .if1 .left))
 
 pub has-arrow-spec : {M : Type 1} → statement M
-has-arrow-spec =
-    tie.close
-    (tie.spec
+has-arrow-spec = tie.close (tie.spec
     Inv-loop μ-loop (λ c κs. search needs) (λ c. (search needs, λ j l. absurd (omega arith))) (λ c. search needs) touched-requires
     (λ c. arrow-found _ _ _ (c .before .before .loop-test .taken) (kind-touched (c .before) ∙ c .if1 .taken))
     (λ c. search needs) (λ c. search needs) loop-again

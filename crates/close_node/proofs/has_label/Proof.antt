@@ -32,9 +32,7 @@ loop-again : tie.Need-loop-again Inv-loop μ-loop
 loop-again c = (search needs, none-next _ _ (c .before .before .before .before .before .loop .inv .1) (label-bit (c .before) ∙ c .if1 .left))
 
 pub has-label-spec : {M : Type 1} → statement M
-has-label-spec =
-    tie.close
-    (tie.spec
+has-label-spec = tie.close (tie.spec
     Inv-loop μ-loop (λ c. (search needs, λ j l. absurd (omega arith))) (λ c. search needs)
     (λ c κs. let s = c .before .before .before in (s .pre .0, omega (arith, c .loop-test .taken)))
     (λ c. search needs) member-requires returns (λ c. search needs) (λ c. search needs) loop-again

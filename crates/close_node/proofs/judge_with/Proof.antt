@@ -29,8 +29,6 @@ returns-2 c rules stand =
     judged-done _ (s .args .book .now) _ _ (s .pre .3) _ t rules _ (c .before .before .judge-rules .ensures rules (changed-stand _ _ _ _ (s .pre .3) _ t rules stand) .0) (c .enum-told .given .1)
 
 pub judge-with-spec : {M : Type 1} → statement M
-judge-with-spec =
-    tie.close
-    (tie.spec
+judge-with-spec = tie.close (tie.spec
     (λ c κs. search needs) judge-rules-requires (λ c. search needs) (λ c. search needs) put-use-requires-2 (λ c. search needs) returns
     (λ c. search needs) returns-2)

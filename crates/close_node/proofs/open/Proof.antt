@@ -35,9 +35,7 @@ judged c =
     let k = known (passed (u .before)) in open-judged _ _ _ (k .ready) (unused u) (r .judge-with .ensures (k .rules) (k .ready .stand))
 
 pub open-spec : {M : Type 1} → statement M
-open-spec =
-    tie.close
-    (tie.spec
+open-spec = tie.close (tie.spec
     (λ c κs. search needs) (λ c. search needs) (λ c. search needs) (λ c. search needs)
     (λ c. open-stops _ _ _ (c .before .before .ask .ensures) (c .enum-told2 .given .1))
     (λ c. omega (arith, known c .ready .below, known c .within .few-nodes))

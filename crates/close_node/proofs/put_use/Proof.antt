@@ -32,8 +32,6 @@ returns c =
     (c .before .before .before .before .with-use .ensures (graphOf t) (omega (arith, o .within .few-nodes)) (st .pre .1) (c .before .before .before .before .before .all-nodes .ensures))
 
 pub put-use-spec : {M : Type 1} → statement M
-put-use-spec =
-    tie.close
-    (tie.spec
+put-use-spec = tie.close (tie.spec
     (λ c κs. search needs) with-use-requires (λ c. search needs) (λ c. search needs) part-put-word-end (λ c. search needs)
     (λ c. search needs) put-word-requires (λ c. search needs) returns)

@@ -25,9 +25,7 @@ returns-2 c =
     ∙ any-second _ (arrows s (s .args .node .0)) (λ j. arrows s j (s .args .node .0)) (word-none _ _ _ row (c .before .before .before .if1 .left))
 
 pub touched-spec : {M : Type 1} → statement M
-touched-spec =
-    tie.close
-    (tie.spec
+touched-spec = tie.close (tie.spec
     (λ c κs. let s = c .before in (s .pre .0 .sound, s .pre .0 .kind, omega (arith, s .pre .0 .count, s .pre .1)))
     returns (λ c κs. c .before .before .before .pre .0) (λ c. omega (arith, c .struct-known .given))
     (λ c κs. let s = c .before .before .before .before .before in omega (arith, s .pre .0 .few, s .pre .1))

@@ -14,7 +14,5 @@ returns-2 c = λ g h l a.
     word-used g _ _ (λ x y. x && not y) (λ b. and-false b ∙ sym (c .before .if1 .left)) and-true _ _ _ h l a (c .before .before .only .ensures) (c .minus .ensures)
 
 pub with-use-spec : {M : Type 1} → statement M
-with-use-spec =
-    tie.close
-    (tie.spec
+with-use-spec = tie.close (tie.spec
     (λ c. search needs) (λ c κs. search needs) (λ c κs. search needs) (λ c κs. search needs) returns returns-2)

@@ -39,9 +39,7 @@ returns-4 : tie.Need-returns-4
 returns-4 c = let d = c .before .before .before in edit-stops _ _ _ (range d .before .if1 .left) (range d .if2 .left) (rules d) _ (c .before .before .check-edit .ensures) (c .enum-told4 .given .1)
 
 pub ask-spec : {M : Type 1} → statement M
-ask-spec =
-    tie.close
-    (tie.spec
+ask-spec = tie.close (tie.spec
     (λ c. too-few _ _ _ (c .if1 .taken)) (λ c. too-many _ _ _ (c .if2 .taken)) (λ c κs. search needs) (λ c. search needs)
     (λ c. search needs)
     (λ c. let r = c .before .before .before in book-stops _ _ _ (r .before .if1 .left) (r .if2 .left) _ (c .before .before .check-book .ensures) (c .enum-told2 .given .1))

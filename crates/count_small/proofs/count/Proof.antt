@@ -24,8 +24,6 @@ returns-2 c =
     (e, counts-are _ _ _ q _ (c .before .count-all .ensures (q .texts .rules) (q .texts .edit) (q .stand)))
 
 pub count-spec : {M : Type 1} → statement M
-count-spec =
-    tie.close
-    (tie.spec
+count-spec = tie.close (tie.spec
     (λ c κs. search needs) (λ c. search needs) (λ c. search needs) (λ c κs. search needs) returns (λ c. search needs) (λ c κs. search needs)
     (λ c. search needs) count-all-requires returns-2)

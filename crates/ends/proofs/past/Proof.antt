@@ -14,9 +14,7 @@ abbrev μ-loop : tie.MeasureT-loop
 μ-loop text at p₀ wanted₀ p wanted = length text - p
 
 pub past-spec : {M : Type 1} → statement M
-past-spec =
-    tie.close
-    (tie.spec
+past-spec = tie.close (tie.spec
     Inv-loop μ-loop (λ c. passing-first _ _)
     (λ c. passing-at (c .before .before .loop .inv) (c .before .loop-test .taken) (c .before .before .before .before .pre) .inside-text)
     (λ c κs. passing-at (c .before .before .loop .inv) (c .before .loop-test .taken) (c .before .before .before .before .pre) .low)

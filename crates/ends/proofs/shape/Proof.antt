@@ -33,9 +33,7 @@ key e = sym (ap shapeOf e)
 
 pub shape-spec : {M : Type 1} → statement M
 unfolding shapes
-shape-spec =
-    tie.close
-    (tie.spec
+shape-spec = tie.close (tie.spec
     (λ c. key (c .match .keys1)) (λ c. key (c .match .keys2)) (λ c. key (c .match .keys3)) (λ c. key (c .match .keys4)) (λ c. key (c .match .keys5))
     (λ c. key (c .match .keys6)) (λ c. key (c .match .keys7)) (λ c. key (c .match .keys8)) (λ c. key (c .match .keys9)) (λ c. key (c .match .keys10))
     (λ c. key (c .match .keys11)) (λ c. key (c .match .keys12)) (λ c. key (c .match .keys13)) (λ c. key (c .match .keys14)) (λ c. key (c .match .keys15))

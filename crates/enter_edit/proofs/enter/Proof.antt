@@ -110,9 +110,7 @@ all-held c =
     settles _ _ _ _ k (t .judge-carried .ensures _ _ (both-read k)) (held .enum-told7 .given .1) (r .run-edit .ensures .1 (k .steps) (both-read k .stands) .sheet-is)
 
 pub enter-spec : {M : Type 1} → statement M
-enter-spec =
-    tie.close
-    (tie.spec
+enter-spec = tie.close (tie.spec
     (λ c κs. search needs) (λ c. search needs) (λ c. search needs) (λ c. search needs) sheet-refuses (λ c κs. sound (c .before))
     (λ c κs. search needs) (λ c. search needs) (λ c. search needs) (λ c. search needs) book-refuses (λ c κs. search needs)
     (λ c. search needs) (λ c. search needs) (λ c. search needs) edit-refuses judge-carried-requires (λ c. search needs) (λ c. search needs)

@@ -58,9 +58,7 @@ judged-returns c rules Z b =
     (j .judge-each .ensures rules Z e)
 
 pub judge-carried-spec : {M : Type 1} → statement M
-judge-carried-spec =
-    tie.close
-    (tie.spec
+judge-carried-spec = tie.close (tie.spec
     (λ c rules Z b. nothing-judged b (c .if1 .taken) _ _) (λ c. search needs) (λ c. search needs) size-of-book-requires
     (λ c rules Z b. too-long b (c .before .before .before .size-of-book .ensures) (c .if2 .taken) _ _)
     (λ c rules Z b. too-deep b (c .before .before .before .before .before .size-of-book .ensures) (c .before .before .if2 .left) (c .if3 .taken) _ _)

@@ -77,9 +77,7 @@ held-returns c rules Z f =
     record { answer-is = sym (all-hold _ _ _ _ _ _ d (c .loop-test .left)); scratch-is = sym (all-written _ _ _ _ _ _ d (c .loop-test .left)) }
 
 pub judge-each-spec : {M : Type 1} → statement M
-judge-each-spec =
-    tie.close
-    (tie.spec
+judge-each-spec = tie.close (tie.spec
     Inv-loop μ-loop (λ c κs. search needs) (λ c κs. search needs)
     (λ c κs. let p = c .before .before .before .before .before .before .before .before .pre in (record { what = p .1 .each .what; stands = p .1 .each .what-at }, p .2))
     (λ c. (search needs, refl, refl, c .before .before .start .ensures, λ rules Z f. reached-start _ _ _ _ _ _ _ rules Z (c .before .before .before .before .before .node-count .ensures .0) f))

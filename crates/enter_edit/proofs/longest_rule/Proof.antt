@@ -65,9 +65,7 @@ shorter-again c =
     (w .write-rule .kept .1 .1 .1 .0 ∙ i .0, w .write-rule .kept .1 .1 .1 .1 .0 ∙ i .1, w .write-rule .ensures _ (i .2) .1, measured w _ (omega (arith, c .if1 .left)))
 
 pub longest-rule-spec : {M : Type 1} → statement M
-longest-rule-spec =
-    tie.close
-    (tie.spec
+longest-rule-spec = tie.close (tie.spec
     Inv-loop μ-loop
     (λ c κs. let p = c .before .before .before .before .before .pre in (record { what = p .0 .Z; stands = p .0 .Z-at }, p .1))
     (λ c. (refl, refl, c .before .before .start .ensures, λ rules Z b h. left-first Z b))

@@ -21,7 +21,8 @@ abbrev μ-eval-rule : Measures 2 eval-rule-kinds.ps ℕ
 
 pub +eval-rule-spec : {M : Type 1} → statement M
 +eval-rule-spec = close μ-eval-rule
-    (λ t. eval-rule-lts.spec (leaf-rule-reads.Asked, leaf-rule-reads.Learnt, below-measure 2 eval-rule-kinds.ps μ-eval-rule eval-rule.Pre t, eval-rule.Post, decided-reads.Asked, decided-reads.Learnt, past-reads.Asked, past-reads.Learnt) (at-measure 2 eval-rule-kinds.ps μ-eval-rule eval-rule.Pre t) eval-rule.Post
+    (λ t. eval-rule-lts.spec (leaf-rule-reads.Asked, leaf-rule-reads.Learnt, below-measure 2 eval-rule-kinds.ps μ-eval-rule eval-rule.Pre t, eval-rule.Post, decided-reads.Asked, decided-reads.Learnt, past-reads.Asked, past-reads.Learnt)
+    (at-measure 2 eval-rule-kinds.ps μ-eval-rule eval-rule.Pre t) eval-rule.Post
     (λ c. omega (arith, some-inside (c .before .before .before .pre .1 .1)))
     (λ c κs. let s = c .before .before .before .before in (s .pre .1 .0, s .pre .1 .1, c .if1 .taken))
     (λ c. omega (arith, some-inside (c .before .before .before .before .before .pre .1 .1)))

@@ -9,9 +9,7 @@ kind : (s : tie.Start) → IsKind (s .args .n) (s .args .text .now) (s .args .at
 kind s = as-kind _ _ _ (s .pre .1 .what) (s .pre .1 .stands) (s .pre .2)
 
 pub arrow-kind-spec : {M : Type 1} → statement M
-arrow-kind-spec =
-    tie.close
-    (tie.spec
+arrow-kind-spec = tie.close (tie.spec
     (λ c. omega (arith, kind (c .before .before .before) .inside)) (λ c. omega (arith, kind (c .before .before .before .before) .inside))
     (λ c κs. let s = c .before .before .before .before .before in (s .pre .0 .sound, s .pre .0 .count, s .pre .0 .few, kind s .range, ap length (s .pre .3)))
     (λ c. omega (arith, kind (c .before .before .before .before .before .before .before .before) .inside))

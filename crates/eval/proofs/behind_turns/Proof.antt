@@ -17,9 +17,7 @@ abbrev μ-loop : tie.MeasureT-loop
 μ-loop n text at next₀ turned₀ next turned = length text - next
 
 pub behind-turns-spec : {M : Type 1} → statement M
-behind-turns-spec =
-    tie.close
-    (tie.spec
+behind-turns-spec = tie.close (tie.spec
     Inv-loop μ-loop (λ c. turned-none _ _ _)
     (λ c. let t = c .before .loop .inv _ (c .before .before .pre .stands) in starts-inside _ _ _ _ (t .stands))
     (λ c. let t = c .before .before .loop .inv _ (c .before .before .before .pre .stands) in omega (arith, starts-inside _ _ _ _ (t .stands)))

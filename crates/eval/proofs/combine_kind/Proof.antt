@@ -8,9 +8,7 @@ kind : (s : tie.Start) → IsKind (s .args .n) (s .args .text .now) (s .args .at
 kind s = as-kind _ _ _ (s .pre .3 .what) (s .pre .3 .stands) (s .pre .4)
 
 pub combine-kind-spec : {M : Type 1} → statement M
-combine-kind-spec =
-    tie.close
-    (tie.spec
+combine-kind-spec = tie.close (tie.spec
     (λ c. omega (arith, kind (c .before .before .before) .inside)) (λ c. omega (arith, kind (c .before .before .before .before) .inside))
     (λ c κs. let s = c .before .before .before .before .before in (s .pre .0, s .pre .1, s .pre .2, kind s .range, s .pre .5))
     (λ c. omega (arith, kind (c .before .before .before .before .before .before .before .before) .inside))

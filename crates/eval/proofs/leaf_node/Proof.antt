@@ -8,9 +8,7 @@ use Rattle.eval.proofs.leaf_node.Statement.{statement}
 use Rattle.eval.proofs.leaf_node.Tie as tie
 
 pub leaf-node-spec : {M : Type 1} → statement M
-leaf-node-spec =
-    tie.close
-    (tie.spec
+leaf-node-spec = tie.close (tie.spec
     (λ c. omega (arith, some-inside (c .before .before .before .pre .4)))
     (λ c. omega (arith, some-inside (c .before .before .before .before .pre .4)))
     (λ c. omega (arith, some-inside (c .before .before .before .before .before .pre .4)))

@@ -9,9 +9,7 @@ case : (s : tie.Start) → IsNodeIn (s .args .n) (s .args .text .now) (s .args .
 case s = as-node-in _ _ _ (s .pre .1 .what) (s .pre .1 .stands) (s .pre .2) (s .pre .3)
 
 pub node-in-spec : {M : Type 1} → statement M
-node-in-spec =
-    tie.close
-    (tie.spec
+node-in-spec = tie.close (tie.spec
     (λ c. omega (arith, case (c .before .before) .inside))
     (λ c. omega (arith, case (c .before .before .before) .inside))
     (λ c κs. let s = c .before .before .before in omega (arith, s .pre .0 .few, case s .range))

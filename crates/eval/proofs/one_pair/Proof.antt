@@ -9,9 +9,7 @@ pair : (s : tie.Start) → IsPair (s .args .n) (s .args .text .now) (s .args .at
 pair s = as-pair _ _ _ (s .pre .1 .what) (s .pre .1 .stands) (s .pre .2)
 
 pub one-pair-spec : {M : Type 1} → statement M
-one-pair-spec =
-    tie.close
-    (tie.spec
+one-pair-spec = tie.close (tie.spec
     (λ c. omega (arith, pair (c .before .before .before) .inside)) (λ c. omega (arith, pair (c .before .before .before .before) .inside))
     (λ c. omega (arith, pair (c .before .before .before .before) .inside)) (λ c. omega (arith, pair (c .before .before .before .before .before) .inside))
     (λ c κs. let s = c .before .before .before .before .before .before in (omega (arith, s .pre .0 .few, pair s .range .0), omega (arith, s .pre .0 .few, pair s .range .1), s .pre .3))

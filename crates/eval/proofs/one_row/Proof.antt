@@ -10,8 +10,6 @@ no : false ≡ true → ⊥
 no e = omega (arith, ap {B = ℕ} (λ (z : Bool). cond z 1 0) e)
 
 pub one-row-spec : {M : Type 1} → statement M
-one-row-spec =
-    tie.close
-    (tie.spec
+one-row-spec = tie.close (tie.spec
     (λ c e. absurd (no e))
     (λ c e. (omega (arith, c .if1 .left), λ q. no (ap not (sym (eq-eqb (c .before .args .c) 0x14 q)) ∙ e))))

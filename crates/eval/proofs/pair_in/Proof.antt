@@ -10,9 +10,7 @@ case : (s : tie.Start) → IsPairIn (s .args .n) (s .args .text .now) (s .args .
 case s = as-pair-in _ _ _ (s .pre .1 .what) (s .pre .1 .stands) (s .pre .2) (s .pre .3)
 
 pub pair-in-spec : {M : Type 1} → statement M
-pair-in-spec =
-    tie.close
-    (tie.spec
+pair-in-spec = tie.close (tie.spec
     (λ c. omega (arith, case (c .before .before) .inside)) (λ c. search needs)
     (λ c κs. let s = c .before .before .before in (s .pre .0, operand (case s), refl))
     (λ c. search needs)

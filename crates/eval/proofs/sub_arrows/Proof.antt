@@ -10,9 +10,7 @@ case : (s : tie.Start) → IsSubArrows (s .args .n) (s .args .text .now) (s .arg
 case s = as-sub-arrows _ _ _ (s .pre .1 .what) (s .pre .1 .stands) (s .pre .2) (s .pre .3)
 
 pub sub-arrows-spec : {M : Type 1} → statement M
-sub-arrows-spec =
-    tie.close
-    (tie.spec
+sub-arrows-spec = tie.close (tie.spec
     (λ c. omega (arith, case (c .before .before) .inside)) (λ c. search needs)
     (λ c κs. let s = c .before .before .before in (s .pre .0, operand-1 (case s), refl))
     (λ c. search needs)

@@ -10,9 +10,7 @@ case : (s : tie.Start) → IsSubNodes (s .args .n) (s .args .text .now) (s .args
 case s = as-sub-nodes _ _ _ (s .pre .1 .what) (s .pre .1 .stands) (s .pre .2)
 
 pub sub-nodes-spec : {M : Type 1} → statement M
-sub-nodes-spec =
-    tie.close
-    (tie.spec
+sub-nodes-spec = tie.close (tie.spec
     (λ c. omega (arith, case (c .before .before) .inside))
     (λ c κs. let s = c .before .before in (s .pre .0, all-used (s .pre .0), operand-1 (case s)))
     (λ c κs. let s = c .before .before .before in let a = c .node-within .ensures (case s .A) (case s .first) in (s .pre .0, part-used (all-used (s .pre .0)) a, operand-2 (case s) (a .ends)))

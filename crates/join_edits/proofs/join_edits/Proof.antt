@@ -26,9 +26,7 @@ abbrev answer : tie.Start → Asked (List ℕ)
 answer s = askJoinEdits (now (s .args .p)) (now (s .args .q)) (length (now (s .args .output)))
 
 pub join-edits-spec : {M : Type 1} → statement M
-join-edits-spec =
-    tie.close
-    (tie.spec
+join-edits-spec = tie.close (tie.spec
     (λ c κs. search needs) (λ c. search needs)
     (λ c. let a = c .before .before .before in let s = a .before .before .before .before in
     not-written (answer s) (now (s .args .output)) _ _ (first-refused _ _ _ (a .check-edit .result) (a .check-edit .ensures) _ (c .before .first .given .1)))

@@ -39,9 +39,7 @@ returns-4 : tie.Need-returns-4
 returns-4 c = let d = c .before in rw (total d) (sym (too-many _ _ (first-sound (one (two d))) (second-sound (two d)) (rw (total d) at (c .if1 .left))))
 
 pub ask-spec : {M : Type 1} → statement M
-ask-spec =
-    tie.close
-    (tie.spec
+ask-spec = tie.close (tie.spec
     (λ c κs. search needs) (λ c. search needs) (λ c. search needs)
     (λ c. first-stops _ _ (c .enum-told2 .given .1) (c .before .before .check .ensures))
     (λ c κs. search needs) (λ c. search needs) (λ c. search needs)

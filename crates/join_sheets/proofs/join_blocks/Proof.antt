@@ -92,9 +92,7 @@ loop-again c =
     one-more _ _ _ _ _ _ (l .inv) (c .before .before .join-rows .last .0) _ (c .before .before .before .before .before .loop-test .taken) e (c .before .before .join-rows .ensures)
 
 pub join-blocks-spec : {M : Type 1} → statement M
-join-blocks-spec =
-    tie.close
-    (tie.spec
+join-blocks-spec = tie.close (tie.spec
     Inv-loop μ-loop (λ c κs. c .before .before .before .pre .0) (λ c κs. c .before .before .before .before .pre .1) (λ c. search needs)
     (λ c. search needs) (λ c. omega (arith, first-size (start c))) (λ c. search needs) (λ c. search needs)
     (λ c. omega (arith, second-size (start (c .before)))) join-lines-requires (λ c. one-made _ _ _ _ _ (begun (c .before .before)))

@@ -28,7 +28,5 @@ returns c =
     c .before .before .seal .ensures ∙ ap (λ (y : List ℕ). reseal (present .sums) (set y 2 (st .args .n + st .args .m))) (c .before .before .before .before .before .before .put-beside .ensures)
 
 pub join-lines-spec : {M : Type 1} → statement M
-join-lines-spec =
-    tie.close
-    (tie.spec
+join-lines-spec = tie.close (tie.spec
     (λ c κs. search needs) (λ c. search needs) (λ c. search needs) (λ c. search needs) seal-requires same-length returns)

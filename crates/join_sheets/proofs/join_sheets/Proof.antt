@@ -12,9 +12,7 @@ returns-2 : tie.Need-returns-2
 returns-2 c = let e = sym (c .before .before .before .before .before .before .ask .ensures) ∙ ap asked (c .before .before .before .before .enum-told .given .1) in (sym e, c .before .before .join-blocks .ensures ∙ sym (joined-is _ _ e))
 
 pub join-sheets-spec : {M : Type 1} → statement M
-join-sheets-spec =
-    tie.close
-    (tie.spec
+join-sheets-spec = tie.close (tie.spec
     (λ c κs. search needs) (λ c. search needs) (λ c. search needs) (λ c. search needs)
     (λ c. let a = c .before .before .ask .ensures in (a, sym (refused-stays _ _ _ _ (sym a ∙ ap asked (c .enum-told2 .given .1)))))
     join-blocks-requires (λ c. search needs) returns-2)

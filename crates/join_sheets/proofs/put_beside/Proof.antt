@@ -66,9 +66,7 @@ returns c =
     l .inv .2 ∙ ap (λ (x : ℕ). putBeside (st .args .at) (st .args .n) (st .args .other .now) x (st .args .block .now)) e
 
 pub put-beside-spec : {M : Type 1} → statement M
-put-beside-spec =
-    tie.close
-    (tie.spec
+put-beside-spec = tie.close (tie.spec
     Inv-loop μ-loop
     (λ c. unfold putBeside in (search needs, search needs, refl, λ p l. refl))
     (λ c. search needs) (λ c. search needs) (λ c. search needs) (λ c. search needs) (λ c. search needs) (λ c κs. search needs)

@@ -43,8 +43,6 @@ returns-3 : tie.Need-returns-3
 returns-3 c = let k = rules (c .before) in judge-found _ _ (k .is) (c .judge-rules .ensures (k .what) (rules-stand _ _ (k .is)))
 
 pub decide-spec : {M : Type 1} → statement M
-decide-spec =
-    tie.close
-    (tie.spec
+decide-spec = tie.close (tie.spec
     (λ c κs. search needs) (λ c. search needs) (λ c. search needs) returns (λ c κs. sound c) (λ c κs. search needs) (λ c. search needs)
     (λ c. search needs) returns-2 judge-rules-requires returns-3)

@@ -49,9 +49,7 @@ loop-again c =
     )
 
 pub judge-rules-spec : {M : Type 1} → statement M
-judge-rules-spec =
-    tie.close
-    (tie.spec
+judge-rules-spec = tie.close (tie.spec
     Inv-loop μ-loop (λ c κs. search needs) (λ c κs. search needs)
     (λ c. (search needs, λ rules s. reached-start _ _ _ _ rules s))
     eval-rule-requires (λ c. let l = c .before .before .before .before in omega (arith, c .before .before .before .eval-rule .ensures (first l .K) (first l .stands) .ends))

@@ -28,9 +28,7 @@ unfolding is
 returns-3 c = filled-asked _ _ (passes (c .before .before .before .before)) (c .before .before .wide .ensures .0) _ (sym (c .before .member .ensures) ∙ c .if1 .left)
 
 pub ask-filled-spec : {M : Type 1} → statement M
-ask-filled-spec =
-    tie.close
-    (tie.spec
+ask-filled-spec = tie.close (tie.spec
     (λ c κs. search needs) (λ c. search needs) (λ c. search needs)
     (λ c. unfold askFilled in first-stops _ _ (c .enum-told2 .given .1) (c .before .before .ask-name .ensures))
     (λ c. let k = named (c .before) in omega arith) (λ c κs. search needs) (λ c. let k = named (c .before .before) in omega arith)

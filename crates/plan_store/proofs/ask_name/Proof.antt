@@ -10,9 +10,7 @@ sound : (c : tie.After-enum-told) → SoundStore (c .before .before .before .bef
 sound c = sym (c .before .before .check .ensures) ∙ ap asked (c .enum-told .given .1)
 
 pub ask-name-spec : {M : Type 1} → statement M
-ask-name-spec =
-    tie.close
-    (tie.spec
+ask-name-spec = tie.close (tie.spec
     (λ c κs. search needs) (λ c. search needs) (λ c. search needs)
     (λ c. unfold askName in first-stops _ _ (c .enum-told2 .given .1) (c .before .before .check .ensures))
     (λ c. name-low _ _ (sound (c .before)) (c .if1 .taken))

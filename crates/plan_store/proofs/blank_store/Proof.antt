@@ -40,9 +40,7 @@ same-length : tie.Need-same-length
 same-length c = ap length (made (c .before .before)) ∙ length-storeOf noPlans ∙ sym (at-wipe (c .before .before) .before .before .if1 .left)
 
 pub blank-store-spec : {M : Type 1} → statement M
-blank-store-spec =
-    tie.close
-    (tie.spec
+blank-store-spec = tie.close (tie.spec
     (λ c. unfold blankStore askBlankStore is in stops _ _ _ {r = StoreBytes 0} refl (rw (ne-eqb _ storeBytes (c .if1 .taken))))
     (λ c κs. search needs) (λ c. omega (arith, size (c .before .before))) (λ c. search needs) (λ c. search needs)
     (λ c. omega (arith, first-size (c .before .before))) (λ c κs. search needs) same-length

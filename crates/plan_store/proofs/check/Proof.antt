@@ -34,9 +34,7 @@ returns-4 c =
     })
 
 pub check-spec : {M : Type 1} → statement M
-check-spec =
-    tie.close
-    (tie.spec
+check-spec = tie.close (tie.spec
     Inv-loop μ-loop (λ c. store-short _ (c .if1 .taken)) (λ c. search needs) (λ c. search needs) (λ c. search needs) (λ c κs. search needs)
     (λ c. store-head _ (sym (c .before .head-right .ensures) ∙ not-is _ _ (c .if2 .taken)))
     (λ c. (omega arith, all-none _)) (λ c κs. search needs) returns-3 (λ c. search needs) (λ c. search needs) loop-again returns-4)

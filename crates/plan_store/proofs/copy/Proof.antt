@@ -21,9 +21,7 @@ loop-again c =
     (omega (arith, n, c .before .loop-test .taken), n ∙ l .inv .1, copied (l .to) s (l .i) (c .before .loop-test .taken) (l .inv .1) (l .inv .2))
 
 pub copy-spec : {M : Type 1} → statement M
-copy-spec =
-    tie.close
-    (tie.spec
+copy-spec = tie.close (tie.spec
     Inv-loop μ-loop (λ c. (search needs, c .pre, refl)) (λ c. search needs) (λ c. search needs) (λ c. search needs)
     (λ c. simp length-set (omega (arith, c .before .loop-test .taken))) loop-again
     (λ c. c .before .loop .inv .1 ∙ sym (c .before .before .pre))

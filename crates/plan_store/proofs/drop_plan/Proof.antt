@@ -51,9 +51,7 @@ module _ (w : tie.After-wipe) where
       (zero-plan (w .wipe .last .0) _ (w .wipe .ensures) (ap length (place-part (store told) place) ∙ length-place (store told) (k .named .size) place (k .place)))
 
 pub drop-plan-spec : {M : Type 1} → statement M
-drop-plan-spec =
-    tie.close
-    (tie.spec
+drop-plan-spec = tie.close (tie.spec
     (λ c κs. search needs) (λ c. search needs) (λ c. search needs) (λ c. search needs)
     (λ c. unfold droppedStore in stops _ _ _ (c .enum-told2 .given .1) (c .before .before .ask-filled .ensures))
     (λ c. let k = held c in omega arith) (λ c. let k = held c in omega arith) (λ c. let k = held c in omega arith)

@@ -18,9 +18,7 @@ returns-6 c =
     ∙ only-sums _ (z .before .before .before .if3 .left) (z .before .if4 .left) (low .before .before .if1 .left) (low .if2 .left) (sym (z .zeros .ensures) ∙ not-is _ _ (c .before .if5 .left))
 
 pub head-right-spec : {M : Type 1} → statement M
-head-right-spec =
-    tie.close
-    (tie.spec
+head-right-spec = tie.close (tie.spec
     (λ c. search needs) (λ c. not-four _ (c .if1 .taken)) (λ c. search needs) (λ c. bit-7 _ (c .if2 .taken)) (λ c. search needs)
     (λ c. not-zero _ 504 (omega arith) (c .if3 .taken)) (λ c. search needs) (λ c. not-zero _ 505 (omega arith) (c .if4 .taken))
     (λ c κs. search needs) returns-5 (λ c κs. search needs) returns-6)

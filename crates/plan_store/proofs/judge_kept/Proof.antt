@@ -28,7 +28,5 @@ returns-2 c =
     judge-found _ _ (k .is) (c .judge-rules .ensures (k .what) (rules-stand _ _ (k .is))) .0 ∙ kept-judged _ _ (start (c .before .before .before) .pre)
 
 pub judge-kept-spec : {M : Type 1} → statement M
-judge-kept-spec =
-    tie.close
-    (tie.spec
+judge-kept-spec = tie.close (tie.spec
     (λ c κs. search needs) (λ c κs. search needs) (λ c. search needs) (λ c. search needs) returns judge-rules-requires returns-2)

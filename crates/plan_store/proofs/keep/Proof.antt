@@ -76,9 +76,7 @@ returns-3 c =
     goes _ _ _ (then-on (sound (asked-sheet (told w))) _ ∙ passes (told w)) (copied w .headed _ (c .before .before .put-name .ensures))
 
 pub keep-spec : {M : Type 1} → statement M
-keep-spec =
-    tie.close
-    (tie.spec
+keep-spec = tie.close (tie.spec
     (λ c κs. search needs) (λ c. search needs) (λ c. search needs)
     (λ c. unfold keptStore askKeep in stops _ _ _ (c .enum-told2 .given .1) (first-stops _ _ (c .enum-told2 .given .1) (c .before .before .check .ensures)))
     (λ c κs. search needs) (λ c. search needs) (λ c. search needs) (λ c. search needs)

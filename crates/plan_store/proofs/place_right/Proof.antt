@@ -21,9 +21,7 @@ checked c =
     (place-part _ (start c .args .place)) (c .check .ensures)
 
 pub place-right-spec : {M : Type 1} → statement M
-place-right-spec =
-    tie.close
-    (tie.spec
+place-right-spec = tie.close (tie.spec
     (λ c. search needs) (λ c. search needs) (λ c. search needs) (λ c κs. search needs) (λ c κs. search needs) (λ c κs. search needs) returns
     (λ c. search needs) (λ c. search needs) (λ c. search needs) (λ c. search needs) (λ c κs. search needs) (λ c. search needs)
     (λ c. search needs)

@@ -20,8 +20,6 @@ returns c =
     ∙ ap (λ (x : ℕ). headBlock (setOf planCount (update (member x) (s .args .place) (s .args .used)))) (c .before .before .before .before .before .wide .ensures .0)
 
 pub put-name-spec : {M : Type 1} → statement M
-put-name-spec =
-    tie.close
-    (tie.spec
+put-name-spec = tie.close (tie.spec
     (λ c. search needs) (λ c κs. search needs) with-name-requires (λ c. search needs) (λ c. search needs) (λ c κs. search needs)
     (λ c. c .before .before .seal .kept .0 ∙ simp length-set) returns)

@@ -86,9 +86,7 @@ returns-4 c =
     goes _ _ _ (sym (judged (d .before .before)) ∙ ap asked (d .enum-told5 .given .1)) (c .before .before .copy .ensures ∙ place-part (store q) (name q - 1))
 
 pub return-to-spec : {M : Type 1} → statement M
-return-to-spec =
-    tie.close
-    (tie.spec
+return-to-spec = tie.close (tie.spec
     (λ c κs. search needs) (λ c. search needs) (λ c. search needs) (λ c. search needs)
     (λ c. unfold returnedSheet askReturn in stops _ _ _ (c .enum-told2 .given .1) (first-stops _ _ (c .enum-told2 .given .1) (c .before .before .check .ensures)))
     (λ c κs. search needs) (λ c. search needs) (λ c. search needs) (λ c. search needs) returns-2 (λ c. let k = held c in omega arith)

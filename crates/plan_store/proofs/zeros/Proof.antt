@@ -32,8 +32,6 @@ returns c =
     zero-test _ _ (l .j) (l .all) (l .inv .1) ∙ ap (λ (j : ℕ). zerosAt (st .args .s .now) (st .args .at) (8 * j)) e
 
 pub zeros-spec : {M : Type 1} → statement M
-zeros-spec =
-    tie.close
-    (tie.spec
+zeros-spec = tie.close (tie.spec
     Inv-loop μ-loop (λ c. (search needs, zero-none _ _)) (λ c. search needs) (λ c. search needs) (λ c κs. search needs) (λ c. search needs)
     (λ c. search needs) loop-again returns)

@@ -12,9 +12,7 @@ search-requires c κs =
     (known _ _ _ _ _ _ _ _ a e .sound, record { what = _; stands = game-stands _ _ _ _ _ _ _ _ a e _ (c .behind .ensures) }, some-moves _ _ _ _ (known _ _ _ _ _ _ _ _ a e .ok))
 
 pub play-spec : {M : Type 1} → statement M
-play-spec =
-    tie.close
-    (tie.spec
+play-spec = tie.close (tie.spec
     (λ c κs. search needs) (λ c. search needs) (λ c. search needs)
     (λ c. let a = c .before .before .ask .ensures in game-stops _ _ _ _ _ _ _ _ (a .0) (c .enum-told2 .given .1) _ (a .1))
     (λ c κs. record { what = _; are = texts-stand _ _ _ _ _ _ _ _ (c .before .before .ask .ensures .0) (c .enum-told .given .1) })

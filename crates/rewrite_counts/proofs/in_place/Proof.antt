@@ -22,9 +22,7 @@ unfolding shapes
 read-most c = let s = c .before .before .before .before .before in omega (arith, count-at _ _ _ (s .pre .stands) (ap shapeOf (c .before .if2 .taken)) .room)
 
 pub in-place-spec : {M : Type 1} → statement M
-in-place-spec =
-    tie.close
-    (tie.spec
+in-place-spec = tie.close (tie.spec
     (λ c. inside _ _ _ (c .before .before .pre .stands)) add-least read-least (λ c κs. search needs)
     (λ c t h. c .least-in-place .ensures ∙ least-here _ _ t h (c .before .before .if1 .taken))
     add-most read-most (λ c κs. search needs)

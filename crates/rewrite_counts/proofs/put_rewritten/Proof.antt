@@ -39,9 +39,7 @@ room : (c : tie.After-turn-at Inv-loop μ-loop) → c .before .before .loop .q +
 room c = stored-room (so-far (c .before .before)) (turn c) (start (c .before .before) .pre .fits)
 
 pub put-rewritten-spec : {M : Type 1} → statement M
-put-rewritten-spec =
-    tie.close
-    (tie.spec
+put-rewritten-spec = tie.close (tie.spec
     Inv-loop μ-loop (λ c rules b. stored-first _ rules b _)
     (λ c κs. tree-here (so-far (c .before) .left) (c .loop-test .taken))
     (λ c. omega (arith, turn (c .before .before .before) .on))

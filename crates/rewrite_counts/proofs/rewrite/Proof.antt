@@ -47,9 +47,7 @@ written c =
     (w .0, c .before .before .put-rewritten .ensures (r .what) (book-is r) ∙ w .1)
 
 pub rewrite-spec : {M : Type 1} → statement M
-rewrite-spec =
-    tie.close
-    (tie.spec
+rewrite-spec = tie.close (tie.spec
     (λ c κs. search needs) (λ c. search needs) refused-book (λ c. search needs)
     (λ c κs. let r = read c in record { what = r .what; is = book-is r })
     short-output put-requires (λ c. search needs) written)

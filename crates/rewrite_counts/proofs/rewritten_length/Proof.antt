@@ -33,9 +33,7 @@ in-text : (c : tie.After-turn-at Inv-loop μ-loop) → let l = c .before .before
 in-text c = let l = c .before .before in let n = next c _ (start l .pre .is) in (so-far l .low, n .on, n .in-text)
 
 pub rewritten-length-spec : {M : Type 1} → statement M
-rewritten-length-spec =
-    tie.close
-    (tie.spec
+rewritten-length-spec = tie.close (tie.spec
     Inv-loop μ-loop (λ c. counted-first _)
     (λ c κs. tree-here (so-far (c .before) .left) (c .loop-test .taken))
     (λ c. omega (arith, in-text (c .before .before .before)))

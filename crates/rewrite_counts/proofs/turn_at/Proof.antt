@@ -37,9 +37,7 @@ dropped c t h =
     }
 
 pub turn-at-spec : {M : Type 1} → statement M
-turn-at-spec =
-    tie.close
-    (tie.spec
+turn-at-spec = tie.close (tie.spec
     (λ c κs. search needs)
     (λ c. inside _ _ _ (c .before .before .before .before .pre .stands))
     (λ c κs. code-at _ _ _ (c .before .before .before .before .pre .stands))

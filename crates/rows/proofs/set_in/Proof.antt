@@ -9,8 +9,6 @@ use Rattle.rows.proofs.set_in.Statement.{statement}
 use Rattle.rows.proofs.set_in.Tie as tie
 
 pub set-in-spec : {M : Type 1} → statement M
-set-in-spec =
-    tie.close
-    (tie.spec
+set-in-spec = tie.close (tie.spec
     (λ c κs. search needs)
     (λ c n v w h p q. ap (λ (x : ℕ). eqb x 0) (c .minus .ensures ∙ ap₂ (combined (λ a b. a && not b)) p q) ∙ minus-empty n v w h))

@@ -96,9 +96,7 @@ less : (x w p off : ℕ) → x ≡ w + p → off ≡ p → (off ≤ x) × (x - o
 less x w p off e f = omega arith
 
 pub block-totals-spec : {M : Type 1} → statement M
-block-totals-spec =
-    tie.close
-    (tie.spec
+block-totals-spec = tie.close (tie.spec
     Inv-loop μ-loop loop-holds (λ c. search needs) (λ c κs. search needs) (λ c. search needs) (λ c. search needs) (λ c κs. search needs)
     (λ c. search needs) (λ c. search needs) (λ c. search needs) (λ c. search needs) (λ c. search needs) (λ c. search needs)
     (λ c. search needs)

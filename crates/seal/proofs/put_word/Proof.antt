@@ -92,9 +92,7 @@ returns c =
     ∙ leaves-sealed modulo257 (put .last .0) _ _ (changed p .leaves) ∙ ap (reseal modulo257) (put .ensures)
 
 pub put-word-spec : {M : Type 1} → statement M
-put-word-spec =
-    tie.close
-    (tie.spec
+put-word-spec = tie.close (tie.spec
     (λ c κs. search needs) (λ c κs. search needs) (λ c κs. search needs) (λ c κs. search needs) (λ c κs. search needs) (λ c. search needs)
     (λ c. search needs) (λ c. search needs) (λ c. search needs) (λ c κs. search needs) (λ c. search needs)
     (λ c. record { fits = lt-of-le-of-lt (product _ _ (omega arith) (c .lane-sum .ensures .1)) (lit< tt) })

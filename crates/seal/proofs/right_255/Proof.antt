@@ -37,7 +37,5 @@ returns-2 c =
     sym (compared r ∙ ap (_&& eqb (getD (block r) 511 0) (r .totals-to .result .t % modulo255 .modulus)) (ne-eqb _ _ (λ g. c .if1 .left (c .before .before .wide .ensures .0 ∙ g))))
 
 pub right-255-spec : {M : Type 1} → statement M
-right-255-spec =
-    tie.close
-    (tie.spec
+right-255-spec = tie.close (tie.spec
     (λ c κs. search needs) (λ c. search needs) (λ c κs. search needs) (λ c. search needs) (λ c κs. search needs) returns returns-2)

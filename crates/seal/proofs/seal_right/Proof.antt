@@ -12,7 +12,5 @@ returns-2 : tie.Need-returns-2
 returns-2 c = c .right-255 .ensures ∙ ap (λ m. sealRight (formOf m) (c .before .before .before .before .args .block .now)) (sym (c .before .enum-told2 .given .1))
 
 pub seal-right-spec : {M : Type 1} → statement M
-seal-right-spec =
-    tie.close
-    (tie.spec
+seal-right-spec = tie.close (tie.spec
     (λ c. search needs) (λ c κs. search needs) (λ c. search needs) (λ c κs. search needs) returns returns-2)

@@ -27,9 +27,7 @@ returns c =
     ((s .0 ∙ ap (_% 257) (r .0) ∙ sym (sums-total modulo257 (take 508 k)), t .0 ∙ ap (_% 257) (r .1) ∙ sym (sums-weighed modulo257 (take 508 k))), (s .1, t .1))
 
 pub sums-of-spec : {M : Type 1} → statement M
-sums-of-spec =
-    tie.close
-    (tie.spec
+sums-of-spec = tie.close (tie.spec
     (λ c κs. search needs) (λ c. record { fits = totals-fit (c .before) .0 }) (λ c κs. search needs)
     (λ c. record { fits = totals-fit (c .before .before .before) .1 })
     (λ c κs. search needs) returns)

@@ -53,9 +53,7 @@ returns c =
     (l .inv .s-is ∙ ap (S (st .args .block .now)) e, l .inv .t-is ∙ ap (T (st .args .block .now)) e)
 
 pub totals-to-spec : {M : Type 1} → statement M
-totals-to-spec =
-    tie.close
-    (tie.spec
+totals-to-spec = tie.close (tie.spec
     Inv-loop μ-loop (λ c κs. search needs) loop-holds (λ c. search needs)
     (λ c. s-there (c .before .loop .inv) (c .loop-test .taken) (c .before .before .before .before .pre .0))
     (λ c. search needs) (λ c κs. search needs)

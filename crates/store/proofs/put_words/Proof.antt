@@ -47,8 +47,6 @@ returns c =
     s .seal .ensures ∙ ap (reseal (present .sums)) (p .loop .inv .2 ∙ ap (put p) (le-antisymm (p .loop .inv .0) (s .before .before .loop-test .left)))
 
 pub put-words-spec : {M : Type 1} → statement M
-put-words-spec =
-    tie.close
-    (tie.spec
+put-words-spec = tie.close (tie.spec
     Inv-loop μ-loop loop-holds (λ c. search needs) (λ c. search needs) (λ c. search needs) (λ c. search needs) (λ c κs. search needs)
     (λ c. search needs) (λ c. search needs) loop-again (λ c κs. search needs) (λ c. search needs) returns)

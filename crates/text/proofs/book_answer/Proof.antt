@@ -4,9 +4,7 @@ use Rattle.text.proofs.book_answer.Statement.{statement}
 use Rattle.text.proofs.book_answer.Tie as tie
 
 pub book-answer-spec : {M : Type 1} → statement M
-book-answer-spec =
-    tie.close
-    (tie.spec
+book-answer-spec = tie.close (tie.spec
     (λ c. search needs) (λ c. search needs) (λ c. search needs) (λ c. search needs) (λ c. search needs) (λ c. search needs) (λ c. search needs)
     (λ c. answer-told 10 (c .before .before .before .before .turn .given .1) (c .before .stop .given .1))
     (λ c. answer-told 10 (c .before .before .before .before .turn .given .1) (c .before .stop2 .given .1))

@@ -29,9 +29,7 @@ loop-again c =
     ∙ c .before .before .before .before .before .before .loop .inv
 
 pub book-within-spec : {M : Type 1} → statement M
-book-within-spec =
-    tie.close
-    (tie.spec
+book-within-spec = tie.close (tie.spec
     Inv-loop μ-loop (λ c. search needs) (λ c. book-long _ _ (c .if1 .taken)) (λ c. book-short _ _ (c .if1 .left))
     (λ c. rules-full _ _ _ _ (c .before .loop-test .taken) (c .if2 .taken) ∙ c .before .before .loop .inv)
     (λ c κs. search needs) (λ c. search needs) (λ c. search needs) (λ c κs. search needs) returns-3

@@ -84,9 +84,7 @@ loop-again-4 c =
     )
 
 pub read-spec : {M : Type 1} → statement M
-read-spec =
-    tie.close
-    (tie.spec
+read-spec = tie.close (tie.spec
     Inv-loop μ-loop (λ c. search needs)
     (λ c. (to-begin _ _ _ _ _ (omega arith) (omega arith), omega arith, omega arith, omega arith, no-patterns))
     (λ c. ended _ _ _ _ _ _ (c .before .if1 .taken) (c .if2 .taken) ∙ c .before .before .loop .inv .0)

@@ -26,8 +26,6 @@ returns-4 c =
     one-done _ _ 10 (expr rule) refl (r .before .if1 .left) (sym (r .read .ensures) ∙ c .before .before .turn .given .1) (c .if2 .left)
 
 pub rule-within-spec : {M : Type 1} → statement M
-rule-within-spec =
-    tie.close
-    (tie.spec
+rule-within-spec = tie.close (tie.spec
     (λ c. search needs) (λ c. one-long _ _ 10 (expr rule) refl (c .if1 .taken)) (λ c κs. search needs) (λ c. search needs) (λ c. search needs)
     (λ c κs. search needs) returns-2 returns-3 returns-4)

@@ -6,9 +6,7 @@ use Rattle.count_small.proofs.names.due_next.Statement.{statement}
 use Rattle.count_small.proofs.names.due_next.Tie as tie
 
 pub due-next-spec : {M : Type 1} → statement M
-due-next-spec =
-    tie.close
-    (tie.spec
+due-next-spec = tie.close (tie.spec
     (λ c κs. search needs) (λ c. search needs)
     (λ c. unfold dueNext in sym (rw (eq-eqb _ 0 (c .before .before .if1 .taken), ← c .before .shape .ensures, lt-ltb _ 16 (c .if2 .taken))))
     (λ c. unfold dueNext in sym (rw (eq-eqb _ 0 (c .before .before .if1 .taken), ← c .before .shape .ensures, le-ltb _ 16 (c .if2 .left))))

@@ -23,9 +23,7 @@ loop-again c = (
 )
 
 pub only-first-spec : {M : Type 1} → statement M
-only-first-spec =
-    tie.close
-    (tie.spec
+only-first-spec = tie.close (tie.spec
     Inv-loop μ-loop (λ c. (search needs, refl)) (λ c. search needs) (λ c κs. search needs) returns (λ c κs. search needs)
     (λ c. search needs) (λ c. search needs) loop-again
     (λ c. reached-end _ _ _ (c .before .loop .inv .1) (c .loop-test .left)))

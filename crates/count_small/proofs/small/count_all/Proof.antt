@@ -36,9 +36,7 @@ loop-again c =
     (search needs, t .turn .ensures .0, λ rules Z s. counted-more _ (l .x) rules Z _ _ _ _ (l .inv .2 rules Z s) (t .turn .ensures .1 rules Z s) (c .tally .ensures))
 
 pub count-all-spec : {M : Type 1} → statement M
-count-all-spec =
-    tie.close
-    (tie.spec
+count-all-spec = tie.close (tie.spec
     Inv-loop μ-loop (λ c κs. search needs) (λ c κs. search needs)
     (λ c. (search needs, c .before .before .before .before .before .pre .0, λ rules Z s. c .none .ensures ∙ none-counted _ _))
     (λ c κs. let s = c .before .before .before .before .before .before .before .before in (c .before .before .loop .inv .1, s .pre .1, s .pre .2, s .pre .3))

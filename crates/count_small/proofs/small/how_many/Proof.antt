@@ -11,8 +11,6 @@ returns c =
     let e = shl-one (c .args .n + c .args .n * c .args .n) (omega arith) in (e, omega arith)
 
 pub how-many-spec : {M : Type 1} → statement M
-how-many-spec =
-    tie.close
-    (tie.spec
+how-many-spec = tie.close (tie.spec
     (λ c. omega (arith, few-bits (c .args .n) (c .pre))) (λ c. omega (arith, few-bits (c .args .n) (c .pre)))
     (λ c. omega (arith, few-bits (c .args .n) (c .pre))) returns)

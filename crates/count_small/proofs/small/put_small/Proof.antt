@@ -28,9 +28,7 @@ returns c =
     rows-put _ _ (start d .pre .0) (start d .args .x) _ _ _ (labelled d) (r .rows-of .ensures) (c .before .before .put-rows .ensures)
 
 pub put-small-spec : {M : Type 1} → statement M
-put-small-spec =
-    tie.close
-    (tie.spec
+put-small-spec = tie.close (tie.spec
     (λ c κs. (search needs, omega (arith, c .before .before .pre .1)))
     (λ c κs. (loaded-sound _ _ (c .before .before .before .pre .0), search needs))
     (λ c κs. search needs) put-rows-requires (λ c. search needs) returns)

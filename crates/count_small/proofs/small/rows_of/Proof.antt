@@ -28,9 +28,7 @@ loop-again c =
     (search needs, simp length-set (l .inv .1), changed-more (omega (arith, l .inv .1, k, s .pre)) (l .inv .2) (row-is (s .args .n) (s .args .x) (l .i) _ k (c .part .ensures)))
 
 pub rows-of-spec : {M : Type 1} → statement M
-rows-of-spec =
-    tie.close
-    (tie.spec
+rows-of-spec = tie.close (tie.spec
     Inv-loop μ-loop
     (λ c. (search needs, search needs, changed-none))
     (λ c. omega (arith, few c)) (λ c. omega (arith, few c))

@@ -79,9 +79,7 @@ returns-4 c =
     fits-last _ _ _ _ _ _ _ (ok (lists d)) (aims d) (edits e) (c .check-fits .result .answer) (q .0 _ _ book stand) _ (q .1 _ _ book stand)
 
 pub ask-spec : {M : Type 1} → statement M
-ask-spec =
-    tie.close
-    (tie.spec
+ask-spec = tie.close (tie.spec
     (λ c κs. search needs)
     (λ c. lists-stop _ _ _ _ _ _ _ (sym (c .before .lists-right .ensures) ∙ not-true _ (c .if1 .taken)))
     (λ c κs. search needs) (λ c. search needs) (λ c. search needs)

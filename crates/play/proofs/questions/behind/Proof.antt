@@ -24,9 +24,7 @@ module _ (c : tie.In-loop Inv-loop μ-loop) (Zs : List Edit) (e : EditsAt (c .be
   below = omega (arith, c .loop-test .taken, e .enough)
 
 pub behind-spec : {M : Type 1} → statement M
-behind-spec =
-    tie.close
-    (tie.spec
+behind-spec = tie.close (tie.spec
     Inv-loop μ-loop (λ c. (omega arith, λ Zs e. record { stand = e .stand }))
     (λ c κs. let q = c .before .before .before .pre in record { what = _; stands = next-at (from c (q .what) (q .are)) (below c (q .what) (q .are)) })
     (λ c. omega (arith, c .before .loop-test .taken)) (λ c. omega (arith, c .before .loop-test .taken))

@@ -21,9 +21,7 @@ returns-3 c =
     goal-last _ _ _ n (book-learned _ _ (sound (b .before .before)) n (b .check-book .ensures) (c .before .enum-told3 .given .1)) (c .check-rule .result) (c .check-rule .ensures)
 
 pub check-aims-spec : {M : Type 1} → statement M
-check-aims-spec =
-    tie.close
-    (tie.spec
+check-aims-spec = tie.close (tie.spec
     (λ c κs. search needs) (λ c. search needs) (λ c. search needs)
     (λ c. let no = c .enum-told2 .given .1 in both-stop _ _ _ (sheet-refused _ _ (c .before .before .check .ensures) no) no)
     (λ c κs. sound c) (λ c κs. search needs) (λ c. search needs) (λ c. search needs) returns-2 (λ c κs. search needs) returns-3)

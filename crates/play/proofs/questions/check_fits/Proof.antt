@@ -97,9 +97,7 @@ returns-2 c =
     ((λ rules Zs h e. fits-end rules Zs _ (e .enough) (l .inv .2 rules Zs h e) (c .loop-test .left) .0), λ rules Zs h e. fits-end rules Zs _ (e .enough) (l .inv .2 rules Zs h e) (c .loop-test .left) .1)
 
 pub check-fits-spec : {M : Type 1} → statement M
-check-fits-spec =
-    tie.close
-    (tie.spec
+check-fits-spec = tie.close (tie.spec
     Inv-loop μ-loop
     (λ c. (omega arith, (λ Zs e. record { stand = e .stand }), λ rules Zs h e. fits-first rules Zs (c .before .before .args .count)))
     end-of-requires (λ c. omega (arith, inside c .0)) (λ c. omega (arith, inside c .0)) (λ c. omega (arith, inside c .1)) fits-requires

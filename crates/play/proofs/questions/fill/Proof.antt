@@ -13,9 +13,7 @@ abbrev μ-loop : tie.MeasureT-loop
 μ-loop lengths size left₀ i₀ left i = length lengths - i
 
 pub fill-spec : {M : Type 1} → statement M
-fill-spec =
-    tie.close
-    (tie.spec
+fill-spec = tie.close (tie.spec
     Inv-loop μ-loop (λ c. (omega arith, record { sum = omega arith })) (λ c. search needs) (λ c. search needs)
     (λ c. too-long (c .before .before .before .loop .inv .1) (c .before .before .loop-test .taken) (c .if1 .taken))
     (λ c. search needs) (λ c. search needs) (λ c. omega (arith, c .before .if1 .left))

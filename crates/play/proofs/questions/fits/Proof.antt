@@ -5,9 +5,7 @@ use Rattle.play.proofs.questions.fits.Statement.{statement}
 use Rattle.play.proofs.questions.fits.Tie as tie
 
 pub fits-spec : {M : Type 1} → statement M
-fits-spec =
-    tie.close
-    (tie.spec
+fits-spec = tie.close (tie.spec
     (λ c. search needs) (λ c κs. search needs) (λ c. search needs) (λ c. search needs) (λ c κs. search needs)
     -- returns
     (λ c rules Z h g. fits-no-room _ _ _ _ (c .before .before .before .before .before .before .carry-into .ensures rules Z h g) _ (c .before .before .before .r .given .1) (sym (c .before .refusal-number .ensures) ∙ c .if1 .taken))

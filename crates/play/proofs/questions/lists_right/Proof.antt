@@ -6,9 +6,7 @@ use Rattle.play.proofs.questions.lists_right.Statement.{statement}
 use Rattle.play.proofs.questions.lists_right.Tie as tie
 
 pub lists-right-spec : {M : Type 1} → statement M
-lists-right-spec =
-    tie.close
-    (tie.spec
+lists-right-spec = tie.close (tie.spec
     (λ c κs. search needs)
     (λ c. unfold listsRight in rw (sym (c .before .in-range .ensures) ∙ not-true _ (c .if1 .taken)))
     (λ c κs. search needs)

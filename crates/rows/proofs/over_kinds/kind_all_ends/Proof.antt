@@ -16,9 +16,7 @@ abbrev μ-loop : tie.MeasureT-loop
 μ-loop sheet n a r₀ i₀ r i = n - i
 
 pub kind-all-ends-spec : {M : Type 1} → statement M
-kind-all-ends-spec =
-    tie.close
-    (tie.spec
+kind-all-ends-spec = tie.close (tie.spec
     Inv-loop μ-loop
     (λ c. let s = c .before in (search needs, any-none _ (graphOf (s .args .sheet .now) .joined (s .args .a .0))))
     (λ c. search needs)

@@ -18,9 +18,7 @@ abbrev μ-loop : tie.MeasureT-loop
 μ-loop k sheet n a e r₀ i₀ r i = n - i
 
 pub kind-all-starts-spec : {M : Type 1} → statement M
-kind-all-starts-spec =
-    tie.close
-    (tie.spec
+kind-all-starts-spec = tie.close (tie.spec
     Inv-loop μ-loop (λ c. (search needs, λ w q. setOf-zero _)) (λ c. search needs)
     (λ c κs. let s = c .before .before .before in (s .pre .sound, s .pre .kind, omega (arith, s .pre .count, c .loop-test .taken)))
     (λ c κs. search needs) (λ c. search needs) (λ c. search needs) (λ c. search needs)

@@ -16,9 +16,7 @@ abbrev μ-loop : tie.MeasureT-loop
 μ-loop sheet n a e one₀ left₀ one left = left
 
 pub kind-ends-of-one-spec : {M : Type 1} → statement M
-kind-ends-of-one-spec =
-    tie.close
-    (tie.spec
+kind-ends-of-one-spec = tie.close (tie.spec
     Inv-loop μ-loop
     (λ c. let s = c .before in (search needs, λ k h. h, counted-none (s .args .n) (s .args .e) (graphOf (s .args .sheet .now) .joined (s .args .a .0)) 1 (omega arith)))
     (λ c κs. c .loop-test .taken) (λ c. omega (arith, c .first .ensures .1))

@@ -19,9 +19,7 @@ abbrev μ-loop : tie.MeasureT-loop
 μ-loop k sheet n within a e r₀ left₀ r left = left
 
 pub kind-starts-spec : {M : Type 1} → statement M
-kind-starts-spec =
-    tie.close
-    (tie.spec
+kind-starts-spec = tie.close (tie.spec
     Inv-loop μ-loop (λ c. (search needs, λ k h. h, λ w q. picked-none _ _ _)) (λ c κs. c .loop-test .taken)
     (λ c. omega (arith, c .first .ensures .1))
     (λ c κs. let s = c .before .before .before .before in let i = member-small _ _ _ (c .before .before .loop .inv .0) (c .first .ensures .0) in (s .pre .0 .sound, s .pre .0 .kind, omega (arith, s .pre .0 .count, i)))

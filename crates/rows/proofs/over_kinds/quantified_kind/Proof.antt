@@ -9,9 +9,7 @@ use Rattle.rows.proofs.over_kinds.quantified_kind.Statement.{statement}
 use Rattle.rows.proofs.over_kinds.quantified_kind.Tie as tie
 
 pub quantified-kind-spec : {M : Type 1} → statement M
-quantified-kind-spec =
-    tie.close
-    (tie.spec
+quantified-kind-spec = tie.close (tie.spec
     (λ c κs. search needs) (λ c κs. search needs)
     (λ c κs. let s = c .before .before .before .before in (s .pre .0, s .pre .3, set-small _ _ (c .before .looked .ensures _ _ _ (omega (arith, s .pre .0 .few)) (sym (setOf-member-lt _ _ (s .pre .2))) (sym (setOf-member-lt _ _ (s .pre .4))))))
     (λ c κs. search needs) (λ c κs. c .before .before .before .before .before .pre .0) (λ c κs. search needs)

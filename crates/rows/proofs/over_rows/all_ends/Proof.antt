@@ -16,9 +16,7 @@ abbrev μ-loop : tie.MeasureT-loop
 μ-loop n rows r₀ i₀ r i = n - i
 
 pub all-ends-spec : {M : Type 1} → statement M
-all-ends-spec =
-    tie.close
-    (tie.spec
+all-ends-spec = tie.close (tie.spec
     Inv-loop μ-loop (λ c. (search needs, λ v p. any-none _ v)) (λ c. search needs) (λ c. search needs) (λ c κs. search needs)
     (λ c. search needs) (λ c. search needs)
     (λ c. (search needs, λ v p. any-more _ _ v _ _ _ (omega (arith, c .before .before .before .before .before .pre .0)) (c .before .before .before .loop .inv .1 v p) (p .row _ (c .before .before .loop-test .taken)) (c .either .ensures)))

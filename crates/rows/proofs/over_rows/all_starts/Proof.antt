@@ -18,9 +18,7 @@ abbrev μ-loop : tie.MeasureT-loop
 μ-loop k n rows e r₀ i₀ r i = n - i
 
 pub all-starts-spec : {M : Type 1} → statement M
-all-starts-spec =
-    tie.close
-    (tie.spec
+all-starts-spec = tie.close (tie.spec
     Inv-loop μ-loop (λ c. (search needs, λ v w p q. setOf-zero _)) (λ c. search needs) (λ c. search needs) (λ c κs. search needs)
     (λ c. search needs) (λ c. search needs) (λ c. search needs)
     (λ c. (

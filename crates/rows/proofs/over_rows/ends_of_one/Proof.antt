@@ -15,9 +15,7 @@ abbrev μ-loop : tie.MeasureT-loop
 μ-loop n rows e one₀ left₀ one left = left
 
 pub ends-of-one-spec : {M : Type 1} → statement M
-ends-of-one-spec =
-    tie.close
-    (tie.spec
+ends-of-one-spec = tie.close (tie.spec
     Inv-loop μ-loop
     (λ c. (search needs, λ k h. h, λ v p. counted-none _ _ v 1 (omega arith)))
     (λ c κs. c .loop-test .taken) (λ c. omega (arith, c .first .ensures .1))

@@ -9,9 +9,7 @@ use Rattle.rows.proofs.over_rows.quantified.Statement.{statement}
 use Rattle.rows.proofs.over_rows.quantified.Tie as tie
 
 pub quantified-spec : {M : Type 1} → statement M
-quantified-spec =
-    tie.close
-    (tie.spec
+quantified-spec = tie.close (tie.spec
     (λ c κs. search needs) (λ c κs. search needs) (λ c. search needs)
     (λ c κs. let s = c .before .before .before .before .before .before .before in (s .pre .0, s .pre .1, set-small _ _ (c .before .before .before .before .looked .ensures _ _ _ (omega (arith, s .pre .0)) (sym (setOf-member-lt _ _ (s .pre .3))) (sym (setOf-member-lt _ _ (s .pre .4))))))
     (λ c κs. search needs) (λ c. search needs) (λ c κs. search needs) (λ c κs. search needs) (λ c κs. search needs) (λ c κs. search needs)

@@ -19,9 +19,7 @@ abbrev μ-loop : tie.MeasureT-loop
 μ-loop k n within rows e r₀ left₀ r left = left
 
 pub starts-spec : {M : Type 1} → statement M
-starts-spec =
-    tie.close
-    (tie.spec
+starts-spec = tie.close (tie.spec
     Inv-loop μ-loop
     (λ c. (search needs, λ k h. h, λ v w p q. picked-none _ _ _))
     (λ c κs. c .loop-test .taken) (λ c. omega (arith, c .first .ensures .1))

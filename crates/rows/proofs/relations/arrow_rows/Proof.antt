@@ -16,9 +16,7 @@ abbrev μ-loop : tie.MeasureT-loop
 μ-loop sheet n a out₀ i₀ out i = n - i
 
 pub arrow-rows-spec : {M : Type 1} → statement M
-arrow-rows-spec =
-    tie.close
-    (tie.spec
+arrow-rows-spec = tie.close (tie.spec
     Inv-loop μ-loop
     (λ c. (search needs, c .before .before .pre .4, changed-none))
     (λ c. search needs)

@@ -9,8 +9,6 @@ returns : tie.Need-returns
 returns c = unfold setOf in let j = c .args .j in omega (arith, bit-digit (c .args .a) j, bit-digit (c .args .b) j, bit-digit (c .args .c) j)
 
 pub column-spec : {M : Type 1} → statement M
-column-spec =
-    tie.close
-    (tie.spec
+column-spec = tie.close (tie.spec
     (λ c. search needs) (λ c. search needs) (λ c. search needs) (λ c. search needs) (λ c. search needs) (λ c. search needs)
     (λ c. search needs) returns)

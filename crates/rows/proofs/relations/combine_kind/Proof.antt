@@ -17,9 +17,7 @@ abbrev μ-loop : tie.MeasureT-loop
 μ-loop c sheet n k a₀ i₀ a i = n - i
 
 pub combine-kind-spec : {M : Type 1} → statement M
-combine-kind-spec =
-    tie.close
-    (tie.spec
+combine-kind-spec = tie.close (tie.spec
     Inv-loop μ-loop
     (λ c. (search needs, c .before .before .pre .4, changed-none))
     (λ c. search needs) (λ c. search needs) (λ c. search needs)

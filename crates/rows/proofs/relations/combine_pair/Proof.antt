@@ -6,9 +6,7 @@ use Rattle.rows.proofs.relations.combine_pair.Statement.{statement}
 use Rattle.rows.proofs.relations.combine_pair.Tie as tie
 
 pub combine-pair-spec : {M : Type 1} → statement M
-combine-pair-spec =
-    tie.close
-    (tie.spec
+combine-pair-spec = tie.close (tie.spec
     (λ c κs. search needs)
     (λ c. omega (arith, c .index .ensures, c .before .before .pre .1))
     (λ c. omega (arith, c .before .index .ensures, c .before .before .before .pre .1, c .before .before .before .pre .3))

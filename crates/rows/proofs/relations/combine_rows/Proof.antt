@@ -16,9 +16,7 @@ abbrev μ-loop : tie.MeasureT-loop
 μ-loop c n a₀ b i₀ a i = n - i
 
 pub combine-rows-spec : {M : Type 1} → statement M
-combine-rows-spec =
-    tie.close
-    (tie.spec
+combine-rows-spec = tie.close (tie.spec
     Inv-loop μ-loop
     (λ c. (search needs, c .before .before .pre .1, changed-none))
     (λ c. search needs) (λ c. search needs) (λ c. search needs) (λ c. search needs) (λ c κs. search needs) (λ c. search needs)

@@ -16,9 +16,7 @@ abbrev μ-loop : tie.MeasureT-loop
 μ-loop n rows₀ e i₀ rows i = n - i
 
 pub mask-rows-spec : {M : Type 1} → statement M
-mask-rows-spec =
-    tie.close
-    (tie.spec
+mask-rows-spec = tie.close (tie.spec
     Inv-loop μ-loop (λ c. (search needs, c .before .pre .1, changed-none)) (λ c. search needs) (λ c. search needs) (λ c κs. search needs)
     (λ c. search needs) (λ c. search needs) (λ c. search needs) (λ c. search needs)
     (λ c. let l = c .before .before .before .loop in

@@ -4,9 +4,7 @@ use Rattle.rows.proofs.relations.pair_in.Statement.{statement}
 use Rattle.rows.proofs.relations.pair_in.Tie as tie
 
 pub pair-in-spec : {M : Type 1} → statement M
-pair-in-spec =
-    tie.close
-    (tie.spec
+pair-in-spec = tie.close (tie.spec
     (λ c κs. search needs)
     (λ c. omega (arith, c .index .ensures, c .before .before .pre))
     (λ c. omega (arith, c .before .index .ensures, c .before .before .before .pre))

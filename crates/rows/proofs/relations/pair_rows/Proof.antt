@@ -7,9 +7,7 @@ use Rattle.rows.proofs.relations.pair_rows.Statement.{statement}
 use Rattle.rows.proofs.relations.pair_rows.Tie as tie
 
 pub pair-rows-spec : {M : Type 1} → statement M
-pair-rows-spec =
-    tie.close
-    (tie.spec
+pair-rows-spec = tie.close (tie.spec
     (λ c κs. search needs) (λ c κs. search needs)
     (λ c. omega (arith, c .before .index .ensures, c .before .before .before .pre))
     (λ c. omega (arith, c .before .index .ensures, c .before .before .before .pre, ap length (c .before .before .before .pre .2)))

@@ -21,8 +21,6 @@ returns-2 c = (
 )
 
 pub reverse-rows-spec : {M : Type 1} → statement M
-reverse-rows-spec =
-    tie.close
-    (tie.spec
+reverse-rows-spec = tie.close (tie.spec
     (λ c κs. search needs) (λ c κs. search needs) (λ c κs. search needs) (λ c. search needs) returns (λ c κs. search needs)
     (λ c κs. search needs) (λ c κs. search needs) (λ c. search needs) returns-2)

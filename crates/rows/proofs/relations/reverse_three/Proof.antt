@@ -10,8 +10,6 @@ returns c =
     (columns-of-three (s .args .rows .now) _ _ _ (s .pre) (c .before .before .column .ensures) (c .before .column2 .ensures) (c .column3 .ensures), simp length-set (s .pre))
 
 pub reverse-three-spec : {M : Type 1} → statement M
-reverse-three-spec =
-    tie.close
-    (tie.spec
+reverse-three-spec = tie.close (tie.spec
     (λ c. search needs) (λ c. search needs) (λ c. search needs) (λ c κs. search needs) (λ c. search needs) (λ c κs. search needs)
     (λ c. search needs) (λ c κs. search needs) (λ c. search needs) (λ c. search needs) returns)

@@ -17,9 +17,7 @@ abbrev μ-loop : tie.MeasureT-loop
 μ-loop n a b i₀ i = n - i
 
 pub rows-in-spec : {M : Type 1} → statement M
-rows-in-spec =
-    tie.close
-    (tie.spec
+rows-in-spec = tie.close (tie.spec
     Inv-loop μ-loop (λ c. (search needs, λ v w p q. all-none _)) (λ c. search needs) (λ c. search needs) (λ c. search needs)
     (λ c. search needs) (λ c κs. search needs)
     (λ c v w p q. let l = c .before .before .before .before .loop-test .taken in sym (all-stop _ _ _ l (sym (c .before .set-in .ensures _ (v _) (w _) (omega arith) (p .row _ l) (q .row _ l)) ∙ not-is _ _ (c .if1 .taken))))

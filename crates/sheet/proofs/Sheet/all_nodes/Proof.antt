@@ -12,9 +12,7 @@ returns c =
     c .load .ensures ∙ sound-used present (st .args .sheet .now) (λ p. omega (arith, c .before .shared-slice-known .given p)) (st .pre) refl
 
 pub all-nodes-spec : {M : Type 1} → statement M
-all-nodes-spec =
-    tie.close
-    (tie.spec
+all-nodes-spec = tie.close (tie.spec
     (λ c. search needs) (λ c. search needs)
     (λ c κs. let st = c .before in omega (arith, sound-length present (st .args .sheet .now) (st .pre)))
     returns)

@@ -65,9 +65,7 @@ returns-5 : tie.Need-returns-5
 returns-5 c = unfold askArrowBit in read-outside _ _ _ (sound (c .before .before)) (rw (le-ltb _ arrowCount (c .if1 .left)) refl)
 
 pub arrow-bit-spec : {M : Type 1} → statement M
-arrow-bit-spec =
-    tie.close
-    (tie.spec
+arrow-bit-spec = tie.close (tie.spec
     (λ c κs. search needs) (λ c. search needs) returns (λ c. search needs) (λ c. search needs) (λ c κs. sound (c .before .before))
     (λ c. search needs) (λ c. search needs)
     (λ c κs. let p = c .before .before in (sound (passed-2 p), p .before .before .before .if1 .taken, from-in p))

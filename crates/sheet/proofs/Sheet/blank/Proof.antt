@@ -69,9 +69,7 @@ returns-4 c =
     (upto-all (blankOf (n st)) (l .buf) (l .buf) (store (blank (n st))) (l .a + 1) (l .inv .1) (omega (arith, c .loop-test .left)) (length-store present (blank (n st))) (λ j h. refl))
 
 pub blank-spec : {M : Type 1} → statement M
-blank-spec =
-    tie.close
-    (tie.spec
+blank-spec = tie.close (tie.spec
     Inv-loop μ-loop returns returns-2 returns-3 (λ c. search needs) (λ c. search needs) (λ c. search needs) (λ c. search needs)
     (λ c κs. search needs) (λ c κs. search needs) loop-holds (λ c. search needs) (λ c. search needs) (λ c. search needs) (λ c. search needs)
     (λ c. search needs) (λ c. search needs) (λ c. search needs) (λ c. search needs) (λ c κs. search needs) (λ c. search needs)

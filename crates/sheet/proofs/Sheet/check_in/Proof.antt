@@ -83,9 +83,7 @@ loop-again c =
     )
 
 pub check-in-spec : {M : Type 1} → statement M
-check-in-spec =
-    tie.close
-    (tie.spec
+check-in-spec = tie.close (tie.spec
     Inv-loop μ-loop returns (λ c. search needs)
     (λ c. record { fits = omega (arith, c .shared-slice-known2 .given 2) })
     (λ c κs. search needs) loop-holds (λ c. search needs) (λ c. search needs) (λ c. search needs) (λ c. search needs) (λ c. search needs)

@@ -42,9 +42,7 @@ returns-4 : tie.Need-returns-4
 returns-4 c = unfold askLabelBit in read-outside _ _ _ (sound (c .before .before)) (rw (le-ltb _ labelCount (c .if1 .left)) refl)
 
 pub label-bit-spec : {M : Type 1} → statement M
-label-bit-spec =
-    tie.close
-    (tie.spec
+label-bit-spec = tie.close (tie.spec
     (λ c κs. search needs) (λ c. search needs) returns (λ c. search needs) (λ c. search needs) (λ c. search needs)
     (λ c κs. sound (c .before .before .before))
     (λ c κs. (sound (c .before .before .before .before .before), c .before .before .before .if1 .taken))

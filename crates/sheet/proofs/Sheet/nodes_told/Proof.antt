@@ -19,8 +19,6 @@ returns-3 c = λ φ e h.
     told-all φ (st .args .sheet .now) (st .args .n) (st .pre .1) _ (c .before .lowest .ensures) (sym e ∙ c .if2 .left)
 
 pub nodes-told-spec : {M : Type 1} → statement M
-nodes-told-spec =
-    tie.close
-    (tie.spec
+nodes-told-spec = tie.close (tie.spec
     (λ c. search needs) (λ c κs. search needs) (λ c. search needs) (λ c. search needs) (λ c κs. search needs) (λ c κs. search needs)
     returns-2 returns-3)

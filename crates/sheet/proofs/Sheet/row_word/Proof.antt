@@ -19,8 +19,6 @@ returns c =
     c .load .ensures ∙ sound-row present _ (λ i. omega (arith, known .shared-slice-known .given i)) (pre .0) _ _ (pre .1) (pre .2)
 
 pub row-word-spec : {M : Type 1} → statement M
-row-word-spec =
-    tie.close
-    (tie.spec
+row-word-spec = tie.close (tie.spec
     (λ c. search needs) (λ c. search needs) (λ c. search needs) (λ c. search needs) (λ c. search needs) (λ c. search needs)
     (λ c. search needs) load-requires returns)

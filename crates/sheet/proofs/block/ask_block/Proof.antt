@@ -66,7 +66,5 @@ returns-5 c = λ nodes told.
     sym (block-right (φ p) _ nodes _ _ (sealed (p .before .before)) h (sym (c .before .zero-right .ensures nodes (told .below) (told .word (st p .pre .1 h))) ∙ not-false _ (c .if4 .left)))
 
 pub ask-block-spec : {M : Type 1} → statement M
-ask-block-spec =
-    tie.close
-    (tie.spec
+ask-block-spec = tie.close (tie.spec
     (λ c κs. search needs) returns (λ c κs. search needs) returns-2 (λ c κs. search needs) returns-3 zero-right-requires returns-4 returns-5)

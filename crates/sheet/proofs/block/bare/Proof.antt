@@ -34,9 +34,7 @@ returns c =
     barely-all (st .args .block .now) (st .args .set) (l .left) (l .r) (l .inv) (omega (arith, c .loop-test .left))
 
 pub bare-spec : {M : Type 1} → statement M
-bare-spec =
-    tie.close
-    (tie.spec
+bare-spec = tie.close (tie.spec
     Inv-loop μ-loop
     (λ c. barely-none (c .before .args .block .now) (c .before .args .set))
     (λ c κs. search needs) (λ c. search needs) (λ c. search needs) load-requires (λ c κs. search needs) (λ c κs. search needs)

@@ -53,8 +53,6 @@ returns-5 c =
     ∙ ap (_&& zeroBut modulo257 (λ j. 0) (k p)) (sym (not-false (p .bare-seal .result) (c .before .before .if3 .left))) ∙ found p
 
 pub blank-arrow-spec : {M : Type 1} → statement M
-blank-arrow-spec =
-    tie.close
-    (tie.spec
+blank-arrow-spec = tie.close (tie.spec
     (λ c. search needs) (λ c. search needs) returns returns-2 (λ c κs. search needs) (λ c. search needs) (λ c. search needs) returns-3
     (λ c κs. search needs) returns-4 (λ c κs. search needs) (λ c κs. search needs) returns-5)

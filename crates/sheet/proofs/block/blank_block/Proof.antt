@@ -44,8 +44,6 @@ returns c =
     ∙ ap (reseal (present .sums)) (p .store .ensures ∙ ap (λ (k : List ℕ). putWord k 400 (st .args .used)) (heads _ _ (st .args .x) (st .args .y) (st .args .z) (wiped p .wipe .ensures) (st .pre)))
 
 pub blank-block-spec : {M : Type 1} → statement M
-blank-block-spec =
-    tie.close
-    (tie.spec
+blank-block-spec = tie.close (tie.spec
     (λ c κs. search needs) (λ c. search needs) (λ c. search needs) (λ c. search needs) (λ c. search needs) (λ c. search needs)
     (λ c κs. omega (arith, size (c .before .before .before))) (λ c κs. stored-size (c .before .before .before)) same-length returns)

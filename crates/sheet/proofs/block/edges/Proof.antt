@@ -20,7 +20,5 @@ returns c =
     (c .behind-words .ensures ∙ ap (λ (x : ℕ). x % 256 ^ padding φ wordCount) (c .before .before .before .load .ensures)))
 
 pub edges-spec : {M : Type 1} → statement M
-edges-spec =
-    tie.close
-    (tie.spec
+edges-spec = tie.close (tie.spec
     (λ c. search needs) (λ c κs. search needs) (λ c κs. search needs) (λ c κs. search needs) (λ c κs. search needs) returns)

@@ -60,7 +60,5 @@ returns-5 c = λ φ n nodes told.
     later (k p) (st p .pre .0) (bytes p) _ (p .load .ensures) (st p .args .b) (st p .pre .1) ∙ sym (head-later φ (k p) (st p .args .b) (c .if1 .left))
 
 pub head-right-spec : {M : Type 1} → statement M
-head-right-spec =
-    tie.close
-    (tie.spec
+head-right-spec = tie.close (tie.spec
     (λ c κs. search needs) returns returns-2 returns-3 returns-4 (λ c. search needs) (λ c. search needs) returns-5)

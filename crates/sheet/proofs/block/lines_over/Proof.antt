@@ -15,8 +15,6 @@ returns c = λ φ e.
     (c .before .before .before .outside .ensures) (c .before .outside2 .ensures) (c .outside3 .ensures)
 
 pub lines-over-spec : {M : Type 1} → statement M
-lines-over-spec =
-    tie.close
-    (tie.spec
+lines-over-spec = tie.close (tie.spec
     (λ c κs. search needs) (λ c. search needs) (λ c κs. search needs) (λ c κs. search needs) (λ c. search needs) (λ c κs. search needs)
     returns)

@@ -33,8 +33,6 @@ returns c =
     rw e at (l .inv .2)
 
 pub outside-spec : {M : Type 1} → statement M
-outside-spec =
-    tie.close
-    (tie.spec
+outside-spec = tie.close (tie.spec
     Inv-loop μ-loop loop-holds (λ c. search needs) (λ c. search needs) (λ c κs. search needs) (λ c κs. search needs) (λ c. search needs)
     (λ c. search needs) loop-again returns)

@@ -19,7 +19,5 @@ returns c = λ nodes below e.
     _ _ _ (c .before .before .before .before .outside .ensures) (c .before .bare .ensures) (c .outside2 .ensures)
 
 pub rows-over-spec : {M : Type 1} → statement M
-rows-over-spec =
-    tie.close
-    (tie.spec
+rows-over-spec = tie.close (tie.spec
     (λ c κs. search needs) (λ c κs. search needs) (λ c κs. search needs) bare-requires (λ c κs. search needs) returns)

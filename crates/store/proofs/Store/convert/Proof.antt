@@ -94,9 +94,7 @@ returns-2 c =
     )
 
 pub convert-spec : {M : Type 1} → statement M
-convert-spec =
-    tie.close
-    (tie.spec
+convert-spec = tie.close (tie.spec
     Inv-loop μ-loop (λ c κs. search needs) (λ c. search needs) (λ c. search needs) (λ c. search needs) returns
     (λ c. omega (arith, size (c .before)))
     (λ c. record { fits = omega (arith, known (c .before) .slice-known .given 2) })

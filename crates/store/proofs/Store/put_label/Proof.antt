@@ -23,9 +23,7 @@ returns c = λ v q.
     ap (_++ drop blockBytes t) (c .before .before .put-word .ensures) ∙ relabelled present (graphOf t) v (st .args .k .0) (st .args .x) t (st .pre .1) (o .stored) q
 
 pub put-label-spec : {M : Type 1} → statement M
-put-label-spec =
-    tie.close
-    (tie.spec
+put-label-spec = tie.close (tie.spec
     (λ c. search needs) (λ c. search needs)
     (λ c. let st = c .before in omega (arith, sound-length present (st .args .sheet .now) (st .pre .0)))
     (λ c. search needs) (λ c. search needs) (λ c. search needs) put-word-requires (λ c. search needs) returns)

@@ -20,9 +20,7 @@ returns c = λ v new.
     ap (_++ drop blockBytes t) (c .before .before .put-words .ensures) ∙ all-relabelled present (graphOf t) v (st .args .sets) new t (o .stored)
 
 pub put-labels-spec : {M : Type 1} → statement M
-put-labels-spec =
-    tie.close
-    (tie.spec
+put-labels-spec = tie.close (tie.spec
     (λ c. search needs) (λ c. search needs)
     (λ c. omega (arith, sound-length present (c .before .args .sheet .now) (c .before .pre)))
     (λ c κs. search needs) (λ c. search needs) returns)

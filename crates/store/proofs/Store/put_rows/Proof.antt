@@ -27,8 +27,6 @@ returns c = λ v inside r.
     (c .before .before .put-words .ensures ∙ ap (λ (m : ℕ). reseal (present .sums) (putRows m (st .args .rows) (take (from + blockBytes - from) (drop from t)))) (c .before .before .before .before .before .node-count .ensures .0))
 
 pub put-rows-spec : {M : Type 1} → statement M
-put-rows-spec =
-    tie.close
-    (tie.spec
+put-rows-spec = tie.close (tie.spec
     (λ c κs. search needs) (λ c. search needs) (λ c. search needs) (λ c. search needs) (λ c. search needs) (λ c. search needs)
     (λ c. search needs) part-put-words-end (λ c κs. search needs) (λ c. search needs) returns)

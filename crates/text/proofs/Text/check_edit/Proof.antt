@@ -25,9 +25,7 @@ returns-4 c =
     one-done _ _ 20 edit (r .before .before .before .limits-for .ensures) (r .before .if1 .left) (sym (r .read .ensures) ∙ c .before .before .turn .given .1) (c .if2 .left)
 
 pub check-edit-spec : {M : Type 1} → statement M
-check-edit-spec =
-    tie.close
-    (tie.spec
+check-edit-spec = tie.close (tie.spec
     (λ c κs. search needs) (λ c. search needs)
     (λ c. one-long _ _ 20 edit (c .before .before .limits-for .ensures) (c .if1 .taken))
     (λ c κs. search needs) (λ c. search needs) (λ c. search needs) (λ c κs. search needs) returns-2 returns-3 returns-4)

@@ -34,9 +34,7 @@ returns-3 c =
     record { memory = search needs; starts = search needs; contents = ap (λ (k : ℕ). take k text) size }
 
 pub first-rule-spec : {M : Type 1} → statement M
-first-rule-spec =
-    tie.close
-    (tie.spec
+first-rule-spec = tie.close (tie.spec
     (λ c κs. search needs) (λ c. search needs) (λ c. search needs) (λ c. search needs) (λ c. search needs) returns (λ c κs. search needs)
     (λ c. search needs) (λ c. search needs) (λ c. search needs) (λ c. search needs) (λ c. search needs) returns-2 (λ c. search needs)
     (λ c. search needs) part-result-end-3 returns-3)

@@ -34,9 +34,7 @@ loop-again c =
     (was-read _ _ (expr rule) _ e .inside (l .inv .0), start-next _ _ (l .left) _ (search needs) e ∙ l .inv .1)
 
 pub rule-start-spec : {M : Type 1} → statement M
-rule-start-spec =
-    tie.close
-    (tie.spec
+rule-start-spec = tie.close (tie.spec
     Inv-loop μ-loop (λ c κs. search needs) loop-holds (λ c κs. search needs) (λ c. search needs) (λ c. search needs) returns
     (λ c. search needs) (λ c. search needs) loop-again
     (λ c. start-here _ _ _ _ (c .loop-test .left) ∙ c .before .loop .inv .1))

@@ -1,0 +1,4 @@
+pub mod BlockMade
+pub mod EditBlocks
+pub mod EditAnswers
+pub mod LoggedEdits

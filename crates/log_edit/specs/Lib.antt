@@ -1,0 +1,2 @@
+pub mod LogEdit
+pub mod LoggedEdits

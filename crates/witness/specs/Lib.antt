@@ -1,0 +1,3 @@
+pub mod Witnessed
+pub mod Walked
+pub mod Told
