@@ -46,7 +46,7 @@ fn put_use(sheet: &mut [u8], node: Node, used: bool)
     ensures { λ _. ⌜ now (sheet .exit) ≡ store (setUse (graphOf (now (sheet .entry))) (node .0) used) ⌝ }
 {
     let all = with_use(Sheet::all_nodes(sheet), node, used);
-    seal::put_word(&mut sheet[0..Sheet::BLOCK], 16 + 8 * Sheet::LABELS, all);
+    seal::put_word(&mut sheet[0..Sheet::BLOCK], Sheet::IN_USE, all);
 }
 
 // Whether the node has a label.

@@ -32,8 +32,8 @@ fn put_beside(block: &mut [u8], at: usize, other: &[u8], m: usize, n: usize)
 {
     let mut i = 0;
     while i < m {
-        let own = 16 + 8 * (at + i);
-        let x = bitset::load(other, 16 + 8 * i);
+        let own = seal::word_place(at + i);
+        let x = bitset::load(other, seal::word_place(i));
         let y = bitset::either(bitset::load(block, own), raised(x, n));
         bitset::store(block, own, y);
         i += 1;

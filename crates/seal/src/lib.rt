@@ -42,6 +42,14 @@ struct Sums {
     t: u64,
 }
 
+// Where word i of a block stands, after its head of 16 bytes. Inner: a block has no more than 61 words.
+pub fn word_place(i: usize) -> usize
+    requires { ⌜ i < 64 ⌝ }
+    ensures { λ r. ⌜ r ≡ 16 + 8 * i ⌝ }
+{
+    16 + 8 * i
+}
+
 // A byte as a word. Inner: says beside its value that it is below 256.
 fn wide(x: u8) -> u64
     ensures { λ r. ⌜ (r ≡ x) × (r < 256) ⌝ }

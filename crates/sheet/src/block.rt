@@ -71,7 +71,7 @@ fn outside(block: &[u8], from: usize, to: usize, mask: u64) -> u64
     let mut r = 0;
     let mut j = from;
     while j < to {
-        r = r | bitset::minus(bitset::load(block, 16 + 8 * j), mask);
+        r = r | bitset::minus(bitset::load(block, seal::word_place(j)), mask);
         j += 1;
     }
     r
@@ -103,7 +103,8 @@ fn bare(block: &[u8], set: u64) -> u64
     let mut r = 0;
     let mut left = set;
     while 0 < left {
-        r = r | bitset::minus(bitset::load(block, 16 + 8 * bitset::first(left)), 0);
+        let w = bitset::load(block, seal::word_place(bitset::first(left)));
+        r = r | bitset::minus(w, 0);
         left = bitset::but_first(left);
     }
     r
@@ -182,6 +183,6 @@ pub fn blank_block(block: &mut [u8], x: u8, y: u8, z: u8, used: u64)
     block[0] = x;
     block[1] = y;
     block[2] = z;
-    bitset::store(block, 16 + 8 * Sheet::LABELS, used);
+    bitset::store(block, Sheet::IN_USE, used);
     seal::seal(block);
 }

@@ -42,6 +42,9 @@ impl Sheet {
 
     pub const BYTES: usize = Sheet::BLOCKS * Sheet::BLOCK;
 
+    // The place of the word of the nodes in use, line 48 of block 0: what `seal::word_place` says, which a constant cannot call.
+    pub const IN_USE: usize = 16 + 8 * Sheet::LABELS;
+
     // Questions 1 to 4, of any bytes.
     pub fn check(sheet: &[u8]) -> Answer
         ensures { λ r. ⌜ asked r ≡ askSheet (now (sheet .entry)) ⌝ }
@@ -59,7 +62,7 @@ impl Sheet {
         }
         let below = bitset::lowest(n);
         if held {
-            return bitset::both(below, bitset::load(sheet, 16 + 8 * Sheet::LABELS));
+            return bitset::both(below, bitset::load(sheet, Sheet::IN_USE));
         }
         below
     }
@@ -159,7 +162,7 @@ impl Sheet {
         requires { ⌜ Sound (now sheet) ⌝ }
         ensures { λ r. ⌜ r ≡ setOf (graphOf (now (sheet .entry)) .n) (isNode (graphOf (now (sheet .entry)))) ⌝ }
     {
-        bitset::load(sheet, 16 + 8 * Sheet::LABELS)
+        bitset::load(sheet, Sheet::IN_USE)
     }
 
     // The set of the nodes with label k. Inner: the sheet is sound and has that label.
@@ -167,7 +170,7 @@ impl Sheet {
         requires { ⌜ Sound (now sheet) × (k .0 < labelCount) ⌝ }
         ensures { λ r. ⌜ r ≡ setOf (graphOf (now (sheet .entry)) .n) (graphOf (now (sheet .entry)) .labelled (k .0)) ⌝ }
     {
-        bitset::load(sheet, 16 + 8 * k.0 as usize)
+        bitset::load(sheet, seal::word_place(k.0 as usize))
     }
 
     // The set of the nodes to which arrow a goes from node i. Inner: the sheet is sound and has that arrow and node.
@@ -177,7 +180,7 @@ impl Sheet {
     {
         bitset::load(
             sheet,
-            Sheet::BLOCK * (a.0 as usize + 1) + (16 + 8 * i.0 as usize),
+            Sheet::BLOCK * (a.0 as usize + 1) + seal::word_place(i.0 as usize),
         )
     }
 }

@@ -33,11 +33,7 @@ impl Store {
             return answer;
         };
         let n = card[2] as usize;
-        bitset::store(
-            &mut card[0..Sheet::BLOCK],
-            16 + 8 * Sheet::LABELS,
-            bitset::lowest(n),
-        );
+        bitset::store(&mut card[0..Sheet::BLOCK], Sheet::IN_USE, bitset::lowest(n));
         let mut b = 0;
         while b < Sheet::BLOCKS {
             let from = Sheet::BLOCK * b;
@@ -53,7 +49,11 @@ impl Store {
         requires { ⌜ Sound (now sheet) × (k .0 < labelCount) ⌝ }
         ensures { λ _. ⌜ ((v : Nodes) → x ≡ setOf (graphOf (now (sheet .entry)) .n) v → now (sheet .exit) ≡ store (relabel (graphOf (now (sheet .entry))) (k .0) v)) ⌝ }
     {
-        seal::put_word(&mut sheet[0..Sheet::BLOCK], 16 + 8 * k.0 as usize, x);
+        seal::put_word(
+            &mut sheet[0..Sheet::BLOCK],
+            seal::word_place(k.0 as usize),
+            x,
+        );
     }
 
     // Gives each label the nodes of its word. Inner: the sheet is sound.
@@ -83,7 +83,7 @@ fn put_words(block: &mut [u8], n: usize, rows: [u64; 64])
 {
     let mut i = 0;
     while i < n {
-        bitset::store(block, 16 + 8 * i, rows[i]);
+        bitset::store(block, seal::word_place(i), rows[i]);
         i += 1;
     }
     seal::seal(block);

@@ -33,5 +33,5 @@ returns c =
 
 pub put-use-spec : {M : Type 1} → statement M
 put-use-spec = tie.close (tie.spec
-    (λ c κs. search needs) with-use-requires (λ c. search needs) (λ c. search needs) part-put-word-end (λ c. search needs)
-    (λ c. search needs) put-word-requires (λ c. search needs) returns)
+    (λ c κs. search needs) with-use-requires (λ c. search needs) (λ c. search needs) part-put-word-end put-word-requires
+    (λ c. search needs) returns)

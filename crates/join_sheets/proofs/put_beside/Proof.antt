@@ -23,8 +23,11 @@ abbrev μ-loop : tie.MeasureT-loop
 
 -- the word to put, and its place
 module _ (c : tie.After-either Inv-loop μ-loop) where
+  abbrev places : tie.After-word-place2 Inv-loop μ-loop
+  places = c .before .before .before .before .before
+
   abbrev at-loop : tie.At-loop Inv-loop μ-loop
-  at-loop = c .before .before .before .before .before .before
+  at-loop = places .before .before .before
 
   abbrev start : tie.Start Inv-loop μ-loop
   start = at-loop .before .before .before
@@ -35,13 +38,19 @@ module _ (c : tie.After-either Inv-loop μ-loop) where
   abbrev own : ℕ
   own = 16 + 8 * (start .args .at + i)
 
+  own-is : places .before .word-place .result ≡ own
+  own-is = places .before .word-place .ensures
+
   room : own + 8 ≤ length (at-loop .loop .block)
-  room = omega (arith, at-loop .loop .inv .1, start .pre .2, c .before .before .before .before .before .loop-test .taken)
+  room = omega (arith, at-loop .loop .inv .1, start .pre .2, places .before .before .loop-test .taken)
 
   word : c .either .result ≡ beside (start .args .n) (wordAt (start .args .block .now) own) (wordAt (start .args .other .now) (16 + 8 * i))
   word =
+      let read = c .before .before .before .before .load .ensures ∙ ap (wordAt (start .args .other .now)) (places .word-place2 .ensures) in
       c .either .ensures
-      ∙ ap₂ (combined _||_) (c .before .before .load2 .ensures ∙ at-loop .loop .inv .3 own (omega arith)) (c .before .raised .ensures ∙ ap (raised (start .args .n)) (c .before .before .before .before .load .ensures))
+      ∙ ap₂ (combined _||_)
+      (c .before .before .load2 .ensures ∙ ap (wordAt (at-loop .loop .block)) own-is ∙ at-loop .loop .inv .3 own (omega arith))
+      (c .before .raised .ensures ∙ ap (raised (start .args .n)) read)
 
 put-one : (at n : ℕ) (other : List ℕ) (i : ℕ) (block l : List ℕ) (x : ℕ) → l ≡ putBeside at n other i block → x ≡ beside n (wordAt block (16 + 8 * (at + i))) (wordAt other (16 + 8 * i))
     → putWord l (16 + 8 * (at + i)) x ≡ putBeside at n other (i + 1) block
@@ -51,7 +60,7 @@ loop-again : tie.Need-loop-again Inv-loop μ-loop
 loop-again c =
     let d = c .before .before .before .before in
     let l = at-loop d .loop in
-    let s = c .before .before .store .ensures in (
+    let s = c .before .before .store .ensures ∙ ap (λ (p : ℕ). putWord (l .block) p (d .either .result)) (own-is d) in (
       search needs,
       ap length s ∙ length-putWord (l .block) (own d) _ (room d) ∙ l .inv .1,
       s ∙ put-one (start d .args .at) (start d .args .n) (start d .args .other .now) (l .i) (start d .args .block .now) _ _ (l .inv .2) (word d),
@@ -69,6 +78,5 @@ pub put-beside-spec : {M : Type 1} → statement M
 put-beside-spec = tie.close (tie.spec
     Inv-loop μ-loop
     (λ c. unfold putBeside in (search needs, search needs, refl, λ p l. refl))
-    (λ c. search needs) (λ c. search needs) (λ c. search needs) (λ c. search needs) (λ c. search needs) (λ c κs. search needs)
-    (λ c κs. search needs) (λ c κs. search needs) (λ c κs. search needs) (λ c κs. search needs) (λ c. search needs) (λ c. search needs)
-    loop-again (λ c. search needs) returns)
+    (λ c. search needs) (λ c κs. search needs) (λ c κs. search needs) (λ c κs. search needs) (λ c κs. search needs) (λ c κs. search needs)
+    (λ c κs. search needs) (λ c κs. search needs) (λ c. search needs) (λ c. search needs) loop-again (λ c. search needs) returns)

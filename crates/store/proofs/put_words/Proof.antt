@@ -1,6 +1,6 @@
-use mathlib.Core.Path.{_≡_, refl, sym, ap, _∙_}
+use mathlib.Core.Path.{_≡_, refl, sym, ap, ap₂, _∙_}
 use mathlib.Core.List.{List}
-use Prim.Native.Nat.{ℕ, _+_, _-_, _*_, _≤_}
+use Prim.Native.Nat.{ℕ, _-_, _≤_}
 use native.Mathlib.Nat.{le-antisymm}
 use native.Mathlib.Numerals.{add-one}
 use borrow.Author.Needs.{needs}
@@ -33,11 +33,12 @@ loop-again : tie.Need-loop-again Inv-loop μ-loop
 unfolding putRows
 loop-again c =
     let s = c .before .before in
-    let p = s .before .before .before in
+    let p = s .before .before .before .before in
     let l = p .loop in (
       search needs,
       s .store .kept .0 ∙ l .inv .1,
-      s .store .ensures ∙ ap (λ (y : List ℕ). putWord y (16 + 8 * l .i) (getD (st p .args .t3) (l .i) 0)) (l .inv .2) ∙ ap (put p) (sym (add-one (l .i))),
+      s .store .ensures ∙ ap₂ (λ (y : List ℕ) (q : ℕ). putWord y q (getD (st p .args .t3) (l .i) 0)) (l .inv .2) (s .before .word-place .ensures)
+          ∙ ap (put p) (sym (add-one (l .i))),
     )
 
 returns : tie.Need-returns Inv-loop μ-loop
@@ -48,5 +49,5 @@ returns c =
 
 pub put-words-spec : {M : Type 1} → statement M
 put-words-spec = tie.close (tie.spec
-    Inv-loop μ-loop loop-holds (λ c. search needs) (λ c. search needs) (λ c. search needs) (λ c. search needs) (λ c κs. search needs)
-    (λ c. search needs) (λ c. search needs) loop-again (λ c κs. search needs) (λ c. search needs) returns)
+    Inv-loop μ-loop loop-holds (λ c κs. search needs) (λ c. search needs) (λ c. search needs) (λ c κs. search needs) (λ c. search needs)
+    (λ c. search needs) loop-again (λ c κs. search needs) (λ c. search needs) returns)

@@ -1,6 +1,5 @@
 use mathlib.Core.Path.{refl, _∙_}
 use native.Mathlib.Omega.{arith}
-use borrow.Author.Needs.{needs}
 use Rattle.sheet.specs.Sheet.{present}
 use Rattle.sheet.proofs.SoundWords.{sound-length, sound-used}
 use Rattle.sheet.proofs.Sheet.all_nodes.Statement.{statement}
@@ -13,6 +12,5 @@ returns c =
 
 pub all-nodes-spec : {M : Type 1} → statement M
 all-nodes-spec = tie.close (tie.spec
-    (λ c. search needs) (λ c. search needs)
     (λ c κs. let st = c .before in omega (arith, sound-length present (st .args .sheet .now) (st .pre)))
     returns)

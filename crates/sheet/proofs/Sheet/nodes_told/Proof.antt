@@ -20,5 +20,4 @@ returns-3 c = λ φ e h.
 
 pub nodes-told-spec : {M : Type 1} → statement M
 nodes-told-spec = tie.close (tie.spec
-    (λ c. search needs) (λ c κs. search needs) (λ c. search needs) (λ c. search needs) (λ c κs. search needs) (λ c κs. search needs)
-    returns-2 returns-3)
+    (λ c. search needs) (λ c κs. search needs) (λ c κs. search needs) (λ c κs. search needs) returns-2 returns-3)

@@ -45,5 +45,5 @@ returns c =
 
 pub blank-block-spec : {M : Type 1} → statement M
 blank-block-spec = tie.close (tie.spec
-    (λ c κs. search needs) (λ c. search needs) (λ c. search needs) (λ c. search needs) (λ c. search needs) (λ c. search needs)
+    (λ c κs. search needs) (λ c. search needs) (λ c. search needs) (λ c. search needs)
     (λ c κs. omega (arith, size (c .before .before .before))) (λ c κs. stored-size (c .before .before .before)) same-length returns)

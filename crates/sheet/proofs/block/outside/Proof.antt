@@ -3,7 +3,7 @@ use mathlib.Core.Bool.{Bool, not, _&&_}
 use Prim.Native.Nat.{ℕ, _-_, _≤_}
 use native.Mathlib.Nat.{le-antisymm}
 use borrow.Author.Needs.{needs}
-use Rattle.bitset.specs.Words.{combined}
+use Rattle.bitset.specs.Words.{combined, wordAt}
 use Rattle.sheet.specs.Masks.{Outside}
 use Rattle.sheet.proofs.MaskLaws.{outside-none, outside-more}
 use Rattle.sheet.proofs.block.outside.Statement.{statement}
@@ -20,9 +20,10 @@ loop-holds c = (search needs, search needs, outside-none (c .before .args .block
 
 loop-again : tie.Need-loop-again Inv-loop μ-loop
 loop-again c =
-    let st = c .before .before .before .before .before in
-    let l = c .before .before .before .loop in
-    let e = c .minus .ensures ∙ ap (λ (w : ℕ). combined (λ (a b : Bool). a && not b) w (st .args .mask)) (c .before .load .ensures) in
+    let st = c .before .before .before .before .before .before in
+    let l = c .before .before .before .before .loop in
+    let read = c .before .load .ensures ∙ ap (wordAt (st .args .block .now)) (c .before .before .word-place .ensures) in
+    let e = c .minus .ensures ∙ ap (λ (w : ℕ). combined (λ (a b : Bool). a && not b) w (st .args .mask)) read in
     (search needs, search needs, outside-more (st .args .block .now) (st .args .from) (l .j) (st .args .mask) (l .r) (c .minus .result) (l .inv .0) (l .inv .2) e)
 
 returns : tie.Need-returns Inv-loop μ-loop
@@ -34,5 +35,5 @@ returns c =
 
 pub outside-spec : {M : Type 1} → statement M
 outside-spec = tie.close (tie.spec
-    Inv-loop μ-loop loop-holds (λ c. search needs) (λ c. search needs) (λ c κs. search needs) (λ c κs. search needs) (λ c. search needs)
-    (λ c. search needs) loop-again returns)
+    Inv-loop μ-loop loop-holds (λ c κs. search needs) (λ c κs. search needs) (λ c κs. search needs) (λ c. search needs) (λ c. search needs)
+    loop-again returns)

@@ -98,7 +98,7 @@ convert-spec = tie.close (tie.spec
     Inv-loop μ-loop (λ c κs. search needs) (λ c. search needs) (λ c. search needs) (λ c. search needs) returns
     (λ c. omega (arith, size (c .before)))
     (λ c. record { fits = omega (arith, known (c .before) .slice-known .given 2) })
-    (λ c. search needs) (λ c. search needs) (λ c. omega (arith, size (c .before))) (λ c. search needs) (λ c. search needs)
+    (λ c. search needs) (λ c. search needs) (λ c. omega (arith, size (c .before)))
     (λ c κs. let p = c .before .before in omega (arith, card-few (f p) (card p) (bytes p) (sound p)))
     (λ c κs. let p = c .before .before .before in omega (arith, length-block (card p) (size p) 0 (omega arith)))
     (λ c. let p = c .before .before in (omega arith, upto-none (resealed (begun p)) (begun p) (begun-size p)))
