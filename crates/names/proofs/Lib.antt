@@ -1,0 +1,4 @@
+pub mod TokenLaws
+pub mod ScanLaws
+pub mod ScannerLaws
+pub mod NameLaws

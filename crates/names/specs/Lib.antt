@@ -1,0 +1,4 @@
+pub mod Token
+pub mod Scan
+pub mod Scanned
+pub mod Names

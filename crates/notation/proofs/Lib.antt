@@ -1,0 +1,15 @@
+pub mod Says
+pub mod RowLaws
+pub mod SaidSpelled
+pub mod ReadSays
+pub mod SaidRead
+pub mod SaidCode
+pub mod CodeSaid
+pub mod LayoutLaws
+pub mod TableNaming
+pub mod Ended
+pub mod FaultPlace
+pub mod SameSpelling
+pub mod RoundTrip
+pub mod Promises
+pub mod Examples

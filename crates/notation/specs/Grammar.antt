@@ -1,0 +1,120 @@
+-- The notation: which words stand for which codes. Sorts are known from the position, so words are shared between sorts. Operands stand in the order of the codes.
+use mathlib.Core.List.{List, [], _∷_, _++_}
+use Prim.Native.Nat.{ℕ, suc}
+use Prim.Native.String.{String}
+use Rattle.logic.specs.Syntax.{Sort, node, arrow, rule}
+use Rattle.logic.specs.Limits.{Kind, labelNumber, arrowNumber, nodeNumber, leastCount, mostCount}
+use Rattle.names.specs.Token.{Token, ascii}
+
+-- Where the steps of an edit end: at `else`, at `end`, or with the text. Each such end is a 30.
+pub data Closing : Type 0 where
+  atElse atEnd textEnd : Closing
+
+-- What can be wanted: an expression of a sort; steps up to their end.
+pub data Slot : Type 0 where
+  expr : Sort → Slot
+  steps : Closing → Slot
+
+-- What follows a word: a mark; a number, written as a name or a count; a thing one level deeper; the steps after a step, on its level.
+pub data Item : Type 0 where
+  mark : Token → Item
+  number : Kind → Item
+  deeper : Slot → Item
+  more : Item
+
+pub record Row : Type 0 where
+  pub byte : ℕ
+  pub word : Token
+  pub items : List Item
+
+-- Operands in brackets, with commas between them.
+unfoldable pub afterComma : List Item → List Item
+afterComma [] = mark (ascii ")") ∷ []
+afterComma (x ∷ xs) = mark (ascii ",") ∷ x ∷ afterComma xs
+
+unfoldable pub bracketed : List Item → List Item
+bracketed [] = []
+bracketed (x ∷ xs) = mark (ascii "(") ∷ x ∷ afterComma xs
+
+abbrev pub row : ℕ → String → List Item → Row
+row c word operands = record { byte = c; word = ascii word; items = bracketed operands }
+
+-- A step: its operands, its branches, and the steps after it.
+abbrev pub step : ℕ → String → (operands branches : List Item) → Row
+step c word operands branches = record { byte = c; word = ascii word; items = bracketed operands ++ (branches ++ more ∷ []) }
+
+abbrev E : Item
+E = deeper (expr node)
+
+abbrev R : Item
+R = deeper (expr arrow)
+
+abbrev K : Item
+K = deeper (expr rule)
+
+abbrev labelName : Item
+labelName = number labelNumber
+
+abbrev arrowName : Item
+arrowName = number arrowNumber
+
+abbrev nodeName : Item
+nodeName = number nodeNumber
+
+abbrev pub elseWord : Token
+elseWord = ascii "else"
+
+abbrev pub endWord : Token
+endWord = ascii "end"
+
+-- THE NOTATION. 03, 04 and 11 are a name alone; 30 is the end of steps.
+unfoldable pub rows : Slot → List Row
+rows (expr node) =
+    row 0x01 "all" []
+    ∷ row 0x02 "none" []
+    ∷ row 0x05 "not" (E ∷ [])
+    ∷ row 0x06 "and" (E ∷ E ∷ [])
+    ∷ row 0x07 "or" (E ∷ E ∷ [])
+    ∷ row 0x08 "some" (R ∷ E ∷ [])
+    ∷ row 0x09 "every" (R ∷ E ∷ [])
+    ∷ row 0x0A "at-least" (number leastCount ∷ R ∷ E ∷ [])
+    ∷ row 0x0B "at-most" (number mostCount ∷ R ∷ E ∷ [])
+    ∷ []
+rows (expr arrow) =
+    row 0x12 "reversed" (R ∷ [])
+    ∷ row 0x13 "or" (R ∷ R ∷ [])
+    ∷ row 0x14 "and" (R ∷ R ∷ [])
+    ∷ row 0x15 "without" (R ∷ R ∷ [])
+    ∷ row 0x16 "to" (R ∷ E ∷ [])
+    ∷ row 0x17 "pair" (nodeName ∷ nodeName ∷ [])
+    ∷ []
+rows (expr rule) =
+    row 0x21 "each" (E ∷ E ∷ [])
+    ∷ row 0x22 "each-arrow" (R ∷ R ∷ [])
+    ∷ row 0x23 "is" (nodeName ∷ E ∷ [])
+    ∷ row 0x24 "joined" (nodeName ∷ nodeName ∷ R ∷ [])
+    ∷ row 0x25 "and" (K ∷ K ∷ [])
+    ∷ row 0x26 "or" (K ∷ K ∷ [])
+    ∷ row 0x27 "not" (K ∷ [])
+    ∷ []
+rows (steps c) =
+    step 0x31 "mark" (labelName ∷ E ∷ []) []
+    ∷ step 0x32 "unmark" (labelName ∷ E ∷ []) []
+    ∷ step 0x33 "add" (arrowName ∷ R ∷ []) []
+    ∷ step 0x34 "take" (arrowName ∷ R ∷ []) []
+    ∷ step 0x35 "if" (K ∷ []) (deeper (steps atElse) ∷ deeper (steps atEnd) ∷ [])
+    ∷ []
+
+-- What the tokens to come must be: a mark, a number, a thing at a level.
+pub data Goal : Type 0 where
+  mark : Token → Goal
+  number : Kind → Goal
+  thing : Slot → (level : ℕ) → Goal
+
+-- The items of a row that stands in a slot, at a level.
+unfoldable pub goals : Slot → ℕ → List Item → List Goal
+goals s d [] = []
+goals s d (mark t ∷ is) = mark t ∷ goals s d is
+goals s d (number k ∷ is) = number k ∷ goals s d is
+goals s d (deeper w ∷ is) = thing w (suc d) ∷ goals s d is
+goals s d (more ∷ is) = thing s d ∷ goals s d is

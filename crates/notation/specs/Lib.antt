@@ -1,0 +1,7 @@
+pub mod Grammar
+pub mod Spell
+pub mod Parse
+pub mod Layout
+pub mod Words
+pub mod Faults
+pub mod Promises
