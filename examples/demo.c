@@ -267,13 +267,14 @@ static void show_edit(const char *name) {
     enter_edit(&edit);
 }
 
-/* The edit's first line alone, as an edit. */
-static void show_first_step(const char *name) {
+/* One line of an edit, as an edit. */
+static void show_step(const char *name, size_t line, const char *which) {
     struct text edit;
     load_text(&edit, name);
-    edit.length = edit.parts[0].length;
+    edit.length = edit.parts[line].length;
+    memmove(edit.bytes, edit.bytes + edit.parts[line].start, edit.length);
     edit.bytes[edit.length++] = 0x30;
-    printf("   Its first step alone, %s:\n", edit.parts[0].why);
+    printf("   Its %s step alone, %s:\n", which, edit.parts[line].why);
     enter_edit(&edit);
 }
 
@@ -479,6 +480,8 @@ int main(int count, char **words) {
     judge_sheet();
     printf("\n1. An edit that is entered (move.hex)\n\n");
     show_edit("move.hex");
+    printf("\n");
+    show_step("move.hex", 5, "last");
     printf("\n2. An edit that would break a rule (crowd.hex)\n\n");
     load_sheet("sheet.bin");
     show_edit("crowd.hex");
@@ -486,7 +489,7 @@ int main(int count, char **words) {
     show_edit("swap.hex");
     printf("\n");
     load_sheet("sheet.bin");
-    show_first_step("swap.hex");
+    show_step("swap.hex", 0, "first");
     printf("\n4. A sheet that breaks a rule, and the edit that repairs it (clash.txt, repair.hex)\n\n");
     load_sheet("clash.bin");
     judge_sheet();

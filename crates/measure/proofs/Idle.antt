@@ -17,10 +17,10 @@ use Rattle.logic.proofs.Tables.{cond-both}
 use Rattle.text.specs.Code.{code, editCode}
 use Rattle.text.specs.Stands.{EditStands}
 use Rattle.tree.specs.Tree.{same, count, tree, bare}
-use Rattle.tree.specs.Sizes.{Measure, measure, back, join, nothing, measures}
+use Rattle.tree.specs.Sizes.{Measure, measure, back, together, nothing, measures}
 use Rattle.tree.proofs.TreeLaws.{tree-0, tree-1, tree-2}
 use Rattle.tree.proofs.Measured.{measured}
-use Rattle.tree.proofs.BookMeasures.{join-nothing, join-comm, join-assoc, back-join}
+use Rattle.tree.proofs.BookMeasures.{together-nothing, together-comm, together-assoc, back-together}
 use Rattle.measure.specs.Pruned.{pruned}
 use Rattle.measure.specs.Book.{BookKept}
 
@@ -51,19 +51,19 @@ arrow-idle : (a : ℕ) (S : Expr arrow) (K : Expr rule) → count (tree K) 0x11 
 arrow-idle a S K = unfold putArrow update in substitute-idle 0x11 a label (update arrowKind a S) (λ j e. refl) (λ j e. rw e) K
 
 -- a book with K in it, carried, has K carried in it
-with-rule : (s : ℕ) (Z : Edit) (K : Expr rule) (N : Measure) → back (1 + s) Z (join (measure (tree K)) N) ≡ join (measure (tree (carry Z K))) (back s Z N)
-with-rule s Z K N = back-join 1 s Z (measure (tree K)) N ∙ ap (λ (M : Measure). join M (back s Z N)) (sym (measured Z K))
+with-rule : (s : ℕ) (Z : Edit) (K : Expr rule) (N : Measure) → back (1 + s) Z (together (measure (tree K)) N) ≡ together (measure (tree (carry Z K))) (back s Z N)
+with-rule s Z K N = back-together 1 s Z (measure (tree K)) N ∙ ap (λ (M : Measure). together M (back s Z N)) (sym (measured Z K))
 
 -- one step, `put` being what it does to a rule and Y the edit that follows without its idle steps
 step-same : (s : ℕ) (Z : Edit) (K : Expr rule) (N : Measure) (c k : ℕ) (put : Expr rule → Expr rule) → ((L : Expr rule) → count (tree L) c k ≡ 0 → put L ≡ L) → (Y step : Edit) → carry step K ≡ put (carry Y K) → carry Y K ≡ carry Z K
-    → carry (cond (eqb (back (1 + s) Z (join (measure (tree K)) N) .counts c k) 0) Y step) K ≡ put (carry Z K)
-unfolding join measure
-step-same s Z K N c k put idle Y step e f = go (eqb (back (1 + s) Z (join (measure (tree K)) N) .counts c k) 0) (eqb-true _ _) where
-  go : (b : Bool) → (b ≡ true → back (1 + s) Z (join (measure (tree K)) N) .counts c k ≡ 0) → carry (cond b Y step) K ≡ put (carry Z K)
+    → carry (cond (eqb (back (1 + s) Z (together (measure (tree K)) N) .counts c k) 0) Y step) K ≡ put (carry Z K)
+unfolding together measure
+step-same s Z K N c k put idle Y step e f = go (eqb (back (1 + s) Z (together (measure (tree K)) N) .counts c k) 0) (eqb-true _ _) where
+  go : (b : Bool) → (b ≡ true → back (1 + s) Z (together (measure (tree K)) N) .counts c k ≡ 0) → carry (cond b Y step) K ≡ put (carry Z K)
   go true p = f ∙ sym (idle (carry Z K) (omega (arith, p refl, ap (λ (M : Measure). M .counts c k) (with-rule s Z K N))))
   go false p = e ∙ ap put f
 
-pruned-rule : (s : ℕ) (Z : Edit) (K : Expr rule) (N : Measure) → carry (pruned (1 + s) Z (join (measure (tree K)) N)) K ≡ carry Z K
+pruned-rule : (s : ℕ) (Z : Edit) (K : Expr rule) (N : Measure) → carry (pruned (1 + s) Z (together (measure (tree K)) N)) K ≡ carry Z K
 unfolding pruned carry
 pruned-rule s finish K N = refl
 pruned-rule s (addLabel k E Z) K N = step-same s Z K N 0x03 k (putLabel k (or (label k) E)) (label-idle k _) _ _ refl (pruned-rule s Z K N)
@@ -74,17 +74,17 @@ pruned-rule s (choose L P Q Z) K N =
     rw (with-rule s Z K N, pruned-rule s Z K N) (ap₂ (λ (T U : Expr rule). both (either (notRule L) T) (either L U)) (pruned-rule s P (carry Z K) (back s Z N)) (pruned-rule s Q (carry Z K) (back s Z N)))
 
 -- each rule of a part of the book
-pruned-rules : (r s : ℕ) (Z : Edit) (Ks : List (Expr rule)) (M N : Measure) → r ≡ length Ks + s → M ≡ join (measures Ks) N → carriedBook (pruned r Z M) Ks ≡ carriedBook Z Ks
+pruned-rules : (r s : ℕ) (Z : Edit) (Ks : List (Expr rule)) (M N : Measure) → r ≡ length Ks + s → M ≡ together (measures Ks) N → carriedBook (pruned r Z M) Ks ≡ carriedBook Z Ks
 unfolding measures
 pruned-rules r s Z [] M N e p = refl
 pruned-rules r s Z (K ∷ Ks) M N e p =
     let f : r ≡ 1 + (length Ks + s) = omega (arith, e) in
-    ap₂ _∷_ (rw (f, p, join-assoc (measure (tree K)) (measures Ks) N) (pruned-rule (length Ks + s) Z K (join (measures Ks) N)))
-    (pruned-rules r (1 + s) Z Ks M (join (measure (tree K)) N) (omega (arith, e)) (p ∙ ap (λ (O : Measure). join O N) (join-comm (measure (tree K)) (measures Ks)) ∙ join-assoc (measures Ks) (measure (tree K)) N))
+    ap₂ _∷_ (rw (f, p, together-assoc (measure (tree K)) (measures Ks) N) (pruned-rule (length Ks + s) Z K (together (measures Ks) N)))
+    (pruned-rules r (1 + s) Z Ks M (together (measure (tree K)) N) (omega (arith, e)) (p ∙ ap (λ (O : Measure). together O N) (together-comm (measure (tree K)) (measures Ks)) ∙ together-assoc (measures Ks) (measure (tree K)) N))
 
 -- The whole book, and the codes of its rules.
 pub pruned-book : (Z : Edit) (rules : List (Expr rule)) → carriedBook (pruned (length rules) Z (measures rules)) rules ≡ carriedBook Z rules
-pruned-book Z rules = pruned-rules (length rules) 0 Z rules (measures rules) nothing (omega arith) (sym (join-nothing (measures rules)))
+pruned-book Z rules = pruned-rules (length rules) 0 Z rules (measures rules) nothing (omega arith) (sym (together-nothing (measures rules)))
 
 pub pruned-codes : (Z : Edit) (rules : List (Expr rule)) → map code (carriedBook (pruned (length rules) Z (measures rules)) rules) ≡ map code (carriedBook Z rules)
 pruned-codes Z rules = ap (map code) (pruned-book Z rules)

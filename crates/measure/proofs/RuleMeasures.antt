@@ -9,8 +9,8 @@ use Rattle.logic.specs.Syntax.{rule, Expr, Edit}
 use Rattle.logic.specs.Carry.{carriedBook}
 use Rattle.text.specs.Code.{code, editCode, bookCode, bookLevels}
 use Rattle.tree.specs.Tree.{Tree, tree, size, height, under}
-use Rattle.tree.specs.Sizes.{Measure, measure, back, join, nothing, measures, capped}
-use Rattle.tree.proofs.BookMeasures.{join-nothing, join-comm, join-assoc, measured-book, len-codes, tall-levels}
+use Rattle.tree.specs.Sizes.{Measure, measure, back, together, nothing, measures, capped}
+use Rattle.tree.proofs.BookMeasures.{together-nothing, together-comm, together-assoc, measured-book, len-codes, tall-levels}
 use Rattle.tree.proofs.Measured.{same-measure, under-one}
 use Rattle.ends.specs.Shapes.{At, cell}
 use Rattle.ends.specs.Books.{RuleAt, BookIs, SomeBook}
@@ -32,9 +32,9 @@ zeros = record {
   deep-at = λ c k n. getD-replicate 130 (64 + cell c k) 0 0 (omega (arith, named-lt c k n));
 }
 
--- a text put once at level 1, with its length, is joined
-put-once : (t : Tree) (x : ℕ) (M : Measure) → x ≡ size t → longer x (added 1 1 (measure t) M) ≡ join M (measure t)
-unfolding added measure join
+-- a text put once at level 1, with its length, is taken together with the rest
+put-once : (t : Tree) (x : ℕ) (M : Measure) → x ≡ size t → longer x (added 1 1 (measure t) M) ≡ together M (measure t)
+unfolding added measure together
 put-once t x M e = same-measure (ap (M .len +_) e) (ap (max (M .tall)) (under-one (height t))) (λ c k. omega arith) (λ c k. ap (max (M .deeps c k)) (under-one (measure t .deeps c k)))
 
 pub rule-added : (text : List ℕ) (at : ℕ) (K : Expr rule) → RuleAt text at K → (next : ℕ) (l₀ l l′ : List ℕ) → length l ≡ 130 → ((t : Tree) → At text at t → Scanned at 1 1 t next l₀ l)
@@ -53,7 +53,7 @@ pub record Left (book : List ℕ) (rules : List (Expr rule)) (at n : ℕ) (state
   pub number : n + length left ≡ length rules
   pub M : Measure
   pub holds : Holds state M
-  pub joins : join M (measures left) ≡ measures rules
+  pub all-together : together M (measures left) ≡ measures rules
 
 pub record Adding (book state : List ℕ) (at n : ℕ) : Type 0 where
   pub long : length state ≡ 130
@@ -70,7 +70,7 @@ adding-first book state s e = record {
     number = omega arith;
     M = nothing;
     holds = subst (λ (l : List ℕ). Holds l nothing) (sym e) zeros;
-    joins = join-comm nothing (measures rules) ∙ join-nothing (measures rules);
+    all-together = together-comm nothing (measures rules) ∙ together-nothing (measures rules);
   };
 }
 
@@ -82,9 +82,9 @@ module _ {book : List ℕ} {rules : List (Expr rule)} {at n : ℕ} {state : List
     left = f .others;
     stand = f .next next (a .ends);
     number = omega (arith, h .number, ap length (f .are));
-    M = join (h .M) (measure (tree (f .K)));
+    M = together (h .M) (measure (tree (f .K)));
     holds = a .holds (h .M) (h .holds);
-    joins = join-assoc (h .M) (measure (tree (f .K))) (measures (f .others)) ∙ sym (ap (λ (Ks : List (Expr rule)). join (h .M) (measures Ks)) (f .are)) ∙ h .joins;
+    all-together = together-assoc (h .M) (measure (tree (f .K))) (measures (f .others)) ∙ sym (ap (λ (Ks : List (Expr rule)). together (h .M) (measures Ks)) (f .are)) ∙ h .all-together;
   }
 
 pub adding-more : (book state state′ : List ℕ) (at n next : ℕ) → at < length book → length state′ ≡ length state → Adding book state at n → ((K : Expr rule) → RuleAt book at K → RuleAdded at K next state state′) → Adding book state′ next (n + 1)
@@ -95,7 +95,7 @@ unfolding measures
 adding-end book state at n l a rules h =
     let q = a .each rules h in
     let e = none-left l (q .stand) in
-    record { number-is = omega (arith, q .number, ap length e); holds = holds-is (sym (join-nothing (q .M)) ∙ sym (ap (λ (Ks : List (Expr rule)). join (q .M) (measures Ks)) e) ∙ q .joins) (q .holds) }
+    record { number-is = omega (arith, q .number, ap length e); holds = holds-is (sym (together-nothing (q .M)) ∙ sym (ap (λ (Ks : List (Expr rule)). together (q .M) (measures Ks)) e) ∙ q .all-together) (q .holds) }
 
 -- the empty book, and any other
 pub no-book : (book : List ℕ) → length book ≡ 0 → (rules : List (Expr rule)) (Z : Edit) → BookIs book rules → (start : ℕ) (kept : List ℕ) → BookSized Z rules 0 0 × BookKept Z rules start kept

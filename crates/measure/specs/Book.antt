@@ -7,14 +7,14 @@ use Rattle.logic.specs.Syntax.{rule, Expr, Edit}
 use Rattle.logic.specs.Carry.{carriedBook}
 use Rattle.text.specs.Code.{code, editCode, bookCode, bookLevels}
 use Rattle.tree.specs.Tree.{tree}
-use Rattle.tree.specs.Sizes.{Measure, measure, join, measures, capped}
+use Rattle.tree.specs.Sizes.{Measure, measure, together, measures, capped}
 use Rattle.measure.specs.State.{Holds}
 use Rattle.measure.specs.Pruned.{pruned}
 
--- a rule's measure joined to that of the rules before it; `next` is the place behind the rule
+-- a rule's measure together with that of the rules before it; `next` is the place behind the rule
 pub record RuleAdded (at : ℕ) (K : Expr rule) (next : ℕ) (l l′ : List ℕ) : Type 0 where
   pub ends : next ≡ at + length (code K)
-  pub holds : (M : Measure) → Holds l M → Holds l′ (join M (measure (tree K)))
+  pub holds : (M : Measure) → Holds l M → Holds l′ (together M (measure (tree K)))
 
 -- the number of a book's rules and its measure
 pub record BookAdded (rules : List (Expr rule)) (number : ℕ) (l : List ℕ) : Type 0 where

@@ -9,7 +9,7 @@ ghost use Rattle.measure.specs.Book.{RuleAdded, BookAdded};
 use super::numbers;
 use super::scan;
 
-// The measure of the rule at `at`, joined to that in `state`; answers the place behind the rule.
+// The measure of the rule at `at`, together with that in `state`; answers the place behind the rule.
 // Inner: the text was read before.
 fn add_rule(book: &[u8], at: usize, state: &mut [usize]) -> usize
     requires { ⌜ SomeRule (now book) at × (length (now state) ≡ numbers) ⌝ }

@@ -13,7 +13,7 @@ use Rattle.text.proofs.Converse.{Allowed}
 use Rattle.text.proofs.TextSpelling.{EachAllowed}
 use Rattle.names.specs.Token.{Token}
 use Rattle.names.specs.Names.{Naming}
-use Rattle.notation.specs.Grammar.{Closing, atElse, atEnd, textEnd, Slot, expr, steps, mark, number, Row, rows, bracketed, afterComma, Goal, thing, goals}
+use Rattle.notation.specs.Grammar.{Closing, atElse, atEnd, textEnd, Slot, expr, steps, mark, number, Phrase, phrases, bracketed, afterComma, Goal, thing, goals}
 use Rattle.notation.proofs.Says.{_∈_, first, later, Begins, by-word, label as a-label, nominal as a-node, arrowKind as an-arrow, closing-else, closing-end, Says, nothing, a-mark, a-number, begin, last, one-rule}
 
 module _ (name : Naming) (l : Limits) where
@@ -32,9 +32,9 @@ module _ (name : Naming) (l : Limits) where
       → Said (c ++ bytes) (thing s d ∷ g) m
   begin-said i b x = record { tokens = _; says = begin i b (x .says) }
 
-  pub row-said : {bytes : List ℕ} {g : List Goal} {m : ℕ} {s : Slot} {d : ℕ} {r : Row} → r ∈ rows s → d ≤ l .deepest → Said bytes (goals s d (r .items) ++ g) m
+  pub phrase-said : {bytes : List ℕ} {g : List Goal} {m : ℕ} {s : Slot} {d : ℕ} {r : Phrase} → r ∈ phrases s → d ≤ l .deepest → Said bytes (goals s d (r .items) ++ g) m
       → Said (r .byte ∷ bytes) (thing s d ∷ g) m
-  row-said {r = r} i h x = record { tokens = _; says = begin h (by-word r i) (x .says) }
+  phrase-said {r = r} i h x = record { tokens = _; says = begin h (by-word r i) (x .says) }
 
   grouped : (a b c : List ℕ) {g : List Goal} {m : ℕ} → Said (a ++ (b ++ c)) g m → Said ((a ++ b) ++ c) g m
   grouped a b c x = rw (append-assoc a b c) x
@@ -51,49 +51,49 @@ module _ (name : Naming) (l : Limits) where
   two a b {bytes} e f x = grouped a b bytes (e _ _ _ (a-mark-said (f _ _ _ (a-mark-said x))))
 
   says-expr : {s : Sort} (e : Expr s) (d : ℕ) → d + levels e ≤ suc (l .deepest) → InRange (l .numbers) e → SaysThing (code e) (expr s) d
-  unfolding rows bracketed afterComma goals code levels byArity InRange
+  unfolding phrases bracketed afterComma goals code levels byArity InRange
   says-expr (label k) d h r bytes g m x₀ = begin-said (omega arith) (a-label k r) x₀
   says-expr (nominal k) d h r bytes g m x₀ = begin-said (omega arith) (a-node k r) x₀
   says-expr (arrowKind k) d h r bytes g m x₀ = begin-said (omega arith) (an-arrow k r) x₀
-  says-expr all d h r bytes g m x₀ = row-said first (omega arith) (x₀)
-  says-expr none d h r bytes g m x₀ = row-said (later first) (omega arith) (x₀)
-  says-expr (complement E) d h r bytes g m x₀ = row-said (later (later first)) (omega arith) (a-mark-said (says-expr E (suc d) (omega arith) (r) _ _ _ (a-mark-said x₀)))
+  says-expr all d h r bytes g m x₀ = phrase-said first (omega arith) (x₀)
+  says-expr none d h r bytes g m x₀ = phrase-said (later first) (omega arith) (x₀)
+  says-expr (complement E) d h r bytes g m x₀ = phrase-said (later (later first)) (omega arith) (a-mark-said (says-expr E (suc d) (omega arith) (r) _ _ _ (a-mark-said x₀)))
   says-expr (and E F) d h r bytes g m x₀ =
-      row-said (later (later (later first))) (omega arith) (a-mark-said (two (code E) (code F) (says-expr E (suc d) (omega arith) (r .0)) (says-expr F (suc d) (omega arith) (r .1)) x₀))
+      phrase-said (later (later (later first))) (omega arith) (a-mark-said (two (code E) (code F) (says-expr E (suc d) (omega arith) (r .0)) (says-expr F (suc d) (omega arith) (r .1)) x₀))
   says-expr (or E F) d h r bytes g m x₀ =
-      row-said (later (later (later (later first)))) (omega arith) (a-mark-said (two (code E) (code F) (says-expr E (suc d) (omega arith) (r .0)) (says-expr F (suc d) (omega arith) (r .1)) x₀))
+      phrase-said (later (later (later (later first)))) (omega arith) (a-mark-said (two (code E) (code F) (says-expr E (suc d) (omega arith) (r .0)) (says-expr F (suc d) (omega arith) (r .1)) x₀))
   says-expr (some E F) d h r bytes g m x₀ =
-      row-said (later (later (later (later (later first))))) (omega arith) (a-mark-said (two (code E) (code F) (says-expr E (suc d) (omega arith) (r .0)) (says-expr F (suc d) (omega arith) (r .1)) x₀))
+      phrase-said (later (later (later (later (later first))))) (omega arith) (a-mark-said (two (code E) (code F) (says-expr E (suc d) (omega arith) (r .0)) (says-expr F (suc d) (omega arith) (r .1)) x₀))
   says-expr (every E F) d h r bytes g m x₀ =
-      row-said (later (later (later (later (later (later first)))))) (omega arith) (a-mark-said (two (code E) (code F) (says-expr E (suc d) (omega arith) (r .0)) (says-expr F (suc d) (omega arith) (r .1)) x₀))
+      phrase-said (later (later (later (later (later (later first)))))) (omega arith) (a-mark-said (two (code E) (code F) (says-expr E (suc d) (omega arith) (r .0)) (says-expr F (suc d) (omega arith) (r .1)) x₀))
   says-expr (atLeast x E F) d h r bytes g m x₀ =
-      row-said (later (later (later (later (later (later (later first))))))) (omega arith) (a-mark-said (number-said x (r .0) (a-mark-said (two (code E) (code F) (says-expr E (suc d) (omega arith) (r .1)) (says-expr F (suc d) (omega arith) (r .2)) x₀))))
+      phrase-said (later (later (later (later (later (later (later first))))))) (omega arith) (a-mark-said (number-said x (r .0) (a-mark-said (two (code E) (code F) (says-expr E (suc d) (omega arith) (r .1)) (says-expr F (suc d) (omega arith) (r .2)) x₀))))
   says-expr (atMost x E F) d h r bytes g m x₀ =
-      row-said (later (later (later (later (later (later (later (later first)))))))) (omega arith) (a-mark-said (number-said x (r .0) (a-mark-said (two (code E) (code F) (says-expr E (suc d) (omega arith) (r .1)) (says-expr F (suc d) (omega arith) (r .2)) x₀))))
-  says-expr (reversed E) d h r bytes g m x₀ = row-said first (omega arith) (a-mark-said (says-expr E (suc d) (omega arith) (r) _ _ _ (a-mark-said x₀)))
+      phrase-said (later (later (later (later (later (later (later (later first)))))))) (omega arith) (a-mark-said (number-said x (r .0) (a-mark-said (two (code E) (code F) (says-expr E (suc d) (omega arith) (r .1)) (says-expr F (suc d) (omega arith) (r .2)) x₀))))
+  says-expr (reversed E) d h r bytes g m x₀ = phrase-said first (omega arith) (a-mark-said (says-expr E (suc d) (omega arith) (r) _ _ _ (a-mark-said x₀)))
   says-expr (union E F) d h r bytes g m x₀ =
-      row-said (later first) (omega arith) (a-mark-said (two (code E) (code F) (says-expr E (suc d) (omega arith) (r .0)) (says-expr F (suc d) (omega arith) (r .1)) x₀))
+      phrase-said (later first) (omega arith) (a-mark-said (two (code E) (code F) (says-expr E (suc d) (omega arith) (r .0)) (says-expr F (suc d) (omega arith) (r .1)) x₀))
   says-expr (common E F) d h r bytes g m x₀ =
-      row-said (later (later first)) (omega arith) (a-mark-said (two (code E) (code F) (says-expr E (suc d) (omega arith) (r .0)) (says-expr F (suc d) (omega arith) (r .1)) x₀))
+      phrase-said (later (later first)) (omega arith) (a-mark-said (two (code E) (code F) (says-expr E (suc d) (omega arith) (r .0)) (says-expr F (suc d) (omega arith) (r .1)) x₀))
   says-expr (minus E F) d h r bytes g m x₀ =
-      row-said (later (later (later first))) (omega arith) (a-mark-said (two (code E) (code F) (says-expr E (suc d) (omega arith) (r .0)) (says-expr F (suc d) (omega arith) (r .1)) x₀))
+      phrase-said (later (later (later first))) (omega arith) (a-mark-said (two (code E) (code F) (says-expr E (suc d) (omega arith) (r .0)) (says-expr F (suc d) (omega arith) (r .1)) x₀))
   says-expr (endingIn E F) d h r bytes g m x₀ =
-      row-said (later (later (later (later first)))) (omega arith) (a-mark-said (two (code E) (code F) (says-expr E (suc d) (omega arith) (r .0)) (says-expr F (suc d) (omega arith) (r .1)) x₀))
+      phrase-said (later (later (later (later first)))) (omega arith) (a-mark-said (two (code E) (code F) (says-expr E (suc d) (omega arith) (r .0)) (says-expr F (suc d) (omega arith) (r .1)) x₀))
   says-expr (pair x y) d h r bytes g m x₀ =
-      row-said (later (later (later (later (later first))))) (omega arith) (a-mark-said (number-said x (r .0) (a-mark-said (number-said y (r .1) (a-mark-said x₀)))))
+      phrase-said (later (later (later (later (later first))))) (omega arith) (a-mark-said (number-said x (r .0) (a-mark-said (number-said y (r .1) (a-mark-said x₀)))))
   says-expr (subNodes E F) d h r bytes g m x₀ =
-      row-said first (omega arith) (a-mark-said (two (code E) (code F) (says-expr E (suc d) (omega arith) (r .0)) (says-expr F (suc d) (omega arith) (r .1)) x₀))
+      phrase-said first (omega arith) (a-mark-said (two (code E) (code F) (says-expr E (suc d) (omega arith) (r .0)) (says-expr F (suc d) (omega arith) (r .1)) x₀))
   says-expr (subArrows E F) d h r bytes g m x₀ =
-      row-said (later first) (omega arith) (a-mark-said (two (code E) (code F) (says-expr E (suc d) (omega arith) (r .0)) (says-expr F (suc d) (omega arith) (r .1)) x₀))
+      phrase-said (later first) (omega arith) (a-mark-said (two (code E) (code F) (says-expr E (suc d) (omega arith) (r .0)) (says-expr F (suc d) (omega arith) (r .1)) x₀))
   says-expr (nodeIn x E) d h r bytes g m x₀ =
-      row-said (later (later first)) (omega arith) (a-mark-said (number-said x (r .0) (a-mark-said (says-expr E (suc d) (omega arith) (r .1) _ _ _ (a-mark-said x₀)))))
+      phrase-said (later (later first)) (omega arith) (a-mark-said (number-said x (r .0) (a-mark-said (says-expr E (suc d) (omega arith) (r .1) _ _ _ (a-mark-said x₀)))))
   says-expr (pairIn x y E) d h r bytes g m x₀ =
-      row-said (later (later (later first))) (omega arith) (a-mark-said (number-said x (r .0) (a-mark-said (number-said y (r .1) (a-mark-said (says-expr E (suc d) (omega arith) (r .2) _ _ _ (a-mark-said x₀)))))))
+      phrase-said (later (later (later first))) (omega arith) (a-mark-said (number-said x (r .0) (a-mark-said (number-said y (r .1) (a-mark-said (says-expr E (suc d) (omega arith) (r .2) _ _ _ (a-mark-said x₀)))))))
   says-expr (both E F) d h r bytes g m x₀ =
-      row-said (later (later (later (later first)))) (omega arith) (a-mark-said (two (code E) (code F) (says-expr E (suc d) (omega arith) (r .0)) (says-expr F (suc d) (omega arith) (r .1)) x₀))
+      phrase-said (later (later (later (later first)))) (omega arith) (a-mark-said (two (code E) (code F) (says-expr E (suc d) (omega arith) (r .0)) (says-expr F (suc d) (omega arith) (r .1)) x₀))
   says-expr (either E F) d h r bytes g m x₀ =
-      row-said (later (later (later (later (later first))))) (omega arith) (a-mark-said (two (code E) (code F) (says-expr E (suc d) (omega arith) (r .0)) (says-expr F (suc d) (omega arith) (r .1)) x₀))
-  says-expr (notRule E) d h r bytes g m x₀ = row-said (later (later (later (later (later (later first)))))) (omega arith) (a-mark-said (says-expr E (suc d) (omega arith) (r) _ _ _ (a-mark-said x₀)))
+      phrase-said (later (later (later (later (later first))))) (omega arith) (a-mark-said (two (code E) (code F) (says-expr E (suc d) (omega arith) (r .0)) (says-expr F (suc d) (omega arith) (r .1)) x₀))
+  says-expr (notRule E) d h r bytes g m x₀ = phrase-said (later (later (later (later (later (later first)))))) (omega arith) (a-mark-said (says-expr E (suc d) (omega arith) (r) _ _ _ (a-mark-said x₀)))
 
   -- what may stand after steps: where they end with the text, no token
   abbrev Ended : Closing → List ℕ → List Goal → ℕ → Type 0
@@ -108,22 +108,22 @@ module _ (name : Naming) (l : Limits) where
 
   says-steps : (Z : Edit) (c : Closing) (d : ℕ) → d + editLevels Z ≤ suc (l .deepest) → EditInRange (l .numbers) Z → (bytes : List ℕ) (g : List Goal) (m : ℕ) → Ended c bytes g m
       → Said (editCode Z ++ bytes) (thing (steps c) d ∷ g) m
-  unfolding rows bracketed afterComma goals editCode editLevels EditInRange
+  unfolding phrases bracketed afterComma goals editCode editLevels EditInRange
   says-steps finish c d h r bytes g m x₀ = says-end c d (omega arith) bytes g m x₀
   says-steps (addLabel k E Z) c d h r bytes g m x₀ =
-      row-said first (omega arith) (a-mark-said (number-said k (r .0)
+      phrase-said first (omega arith) (a-mark-said (number-said k (r .0)
       (a-mark-said (grouped (code E) (editCode Z) bytes (says-expr E (suc d) (omega arith) (r .1) _ _ _ (a-mark-said (says-steps Z c d (omega arith) (r .2) bytes g m x₀)))))))
   says-steps (takeLabel k E Z) c d h r bytes g m x₀ =
-      row-said (later first) (omega arith) (a-mark-said (number-said k (r .0)
+      phrase-said (later first) (omega arith) (a-mark-said (number-said k (r .0)
       (a-mark-said (grouped (code E) (editCode Z) bytes (says-expr E (suc d) (omega arith) (r .1) _ _ _ (a-mark-said (says-steps Z c d (omega arith) (r .2) bytes g m x₀)))))))
   says-steps (addArrow k E Z) c d h r bytes g m x₀ =
-      row-said (later (later first)) (omega arith) (a-mark-said (number-said k (r .0)
+      phrase-said (later (later first)) (omega arith) (a-mark-said (number-said k (r .0)
       (a-mark-said (grouped (code E) (editCode Z) bytes (says-expr E (suc d) (omega arith) (r .1) _ _ _ (a-mark-said (says-steps Z c d (omega arith) (r .2) bytes g m x₀)))))))
   says-steps (takeArrow k E Z) c d h r bytes g m x₀ =
-      row-said (later (later (later first))) (omega arith) (a-mark-said (number-said k (r .0)
+      phrase-said (later (later (later first))) (omega arith) (a-mark-said (number-said k (r .0)
       (a-mark-said (grouped (code E) (editCode Z) bytes (says-expr E (suc d) (omega arith) (r .1) _ _ _ (a-mark-said (says-steps Z c d (omega arith) (r .2) bytes g m x₀)))))))
   says-steps (choose K P Q Z) c d h r bytes g m x₀ =
-      row-said (later (later (later (later first)))) (omega arith)
+      phrase-said (later (later (later (later first)))) (omega arith)
       (a-mark-said (grouped₄ (code K) (editCode P) (editCode Q) (editCode Z) bytes
       (says-expr K (suc d) (omega arith) (r .0) _ _ _
       (a-mark-said

@@ -9,10 +9,10 @@ use Rattle.logic.specs.Limits.{Kind, arrowNumber, fits}
 use Rattle.text.specs.Reading.{Limits}
 use Rattle.names.specs.Token.{Token, ascii}
 use Rattle.names.specs.Names.{Naming}
-use Rattle.notation.specs.Grammar.{atElse, atEnd, textEnd, Slot, expr, steps, Row, rows, bracketed, afterComma, Goal, mark, number, thing, goals}
+use Rattle.notation.specs.Grammar.{atElse, atEnd, textEnd, Slot, expr, steps, Phrase, phrases, bracketed, afterComma, Goal, mark, number, thing, goals}
 use Rattle.notation.proofs.Says.{_∈_, first, Begins, by-word, label, nominal, arrowKind, closing-else, closing-end, Says, nothing, last}
-use Rattle.notation.proofs.RowLaws.{all-at}
-use Rattle.notation.proofs.CodeSaid.{Said, a-mark-said, number-said, begin-said, row-said}
+use Rattle.notation.proofs.PhraseLaws.{all-at}
+use Rattle.notation.proofs.CodeSaid.{Said, a-mark-said, number-said, begin-said, phrase-said}
 
 -- Two levels more, in which whatever was begun can be ended: a rule on the last level has no room for its operands.
 abbrev pub twoDeeper : Limits → Limits
@@ -37,25 +37,25 @@ module _ (l : Limits) (d : ℕ) (g : List Goal) (h : d ≤ l .deepest) where
   deep : suc d ≤ suc (l .deepest)
   deep = omega arith
 
-  pub good-row : (s : Slot) → Good l (thing s d ∷ g) → {r : Row} → r ∈ rows s → Good l (goals s d (r .items) ++ g)
-  unfolding rows goals bracketed afterComma
-  good-row (expr node) q i =
+  pub good-phrase : (s : Slot) → Good l (thing s d ∷ g) → {r : Phrase} → r ∈ phrases s → Good l (goals s d (r .items) ++ g)
+  unfolding phrases goals bracketed afterComma
+  good-phrase (expr node) q i =
       let b = deep in
       let k = q .1 in
       all-at (λ r. Good l (goals (expr node) d (r .items) ++ g)) i (k, (k, ((b, k), ((b, (b, k)), ((b, (b, k)), ((b, (b, k)), ((b, (b, k)), ((b, (b, k)), ((b, (b, k)), tt)))))))))
-  good-row (expr arrow) q i =
+  good-phrase (expr arrow) q i =
       let b = deep in
       let k = q .1 in
       all-at (λ r. Good l (goals (expr arrow) d (r .items) ++ g)) i ((b, k), ((b, (b, k)), ((b, (b, k)), ((b, (b, k)), ((b, (b, k)), (k, tt))))))
-  good-row (expr rule) q i =
+  good-phrase (expr rule) q i =
       let b = deep in
       let k = q .1 in
       all-at (λ r. Good l (goals (expr rule) d (r .items) ++ g)) i ((b, (b, k)), ((b, (b, k)), ((b, k), ((b, k), ((b, (b, k)), ((b, (b, k)), ((b, k), tt)))))))
-  good-row (steps c) q i = let b = deep in all-at (λ r. Good l (goals (steps c) d (r .items) ++ g)) i ((b, q), ((b, q), ((b, q), ((b, q), ((b, (b, (b, q))), tt)))))
+  good-phrase (steps c) q i = let b = deep in all-at (λ r. Good l (goals (steps c) d (r .items) ++ g)) i ((b, q), ((b, q), ((b, q), ((b, q), ((b, (b, (b, q))), tt)))))
 
 module _ (name : Naming) (l : Limits) (some : (k : Kind) → SomeNumber l k) where
   pub good-then : {s : Slot} {d : ℕ} {t : Token} {c : List ℕ} {then : List Goal} → Begins name l s d t c then → (g : List Goal) → d ≤ l .deepest → Good l (thing s d ∷ g) → Good l (then ++ g)
-  good-then {s} {d} (by-word r i) g h q = good-row l d g h s q i
+  good-then {s} {d} (by-word r i) g h q = good-phrase l d g h s q i
   good-then (label x f) g h q = q .1
   good-then (nominal x f) g h q = q .1
   good-then (arrowKind x f) g h q = q .1
@@ -75,11 +75,11 @@ module _ (name : Naming) (l : Limits) (some : (k : Kind) → SomeNumber l k) whe
   Ends g m = (bytes : List ℕ) × Said name (twoDeeper l) bytes g m
 
   an-all : (d : ℕ) (g : List Goal) (m : ℕ) → d ≤ l .deepest + 2 → Ends g m → Ends (thing (expr node) d ∷ g) m
-  unfolding rows goals bracketed
-  an-all d g m h e = (0x01 ∷ e .0, row-said name (twoDeeper l) first h (e .1))
+  unfolding phrases goals bracketed
+  an-all d g m h e = (0x01 ∷ e .0, phrase-said name (twoDeeper l) first h (e .1))
 
   pub ends : (g : List Goal) (m : ℕ) → Good l g → Ends g m
-  unfolding rows goals bracketed afterComma
+  unfolding phrases goals bracketed afterComma
   ends [] m q = ([], record { tokens = []; says = nothing })
   ends (mark t ∷ g) m q = let e = ends g m q in (e .0, a-mark-said name (twoDeeper l) (e .1))
   ends (number k ∷ g) m q = let e = ends g m q in let n = some k in (n .x ∷ e .0, number-said name (twoDeeper l) (n .x) (n .in-range) (e .1))
@@ -89,7 +89,7 @@ module _ (name : Naming) (l : Limits) (some : (k : Kind) → SomeNumber l k) whe
       let e = ends g m (q .1) in
       let f = an-all (suc d) (mark (ascii ")") ∷ g) m (omega arith) (e .0, a-mark-said name (twoDeeper l) (e .1)) in
       let k = an-all (suc d) (mark (ascii ",") ∷ thing (expr node) (suc d) ∷ mark (ascii ")") ∷ g) m (omega arith) (f .0, a-mark-said name (twoDeeper l) (f .1)) in
-      (0x21 ∷ k .0, row-said name (twoDeeper l) first (omega arith) (a-mark-said name (twoDeeper l) (k .1)))
+      (0x21 ∷ k .0, phrase-said name (twoDeeper l) first (omega arith) (a-mark-said name (twoDeeper l) (k .1)))
   ends (thing (steps atElse) d ∷ g) m q = let e = ends g m (q .1) in (0x30 ∷ e .0, begin-said name (twoDeeper l) (omega arith) closing-else (e .1))
   ends (thing (steps atEnd) d ∷ g) m q = let e = ends g m (q .1) in (0x30 ∷ e .0, begin-said name (twoDeeper l) (omega arith) closing-end (e .1))
   ends (thing (steps textEnd) d ∷ g) m q = (0x30 ∷ [], record { tokens = []; says = last {d = d} (omega arith) (subst (λ z. Says name (twoDeeper l) [] [] z m) (sym (q .1)) nothing) })

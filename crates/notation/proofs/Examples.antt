@@ -7,9 +7,9 @@ use Rattle.decimal.specs.Digits.{digits}
 use Rattle.names.specs.Token.{ascii, same, firstBelow}
 use Rattle.names.specs.Scan.{classOf, scan, isLetter, letters, isWord}
 use Rattle.names.specs.Names.{Entry, width, plain, given, givenOrPlain, nameIn, notationWords, among, beginsWith, beginsPlain, nameBytes, taken, freeName, unnamed, kindOf, askKind, askNumber, askEntries, askNames}
-use Rattle.notation.specs.Grammar.{rows, goals, bracketed, afterComma}
-use Rattle.notation.specs.Spell.{rowOf, bare, opens, spell}
-use Rattle.notation.specs.Parse.{prefixed, numberOf, rowFor, byName, bareStart, start, parse}
+use Rattle.notation.specs.Grammar.{phrases, goals, bracketed, afterComma}
+use Rattle.notation.specs.Spell.{phraseOf, bare, opens, spell}
+use Rattle.notation.specs.Parse.{prefixed, numberOf, phraseFor, byName, bareStart, start, parse}
 use Rattle.notation.specs.Layout.{isMark, brackets, ifs, margin, gap, afterToken, lay}
 use Rattle.notation.specs.Words.{bookWords, editWords, askWords, readBook, readEdit}
 
@@ -58,7 +58,7 @@ Prints =
     × (editWords (nameIn names) (0x30 ∷ []) ≡ [])
 
 prints : Prints
-unfolding table book edit ascii same firstBelow classOf scan isLetter letters isWord width digits plain given givenOrPlain nameIn notationWords among beginsWith beginsPlain nameBytes taken freeName unnamed kindOf askKind askNumber askEntries askNames rows goals bracketed afterComma rowOf bare opens spell isMark brackets ifs margin gap afterToken lay _>>=_ _>>_ is
+unfolding table book edit ascii same firstBelow classOf scan isLetter letters isWord width digits plain given givenOrPlain nameIn notationWords among beginsWith beginsPlain nameBytes taken freeName unnamed kindOf askKind askNumber askEntries askNames phrases goals bracketed afterComma phraseOf bare opens spell isMark brackets ifs margin gap afterToken lay _>>=_ _>>_ is
 prints = (refl, refl, refl, refl)
 
 abbrev Reads : Type 0
@@ -80,5 +80,5 @@ Reads =
     × (readBook (nameIn names) (times 33 (ascii "each(all,all)")) ≡ refused 69 416)
 
 reads : Reads
-unfolding table book edit ascii same firstBelow classOf scan isLetter letters isWord width digits plain given givenOrPlain nameIn notationWords among beginsWith beginsPlain nameBytes taken freeName unnamed kindOf askKind askNumber askEntries askNames rows goals bracketed afterComma prefixed numberOf rowFor byName bareStart start parse askWords times _>>=_ _>>_ is
+unfolding table book edit ascii same firstBelow classOf scan isLetter letters isWord width digits plain given givenOrPlain nameIn notationWords among beginsWith beginsPlain nameBytes taken freeName unnamed kindOf askKind askNumber askEntries askNames phrases goals bracketed afterComma prefixed numberOf phraseFor byName bareStart start parse askWords times _>>=_ _>>_ is
 reads = (refl, refl, refl, refl, refl, refl, refl, refl, refl, refl, refl)

@@ -1,5 +1,5 @@
 pub mod Says
-pub mod RowLaws
+pub mod PhraseLaws
 pub mod SaidSpelled
 pub mod ReadSays
 pub mod SaidRead

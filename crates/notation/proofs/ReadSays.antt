@@ -12,9 +12,9 @@ use Rattle.text.specs.Reading.{Limits}
 use Rattle.names.specs.Token.{Token, same, Found, found, absent}
 use Rattle.names.proofs.TokenLaws.{same-true, found-hit}
 use Rattle.names.specs.Names.{Naming}
-use Rattle.notation.specs.Grammar.{atElse, atEnd, textEnd, elseWord, endWord, Slot, expr, steps, Row, rows, Goal, mark, number, thing, goals}
+use Rattle.notation.specs.Grammar.{atElse, atEnd, textEnd, elseWord, endWord, Slot, expr, steps, Phrase, phrases, Goal, mark, number, thing, goals}
 use Rattle.names.specs.Scan.{Placed, tokensOf}
-use Rattle.notation.specs.Parse.{prefixed, askStart, Start, starts, starts-nothing, numberOf, rowFor, byName, bareStart, start, parse}
+use Rattle.notation.specs.Parse.{prefixed, askStart, Start, starts, starts-nothing, numberOf, phraseFor, byName, bareStart, start, parse}
 use Rattle.notation.proofs.Says.{_∈_, first, later, Begins, by-word, label, nominal, arrowKind, closing-else, closing-end, Says, nothing, a-mark, a-number, begin, last, one-rule}
 
 module _ (name : Naming) (l : Limits) where
@@ -30,20 +30,20 @@ module _ (name : Naming) (l : Limits) where
       let q = and-eq-true-iff (fits (l .numbers) k x) (same t (name k x)) .0 (h .yes-of) in
       record { in-range = so (q .0); is-name = same-true t (name k x) (q .1) }
 
-  abbrev RowRight : Token → List Row → Found Row → Type 0
-  RowRight t rs (found r) = (r ∈ rs) × (t ≡ r .word)
-  RowRight t rs absent = Unit {0}
+  abbrev PhraseRight : Token → List Phrase → Found Phrase → Type 0
+  PhraseRight t rs (found r) = (r ∈ rs) × (t ≡ r .word)
+  PhraseRight t rs absent = Unit {0}
 
-  row-right : (t : Token) (rs : List Row) → RowRight t rs (rowFor t rs)
-  unfolding rowFor
-  row-right t [] = tt
-  row-right t (r ∷ rs) = go (same t (r .word)) refl (rowFor t rs) (row-right t rs)
+  phrase-right : (t : Token) (rs : List Phrase) → PhraseRight t rs (phraseFor t rs)
+  unfolding phraseFor
+  phrase-right t [] = tt
+  phrase-right t (r ∷ rs) = go (same t (r .word)) refl (phraseFor t rs) (phrase-right t rs)
     where
-      more : (f : Found Row) → RowRight t rs f → RowRight t (r ∷ rs) f
+      more : (f : Found Phrase) → PhraseRight t rs f → PhraseRight t (r ∷ rs) f
       more (found q) h = (later (h .0), h .1)
       more absent h = tt
 
-      go : (b : Bool) → same t (r .word) ≡ b → (f : Found Row) → RowRight t rs f → RowRight t (r ∷ rs) (elim b as (λ z. Found Row) [ true ↦ found r | false ↦ f ])
+      go : (b : Bool) → same t (r .word) ≡ b → (f : Found Phrase) → PhraseRight t rs f → PhraseRight t (r ∷ rs) (elim b as (λ z. Found Phrase) [ true ↦ found r | false ↦ f ])
       go true e f h = (first, same-true t (r .word) e)
       go false e f h = more f h
 
@@ -78,9 +78,9 @@ module _ (name : Naming) (l : Limits) where
 
   pub start-right : (s : Slot) (d : ℕ) (t : Token) → StartRight s d t (start name l s d t)
   unfolding start
-  start-right s d t = go (rowFor t (rows s)) (row-right t (rows s))
+  start-right s d t = go (phraseFor t (phrases s)) (phrase-right t (phrases s))
     where
-      go : (f : Found Row) → RowRight t (rows s) f → StartRight s d t (elim f as (λ z. Start) [ found r ↦ starts (r .byte ∷ []) (goals s d (r .items)) | absent ↦ bareStart name l s t ])
+      go : (f : Found Phrase) → PhraseRight t (phrases s) f → StartRight s d t (elim f as (λ z. Start) [ found r ↦ starts (r .byte ∷ []) (goals s d (r .items)) | absent ↦ bareStart name l s t ])
       go (found r) h = subst (λ z. Begins name l s d z (r .byte ∷ []) (goals s d (r .items))) (sym (h .1)) (by-word r (h .0))
       go absent h = bare-right s d t
 

@@ -17,9 +17,9 @@ use Rattle.text.proofs.TextSpelling.{EachAllowed, SpellsRules, spelled-book-pas
 use Rattle.answer.specs.Asked.{passed}
 use Rattle.names.specs.Token.{Token}
 use Rattle.names.specs.Names.{Naming}
-use Rattle.notation.specs.Grammar.{textEnd, Slot, expr, steps, Item, mark, number, deeper, more, rows, bracketed, afterComma, Goal, thing, goals}
+use Rattle.notation.specs.Grammar.{textEnd, Slot, expr, steps, Item, mark, number, deeper, more, phrases, bracketed, afterComma, Goal, thing, goals}
 use Rattle.notation.proofs.Says.{Begins, by-word, label as a-label, nominal as a-node, arrowKind as an-arrow, closing-else, closing-end, Says, nothing, a-mark, a-number, begin, last, one-rule}
-use Rattle.notation.proofs.RowLaws.{all-at}
+use Rattle.notation.proofs.PhraseLaws.{all-at}
 
 abbrev pub wantOf : Slot → Want
 wantOf (expr s) = exprWant s
@@ -31,7 +31,7 @@ pub record Makes (l : Limits) (s : Slot) (d : ℕ) (bytes : List ℕ) : Type 0 w
   pub same-bytes : spelling (wantOf s) what ≡ bytes
   pub allowed : Allowed l (wantOf s) d what
 
--- the items of a row make a thing of its slot, with the bytes before them
+-- the items of a phrase make a thing of its slot, with the bytes before them
 abbrev Made : Limits → Slot → ℕ → List Item → List ℕ → Type 0
 Made l s d [] pre = Makes l s d pre
 Made l s d (mark t ∷ is) pre = Made l s d is pre
@@ -43,10 +43,10 @@ module _ (l : Limits) (d : ℕ) (h : d ≤ l .deepest) where
   abbrev makes : {s : Slot} {pre : List ℕ} (e : Thing (wantOf s)) → spelling (wantOf s) e ≡ pre → NumbersFit l (wantOf s) e → d + depth (wantOf s) e ≤ suc (l .deepest) → Makes l s d pre
   makes e b n v = record { what = e; same-bytes = b; allowed = record { numbers-fit = n; levels-fit = v } }
 
-  -- each row has the code that its constructor has
-  rows-made : (s : Slot) → All (λ r. Made l s d (r .items) (r .byte ∷ [])) (rows s)
-  unfolding rows bracketed afterComma code editCode levels byArity editLevels InRange EditInRange
-  rows-made (expr node) =
+  -- each phrase has the code that its constructor has
+  phrases-made : (s : Slot) → All (λ r. Made l s d (r .items) (r .byte ∷ [])) (phrases s)
+  unfolding phrases bracketed afterComma code editCode levels byArity editLevels InRange EditInRange
+  phrases-made (expr node) =
       (makes all refl tt (omega arith))
       & (makes none refl tt (omega arith))
       & (λ E aE. makes (complement E) refl (aE .numbers-fit) (omega arith))
@@ -57,7 +57,7 @@ module _ (l : Limits) (d : ℕ) (h : d ≤ l .deepest) where
       & (λ x fx E aE F aF. makes (atLeast x E F) refl (fx, aE .numbers-fit, aF .numbers-fit) (omega arith))
       & (λ x fx E aE F aF. makes (atMost x E F) refl (fx, aE .numbers-fit, aF .numbers-fit) (omega arith))
       & tt
-  rows-made (expr arrow) =
+  phrases-made (expr arrow) =
       (λ E aE. makes (reversed E) refl (aE .numbers-fit) (omega arith))
       & (λ E aE F aF. makes (union E F) refl (aE .numbers-fit, aF .numbers-fit) (omega arith))
       & (λ E aE F aF. makes (common E F) refl (aE .numbers-fit, aF .numbers-fit) (omega arith))
@@ -65,7 +65,7 @@ module _ (l : Limits) (d : ℕ) (h : d ≤ l .deepest) where
       & (λ E aE F aF. makes (endingIn E F) refl (aE .numbers-fit, aF .numbers-fit) (omega arith))
       & (λ x fx y fy. makes (pair x y) refl (fx, fy) (omega arith))
       & tt
-  rows-made (expr rule) =
+  phrases-made (expr rule) =
       (λ E aE F aF. makes (subNodes E F) refl (aE .numbers-fit, aF .numbers-fit) (omega arith))
       & (λ E aE F aF. makes (subArrows E F) refl (aE .numbers-fit, aF .numbers-fit) (omega arith))
       & (λ x fx E aE. makes (nodeIn x E) refl (fx, aE .numbers-fit) (omega arith))
@@ -74,7 +74,7 @@ module _ (l : Limits) (d : ℕ) (h : d ≤ l .deepest) where
       & (λ E aE F aF. makes (either E F) refl (aE .numbers-fit, aF .numbers-fit) (omega arith))
       & (λ E aE. makes (notRule E) refl (aE .numbers-fit) (omega arith))
       & tt
-  rows-made (steps c) =
+  phrases-made (steps c) =
       (λ x fx E aE Z aZ. makes (addLabel x E Z) refl (fx, aE .numbers-fit, aZ .numbers-fit) (omega arith))
       & (λ x fx E aE Z aZ. makes (takeLabel x E Z) refl (fx, aE .numbers-fit, aZ .numbers-fit) (omega arith))
       & (λ x fx E aE Z aZ. makes (addArrow x E Z) refl (fx, aE .numbers-fit, aZ .numbers-fit) (omega arith))
@@ -101,7 +101,7 @@ module _ (name : Naming) (l : Limits) (P : List ℕ → Type 0) where
   fine-begin : {s : Slot} {d : ℕ} {t : Token} {c : List ℕ} {then : List Goal} → Begins name l s d t c then → d ≤ l .deepest → (g : List Goal) (m : ℕ) (pre : List ℕ) → Fine l P (thing s d ∷ g) m pre
       → Fine l P (then ++ g) m (pre ++ c)
   unfolding code editCode levels byArity editLevels InRange EditInRange
-  fine-begin {s} {d} (by-word r i) h g m pre k = fine-items s d (r .items) g m pre (r .byte ∷ []) (all-at (λ r. Made l s d (r .items) (r .byte ∷ [])) i (rows-made l d h s)) k
+  fine-begin {s} {d} (by-word r i) h g m pre k = fine-items s d (r .items) g m pre (r .byte ∷ []) (all-at (λ r. Made l s d (r .items) (r .byte ∷ [])) i (phrases-made l d h s)) k
   fine-begin (a-label x f) h g m pre k = k (label x) (record { numbers-fit = f; levels-fit = omega arith })
   fine-begin (a-node x f) h g m pre k = k (nominal x) (record { numbers-fit = f; levels-fit = omega arith })
   fine-begin (an-arrow x f) h g m pre k = k (arrowKind x) (record { numbers-fit = f; levels-fit = omega arith })

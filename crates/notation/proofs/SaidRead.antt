@@ -12,11 +12,11 @@ use Rattle.text.specs.Reading.{Limits}
 use Rattle.names.specs.Token.{Token, same, ascii, Found, found, absent}
 use Rattle.names.proofs.TokenLaws.{same-refl}
 use Rattle.names.specs.Names.{Naming}
-use Rattle.notation.specs.Grammar.{textEnd, Slot, expr, steps, Row, rows, Goal, mark, number, thing, goals}
+use Rattle.notation.specs.Grammar.{textEnd, Slot, expr, steps, Phrase, phrases, Goal, mark, number, thing, goals}
 use Rattle.names.specs.Scan.{Placed, tokensOf}
-use Rattle.notation.specs.Parse.{prefixed, askStart, Start, starts, numberOf, rowFor, byName, bareStart, start, parse}
+use Rattle.notation.specs.Parse.{prefixed, askStart, Start, starts, numberOf, phraseFor, byName, bareStart, start, parse}
 use Rattle.notation.proofs.Says.{Begins, by-word, label, nominal, arrowKind, closing-else, closing-end, Says, nothing, a-mark, a-number, begin, last, one-rule}
-use Rattle.notation.proofs.RowLaws.{row-of-word}
+use Rattle.notation.proofs.PhraseLaws.{phrase-of-word}
 
 -- What is asked of a naming: each number in range is found by its name; no node's name is a label's; no label's or node's name is a word that begins a node expression,
 -- no arrow's one that begins an arrow expression.
@@ -24,13 +24,13 @@ module _ (name : Naming) (l : Limits) where
   pub record Lawful : Type 0 where
     pub back : (k : Kind) (x : ℕ) → T (fits (l .numbers) k x) → numberOf name l k (name k x) ≡ found x
     pub no-label : (x : ℕ) → T (fits (l .numbers) nodeNumber x) → numberOf name l labelNumber (name nodeNumber x) ≡ absent
-    pub label-word : (x : ℕ) → rowFor (name labelNumber x) (rows (expr node)) ≡ absent
-    pub node-word : (x : ℕ) → rowFor (name nodeNumber x) (rows (expr node)) ≡ absent
-    pub arrow-word : (x : ℕ) → rowFor (name arrowNumber x) (rows (expr arrow)) ≡ absent
+    pub label-word : (x : ℕ) → phraseFor (name labelNumber x) (phrases (expr node)) ≡ absent
+    pub node-word : (x : ℕ) → phraseFor (name nodeNumber x) (phrases (expr node)) ≡ absent
+    pub arrow-word : (x : ℕ) → phraseFor (name arrowNumber x) (phrases (expr arrow)) ≡ absent
 
 module _ (name : Naming) (l : Limits) (law : Lawful name l) where
   -- the start of a thing
-  abbrev started : Found Row → Slot → ℕ → Start → Start
+  abbrev started : Found Phrase → Slot → ℕ → Start → Start
   started f s d other = elim f as (λ z. Start) [ found r ↦ starts (r .byte ∷ []) (goals s d (r .items)) | absent ↦ other ]
 
   name-found : (c x : ℕ) (k : Kind) (t : Token) (other : Start) → numberOf name l k t ≡ found x → byName name l c k t other ≡ starts (c ∷ x ∷ []) []
@@ -42,8 +42,8 @@ module _ (name : Naming) (l : Limits) (law : Lawful name l) where
   name-absent c k t other e = ap (λ f. elim f as (λ z. Start) [ found x ↦ starts (c ∷ x ∷ []) [] | absent ↦ other ]) e
 
   pub starts-as : {s : Slot} {d : ℕ} {t : Token} {c : List ℕ} {then : List Goal} → Begins name l s d t c then → start name l s d t ≡ starts c then
-  unfolding start bareStart rows rowFor same ascii
-  starts-as {s} {d} (by-word r i) = ap (λ f. started f s d (bareStart name l s (r .word))) (row-of-word s i)
+  unfolding start bareStart phrases phraseFor same ascii
+  starts-as {s} {d} (by-word r i) = ap (λ f. started f s d (bareStart name l s (r .word))) (phrase-of-word s i)
   starts-as {d = d} (label x f) =
       ap (λ f. started f (expr node) d (bareStart name l (expr node) (name labelNumber x))) (law .label-word x) ∙ name-found 0x03 x labelNumber _ _ (law .back labelNumber x f)
   starts-as {d = d} (nominal x f) =

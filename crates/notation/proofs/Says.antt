@@ -7,18 +7,18 @@ use Rattle.logic.specs.Limits.{Kind, labelNumber, arrowNumber, nodeNumber, fits
 use Rattle.text.specs.Reading.{Limits}
 use Rattle.names.specs.Token.{Token}
 use Rattle.names.specs.Names.{Naming}
-use Rattle.notation.specs.Grammar.{atElse, atEnd, textEnd, Slot, expr, steps, Row, elseWord, endWord, rows, Goal, mark, number, thing, goals}
+use Rattle.notation.specs.Grammar.{atElse, atEnd, textEnd, Slot, expr, steps, Phrase, elseWord, endWord, phrases, Goal, mark, number, thing, goals}
 
--- A row of a list.
+-- A phrase of a list.
 infix 40 _∈_
-pub data _∈_ (r : Row) : List Row → Type 0 where
-  first : {rs : List Row} → r ∈ (r ∷ rs)
-  later : {q : Row} {rs : List Row} → r ∈ rs → r ∈ (q ∷ rs)
+pub data _∈_ (r : Phrase) : List Phrase → Type 0 where
+  first : {rs : List Phrase} → r ∈ (r ∷ rs)
+  later : {q : Phrase} {rs : List Phrase} → r ∈ rs → r ∈ (q ∷ rs)
 
 module _ (name : Naming) (l : Limits) where
   -- The token that begins a thing, the bytes it stands for, and what must follow.
   pub data Begins : Slot → (level : ℕ) → Token → List ℕ → List Goal → Type 0 where
-    by-word : {s : Slot} {d : ℕ} (r : Row) → r ∈ rows s → Begins s d (r .word) (r .byte ∷ []) (goals s d (r .items))
+    by-word : {s : Slot} {d : ℕ} (r : Phrase) → r ∈ phrases s → Begins s d (r .word) (r .byte ∷ []) (goals s d (r .items))
     label : {d : ℕ} (x : ℕ) → T (fits (l .numbers) labelNumber x) → Begins (expr node) d (name labelNumber x) (0x03 ∷ x ∷ []) []
     nominal : {d : ℕ} (x : ℕ) → T (fits (l .numbers) nodeNumber x) → Begins (expr node) d (name nodeNumber x) (0x04 ∷ x ∷ []) []
     arrowKind : {d : ℕ} (x : ℕ) → T (fits (l .numbers) arrowNumber x) → Begins (expr arrow) d (name arrowNumber x) (0x11 ∷ x ∷ []) []

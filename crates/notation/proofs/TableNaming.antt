@@ -17,11 +17,11 @@ use Rattle.names.specs.Scan.{isWord, letters, isLetter, classOf}
 use Rattle.names.specs.Names.{Naming, Entry, nameIn, notationWords, among}
 use Rattle.names.proofs.TokenLaws.{same-true, same-refl, found-only, found-none}
 use Rattle.names.proofs.NameLaws.{Free, HasNames, names-are, names-one, no-label-is-node}
-use Rattle.notation.specs.Grammar.{Slot, expr, steps, mark, number, Row, rows, bracketed, afterComma, Goal, thing, goals}
-use Rattle.notation.specs.Parse.{numberOf, rowFor}
+use Rattle.notation.specs.Grammar.{Slot, expr, steps, mark, number, Phrase, phrases, bracketed, afterComma, Goal, thing, goals}
+use Rattle.notation.specs.Parse.{numberOf, phraseFor}
 use Rattle.notation.specs.Layout.{isMark}
 use Rattle.notation.proofs.Says.{Begins, by-word, label, nominal, arrowKind, closing-else, closing-end, Says, nothing, a-mark, a-number, begin, last, one-rule}
-use Rattle.notation.proofs.RowLaws.{all-at}
+use Rattle.notation.proofs.PhraseLaws.{all-at}
 use Rattle.notation.proofs.SaidRead.{Lawful}
 use Rattle.notation.proofs.LayoutLaws.{Proper, EachProper}
 
@@ -29,38 +29,38 @@ use Rattle.notation.proofs.LayoutLaws.{Proper, EachProper}
 abbrev pub Small : Ranges → Type 0
 Small r = (k : Kind) (x : ℕ) → T (fits r k x) → x < 256
 
--- The word of each row is one of the notation's, is a word and no mark.
-pub record RowWord (r : Row) : Type 0 where
+-- The word of each phrase is one of the notation's, is a word and no mark.
+pub record PhraseWord (r : Phrase) : Type 0 where
   pub of-notation : among (r .word) notationWords ≡ true
   pub is-word : isWord (r .word) ≡ true
   pub is-no-mark : isMark (r .word) ≡ false
 
-abbrev so-is : {r : Row} → among (r .word) notationWords ≡ true → isWord (r .word) ≡ true → isMark (r .word) ≡ false → RowWord r
+abbrev so-is : {r : Phrase} → among (r .word) notationWords ≡ true → isWord (r .word) ≡ true → isMark (r .word) ≡ false → PhraseWord r
 so-is a b c = record { of-notation = a; is-word = b; is-no-mark = c }
 
-row-words : (s : Slot) → All RowWord (rows s)
-unfolding rows among notationWords same ascii isWord letters isLetter classOf isMark
-row-words (expr node) =
+phrase-words : (s : Slot) → All PhraseWord (phrases s)
+unfolding phrases among notationWords same ascii isWord letters isLetter classOf isMark
+phrase-words (expr node) =
     (so-is refl refl refl) & (so-is refl refl refl) & (so-is refl refl refl) & (so-is refl refl refl) & (so-is refl refl refl)
     & (so-is refl refl refl) & (so-is refl refl refl) & (so-is refl refl refl) & (so-is refl refl refl) & tt
-row-words (expr arrow) = (so-is refl refl refl) & (so-is refl refl refl) & (so-is refl refl refl) & (so-is refl refl refl) & (so-is refl refl refl) & (so-is refl refl refl) & tt
-row-words (expr rule) =
+phrase-words (expr arrow) = (so-is refl refl refl) & (so-is refl refl refl) & (so-is refl refl refl) & (so-is refl refl refl) & (so-is refl refl refl) & (so-is refl refl refl) & tt
+phrase-words (expr rule) =
     (so-is refl refl refl) & (so-is refl refl refl) & (so-is refl refl refl) & (so-is refl refl refl)
     & (so-is refl refl refl) & (so-is refl refl refl) & (so-is refl refl refl) & tt
-row-words (steps c) = (so-is refl refl refl) & (so-is refl refl refl) & (so-is refl refl refl) & (so-is refl refl refl) & (so-is refl refl refl) & tt
+phrase-words (steps c) = (so-is refl refl refl) & (so-is refl refl refl) & (so-is refl refl refl) & (so-is refl refl refl) & (so-is refl refl refl) & tt
 
-no-row : (t : Token) (rs : List Row) → All RowWord rs → among t notationWords ≡ false → rowFor t rs ≡ absent
-unfolding rowFor
-no-row t [] h e = refl
-no-row t (r ∷ rs) h e = go (same t (r .word)) refl (no-row t rs (h .1) e)
+no-phrase : (t : Token) (rs : List Phrase) → All PhraseWord rs → among t notationWords ≡ false → phraseFor t rs ≡ absent
+unfolding phraseFor
+no-phrase t [] h e = refl
+no-phrase t (r ∷ rs) h e = go (same t (r .word)) refl (no-phrase t rs (h .1) e)
   where
-    go : (b : Bool) → same t (r .word) ≡ b → rowFor t rs ≡ absent → _≡_ {A = Found Row} (elim b as (λ z. Found Row) [ true ↦ found r | false ↦ rowFor t rs ]) absent
+    go : (b : Bool) → same t (r .word) ≡ b → phraseFor t rs ≡ absent → _≡_ {A = Found Phrase} (elim b as (λ z. Found Phrase) [ true ↦ found r | false ↦ phraseFor t rs ]) absent
     go true p q = true-false (ap (λ z. among z notationWords) (same-true t (r .word) p) ∙ h .0 .of-notation) e
     go false p q = q
 
 module _ (es : List Entry) (free : Free es) (l : Limits) (small : Small (l .numbers)) where
-  no-word : (k : Kind) → HasNames k → (s : Slot) (x : ℕ) → rowFor (nameIn es k x) (rows s) ≡ absent
-  no-word k n s x = no-row (nameIn es k x) (rows s) (row-words s) (names-are es free k x n .not-of-notation)
+  no-word : (k : Kind) → HasNames k → (s : Slot) (x : ℕ) → phraseFor (nameIn es k x) (phrases s) ≡ absent
+  no-word k n s x = no-phrase (nameIn es k x) (phrases s) (phrase-words s) (names-are es free k x n .not-of-notation)
 
   pub lawful : Lawful (nameIn es) l
   unfolding numberOf
@@ -105,14 +105,14 @@ marks-both (mark t ∷ g) h a b = (a .0, marks-both g h (a .1) b)
 marks-both (number k ∷ g) h a b = marks-both g h a b
 marks-both (thing s d ∷ g) h a b = marks-both g h a b
 
-row-marks : (s : Slot) (d : ℕ) → All (λ r. Marks (goals s d (r .items))) (rows s)
-unfolding rows goals bracketed afterComma isMark same ascii
-row-marks (expr node) d =
+phrase-marks : (s : Slot) (d : ℕ) → All (λ r. Marks (goals s d (r .items))) (phrases s)
+unfolding phrases goals bracketed afterComma isMark same ascii
+phrase-marks (expr node) d =
     tt & tt & (refl & refl & tt) & (refl & refl & refl & tt) & (refl & refl & refl & tt) & (refl & refl & refl & tt) & (refl & refl & refl & tt) & (refl & refl & refl & refl & tt) & (refl & refl & refl & refl & tt) & tt
-row-marks (expr arrow) d = (refl & refl & tt) & (refl & refl & refl & tt) & (refl & refl & refl & tt) & (refl & refl & refl & tt) & (refl & refl & refl & tt) & (refl & refl & refl & tt) & tt
-row-marks (expr rule) d =
+phrase-marks (expr arrow) d = (refl & refl & tt) & (refl & refl & refl & tt) & (refl & refl & refl & tt) & (refl & refl & refl & tt) & (refl & refl & refl & tt) & (refl & refl & refl & tt) & tt
+phrase-marks (expr rule) d =
     (refl & refl & refl & tt) & (refl & refl & refl & tt) & (refl & refl & refl & tt) & (refl & refl & refl & refl & tt) & (refl & refl & refl & tt) & (refl & refl & refl & tt) & (refl & refl & tt) & tt
-row-marks (steps c) d = (refl & refl & refl & tt) & (refl & refl & refl & tt) & (refl & refl & refl & tt) & (refl & refl & refl & tt) & (refl & refl & tt) & tt
+phrase-marks (steps c) d = (refl & refl & refl & tt) & (refl & refl & refl & tt) & (refl & refl & refl & tt) & (refl & refl & refl & tt) & (refl & refl & tt) & tt
 
 -- All tokens are marks or words.
 module _ (name : Naming) (l : Limits) (words : (k : Kind) (x : ℕ) → isWord (name k x) ≡ true) where
@@ -126,8 +126,8 @@ module _ (name : Naming) (l : Limits) (words : (k : Kind) (x : ℕ) → isWord (
   begins-proper : {s : Slot} {d : ℕ} {t : Token} {c : List ℕ} {then : List Goal} → Begins name l s d t c then → ProperStart t then
   unfolding isMark same ascii isWord letters isLetter classOf
   begins-proper {s} {d} (by-word r i) =
-      let q = all-at RowWord i (row-words s) in
-      record { proper = inr (q .is-no-mark, q .is-word); marks = all-at (λ r. Marks (goals s d (r .items))) i (row-marks s d) }
+      let q = all-at PhraseWord i (phrase-words s) in
+      record { proper = inr (q .is-no-mark, q .is-word); marks = all-at (λ r. Marks (goals s d (r .items))) i (phrase-marks s d) }
   begins-proper (label x f) = record { proper = name-proper labelNumber x; marks = tt }
   begins-proper (nominal x f) = record { proper = name-proper nodeNumber x; marks = tt }
   begins-proper (arrowKind x f) = record { proper = name-proper arrowNumber x; marks = tt }

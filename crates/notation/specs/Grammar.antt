@@ -22,7 +22,7 @@ pub data Item : Type 0 where
   deeper : Slot → Item
   more : Item
 
-pub record Row : Type 0 where
+pub record Phrase : Type 0 where
   pub byte : ℕ
   pub word : Token
   pub items : List Item
@@ -36,11 +36,11 @@ unfoldable pub bracketed : List Item → List Item
 bracketed [] = []
 bracketed (x ∷ xs) = mark (ascii "(") ∷ x ∷ afterComma xs
 
-abbrev pub row : ℕ → String → List Item → Row
-row c word operands = record { byte = c; word = ascii word; items = bracketed operands }
+abbrev pub phrase : ℕ → String → List Item → Phrase
+phrase c word operands = record { byte = c; word = ascii word; items = bracketed operands }
 
 -- A step: its operands, its branches, and the steps after it.
-abbrev pub step : ℕ → String → (operands branches : List Item) → Row
+abbrev pub step : ℕ → String → (operands branches : List Item) → Phrase
 step c word operands branches = record { byte = c; word = ascii word; items = bracketed operands ++ (branches ++ more ∷ []) }
 
 abbrev E : Item
@@ -68,36 +68,36 @@ abbrev pub endWord : Token
 endWord = ascii "end"
 
 -- THE NOTATION. 03, 04 and 11 are a name alone; 30 is the end of steps.
-unfoldable pub rows : Slot → List Row
-rows (expr node) =
-    row 0x01 "all" []
-    ∷ row 0x02 "none" []
-    ∷ row 0x05 "not" (E ∷ [])
-    ∷ row 0x06 "and" (E ∷ E ∷ [])
-    ∷ row 0x07 "or" (E ∷ E ∷ [])
-    ∷ row 0x08 "some" (R ∷ E ∷ [])
-    ∷ row 0x09 "every" (R ∷ E ∷ [])
-    ∷ row 0x0A "at-least" (number leastCount ∷ R ∷ E ∷ [])
-    ∷ row 0x0B "at-most" (number mostCount ∷ R ∷ E ∷ [])
+unfoldable pub phrases : Slot → List Phrase
+phrases (expr node) =
+    phrase 0x01 "all" []
+    ∷ phrase 0x02 "none" []
+    ∷ phrase 0x05 "not" (E ∷ [])
+    ∷ phrase 0x06 "and" (E ∷ E ∷ [])
+    ∷ phrase 0x07 "or" (E ∷ E ∷ [])
+    ∷ phrase 0x08 "some" (R ∷ E ∷ [])
+    ∷ phrase 0x09 "every" (R ∷ E ∷ [])
+    ∷ phrase 0x0A "at-least" (number leastCount ∷ R ∷ E ∷ [])
+    ∷ phrase 0x0B "at-most" (number mostCount ∷ R ∷ E ∷ [])
     ∷ []
-rows (expr arrow) =
-    row 0x12 "reversed" (R ∷ [])
-    ∷ row 0x13 "or" (R ∷ R ∷ [])
-    ∷ row 0x14 "and" (R ∷ R ∷ [])
-    ∷ row 0x15 "without" (R ∷ R ∷ [])
-    ∷ row 0x16 "to" (R ∷ E ∷ [])
-    ∷ row 0x17 "pair" (nodeName ∷ nodeName ∷ [])
+phrases (expr arrow) =
+    phrase 0x12 "reversed" (R ∷ [])
+    ∷ phrase 0x13 "or" (R ∷ R ∷ [])
+    ∷ phrase 0x14 "and" (R ∷ R ∷ [])
+    ∷ phrase 0x15 "without" (R ∷ R ∷ [])
+    ∷ phrase 0x16 "to" (R ∷ E ∷ [])
+    ∷ phrase 0x17 "pair" (nodeName ∷ nodeName ∷ [])
     ∷ []
-rows (expr rule) =
-    row 0x21 "each" (E ∷ E ∷ [])
-    ∷ row 0x22 "each-arrow" (R ∷ R ∷ [])
-    ∷ row 0x23 "is" (nodeName ∷ E ∷ [])
-    ∷ row 0x24 "joined" (nodeName ∷ nodeName ∷ R ∷ [])
-    ∷ row 0x25 "and" (K ∷ K ∷ [])
-    ∷ row 0x26 "or" (K ∷ K ∷ [])
-    ∷ row 0x27 "not" (K ∷ [])
+phrases (expr rule) =
+    phrase 0x21 "each" (E ∷ E ∷ [])
+    ∷ phrase 0x22 "each-arrow" (R ∷ R ∷ [])
+    ∷ phrase 0x23 "is" (nodeName ∷ E ∷ [])
+    ∷ phrase 0x24 "joined" (nodeName ∷ nodeName ∷ R ∷ [])
+    ∷ phrase 0x25 "and" (K ∷ K ∷ [])
+    ∷ phrase 0x26 "or" (K ∷ K ∷ [])
+    ∷ phrase 0x27 "not" (K ∷ [])
     ∷ []
-rows (steps c) =
+phrases (steps c) =
     step 0x31 "mark" (labelName ∷ E ∷ []) []
     ∷ step 0x32 "unmark" (labelName ∷ E ∷ []) []
     ∷ step 0x33 "add" (arrowName ∷ R ∷ []) []
@@ -111,7 +111,7 @@ pub data Goal : Type 0 where
   number : Kind → Goal
   thing : Slot → (level : ℕ) → Goal
 
--- The items of a row that stands in a slot, at a level.
+-- The items of a phrase that stands in a slot, at a level.
 unfoldable pub goals : Slot → ℕ → List Item → List Goal
 goals s d [] = []
 goals s d (mark t ∷ is) = mark t ∷ goals s d is

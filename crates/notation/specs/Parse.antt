@@ -11,7 +11,7 @@ use Rattle.text.specs.Reading.{Limits}
 use Rattle.names.specs.Token.{Token, same, Found, found, absent, firstBelow}
 use Rattle.names.specs.Scan.{Placed}
 use Rattle.names.specs.Names.{Naming}
-use Rattle.notation.specs.Grammar.{atElse, atEnd, textEnd, elseWord, endWord, Slot, expr, steps, Row, rows, Goal, mark, number, thing, goals}
+use Rattle.notation.specs.Grammar.{atElse, atEnd, textEnd, elseWord, endWord, Slot, expr, steps, Phrase, phrases, Goal, mark, number, thing, goals}
 
 -- Bytes before those that are read.
 unfoldable pub prefixed : List ℕ → Asked (List ℕ) → Asked (List ℕ)
@@ -28,9 +28,9 @@ abbrev pub askStart : Limits → (level place : ℕ) → Start → (rest : List 
 askStart l d p (starts c then) rest = elim (leb d (l .deepest)) [ true ↦ prefixed c (rest then) | false ↦ refused 68 p ]
 askStart l d p starts-nothing rest = refused 65 p
 
-unfoldable pub rowFor : Token → List Row → Found Row
-rowFor t [] = absent
-rowFor t (r ∷ rs) = elim (same t (r .word)) [ true ↦ found r | false ↦ rowFor t rs ]
+unfoldable pub phraseFor : Token → List Phrase → Found Phrase
+phraseFor t [] = absent
+phraseFor t (r ∷ rs) = elim (same t (r .word)) [ true ↦ found r | false ↦ phraseFor t rs ]
 
 module _ (name : Naming) (l : Limits) where
   -- The number in range that is written so.
@@ -49,7 +49,7 @@ module _ (name : Naming) (l : Limits) where
   bareStart (steps textEnd) t = starts-nothing
 
   unfoldable pub start : Slot → (level : ℕ) → Token → Start
-  start s d t = elim (rowFor t (rows s)) [ found r ↦ starts (r .byte ∷ []) (goals s d (r .items)) | absent ↦ bareStart s t ]
+  start s d t = elim (phraseFor t (phrases s)) [ found r ↦ starts (r .byte ∷ []) (goals s d (r .items)) | absent ↦ bareStart s t ]
 
   -- The goals followed along the tokens, with at most m rules after them; `end` is the place after the last byte of the text.
   module _ (end : ℕ) where

@@ -7,16 +7,16 @@ use Rattle.logic.specs.Syntax.{node, arrow, rule}
 use Rattle.logic.specs.Limits.{Kind, labelNumber, arrowNumber, nodeNumber}
 use Rattle.names.specs.Token.{Token, Found, found, absent}
 use Rattle.names.specs.Names.{Naming}
-use Rattle.notation.specs.Grammar.{atElse, atEnd, textEnd, elseWord, endWord, Slot, expr, steps, Row, rows, Goal, mark, number, thing, goals}
+use Rattle.notation.specs.Grammar.{atElse, atEnd, textEnd, elseWord, endWord, Slot, expr, steps, Phrase, phrases, Goal, mark, number, thing, goals}
 
 -- What a code byte writes before its numbers and operands, and what must follow.
 pub record Opens : Type 0 where
   pub tokens : List Token
   pub then : List Goal
 
-unfoldable pub rowOf : ℕ → List Row → Found Row
-rowOf c [] = absent
-rowOf c (r ∷ rs) = elim (eqb c (r .byte)) [ true ↦ found r | false ↦ rowOf c rs ]
+unfoldable pub phraseOf : ℕ → List Phrase → Found Phrase
+phraseOf c [] = absent
+phraseOf c (r ∷ rs) = elim (eqb c (r .byte)) [ true ↦ found r | false ↦ phraseOf c rs ]
 
 -- 03, 04, 11 and 30, which have no word of their own; what stands for no code writes nothing.
 unfoldable pub bare : Slot → ℕ → Opens
@@ -28,7 +28,7 @@ bare (steps atEnd) c = record { tokens = endWord ∷ []; then = [] }
 bare (steps textEnd) c = record { tokens = []; then = [] }
 
 unfoldable pub opens : Slot → (level : ℕ) → ℕ → Opens
-opens s d c = elim (rowOf c (rows s)) [ found r ↦ record { tokens = r .word ∷ []; then = goals s d (r .items) } | absent ↦ bare s c ]
+opens s d c = elim (phraseOf c (phrases s)) [ found r ↦ record { tokens = r .word ∷ []; then = goals s d (r .items) } | absent ↦ bare s c ]
 
 -- The tokens of bytes that meet the goals, with at most m rules after them.
 module _ (name : Naming) where

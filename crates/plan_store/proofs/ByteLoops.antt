@@ -1,16 +1,14 @@
--- The loops over bytes: all zero, word by word; copied.
-use mathlib.Core.Path.{_≡_, refl, sym, ap, _∙_}
+-- Bytes that are all zero, word by word.
+use mathlib.Core.Path.{_≡_, refl, ap, _∙_}
 use mathlib.Core.Bool.{true, false}
-use mathlib.Core.List.{List, [], _∷_, _++_}
+use mathlib.Core.List.{List}
 use Prim.Native.Nat.{ℕ, _+_, _-_, _*_, _/_, _^_, _≤_, _<_}
-use native.Mathlib.Numerals.{add-one}
 use native.Mathlib.Omega.{arith}
 use native.Mathlib.Decide.{decLt}
 use borrow.Author.Tests.{eq-eqb, ne-eqb, eqb-true}
 use lib.Bits.{bitOr}
 use lib.Dec.{eqb}
-use lib.ListN.{length, getD, take, set}
-use lib.Seq.{take-suc-set, take-suc, take-all}
+use lib.ListN.{length, getD}
 use Rattle.logic.proofs.Below.{all-each, all-next, all-stop}
 use Rattle.bitset.specs.Words.{Bytes, wordAt}
 use Rattle.bitset.proofs.ZeroBytes.{high-zero, zero-high}
@@ -58,13 +56,3 @@ module _ (s : List ℕ) (at : ℕ) where
 
   pub zero-test : (j all : ℕ) → Zero s at j all → eqb all 0 ≡ zerosAt s at (8 * j)
   zero-test j all z = same-test (eqb all 0) (zerosAt s at (8 * j)) (λ e. z .none (eqb-true all 0 e)) (λ e. eq-eqb all 0 (z .some e))
-
--- one byte more copied
-pub copied : (l s : List ℕ) (i : ℕ) → i < length l → length l ≡ length s → take i l ≡ take i s → take (i + 1) (set l i (getD s i 0)) ≡ take (i + 1) s
-copied l s i h n e =
-    ap (λ x. take x (set l i (getD s i 0))) (add-one i) ∙ take-suc-set l i (getD s i 0) h ∙ ap (_++ (getD s i 0 ∷ [])) e
-    ∙ sym (take-suc s i 0 (omega arith)) ∙ ap (λ x. take x s) (sym (add-one i))
-
--- and all
-pub passed-all : (l s : List ℕ) (i : ℕ) → length l ≤ i → length l ≡ length s → take i l ≡ take i s → l ≡ s
-passed-all l s i h n e = sym (take-all i l h) ∙ e ∙ take-all i s (omega arith)

@@ -7,9 +7,9 @@ use native.Mathlib.Omega.{arith}
 use native.Mathlib.Decide.{decLt}
 use borrow.Author.Tests.{lt-ltb, le-ltb, ltb-true}
 use lib.Dec.{ltb}
-use lib.ListN.{getD}
 use Rattle.answer.specs.Asked.{_>>_, is, passed}
 use Rattle.logic.specs.Limits.{labelCount, arrowCount}
+use Rattle.bitset.specs.Words.{Bytes}
 use Rattle.sheet.specs.Sheet.{graphIn, graphOf}
 use Rattle.sheet.specs.Questions.{askSheet, askLabelBit, askArrowBit}
 use Rattle.node_sets.specs.NodeSets.{members, askLabelSet, askRowSet}
@@ -31,7 +31,7 @@ unfolding _>>_ is
 alike p true x y e f = ap (λ b. is b 7 0 >> passed x) e ∙ ap passed (f refl)
 alike p false x y e f = ap (λ b. is b 7 0 >> passed x) e
 
-module _ (t : List ℕ) (bytes : (p : ℕ) → getD t p 0 < 256) where
+module _ (t : List ℕ) (bytes : Bytes t) where
   few : graphOf t .n ≤ 255
   few = unfold graphIn in omega (arith, bytes 2)
 

@@ -11,22 +11,22 @@ use Rattle.logic.specs.Carry.{carry}
 use Rattle.text.specs.Code.{code, bookCode, bookLevels}
 use Rattle.tree.specs.Tree.{same, under, tree}
 use Rattle.tree.proofs.TreeLaws.{code-tree, height-tree, size-is}
-use Rattle.tree.specs.Sizes.{Measure, measure, substituted, chosen, back, join, nothing, measures}
+use Rattle.tree.specs.Sizes.{Measure, measure, substituted, chosen, back, together, nothing, measures}
 use Rattle.tree.proofs.Measured.{same-measure, under-max, max-under, measured}
 
 -- Joining is a sum, and a maximum, in each number.
-pub join-nothing : (M : Measure) → join M nothing ≡ M
-join-nothing M = unfold join nothing in same-measure (omega arith) (omega arith) (λ c k. omega arith) (λ c k. omega arith)
+pub together-nothing : (M : Measure) → together M nothing ≡ M
+together-nothing M = unfold together nothing in same-measure (omega arith) (omega arith) (λ c k. omega arith) (λ c k. omega arith)
 
-pub join-comm : (M N : Measure) → join M N ≡ join N M
-join-comm M N = unfold join in same-measure (omega arith) (omega arith) (λ c k. omega arith) (λ c k. omega arith)
+pub together-comm : (M N : Measure) → together M N ≡ together N M
+together-comm M N = unfold together in same-measure (omega arith) (omega arith) (λ c k. omega arith) (λ c k. omega arith)
 
-pub join-assoc : (M N O : Measure) → join (join M N) O ≡ join M (join N O)
-join-assoc M N O = unfold join in same-measure (omega arith) (omega arith) (λ c k. omega arith) (λ c k. omega arith)
+pub together-assoc : (M N O : Measure) → together (together M N) O ≡ together M (together N O)
+together-assoc M N O = unfold together in same-measure (omega arith) (omega arith) (λ c k. omega arith) (λ c k. omega arith)
 
-pub substituted-join : (c k more : ℕ) (E M N : Measure) → substituted c k more E (join M N) ≡ join (substituted c k more E M) (substituted c k more E N)
-unfolding substituted join
-substituted-join c k more E M N =
+pub substituted-together : (c k more : ℕ) (E M N : Measure) → substituted c k more E (together M N) ≡ together (substituted c k more E M) (substituted c k more E N)
+unfolding substituted together
+substituted-together c k more E M N =
     same-measure (sums (M .len) (N .len) (more + E .len)) (omega (arith, below (E .tall))) (λ c′ k′. sums (M .counts c′ k′) (N .counts c′ k′) (E .counts c′ k′))
     (λ c′ k′. deep-at (same c′ k′ c k) (M .deeps c′ k′) (N .deeps c′ k′) (E .deeps c′ k′)) where
       d : ℕ
@@ -54,9 +54,9 @@ max-parts a b c d k = let e : max (max a b) (max c d) ≡ max (max a c) (max b d
 max-two : (x y : ℕ) → 2 + max x y ≡ max (2 + x) (2 + y)
 max-two x y = omega arith
 
-pub chosen-join : (r s : ℕ) (K T U T′ U′ : Measure) → chosen (r + s) K (join T U) (join T′ U′) ≡ join (chosen r K T T′) (chosen s K U U′)
-unfolding chosen join
-chosen-join r s K T U T′ U′ =
+pub chosen-together : (r s : ℕ) (K T U T′ U′ : Measure) → chosen (r + s) K (together T U) (together T′ U′) ≡ together (chosen r K T T′) (chosen s K U U′)
+unfolding chosen together
+chosen-together r s K T U T′ U′ =
     same-measure (omega (arith, add-mul r s (4 + 2 * K .len))) (tops (T .tall) (U .tall) (T′ .tall) (U′ .tall) (3 + K .tall))
     (λ c k. omega arith) (λ c k. deep-at (T .deeps c k) (U .deeps c k) (T′ .deeps c k) (U′ .deeps c k) (under 4 (K .deeps c k))) where
       tops : (t u v w k : ℕ) → max (max (2 + max t u) (2 + max v w)) k ≡ max (max (max (2 + t) (2 + v)) k) (max (max (2 + u) (2 + w)) k)
@@ -65,33 +65,33 @@ chosen-join r s K T U T′ U′ =
       deep-at : (t u v w k : ℕ) → max (max (under 3 (max t u)) (under 3 (max v w))) k ≡ max (max (max (under 3 t) (under 3 v)) k) (max (max (under 3 u) (under 3 w)) k)
       deep-at t u v w k = ap₂ (λ (x y : ℕ). max (max x y) k) (under-max 3 t u) (under-max 3 v w) ∙ max-parts (under 3 t) (under 3 u) (under 3 v) (under 3 w) k
 
-pub back-join : (r s : ℕ) (Z : Edit) (M N : Measure) → back (r + s) Z (join M N) ≡ join (back r Z M) (back s Z N)
+pub back-together : (r s : ℕ) (Z : Edit) (M N : Measure) → back (r + s) Z (together M N) ≡ together (back r Z M) (back s Z N)
 unfolding back
-back-join r s finish M N = refl
-back-join r s (addLabel k E Z) M N = ap (substituted 0x03 k 1 (measure (tree E))) (back-join r s Z M N) ∙ substituted-join 0x03 k 1 (measure (tree E)) (back r Z M) (back s Z N)
-back-join r s (takeLabel k E Z) M N = ap (substituted 0x03 k 2 (measure (tree E))) (back-join r s Z M N) ∙ substituted-join 0x03 k 2 (measure (tree E)) (back r Z M) (back s Z N)
-back-join r s (addArrow a R Z) M N = ap (substituted 0x11 a 1 (measure (tree R))) (back-join r s Z M N) ∙ substituted-join 0x11 a 1 (measure (tree R)) (back r Z M) (back s Z N)
-back-join r s (takeArrow a R Z) M N = ap (substituted 0x11 a 1 (measure (tree R))) (back-join r s Z M N) ∙ substituted-join 0x11 a 1 (measure (tree R)) (back r Z M) (back s Z N)
-back-join r s (choose K P Q Z) M N =
-    ap₂ (chosen (r + s) (measure (tree K))) (ap (back (r + s) P) (back-join r s Z M N) ∙ back-join r s P (back r Z M) (back s Z N)) (ap (back (r + s) Q) (back-join r s Z M N) ∙ back-join r s Q (back r Z M) (back s Z N))
-    ∙ chosen-join r s (measure (tree K)) (back r P (back r Z M)) (back s P (back s Z N)) (back r Q (back r Z M)) (back s Q (back s Z N))
+back-together r s finish M N = refl
+back-together r s (addLabel k E Z) M N = ap (substituted 0x03 k 1 (measure (tree E))) (back-together r s Z M N) ∙ substituted-together 0x03 k 1 (measure (tree E)) (back r Z M) (back s Z N)
+back-together r s (takeLabel k E Z) M N = ap (substituted 0x03 k 2 (measure (tree E))) (back-together r s Z M N) ∙ substituted-together 0x03 k 2 (measure (tree E)) (back r Z M) (back s Z N)
+back-together r s (addArrow a R Z) M N = ap (substituted 0x11 a 1 (measure (tree R))) (back-together r s Z M N) ∙ substituted-together 0x11 a 1 (measure (tree R)) (back r Z M) (back s Z N)
+back-together r s (takeArrow a R Z) M N = ap (substituted 0x11 a 1 (measure (tree R))) (back-together r s Z M N) ∙ substituted-together 0x11 a 1 (measure (tree R)) (back r Z M) (back s Z N)
+back-together r s (choose K P Q Z) M N =
+    ap₂ (chosen (r + s) (measure (tree K))) (ap (back (r + s) P) (back-together r s Z M N) ∙ back-together r s P (back r Z M) (back s Z N)) (ap (back (r + s) Q) (back-together r s Z M N) ∙ back-together r s Q (back r Z M) (back s Z N))
+    ∙ chosen-together r s (measure (tree K)) (back r P (back r Z M)) (back s P (back s Z N)) (back r Q (back r Z M)) (back s Q (back s Z N))
 
 -- A book of one rule or more, carried, has the measure that going back once over the edit gives.
 pub measured-book : (Z : Edit) (K : Expr rule) (Ks : List (Expr rule)) → measures (map (carry Z) (K ∷ Ks)) ≡ back (1 + length Ks) Z (measures (K ∷ Ks))
 unfolding measures
-measured-book Z K [] = join-nothing (measure (tree (carry Z K))) ∙ measured Z K ∙ sym (ap (back 1 Z) (join-nothing (measure (tree K))))
+measured-book Z K [] = together-nothing (measure (tree (carry Z K))) ∙ measured Z K ∙ sym (ap (back 1 Z) (together-nothing (measure (tree K))))
 measured-book Z K (L ∷ Ks) =
-    ap₂ join (measured Z K) (measured-book Z L Ks) ∙ sym (back-join 1 (1 + length Ks) Z (measure (tree K)) (measures (L ∷ Ks)))
+    ap₂ together (measured Z K) (measured-book Z L Ks) ∙ sym (back-together 1 (1 + length Ks) Z (measure (tree K)) (measures (L ∷ Ks)))
     ∙ ap (λ (u : ℕ). back u Z (measures (K ∷ L ∷ Ks))) (let e : 1 + (1 + length Ks) ≡ 1 + length (L ∷ Ks) = omega arith in e)
 
--- its length is that of the joined bookCode
+-- its length is that of the book
 pub len-codes : (Ks : List (Expr rule)) → measures Ks .len ≡ length (bookCode Ks)
-unfolding measures join nothing measure bookCode
+unfolding measures together nothing measure bookCode
 len-codes [] = refl
 len-codes (K ∷ Ks) = omega (arith, size-is (tree K), ap length (code-tree K), len-codes Ks, length-append (code K) (bookCode Ks))
 
 -- its levels are those of the deepest rule
 pub tall-levels : (Ks : List (Expr rule)) → measures Ks .tall ≡ bookLevels Ks
-unfolding measures join nothing measure bookLevels
+unfolding measures together nothing measure bookLevels
 tall-levels [] = refl
 tall-levels (K ∷ Ks) = ap₂ max (height-tree K) (tall-levels Ks)

@@ -42,16 +42,16 @@ back r (addArrow a R Z) M = substituted 0x11 a 1 (measure (tree R)) (back r Z M)
 back r (takeArrow a R Z) M = substituted 0x11 a 1 (measure (tree R)) (back r Z M)
 back r (choose K P Q Z) M = chosen r (measure (tree K)) (back r P (back r Z M)) (back r Q (back r Z M))
 
--- A book measured as one text: the measures of its rules joined.
-unfoldable pub join : Measure → Measure → Measure
-join M N = record { len = M .len + N .len; tall = max (M .tall) (N .tall); counts = λ c k. M .counts c k + N .counts c k; deeps = λ c k. max (M .deeps c k) (N .deeps c k) }
+-- A book measured as one text: the measures of its rules taken together.
+unfoldable pub together : Measure → Measure → Measure
+together M N = record { len = M .len + N .len; tall = max (M .tall) (N .tall); counts = λ c k. M .counts c k + N .counts c k; deeps = λ c k. max (M .deeps c k) (N .deeps c k) }
 
 unfoldable pub nothing : Measure
 nothing = record { len = 0; tall = 0; counts = λ c k. 0; deeps = λ c k. 0 }
 
 unfoldable pub measures : List (Expr rule) → Measure
 measures [] = nothing
-measures (K ∷ Ks) = join (measure (tree K)) (measures Ks)
+measures (K ∷ Ks) = together (measure (tree K)) (measures Ks)
 
 -- Counting ends one beyond the bytes that a carried book may have.
 abbrev pub beyond : ℕ
