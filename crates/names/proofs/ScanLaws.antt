@@ -14,7 +14,13 @@ betweenAt b bs at c =
     elim c as (λ z. List Placed) [ blank ↦ scan bs between (suc at) | hash ↦ scan bs comment (suc at) | mark ↦ record { place = at; token = b ∷ [] } ∷ scan bs between (suc at) | letter ↦ scan bs (inWord at (b ∷ [])) (suc at) ]
 
 abbrev pub inWordAt : ℕ → List ℕ → (at q : ℕ) → Token → Class → List Placed
-inWordAt b bs at q w c = elim c as (λ z. List Placed) [ blank ↦ record { place = q; token = w } ∷ scan bs between (suc at) | hash ↦ record { place = q; token = w } ∷ scan bs comment (suc at) | mark ↦ record { place = q; token = w } ∷ record { place = at; token = b ∷ [] } ∷ scan bs between (suc at) | letter ↦ scan bs (inWord q (w ++ b ∷ [])) (suc at) ]
+inWordAt b bs at q w c =
+    elim c as (λ z. List Placed) [
+      | blank ↦ record { place = q; token = w } ∷ scan bs between (suc at)
+      | hash ↦ record { place = q; token = w } ∷ scan bs comment (suc at)
+      | mark ↦ record { place = q; token = w } ∷ record { place = at; token = b ∷ [] } ∷ scan bs between (suc at)
+      | letter ↦ scan bs (inWord q (w ++ b ∷ [])) (suc at)
+    ]
 
 -- Bytes whose tokens, from any place, are these.
 abbrev pub Scans : List ℕ → List Token → Type 0

@@ -1,6 +1,6 @@
 -- Witnesses are as promised.
 use mathlib.Core.Path.{_≡_, refl, sym, ap, _∙_, subst}
-use mathlib.Core.Logic.{_↔_}
+use mathlib.Core.Logic.{_↔_, _⊎_, inl, inr, ⊎-elim}
 use mathlib.Core.Bool.{Bool, true, false}
 use mathlib.Core.List.{List, [], _∷_, _++_, map, append-nil}
 use Prim.Native.Nat.{ℕ, suc, _+_, _-_, _≤_}
@@ -8,9 +8,9 @@ use native.Mathlib.Omega.{arith}
 use lib.ListN.{length, take, drop, length-append, length-take, take-append-drop}
 use lib.Seq.{take-all, take-append-add}
 use lib.Dec.{leb}
-use borrow.Author.Tests.{leb-true}
+use borrow.Author.Tests.{leb-true, le-leb}
 use Rattle.answer.specs.Asked.{Asked, passed, refused, _>>=_, _>>_, is}
-use Rattle.answer.proofs.AskedLaws.{passed-same, then-passed, is-then, is-yes}
+use Rattle.answer.proofs.AskedLaws.{passed-same, refused-not-passed, so-then, bind-refused, then-passed, is-then, is-yes}
 use Rattle.logic.specs.Syntax.{Expr, rule, Edit}
 use Rattle.logic.specs.Graph.{Graph}
 use Rattle.logic.specs.Meaning.{value}
@@ -20,11 +20,12 @@ use Rattle.logic.specs.Limits.{ranges, InRange}
 use Rattle.logic.specs.Witness.{nothing, breaks}
 use Rattle.logic.proofs.Theorem.{carried}
 use Rattle.logic.proofs.WitnessLaws.{holds-nothing, carried-breaks}
-use Rattle.sheet.specs.Sheet.{graphOf}
-use Rattle.sheet.specs.Questions.{Sound}
+use Rattle.sheet.specs.Sheet.{present, graphOf}
+use Rattle.sheet.specs.Questions.{askSheet, Sound}
+use Rattle.sheet.proofs.SheetRefusals.{sheet-refuses}
 use Rattle.text.specs.Code.{code, levels, bookCode, bookLevels}
-use Rattle.text.specs.Reading.{carriedLimits, textLimits, longestText, longestCarried, deepestCarried, expr}
-use Rattle.text.specs.Questions.{askFirst, askBook}
+use Rattle.text.specs.Reading.{carriedLimits, textLimits, longestText, longestCarried, deepestCarried, Limits, expr, Read, got, fault, missing, wrongSort, tooDeep, outOfRange, readAs}
+use Rattle.text.specs.Questions.{first, askFirst, askBook}
 use Rattle.text.proofs.Converse.{Allowed}
 use Rattle.text.proofs.TextSpelling.{EachAllowed, book-is-spelled, edit-is-spelled, first-is-spelled, spelled-first-passes}
 use Rattle.text.proofs.CarriedRanges.{carried-rule-is-read}
@@ -36,6 +37,7 @@ use Rattle.runs.specs.Scratch.{askScratch}
 use Rattle.runs.specs.Enter.{StepsAndCarried, askBefore41, enterAnswer, enterScratch}
 use Rattle.runs.specs.Run.{Given}
 use Rattle.runs.proofs.After.{after-sound, after-graph, after-n}
+use Rattle.runs.proofs.EnterRefusals.{refused-between}
 use Rattle.runs.proofs.OneCall.{answers-41}
 use Rattle.witness.specs.Witnessed.{witness, askWitness}
 use Rattle.witness.specs.Told.{Told, breakingPart}
@@ -47,6 +49,40 @@ use Rattle.promises.proofs.Item10 as item10
 -- the witness of the rule that a text begins with
 asked-is : (sheet text : List ℕ) (K : Expr rule) → Sound sheet → askFirst (carriedLimits (graphOf sheet .n)) (take longestCarried text) ≡ passed K → askWitness sheet text ≡ passed (witness (graphOf sheet .n) (breaks (graphOf sheet) K))
 asked-is sheet text K s e = unfold askWitness _>>_ _>>=_ in rw (s, e) refl
+
+-- what the first rule of a text is refused by, once the text is no longer than a carried rule
+first-numbers : (x : Read (Expr rule)) {q p : ℕ} → first x ≡ refused q p → (12 ≤ q) × (q ≤ 15)
+unfolding first
+first-numbers (got K rest p) e = refused-not-passed (sym e)
+first-numbers (fault missing p) {q} e = let z : q ≡ 12 = cc in (omega arith, omega arith)
+first-numbers (fault wrongSort p) {q} e = let z : q ≡ 13 = cc in (omega arith, omega arith)
+first-numbers (fault tooDeep p) {q} e = let z : q ≡ 14 = cc in (omega arith, omega arith)
+first-numbers (fault outOfRange p) {q} e = let z : q ≡ 15 = cc in (omega arith, omega arith)
+
+refusals : (sheet text : List ℕ) {q p : ℕ} → askWitness sheet text ≡ refused q p → ((1 ≤ q) × (q ≤ 4)) ⊎ ((12 ≤ q) × (q ≤ 15))
+unfolding askWitness _>>_ askFirst
+refusals sheet text {q} {p} e = go (askSheet sheet) refl e where
+  t : List ℕ
+  t = take longestCarried text
+
+  l : Limits
+  l = carriedLimits (graphOf sheet .n)
+
+  asks : Asked Witness
+  asks = askFirst l t >>= (λ K. passed (witness (graphOf sheet .n) (breaks (graphOf sheet) K)))
+
+  short : length t ≤ longestCarried
+  short = omega (arith, length-take longestCarried text)
+
+  rule-first : asks ≡ refused q p → (12 ≤ q) × (q ≤ 15)
+  rule-first f = ⊎-elim
+      (λ r. first-numbers (readAs l (expr rule) t 0) (sym (so-then 11 0 (first (readAs l (expr rule) t 0)) (le-leb (length t) longestCarried short)) ∙ r))
+      (λ (K, r, w). refused-not-passed (sym w))
+      (bind-refused (askFirst l t) _ f)
+
+  go : (x : Asked (Unit {0})) → askSheet sheet ≡ x → (x >> asks) ≡ refused q p → ((1 ≤ q) × (q ≤ 4)) ⊎ ((12 ≤ q) × (q ≤ 15))
+  go (passed u) s f = inr (rule-first f)
+  go (refused n m) s f = let (low, high) = refused-between (sheet-refuses present sheet) s in let z : n ≡ q = cc in inl (omega arith, omega arith)
 
 -- a witness is only answered of a sound sheet
 answered-is : {sheet text : List ℕ} {K : Expr rule} {w : Witness} → Answered sheet text K w → w ≡ witness (graphOf sheet .n) (breaks (graphOf sheet) K)
@@ -214,4 +250,4 @@ after-41 {book} {edit} {sheet} i scratch p e =
     subst (Foretold i scratch) place (foretold i scratch (w .what) (w .passes) (w .before) (w .last) (w .unwritten) (w .rules) (w .at-start) b)
 
 pub witnesses : Witnesses
-witnesses = record { kind-0 = kind-0; tells = tells; carried = carried-breaks; after-41 = after-41 }
+witnesses = record { refusals = refusals; kind-0 = kind-0; tells = tells; carried = carried-breaks; after-41 = after-41 }

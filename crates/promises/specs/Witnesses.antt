@@ -1,9 +1,9 @@
 -- What a witness promises (zamiathen_witness). proofs/Witnesses proves it.
 use mathlib.Core.Path.{_≡_}
-use mathlib.Core.Logic.{_↔_}
+use mathlib.Core.Logic.{_↔_, _⊎_}
 use mathlib.Core.Bool.{true, false}
 use mathlib.Core.List.{List, _∷_, _++_}
-use Prim.Native.Nat.{ℕ}
+use Prim.Native.Nat.{ℕ, _≤_}
 use lib.ListN.{length, take}
 use Rattle.answer.specs.Asked.{passed, refused}
 use Rattle.logic.specs.Syntax.{Expr, rule, Edit}
@@ -39,6 +39,8 @@ pub record Foretold {book edit sheet : List ℕ} (i : Given book edit sheet) (sc
   pub same : askWitness sheet (enterScratch sheet book edit scratch) ≡ askWitness (afterSteps (i .steps) sheet) (code K)
 
 pub record Witnesses : Type 0 where
+  -- A refusal is 1 to 4 of the sheet or 12 to 15 of the rule: however long the text, 11 is never answered.
+  pub refusals : (sheet text : List ℕ) {q p : ℕ} → askWitness sheet text ≡ refused q p → ((1 ≤ q) × (q ≤ 4)) ⊎ ((12 ≤ q) × (q ≤ 15))
   -- After done, kind 0 exactly when the rule holds.
   pub kind-0 : {sheet text : List ℕ} {K : Expr rule} {w : Witness} → Answered sheet text K w → (w .kind ≡ 0) ↔ (value (graphOf sheet) K ≡ true)
   -- A witness of kind 1 or 2 is really one, and the lowest; `nodes` are all of them.
