@@ -2,7 +2,7 @@
 -- their own, which hold a bit or a length: their contracts cite `bitAsked` and `writtenAsked`, with the same numbers and places for refusals.
 use Prim.Native.Nat.{ℕ}
 use Rattle.answer.specs.declared.Refusal.{Refusal}
-use Rattle.answer.specs.declared.Refusal.the-variants.{SheetLength, CheckBytes, BlockHead, NotZero, NodeCount, BitRange, BookLength, BookEnds, BookCode, BookLevel, BookNumber, BookRules, EditLength, EditEnds, EditCode, EditLevel, EditNumber, EditExtra, CarriedLength, CarriedLevels, OutputLength, RuleBroken, PageLine, LogSums, LogBlock, NodeTaken, StoreBytes, PlanName, PlanUnfilled, NodesTotal, LawStep, TextSent, SmallSheets, GameRange}
+use Rattle.answer.specs.declared.Refusal.the-variants.{SheetLength, CheckBytes, BlockHead, NotZero, NodeCount, BitRange, BookLength, BookEnds, BookCode, BookLevel, BookNumber, BookRules, EditLength, EditEnds, EditCode, EditLevel, EditNumber, EditExtra, CarriedLength, CarriedLevels, OutputLength, RuleBroken, PageLine, LogSums, LogBlock, NodeTaken, StoreBytes, PlanName, PlanUnfilled, NodesTotal, LawStep, TextSent, SmallSheets, GameRange, NameTable, WordsEnd, WordsStart, WordsMark, WordsNumber, WordsLevel, WordsRules, WordsLength}
 use Rattle.answer.specs.declared.Answer.{Answer}
 use Rattle.answer.specs.declared.Answer.the-variants.{Done, Refused}
 use Rattle.answer.specs.Asked.{Asked, passed, refused}
@@ -42,6 +42,14 @@ refusalNumber (LawStep p) = 59
 refusalNumber (TextSent p) = 60
 refusalNumber (SmallSheets p) = 61
 refusalNumber (GameRange p) = 62
+refusalNumber (NameTable p) = 63
+refusalNumber (WordsEnd p) = 64
+refusalNumber (WordsStart p) = 65
+refusalNumber (WordsMark p) = 66
+refusalNumber (WordsNumber p) = 67
+refusalNumber (WordsLevel p) = 68
+refusalNumber (WordsRules p) = 69
+refusalNumber (WordsLength p) = 70
 
 abbrev pub refusalPlace : Refusal → ℕ
 refusalPlace (SheetLength p) = p
@@ -78,6 +86,14 @@ refusalPlace (LawStep p) = p
 refusalPlace (TextSent p) = p
 refusalPlace (SmallSheets p) = p
 refusalPlace (GameRange p) = p
+refusalPlace (NameTable p) = p
+refusalPlace (WordsEnd p) = p
+refusalPlace (WordsStart p) = p
+refusalPlace (WordsMark p) = p
+refusalPlace (WordsNumber p) = p
+refusalPlace (WordsLevel p) = p
+refusalPlace (WordsRules p) = p
+refusalPlace (WordsLength p) = p
 
 abbrev pub answerNumber : Answer → ℕ
 answerNumber Done = 0

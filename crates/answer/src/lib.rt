@@ -68,6 +68,22 @@ pub enum Refusal {
     SmallSheets { place: usize },
     // 62: a list of edits or the number of moves is out of its range
     GameRange { place: usize },
+    // 63: the table of names is wrong; the place is its first wrong token, or its length where one is missing
+    NameTable { place: usize },
+    // 64: the words end where a token is wanted; the place is their length
+    WordsEnd { place: usize },
+    // 65: a token that begins no such thing as is wanted; the place of this and the next four is the token
+    WordsStart { place: usize },
+    // 66: another token than the mark that is wanted
+    WordsMark { place: usize },
+    // 67: no name or count of the sort wanted, in its range
+    WordsNumber { place: usize },
+    // 68: what the token begins would stand below level 32
+    WordsLevel { place: usize },
+    // 69: a 33rd rule
+    WordsRules { place: usize },
+    // 70: the codes are longer than 4,096 bytes; the place is their length
+    WordsLength { place: usize },
 }
 
 pub enum Answer {
@@ -120,6 +136,14 @@ pub fn refusal_number(r: Refusal) -> usize
         Refusal::TextSent { place: _ } => 60,
         Refusal::SmallSheets { place: _ } => 61,
         Refusal::GameRange { place: _ } => 62,
+        Refusal::NameTable { place: _ } => 63,
+        Refusal::WordsEnd { place: _ } => 64,
+        Refusal::WordsStart { place: _ } => 65,
+        Refusal::WordsMark { place: _ } => 66,
+        Refusal::WordsNumber { place: _ } => 67,
+        Refusal::WordsLevel { place: _ } => 68,
+        Refusal::WordsRules { place: _ } => 69,
+        Refusal::WordsLength { place: _ } => 70,
     }
 }
 
@@ -162,6 +186,14 @@ pub fn refusal_place(r: Refusal) -> usize
         Refusal::TextSent { place } => place,
         Refusal::SmallSheets { place } => place,
         Refusal::GameRange { place } => place,
+        Refusal::NameTable { place } => place,
+        Refusal::WordsEnd { place } => place,
+        Refusal::WordsStart { place } => place,
+        Refusal::WordsMark { place } => place,
+        Refusal::WordsNumber { place } => place,
+        Refusal::WordsLevel { place } => place,
+        Refusal::WordsRules { place } => place,
+        Refusal::WordsLength { place } => place,
     }
 }
 
