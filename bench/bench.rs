@@ -7,6 +7,7 @@ mod instructions;
 #[path = "../tests/differential/common/library.rs"]
 mod library;
 mod sheets;
+mod words;
 
 use calls::{Buffers, Call, Outcome, Row, Sides};
 use instructions::Count;
@@ -61,7 +62,7 @@ fn print_head(rounds: usize) {
     println!("is copied anew and the 16,384 bytes of scratch or output are filled. Instructions are those of one");
     println!("call, by callgrind, all of them and without those that clear memory (memset). The sheets of the");
     println!("region are checked one after the other: the time is that of them all, the instructions are those of");
-    println!("one sheet on average.");
+    println!("one sheet on average. In the rows of words and names the other side is the reference of the tests.");
     println!();
     println!("{:<36} | {:^37} | {:^29} | {:^29}", "", "microseconds", "instructions a call", "without clearing");
     let sides = format!("{:>10} {:>10} {:>7}", "library", "plain Rust", "ratio");

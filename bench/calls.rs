@@ -1,9 +1,10 @@
 //! The calls that are measured, made by the library and by plain Rust, and their inputs.
 
 use crate::library::{zamiathen_apply, zamiathen_carry_back, zamiathen_check, zamiathen_enter, zamiathen_judge};
-use crate::sheets;
+use crate::{sheets, words};
 
-/// The buffers of a call, and the sheet that is copied in before it. Only the row of the region has one.
+/// The buffers of a call, and the sheet that is copied in before it. Only the row of the region has one, and only rows of
+/// words have names and a text.
 pub struct Buffers {
     opening: Vec<u8>,
     pub sheet: Vec<u8>,
@@ -11,11 +12,18 @@ pub struct Buffers {
     edit: Vec<u8>,
     pub scratch: Vec<u8>,
     region: Vec<Vec<u8>>,
+    pub names: Vec<u8>,
+    pub text: Vec<u8>,
 }
 
 impl Buffers {
     fn new(opening: Vec<u8>, book: Vec<u8>, edit: Vec<u8>) -> Buffers {
-        Buffers { sheet: opening.clone(), opening, book, edit, scratch: vec![0; 16384], region: vec![] }
+        let (sheet, scratch) = (opening.clone(), vec![0; 16384]);
+        Buffers { sheet, opening, book, edit, scratch, region: vec![], names: vec![], text: vec![] }
+    }
+
+    pub fn of_words(names: Vec<u8>, text: Vec<u8>) -> Buffers {
+        Buffers { names, text, ..Buffers::new(vec![], vec![], vec![]) }
     }
 
     /// The input of the program `enter`.
@@ -62,7 +70,7 @@ pub struct Row {
 }
 
 impl Row {
-    fn new(name: &str, buffers: Buffers, sides: Sides) -> Row {
+    pub fn new(name: &str, buffers: Buffers, sides: Sides) -> Row {
         Row { name: name.to_string(), buffers, sides }
     }
 
@@ -72,7 +80,7 @@ impl Row {
     }
 }
 
-/// The questions of single sheets and of a region, the station of `examples/station`, then the slow inputs of
+/// The questions of single sheets and of a region, the station of `examples/station`, words, then the slow inputs of
 /// `bench/data`.
 pub fn rows() -> Vec<Row> {
     let mut rows = vec![
@@ -86,6 +94,7 @@ pub fn rows() -> Vec<Row> {
         Row::new("enter, 41", on_station("sheet", "crowd"), ENTER),
         Row::new("apply", on_station("sheet", "move"), APPLY),
     ];
+    rows.extend(words::rows());
     for number in 0..29 {
         let file = format!("bench/data/{number:02}.in");
         rows.push(Row::new(&format!("enter, {file}"), Buffers::from_input(&load(&file)), ENTER));
@@ -124,11 +133,11 @@ fn on_station(sheet: &str, edit: &str) -> Buffers {
     Buffers::new(station(sheet), station("book"), station(edit))
 }
 
-fn load(path: &str) -> Vec<u8> {
+pub fn load(path: &str) -> Vec<u8> {
     std::fs::read(path).unwrap_or_else(|error| panic!("{path}: {error}"))
 }
 
-fn station(file: &str) -> Vec<u8> {
+pub fn station(file: &str) -> Vec<u8> {
     load(&format!("examples/station/{file}.bin"))
 }
 

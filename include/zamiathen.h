@@ -1,9 +1,9 @@
 /* Station sheets: make a blank sheet, ask whether a sheet is sound, convert an old card, read a sheet's bits and sets of
  * nodes, print its blocks as pages and type pages back, judge a rule book on it, ask who breaks a rule, rewrite a stored
  * book, join two edits into one, carry a book back through an edit, check a carried rule that another tool has
- * shortened, change the sheet by an edit, with a book or without one, cut an edit into the blocks of a log, close and
- * open its nodes, keep sheets in a store and return to them, join two sheets into one, count the small sheets that
- * survive an edit, and play a game on a sheet.
+ * shortened, change the sheet by an edit, with a book or without one, cut an edit into the blocks of a log, write books
+ * and edits in words and print them so, close and open its nodes, keep sheets in a store and return to them, join two
+ * sheets into one, count the small sheets that survive an edit, and play a game on a sheet.
  *
  * Link with libzamiathen.a:  cc program.c $(pkg-config --cflags --libs zamiathen)
  *
@@ -12,10 +12,8 @@
  * zamiathen_blank, zamiathen_type_page, zamiathen_apply, zamiathen_enter, zamiathen_close, zamiathen_open and
  * zamiathen_return, the store of zamiathen_store_blank, zamiathen_keep and zamiathen_drop, the card of
  * zamiathen_convert_255 and zamiathen_convert_257, the first sheet of zamiathen_join_sheets, the scratch of
- * zamiathen_enter and the output of zamiathen_print_arrow, zamiathen_print_labels, zamiathen_rewrite,
- * zamiathen_join_edits, zamiathen_carry_back and zamiathen_log_edit share no byte with any other buffer of the call. A
- * pointer may be NULL only when its length is 0. There is no other demand: any bytes, any length and any number get an
- * answer.
+ * zamiathen_enter and every buffer that is called output share no byte with any other buffer of the call. A pointer may
+ * be NULL only when its length is 0. There is no other demand: any bytes, any length and any number get an answer.
  *
  * Threads. The library keeps no state, allocates nothing and takes no lock. Calls may run at the same time in any
  * number of threads as long as no buffer that one call writes is read or written by another.
@@ -38,7 +36,7 @@ extern "C" {
  * when a call is added. Sheets written under 4 and 5 have today's form; a card written under 1 is converted by
  * zamiathen_convert_255, one written under 2 or 3 by zamiathen_convert_257. As one number: 1000 * first + second. */
 #define ZAMIATHEN_VERSION_FIRST 6
-#define ZAMIATHEN_VERSION_SECOND 1
+#define ZAMIATHEN_VERSION_SECOND 2
 #define ZAMIATHEN_VERSION (1000 * ZAMIATHEN_VERSION_FIRST + ZAMIATHEN_VERSION_SECOND)
 
 /* The ZAMIATHEN_VERSION of the header that the library was built with, to be compared with the program's own. */
@@ -50,6 +48,9 @@ size_t zamiathen_version(void);
 #define ZAMIATHEN_TEXT_BYTES 4096     /* the longest book and the longest edit; suffices for a rewritten book, a joined edit */
 #define ZAMIATHEN_CARRIED_BYTES 16384 /* the longest carried book, and the longest single carried rule (zamiathen_enter) */
 #define ZAMIATHEN_LOG_BYTES 4608      /* suffices for the blocks of every edit (zamiathen_log_edit) */
+#define ZAMIATHEN_BOOK_WORDS_BYTES 166653 /* the longest printed book (zamiathen_book_to_words) */
+#define ZAMIATHEN_EDIT_WORDS_BYTES 217095 /* the longest printed edit */
+#define ZAMIATHEN_RULE_WORDS_BYTES 662372 /* the longest printed carried rule */
 #define ZAMIATHEN_LINE_BYTES 64       /* a line of a page, its line feed included */
 #define ZAMIATHEN_PAGE_BYTES 3904     /* the longest page, of an arrow kind at 60 nodes; a label page has 3200 */
 #define ZAMIATHEN_STACK_BYTES 262144  /* measured: 230,960 at 255 levels, the deepest carried rule */
@@ -134,8 +135,20 @@ enum zamiathen_number {
     ZAMIATHEN_SMALL_SHEETS = 61, /* n is not from 1 to 3, or another label or arrow than 0 is named */
 
     /* The game. Asked before the sheet. Place 0. */
-    ZAMIATHEN_GAME_RANGE = 62 /* not 1 to 4 dispatcher edits, 0 to 4 disruption edits and 1 to 6 moves; or the edits' lengths together
-                               * are not that of the bytes lent as edits */
+    ZAMIATHEN_GAME_RANGE = 62, /* not 1 to 4 dispatcher edits, 0 to 4 disruption edits and 1 to 6 moves; or the edits' lengths together
+                                * are not that of the bytes lent as edits */
+
+    /* The table of names. Place: its first wrong token, or its length where a token is missing. */
+    ZAMIATHEN_NAMES = 63, /* a token is not the sort, number or name that is wanted there, or one is missing */
+
+    /* Words. Place: the first byte of the token, or the words' length where one is missing. */
+    ZAMIATHEN_WORDS_END = 64,    /* a token is missing */
+    ZAMIATHEN_WORDS_START = 65,  /* a rule, an expression or a step is wanted, and this token begins none */
+    ZAMIATHEN_WORDS_MARK = 66,   /* a mark, one of ( ) , is wanted, and this is another token */
+    ZAMIATHEN_WORDS_NUMBER = 67, /* a name or a count is wanted, and this is none of that sort in its range */
+    ZAMIATHEN_WORDS_LEVEL = 68,  /* what this token begins would stand below level 32 */
+    ZAMIATHEN_WORDS_RULES = 69,  /* a 33rd rule */
+    ZAMIATHEN_WORDS_LENGTH = 70  /* the codes would pass 4,096 bytes; place: how long they are */
 };
 
 /* A sentence for each number, to be shown to people. */
@@ -176,6 +189,14 @@ static inline const char *zamiathen_text(size_t number) {
     case 60: return "The text that the steps make is not the one sent.";
     case 61: return "Small sheets have 1 to 3 nodes, and name no other label and arrow than 0.";
     case 62: return "The lists of edits, their lengths or the number of moves are out of range.";
+    case 63: return "The table of names is wrong here.";
+    case 64: return "The words end where more is wanted.";
+    case 65: return "No rule, expression or step that is wanted here begins so.";
+    case 66: return "Another mark, one of ( ) and the comma, is wanted here.";
+    case 67: return "No name or count of the sort that is wanted here.";
+    case 68: return "The words are nested too deep here.";
+    case 69: return "The book has more than 32 rules.";
+    case 70: return "The words stand for more than 4,096 bytes.";
     default: return "This version has no such number.";
     }
 }
@@ -435,6 +456,72 @@ zamiathen_answer zamiathen_enter(uint8_t *sheet, size_t sheet_length, const uint
  * Asks 22 (is there a byte?), 21, then 33. Done writes the blocks at the start of the output and leaves the rest of it;
  * every other answer leaves the output as it was. A log is such blocks one after the other, up to 65,535. */
 zamiathen_length zamiathen_log_edit(const uint8_t *edit, size_t edit_length, uint8_t *output, size_t output_length);
+
+/*
+ * Words
+ *
+ * Books and edits can be written in words and printed in words. The tokens of a text are ( and ) and the comma, and
+ * words, which are the longest runs of other bytes. Blanks, tabs, line feeds and carriage returns stand between tokens;
+ * # begins a comment up to the line feed, also directly after a word. Operands stand in the order of the codes:
+ *
+ *   nodes   all 01, none 02, a label's name 03, a node's name 04, not(E) 05, and(E, F) 06, or(E, F) 07, some(R, E) 08,
+ *           every(R, E) 09, at-least(m, R, E) 0A, at-most(m, R, E) 0B
+ *   arrows  an arrow's name 11, reversed(R) 12, or(R, S) 13, and(R, S) 14, without(R, S) 15, to(R, E) 16, pair(i, j) 17
+ *   rules   each(E, F) 21, each-arrow(R, S) 22, is(i, E) 23, joined(i, j, R) 24, and(K, L) 25, or(K, L) 26, not(K) 27
+ *   steps   mark(LABEL, E) 31, unmark(LABEL, E) 32, add(ARROW, R) 33, take(ARROW, R) 34;
+ *           if(K) steps else steps end 35: else and end are the 30s of its branches; the text's end is the last 30
+ *
+ * E and F are nodes, R and S arrows, K and L rules, i and j names of nodes; a count m is decimal without leading zeros.
+ *
+ * A table of names is a text of the same tokens, three for each name: a sort, a number and the name, as in
+ * "label 0 train", "arrow 0 stands-at", "node 34 T34". A name has 1 to 64 bytes, each from 21 (hexadecimal) on but 7F and
+ * none of ( ) , #, so UTF-8 is allowed. Each label, arrow and node has at most one name; all names are different, none is
+ * a word of the notation, and none begins with label:, arrow: or node:. What has no name is written label:3, arrow:2,
+ * node:7, and only so. The empty table is a table. Labels are 0 to 47, arrows 0 to 15, nodes 0 to 59.
+ *
+ * One layout is printed: each rule and each step on a line of its own, else and end on lines of their own under their if,
+ * two blanks further in inside an if, a blank after each comma, no other blank, a line feed at the end; nothing for an
+ * empty book and for the edit 30. What is printed is read back to the same bytes by the same table, and by every table
+ * with the same names for what is named. Two texts that are read to the same codes differ in layout and comments alone.
+ *
+ * Where words are refused with 64 to 69, the tokens before the place begin the words of some book or edit, and those up
+ * to it and with it begin none within the limits.
+ */
+
+/* Is this a table of names? Asks 63. Writes nothing. */
+zamiathen_answer zamiathen_check_names(const uint8_t *names, size_t names_length);
+
+/* Prints a book in words and answers their length. Asks 63, 11 to 16 of the book, then 33; node numbers up to 59 are in
+ * range. Done writes the words at the start of the output and leaves the rest of it; every other answer leaves the output
+ * as it was. No book is longer than ZAMIATHEN_BOOK_WORDS_BYTES in words; with an output of length 0 the place of the 33
+ * says how long this one is. */
+zamiathen_length zamiathen_book_to_words(const uint8_t *names, size_t names_length, const uint8_t *book,
+                                         size_t book_length, uint8_t *output, size_t output_length);
+
+/* The same of an edit: asks 63, 21 to 26 of the edit, then 33. */
+zamiathen_length zamiathen_edit_to_words(const uint8_t *names, size_t names_length, const uint8_t *edit,
+                                         size_t edit_length, uint8_t *output, size_t output_length);
+
+/* The same of the first rule of a text, which may be a carried rule of 16,384 bytes and 255 levels; what stands after it
+ * is not looked at, and of a longer text no more than its first 16,384 bytes. Asks 63, 12 to 15 of the rule, then 33. */
+zamiathen_length zamiathen_rule_to_words(const uint8_t *names, size_t names_length, const uint8_t *rule,
+                                         size_t rule_length, uint8_t *output, size_t output_length);
+
+/* Reads the words of a book into codes and answers their length. Asks 63, 64 to 69 from left to right, 70, then 33. Done
+ * writes the codes at the start of the output and leaves the rest of it; every other answer leaves the output as it was.
+ * What is read passes 11 to 16 on a sheet whose n is above every node that it names. */
+zamiathen_length zamiathen_book_from_words(const uint8_t *names, size_t names_length, const uint8_t *words,
+                                           size_t words_length, uint8_t *output, size_t output_length);
+
+/* The same of an edit. */
+zamiathen_length zamiathen_edit_from_words(const uint8_t *names, size_t names_length, const uint8_t *words,
+                                           size_t words_length, uint8_t *output, size_t output_length);
+
+/* Where the first word of a rule stands in the words of a book, the rules counted from 0, so that a 41 points at a line.
+ * No question is asked: the answer is a place, and words_length where the book has no such rule, one of those before it
+ * cannot be read, or the table is wrong; what is wrong later does not matter. Writes nothing. */
+size_t zamiathen_rule_in_words(const uint8_t *names, size_t names_length, const uint8_t *words, size_t words_length,
+                               size_t rule);
 
 /*
  * Closing and opening

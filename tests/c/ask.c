@@ -10,6 +10,8 @@
  *   enter BOOK EDIT     number, place and the sheet's bytes after the call; each call begins with the sheet of the file
  *   close BOOK NODE     the same
  *   open BOOK NODE      the same
+ *   book_words NAMES WORDS      number, place and the codes
+ *   edit_words NAMES WORDS      the same
  *   play BOOK GOAL DISPATCHERS MOVES EDIT...    number, place, outcome and edit
  */
 #include "zamiathen.h"
@@ -80,6 +82,14 @@ static int turn(zamiathen_answer (*call)(uint8_t *, size_t, const uint8_t *, siz
     return 1;
 }
 
+static int words(zamiathen_length (*call)(const uint8_t *, size_t, const uint8_t *, size_t, uint8_t *, size_t),
+                 const struct text *names, const struct text *given) {
+    zamiathen_length r = call(names->bytes, names->length, given->bytes, given->length, scratch, sizeof scratch);
+    printf("%02zu %05zu ", r.number, r.place);
+    print_bytes(scratch, r.length);
+    return 1;
+}
+
 static int play(const struct text *book) {
     static struct text goal, edit;
     static uint8_t edits[LINE];
@@ -128,6 +138,10 @@ static int call(char *line) {
         return play(&book);
     if (!read_text(&edit, strtok(NULL, " \n")))
         return 0;
+    if (strcmp(name, "book_words") == 0)
+        return words(zamiathen_book_from_words, &book, &edit);
+    if (strcmp(name, "edit_words") == 0)
+        return words(zamiathen_edit_from_words, &book, &edit);
     if (strcmp(name, "carry") == 0) {
         zamiathen_length c =
             zamiathen_carry_back(book.bytes, book.length, edit.bytes, edit.length, scratch, sizeof scratch);

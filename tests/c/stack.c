@@ -1,5 +1,5 @@
-/* How much stack zamiathen_enter and zamiathen_witness take on the deepest carried rules there can be, 255 levels, and
- * zamiathen_play in games of six moves with edits and rules of 32 levels: each call runs in a thread of its own, whose
+/* How much stack zamiathen_enter and zamiathen_witness take on the deepest carried rules there can be, 255 levels,
+ * zamiathen_play in games of six moves with edits and rules of 32 levels, and the calls with words: each call runs in a thread of its own, whose
  * stack was filled with a pattern before. Prints the bytes that no longer hold it, less those of a
  * thread that does nothing. They must not pass ZAMIATHEN_STACK_BYTES. */
 #include "zamiathen.h"
@@ -164,6 +164,36 @@ static void report_expression(const char *what, const char *open, size_t times, 
         failed++;
 }
 
+/* Words there and back: a rule of 255 levels printed, and a book of 32 levels read. */
+static const char names[] = "label 0 train";
+static uint8_t words[ZAMIATHEN_RULE_WORDS_BYTES], codes[ZAMIATHEN_TEXT_BYTES];
+static size_t words_length;
+static zamiathen_length done;
+
+static void *print_words(void *unused) {
+    done = zamiathen_rule_to_words((const uint8_t *)names, strlen(names), scratch, rule_length, words, sizeof words);
+    words_length = done.length;
+    return unused;
+}
+
+static void *read_words(void *unused) {
+    done = zamiathen_book_from_words((const uint8_t *)names, strlen(names), words, words_length, codes, sizeof codes);
+    return unused;
+}
+
+static void report_words(const char *what, void *(*call)(void *), size_t times) {
+    rule_length = 0;
+    add("27", times);
+    add("21 03 00 01", 1);
+    print_words(NULL);
+    size_t bytes = changed_stack(call) - changed_stack(nothing);
+    printf("%-52s %02zu %05zu %8zu\n", what, done.number, done.place, bytes);
+    if (done.number == ZAMIATHEN_DONE && bytes <= ZAMIATHEN_STACK_BYTES)
+        passed++;
+    else
+        failed++;
+}
+
 /* A game of six moves: the book is the goal, too, and both sides have the edit. */
 static uint8_t edits[2 * ZAMIATHEN_TEXT_BYTES];
 static size_t lengths[2];
@@ -234,6 +264,9 @@ int main(void) {
     report_witness("26, second rule below", "26 21 01 02", 253, "21 01 02", "");
     report_expression("05 below 05", "05", 253, "01", "");
     report_expression("08 in the expression of a 16 in the arrow of an 08", "08 16 11 0F", 126, "02", "01");
+    printf("%-52s %-8s %8s\n", "words", "answer", "bytes");
+    report_words("a rule of 255 levels printed", print_words, 253);
+    report_words("a book of 32 levels read", read_words, 30);
     printf("%-52s %-8s %8s\n", "play, six moves, 32 levels", "answer", "bytes");
     deep_game("12 below 12", "22", "33 00", "12", "11 00", "", 30);
     deep_game("13, second operand below", "22", "33 00", "13 11 0F", "11 00", "", 30);

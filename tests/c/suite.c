@@ -1337,7 +1337,8 @@ static void node_sets(void) {
 static void texts(void) {
     const char *other = zamiathen_text(1000);
     static const size_t numbers[] = {0,  1,  2,  3,  4,  5,  7,  11, 12, 13, 14, 15, 16, 21, 22, 23, 24, 25,
-                                     26, 31, 32, 33, 41, 51, 52, 53, 54, 55, 56, 57, 58, 59, 60, 61, 62};
+                                     26, 31, 32, 33, 41, 51, 52, 53, 54, 55, 56, 57, 58, 59, 60, 61, 62, 63,
+                                     64, 65, 66, 67, 68, 69, 70};
     for (size_t i = 0; i < sizeof numbers / sizeof *numbers; i++) {
         const char *text = zamiathen_text(numbers[i]);
         same("text of a number", strcmp(text, other) != 0 && text[strlen(text) - 1] == '.');
@@ -1363,6 +1364,196 @@ static void log_blocks(void) {
     measured("a log of 9 blocks", zamiathen_log_edit(edit, sizeof edit - 1, scratch, room), 0, 0, ZAMIATHEN_LOG_BYTES);
     same("the first block", scratch[0] == 3 && scratch[1] == 1 && scratch[2] == 0xF8 && scratch[3] == 1);
     same("the last block", scratch[8 * 512 + 1] == 2 && scratch[8 * 512 + 2] == 64 && scratch[8 * 512 + 4] == 0x30);
+}
+
+/* Words: a table of names, and texts from the station's files. */
+static const char NAMES[] = "label 0 train label 1 closed # a comment\narrow 0 stands-at node 34 T34 node 2 08:15\n";
+
+struct words {
+    uint8_t bytes[ZAMIATHEN_EDIT_WORDS_BYTES]; /* of the longest edit, which has more than the longest book */
+    size_t length;
+};
+static struct words names, words;
+
+static void words_of(struct words *into, const struct fault *fault) {
+    into->length = (size_t)sprintf((char *)into->bytes, "%s", fault->head);
+    for (size_t i = 0; i < fault->times; i++)
+        into->length += (size_t)sprintf((char *)into->bytes + into->length, "%s", fault->middle);
+    into->length += (size_t)sprintf((char *)into->bytes + into->length, "%s", fault->tail);
+}
+
+static void load(const char *path, uint8_t *bytes, size_t most, size_t *length) {
+    FILE *file = fopen(path, "rb");
+    *length = file == NULL ? 0 : fread(bytes, 1, most, file);
+    same(path, *length > 0);
+    if (file != NULL)
+        fclose(file);
+}
+
+/* A call that turns words into codes, or codes into words. */
+typedef zamiathen_length turning(const uint8_t *, size_t, const uint8_t *, size_t, uint8_t *, size_t);
+
+/* A text of the station: its words are its bytes, and what is printed of these is read back, with just enough room. */
+static void there_and_back(const char *path, turning *from_words, turning *to_words) {
+    static uint8_t printed[ZAMIATHEN_EDIT_WORDS_BYTES];
+    struct text codes;
+    char file[64];
+    snprintf(file, sizeof file, "%s.bin", path);
+    load(file, codes.bytes, sizeof codes.bytes, &codes.length);
+    snprintf(file, sizeof file, "%s.words", path);
+    load(file, words.bytes, sizeof words.bytes, &words.length);
+    start();
+    measured(file, from_words(names.bytes, names.length, words.bytes, words.length, scratch, room), 0, 0, codes.length);
+    left(file, codes.bytes, codes.length);
+    memset(printed, FILL, sizeof printed);
+    zamiathen_length found = to_words(names.bytes, names.length, codes.bytes, codes.length, printed, sizeof printed);
+    measured(path, found, 0, 0, found.length);
+    same(path, found.length > 0 && all(printed + found.length, sizeof printed - found.length, FILL));
+    start();
+    measured(path, from_words(names.bytes, names.length, printed, found.length, scratch, codes.length), 0, 0, codes.length);
+    left(path, codes.bytes, codes.length);
+    start();
+    measured(path, from_words(names.bytes, names.length, printed, found.length, scratch, codes.length - 1), 33, codes.length, 0);
+    measured(path, to_words(names.bytes, names.length, codes.bytes, codes.length, scratch, found.length - 1), 33, found.length, 0);
+    left_alone(path);
+    measured(path, to_words(names.bytes, names.length, codes.bytes, codes.length, scratch, found.length), 0, 0, found.length);
+    left(path, printed, found.length);
+}
+
+/* Where a rule stands in the words of the station's book: there its line begins. */
+static void stands(size_t rule, const char *line) {
+    const size_t place = zamiathen_rule_in_words(names.bytes, names.length, words.bytes, words.length, rule);
+    same(line, place < words.length && strncmp((const char *)words.bytes + place, line, strlen(line)) == 0);
+}
+
+static void station_words(void) {
+    static const char first[] = "each(some(stands-at, all), train)\n";
+    struct text book;
+    load("examples/station/station.names", names.bytes, sizeof names.bytes, &names.length);
+    answered("the station's names", zamiathen_check_names(names.bytes, names.length), 0, 0);
+    there_and_back("examples/station/move", zamiathen_edit_from_words, zamiathen_edit_to_words);
+    there_and_back("examples/station/book", zamiathen_book_from_words, zamiathen_book_to_words);
+    stands(0, "each(some(stands-at, all), train)\n\n# whatever");
+    stands(4, "and(each(berth, and(");
+    stands(9, "each(and(berth, some(");
+    same("rule 10", zamiathen_rule_in_words(names.bytes, names.length, words.bytes, words.length, 10) == words.length);
+    same("no names", zamiathen_rule_in_words(words.bytes, words.length, words.bytes, words.length, 0) == words.length);
+    load("examples/station/book.bin", book.bytes, sizeof book.bytes, &book.length);
+    start();
+    measured("the first rule", zamiathen_rule_to_words(names.bytes, names.length, book.bytes, book.length, scratch, room), 0, 0,
+             sizeof first - 1);
+    left("the first rule", (const uint8_t *)first, sizeof first - 1);
+}
+
+static const struct fault names_faults[] = {
+    {63, 0, "train 0", 0, "", ""},
+    {63, 5, "label", 0, "", ""},
+    {63, 7, "label 0", 0, "", ""},
+    {63, 6, "label 48 train", 0, "", ""},
+    {63, 6, "arrow 01 next", 0, "", ""},
+    {63, 8, "label 0 every", 0, "", ""},
+    {63, 7, "node 0 node:1", 0, "", ""},
+    {63, 7, "node 0 ", 65, "n", ""},
+    {63, 22, "label 0 train\nlabel 1 train", 0, "", ""},
+    {63, 20, "label 0 train\nlabel 0 crew", 0, "", ""},
+    {63, 19, "label 0 train\nnode 60 T60", 0, "", ""},
+};
+static const struct fault book_words_faults[] = {
+    {64, 5, "each(", 0, "", ""},
+    {64, 20, "each(train # , all)\n", 0, "", ""},
+    {65, 0, "train", 0, "", ""},
+    {65, 5, "each(stands-at, all)", 0, "", ""},
+    {65, 5, "each(label:0, all)", 0, "", ""},
+    {65, 14, "each(all, all))", 0, "", ""},
+    {66, 5, "each all", 0, "", ""},
+    {67, 3, "is(train, all)", 0, "", ""},
+    {67, 19, "each(all, at-least(61, stands-at, all))", 0, "", ""},
+    {68, 8 + 4 * 31, "is(T34, ", 31, "not(", "all"},
+    {69, 13 * 32, "", 33, "each(all,all)", ""},
+};
+static const struct fault edit_words_faults[] = {
+    {64, 23, "if(each(all, all)) else", 0, "", ""},
+    {65, 0, "end", 0, "", ""},
+    {65, 19, "if(each(all, all)) end", 0, "", ""},
+    {66, 10, "mark(train)", 0, "", ""},
+    {67, 5, "mark(stands-at, all)", 0, "", ""},
+    {68, 12 + 4 * 31, "mark(train, ", 31, "not(", "all"},
+    {70, 4099, "", 1366, "mark(train,all)", ""},
+    {70, 4099, "# no room\n", 1366, "mark(train,all)", ""},
+};
+
+/* Each fault, with room and without, and a wrong table before it. Nothing is written. */
+static void misspelled(const struct fault *faults, size_t count, turning *from_words) {
+    start();
+    for (size_t i = 0; i < count; i++) {
+        words_of(&words, &faults[i]);
+        const char *what = faults[i].times > 0 ? faults[i].middle : faults[i].head;
+        measured(what, from_words((const uint8_t *)NAMES, sizeof NAMES - 1, words.bytes, words.length, scratch, room),
+                 faults[i].number, faults[i].place, 0);
+        measured(what, from_words((const uint8_t *)NAMES, sizeof NAMES - 1, words.bytes, words.length, NULL, 0),
+                 faults[i].number, faults[i].place, 0);
+        measured(what, from_words((const uint8_t *)NAMES, 5, words.bytes, words.length, scratch, room), 63, 5, 0);
+        left_alone(what);
+    }
+}
+
+static void refused_words(void) {
+    static turning *const turnings[] = {zamiathen_book_to_words, zamiathen_edit_to_words, zamiathen_rule_to_words,
+                                        zamiathen_book_from_words, zamiathen_edit_from_words};
+    start();
+    for (size_t i = 0; i < sizeof names_faults / sizeof *names_faults; i++) {
+        words_of(&names, &names_faults[i]);
+        answered(names_faults[i].head, zamiathen_check_names(names.bytes, names.length), 63, names_faults[i].place);
+        for (size_t j = 0; j < sizeof turnings / sizeof *turnings; j++)
+            measured(names_faults[i].head, turnings[j](names.bytes, names.length, END, 1, scratch, room), 63,
+                     names_faults[i].place, 0);
+        left_alone(names_faults[i].head);
+    }
+    misspelled(book_words_faults, sizeof book_words_faults / sizeof *book_words_faults, zamiathen_book_from_words);
+    misspelled(edit_words_faults, sizeof edit_words_faults / sizeof *edit_words_faults, zamiathen_edit_from_words);
+}
+
+/* The codes that are refused when they are printed: as books, as edits, and as the first rule of a text. */
+static void refused_codes(void) {
+    start();
+    for (size_t i = 0; i < sizeof book_faults / sizeof *book_faults; i++) {
+        const struct text *text = text_of(&book_faults[i]);
+        measured("book to words", zamiathen_book_to_words(NULL, 0, text->bytes, text->length, scratch, room),
+                 book_faults[i].number, book_faults[i].place, 0);
+    }
+    for (size_t i = 0; i < sizeof edit_faults / sizeof *edit_faults; i++) {
+        const struct text *text = text_of(&edit_faults[i]);
+        measured("edit to words", zamiathen_edit_to_words(NULL, 0, text->bytes, text->length, scratch, room),
+                 edit_faults[i].number, edit_faults[i].place, 0);
+    }
+    const struct fault deep = {14, 255, "", 255, "27", "21 01 01"}, cut = {12, 2, "21 01", 0, "", ""};
+    const struct fault code = {13, 2, "21 01 21", 0, "", ""}, number = {15, 1, "23 3C", 0, "", ""};
+    const struct fault *const rules[] = {&deep, &cut, &code, &number};
+    for (size_t i = 0; i < sizeof rules / sizeof *rules; i++) {
+        const struct text *text = text_of(rules[i]);
+        measured("rule to words", zamiathen_rule_to_words(NULL, 0, text->bytes, text->length, scratch, room),
+                 rules[i]->number, rules[i]->place, 0);
+    }
+    left_alone("refused codes");
+}
+
+/* Nothing at all: no names, no words, no room. */
+static void no_words(void) {
+    static const uint8_t rule[] = {0x21, 0x01, 0x01};
+    start();
+    answered("no names", zamiathen_check_names(NULL, 0), 0, 0);
+    measured("no book", zamiathen_book_to_words(NULL, 0, NULL, 0, NULL, 0), 0, 0, 0);
+    measured("no book", zamiathen_book_from_words(NULL, 0, NULL, 0, NULL, 0), 0, 0, 0);
+    measured("no edit", zamiathen_edit_to_words(NULL, 0, NULL, 0, NULL, 0), ZAMIATHEN_EDIT_ENDS, 0, 0);
+    measured("the end alone", zamiathen_edit_to_words(NULL, 0, END, 1, NULL, 0), 0, 0, 0);
+    measured("no room for the end", zamiathen_edit_from_words(NULL, 0, NULL, 0, NULL, 0), ZAMIATHEN_ROOM, 1, 0);
+    measured("no rule", zamiathen_rule_to_words(NULL, 0, NULL, 0, NULL, 0), ZAMIATHEN_BOOK_ENDS, 0, 0);
+    measured("no room for a rule", zamiathen_rule_to_words(NULL, 0, rule, sizeof rule, NULL, 0), ZAMIATHEN_ROOM, 15, 0);
+    same("no words", zamiathen_rule_in_words(NULL, 0, NULL, 0, 0) == 0);
+    left_alone("no words");
+    measured("the end alone", zamiathen_edit_from_words(NULL, 0, NULL, 0, scratch, room), 0, 0, 1);
+    left("the end alone", END, 1);
+    same("sizes", ZAMIATHEN_BOOK_WORDS_BYTES < ZAMIATHEN_EDIT_WORDS_BYTES && ZAMIATHEN_EDIT_WORDS_BYTES < ZAMIATHEN_RULE_WORDS_BYTES);
 }
 
 int main(void) {
@@ -1399,6 +1590,10 @@ int main(void) {
     node_sets();
     texts();
     log_blocks();
+    station_words();
+    refused_words();
+    refused_codes();
+    no_words();
     empty_buffers();
     printf("%d passed, %d failed\n", passed, failed);
     return failed != 0;

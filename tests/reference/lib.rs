@@ -24,3 +24,4 @@ pub mod sheet;
 pub mod steps;
 pub mod syntax;
 pub mod witness;
+pub mod words;

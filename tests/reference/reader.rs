@@ -6,12 +6,12 @@ use crate::syntax::{Arrow, Edit, Node, Rule, Step};
 use std::ops::Range;
 
 pub const LONGEST: usize = 4096;
-const LAST_LEVEL: usize = 32;
-const MOST_RULES: usize = 32;
+pub const LAST_LEVEL: usize = 32;
+pub const MOST_RULES: usize = 32;
 
 /// Those of a carried rule (item 11 of document 02).
-const LONGEST_CARRIED: usize = 16384;
-const LAST_LEVEL_CARRIED: usize = 255;
+pub const LONGEST_CARRIED: usize = 16384;
+pub const LAST_LEVEL_CARRIED: usize = 255;
 
 /// The counts that an 0A and an 0B may have (item 3 of document 02).
 const COUNTS: [Range<usize>; 2] = [1..61, 0..60];

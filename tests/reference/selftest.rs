@@ -1,8 +1,8 @@
 //! The marked examples of document 01, some of its remarks, check bytes, old cards, pages of its sheet T, rewritten books,
-//! closed nodes, stores, joined sheets and edits, laws, counts and games, asked of the reference itself.
+//! closed nodes, stores, joined sheets and edits, laws, counts, games and words, asked of the reference itself.
 
 use reference::answer::{Answer, DONE};
-use reference::calls::{apply, carry_back, close, enter, judge, open, Judged};
+use reference::calls::{apply, carry_back, close, enter, judge, open, Judged, Lengthy};
 use reference::chain::join_edits;
 use reference::counts::count;
 use reference::game::{self, Edits};
@@ -14,7 +14,7 @@ use reference::pages::{page, type_page, Shown};
 use reference::rewrite::rewrite;
 use reference::sheet::{BLOCK, SUMS_255, SUMS_257};
 use reference::syntax::{Node, Rule};
-use reference::{plans, reader, sheet};
+use reference::{plans, reader, sheet, words};
 
 /// Bytes from hexadecimal with blanks.
 fn hex(text: &str) -> Vec<u8> {
@@ -662,6 +662,137 @@ fn games(tally: &mut Tally) {
     }
 }
 
+const NAMES: &str =
+    "label 0 train label 1 Gleis-3 arrow 0 stands-at arrow 15 label node 34 T34 node 2 4711 node 7 08:15";
+
+/// Tables: the first wrong token, or the length where one is missing.
+fn tables(tally: &mut Tally) {
+    let name = "n".repeat(64);
+    for names in
+        ["", "# label", "label 0 label arrow 0 arrow node 0 node", "node 59 59#\nlabel 47\t47\rarrow 15 \u{fc}", NAMES]
+    {
+        tally.same(names, words::check_names(names.as_bytes()), DONE);
+    }
+    tally.same("64 bytes", words::check_names(format!("node 0 {name}").as_bytes()), DONE);
+    let wrong = [
+        ("train 0", 0),
+        ("label", 5),
+        ("label 0", 7),
+        ("label 0 # train", 15),
+        ("label 48", 6),
+        ("arrow 16 a", 6),
+        ("node 60 a", 5),
+        ("node 07 a", 5),
+        ("node +7 a", 5),
+        ("label 0 a label 0 b", 16),
+        ("label 0 a node 0 a", 17),
+        ("label 0 every", 8),
+        ("label 0 end", 8),
+        ("label 0 (", 8),
+        ("label 0 node:x", 8),
+        ("label 0 a\u{7f}", 8),
+        ("label 0 a\u{1f}b", 8),
+        ("label,", 5),
+    ];
+    for (names, place) in wrong {
+        tally.same(names, words::check_names(names.as_bytes()), Answer { number: 63, place });
+    }
+    tally.same("65 bytes", words::check_names(format!("node 0 {name}n").as_bytes()), Answer { number: 63, place: 7 });
+}
+
+/// What is printed, and that it is read back.
+fn printed(tally: &mut Tally) {
+    let texts = |found: Lengthy, out: &[u8]| (found.answer, String::from_utf8_lossy(&out[..found.length]).into_owned());
+    let books = [
+        ("", ""),
+        ("21 03 00 0B 3B 12 11 00 04 22", "each(train, at-most(59, reversed(stands-at), T34))\n"),
+        ("23 22 01 24 02 07 11 0F", "is(T34, all)\njoined(4711, 08:15, label)\n"),
+        (
+            "27 26 22 11 01 17 00 22 21 03 02 02",
+            "not(or(each-arrow(arrow:1, pair(node:0, T34)), each(label:2, none)))\n",
+        ),
+    ];
+    for (book, wanted) in books {
+        let (mut out, mut back) = ([0; 200], [0; 200]);
+        let found = words::book_to_words(NAMES.as_bytes(), &hex(book), &mut out);
+        tally.same(book, texts(found, &out), (DONE, wanted.to_string()));
+        let found = words::book_from_words(NAMES.as_bytes(), &out[..found.length], &mut back);
+        tally.same(wanted, back[..found.length].to_vec(), hex(book));
+    }
+    let branch = "35 23 22 01 31 00 01 35 21 01 01 30 33 00 16 11 00 02 30 30 32 01 02 34 00 13 11 00 14 11 00 15 11 00 11 00 30 30";
+    let lines = "if(is(T34, all))\n  mark(train, all)\n  if(each(all, all))\n  else\n    add(stands-at, to(stands-at, none))\n  end\nelse\n  \
+                 unmark(Gleis-3, none)\n  take(stands-at, or(stands-at, and(stands-at, without(stands-at, stands-at))))\nend\n";
+    for (edit, wanted) in [("30", ""), (branch, lines)] {
+        let (mut out, mut back) = ([0; 300], [0; 200]);
+        let found = words::edit_to_words(NAMES.as_bytes(), &hex(edit), &mut out);
+        tally.same(edit, texts(found, &out), (DONE, wanted.to_string()));
+        let found = words::edit_from_words(NAMES.as_bytes(), &out[..found.length], &mut back);
+        tally.same(wanted, back[..found.length].to_vec(), hex(edit));
+    }
+    let mut out = [0; 100];
+    let found = words::rule_to_words(b"", &hex("23 00 08 11 00 0A 3C 11 01 07 03 00 06 01 09 11 00 01 FF"), &mut out);
+    let wanted = "is(node:0, some(arrow:0, at-least(60, arrow:1, or(label:0, and(all, every(arrow:0, all))))))\n";
+    tally.same("first rule", texts(found, &out), (DONE, wanted.to_string()));
+    let short = words::rule_to_words(b"", &hex("23 00 01"), &mut out[..15]).answer;
+    tally.same("a short output", short, Answer { number: 33, place: 16 });
+}
+
+/// Faults of a book's words.
+fn misspelled_books(tally: &mut Tally) {
+    let book = |words: &str| words::book_from_words(NAMES.as_bytes(), words.as_bytes(), &mut [0; 5000]).answer;
+    let deep = |levels: usize| format!("is(T34, {}all{})", "not(".repeat(levels - 2), ")".repeat(levels - 2));
+    let books = [
+        ("each(", 64, 5),
+        ("each(train # , all)", 64, 19),
+        ("train", 65, 0),
+        ("each(stands-at, all)", 65, 5),
+        ("each(label:0, all)", 65, 5),
+        ("each(label:48, all)", 65, 5),
+        ("each(T34, train))", 65, 16),
+        ("each all", 66, 5),
+        ("each(all(, all)", 66, 8),
+        ("is(train, all)", 67, 3),
+        ("each(all, at-least(0, stands-at, all))", 67, 19),
+        ("each(all, at-most(60, stands-at, all))", 67, 18),
+        ("each(all, at-most(06, stands-at, all))", 67, 18),
+    ];
+    for (words, number, place) in books {
+        tally.same(words, book(words), Answer { number, place });
+    }
+    tally.same("32 levels", book(&deep(32)), DONE);
+    tally.same("33 levels", book(&deep(33)), Answer { number: 68, place: 8 + 4 * 31 });
+    tally.same(
+        "33 levels, and no word there",
+        book(&deep(33).replace("all", "to")),
+        Answer { number: 65, place: 8 + 4 * 31 },
+    );
+    tally.same("32 rules", book(&"each(all,all)".repeat(32)), DONE);
+    tally.same("33 rules", book(&"each(all,all)".repeat(33)), Answer { number: 69, place: 13 * 32 });
+}
+
+/// Those of an edit's.
+fn misspelled_edits(tally: &mut Tally) {
+    let edit = |words: &str| words::edit_from_words(NAMES.as_bytes(), words.as_bytes(), &mut [0; 5000]).answer;
+    let mark = "mark(train,all)";
+    tally.same("4,096 bytes", edit(&mark.repeat(1365)), DONE);
+    tally.same("4,099 bytes", edit(&mark.repeat(1366)), Answer { number: 70, place: 4099 });
+    let branch = "if(each(all, all)) mark(train, all) else";
+    for (words, number, place) in [(branch, 64, 40), ("end", 65, 0), ("else", 65, 0), ("mark(stands-at, all)", 67, 5)] {
+        tally.same(words, edit(words), Answer { number, place });
+    }
+    tally.same("else twice", edit(&format!("{branch} else end")), Answer { number: 65, place: 41 });
+    tally.same("end twice", edit(&format!("{branch} end end")), Answer { number: 65, place: 45 });
+    tally.same("the branch", edit(&format!("{branch} end")), DONE);
+}
+
+fn rules_in_words(tally: &mut Tally) {
+    let place = |words: &str, rule| words::rule_in_words(NAMES.as_bytes(), words.as_bytes(), rule);
+    let words = "# first\neach(all, all)\n\nis(T34, all) #\n train";
+    tally.same("rules in words", [0, 1, 2, 3, 32].map(|rule| place(words, rule)), [8, 24, 40, 45, 45]);
+    tally.same("of a wrong table", words::rule_in_words(b"label", b"each", 0), 4);
+    tally.same("rule 32", [31, 32].map(|rule| place(&"each(all,all)".repeat(33), rule)), [13 * 31, 13 * 33]);
+}
+
 /// None of these may take exponential time.
 fn explosions(tally: &mut Tally) {
     let rule = hex("23 00 03 00");
@@ -699,6 +830,11 @@ fn main() {
     laws(&mut tally);
     counts(&mut tally);
     games(&mut tally);
+    tables(&mut tally);
+    printed(&mut tally);
+    misspelled_books(&mut tally);
+    misspelled_edits(&mut tally);
+    rules_in_words(&mut tally);
     explosions(&mut tally);
     println!("{} passed, {} failed", tally.passed, tally.failed);
     std::process::exit(i32::from(tally.failed > 0));

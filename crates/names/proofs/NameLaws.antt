@@ -31,7 +31,7 @@ no-more x h = go (ltb x 10) (ltb-true x 10) (ltb x 100) (ltb-true x 100)
     go false f true g = let z = g refl in omega arith
     go false f false g = omega arith
 
-decimal-one : (x y : ℕ) → x < 1000 → y < 1000 → decimal x ≡ decimal y → x ≡ y
+pub decimal-one : (x y : ℕ) → x < 1000 → y < 1000 → decimal x ≡ decimal y → x ≡ y
 decimal-one x y h k e = sym (said-digits (width x) x (no-more x h)) ∙ ap (said 0) e ∙ said-digits (width y) y (no-more y k)
 
 -- Digits are letters.
@@ -54,12 +54,12 @@ digit-letter b h k =
     (ne-eqb b 0x23 (omega arith))
     (none-so _ _ (ne-eqb b 0x28 (omega arith)) (none-so _ _ (ne-eqb b 0x29 (omega arith)) (ne-eqb b 0x2C (omega arith))))
 
-letters-append : (a b : List ℕ) → letters a ≡ true → letters b ≡ true → letters (a ++ b) ≡ true
+pub letters-append : (a b : List ℕ) → letters a ≡ true → letters b ≡ true → letters (a ++ b) ≡ true
 unfolding letters
 letters-append [] b h k = k
 letters-append (c ∷ a) b h k = let q = and-eq-true-iff (isLetter c) (letters a) .0 h in and-eq-true-iff (isLetter c) (letters (a ++ b)) .1 (q .0, letters-append a b (q .1) k)
 
-digits-letters : (w x : ℕ) → letters (digits w x) ≡ true
+pub digits-letters : (w x : ℕ) → letters (digits w x) ≡ true
 unfolding digits letters
 digits-letters zero x = refl
 digits-letters (suc w) x =
@@ -80,7 +80,7 @@ some-digit x = go (ltb x 10) (ltb x 100)
     go false true = omega arith
     go false false = omega arith
 
-decimal-word : (x : ℕ) → isWord (decimal x) ≡ true
+pub decimal-word : (x : ℕ) → isWord (decimal x) ≡ true
 decimal-word x = word-of (decimal x) (let s = some-digit x in omega (arith, digits-length (width x) x)) (digits-letters (width x) x)
 
 -- The entries of a table that passed: each name was free.
@@ -98,7 +98,7 @@ pub record Fresh (es : List Entry) (t : Token) : Type 0 where
   pub not-plain : beginsPlain t ≡ false
   pub not-taken : taken es t ≡ false
 
-fresh : (es : List Entry) (t : Token) → freeName es t ≡ true → Fresh es t
+pub fresh : (es : List Entry) (t : Token) → freeName es t ≡ true → Fresh es t
 unfolding freeName
 fresh es t h =
     let a = and-eq-true-iff (isWord t) _ .0 h in

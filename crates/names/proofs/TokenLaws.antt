@@ -47,6 +47,9 @@ hits p (suc n) = go (firstBelow p n) (hits p n)
 pub found-hit : (p : ℕ → Bool) (n x : ℕ) → firstBelow p n ≡ found x → Hit p n x
 found-hit p n x e = subst (Hits p n) e (hits p n)
 
+pub none-hit : (p : ℕ → Bool) (n : ℕ) → firstBelow p n ≡ absent → (y : ℕ) → y < n → p y ≡ false
+none-hit p n e = subst (Hits p n) e (hits p n)
+
 -- Where the test says yes of one number alone, that is found; where of none, none.
 pub found-only : (p : ℕ → Bool) (n x : ℕ) → x < n → p x ≡ true → ((y : ℕ) → y < n → p y ≡ true → y ≡ x) → firstBelow p n ≡ found x
 found-only p n x h e u = go (firstBelow p n) (hits p n)

@@ -11,5 +11,11 @@ pub mod Ended
 pub mod FaultPlace
 pub mod SameSpelling
 pub mod RoundTrip
-pub mod Promises
+pub mod ParseRefusals
+pub mod EditRefusals
+pub mod RuleWords
+pub mod RulePlaces
+pub mod RuleSplits
+pub mod RuleTokens
+pub mod Calls
 pub mod Examples

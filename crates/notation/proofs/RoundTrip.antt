@@ -1,4 +1,4 @@
--- What is printed is read back; what is read is a book or an edit, and its tokens are those of its spelling. For one naming; proofs/Promises says it of the calls.
+-- What is printed is read back; what is read is a book or an edit, and its tokens are those of its spelling. For one naming; `promises/proofs/Words.antt` says it of the calls.
 use mathlib.Core.Path.{_≡_, refl, sym, _∙_, ap, subst}
 use mathlib.Core.Bool.{Bool, true, false, _&&_, and-eq-true-iff}
 use mathlib.Core.List.{List, [], _∷_, _++_}
@@ -48,11 +48,11 @@ small mostCount x f = omega (arith, leb→le x 59 f)
 
 -- What is read, with its length asked last.
 module _ (l : Limits) (name : Naming) (text : List ℕ) (g : List Goal) (m : ℕ) {bytes : List ℕ} where
-  words-pass : parseText l name text g m ≡ passed bytes → length bytes ≤ l .longest → askWords l name text g m ≡ passed bytes
+  pub words-pass : parseText l name text g m ≡ passed bytes → length bytes ≤ l .longest → askWords l name text g m ≡ passed bytes
   unfolding askWords
   words-pass e short = bind-on e (λ b. is (leb (length b) (l .longest)) 70 (length b) >> passed b) ∙ so-then 70 (length bytes) (passed bytes) (le-leb (length bytes) (l .longest) short)
 
-  words-passed : askWords l name text g m ≡ passed bytes → (parseText l name text g m ≡ passed bytes) × (length bytes ≤ l .longest)
+  pub words-passed : askWords l name text g m ≡ passed bytes → (parseText l name text g m ≡ passed bytes) × (length bytes ≤ l .longest)
   unfolding askWords
   words-passed e =
       let (b, parsed, asked) = bind-passed (parseText l name text g m) (λ b. is (leb (length b) (l .longest)) 70 (length b) >> passed b) bytes e in
@@ -134,10 +134,10 @@ some nodeNumber = record { x = 0; in-range = tt }
 some leastCount = record { x = 1; in-range = tt }
 some mostCount = record { x = 0; in-range = tt }
 
-pub question-refused : {A : Type 0} (b : Bool) (n o : ℕ) (a : A) {q p : ℕ} → (is b n o >> passed a) ≡ refused q p → n ≡ q
+pub question-refused : {A : Type 0} (b : Bool) (n o : ℕ) (a : A) {q p : ℕ} → (is b n o >> passed a) ≡ refused q p → (b ≡ false) × (n ≡ q) × (o ≡ p)
 unfolding is _>>_
 question-refused true n o a e = refused-not-passed (sym e)
-question-refused false n o a e = cc
+question-refused false n o a e = (refl, cc, cc)
 
 module _ (es : List Entry) (free : Free es) (text : List ℕ) (g : List Goal) (m : ℕ) {q p : ℕ} where
   fault-placed : Good wordLimits g → askWords wordLimits (nameIn es) text g m ≡ refused q p → q ≤ 69 → FirstFault (nameIn es) wordLimits (length text) (tokens text) g m p
@@ -150,7 +150,7 @@ module _ (es : List Entry) (free : Free es) (text : List ℕ) (g : List Goal) (m
       go : (parseText wordLimits (nameIn es) text g m ≡ refused q p) ⊎ ((b : List ℕ) × (parseText wordLimits (nameIn es) text g m ≡ passed b) × ((is (leb (length b) (wordLimits .longest)) 70 (length b) >> passed b) ≡ refused q p))
           → FirstFault (nameIn es) wordLimits (length text) (tokens text) g m p
       go (inl f) = subst (Located (nameIn es) wordLimits law some (length text) (tokens text) g m) f (located (nameIn es) wordLimits law some (length text) (tokens text) g m good)
-      go (inr (b, parsed, asked)) = let z = question-refused (leb (length b) (wordLimits .longest)) 70 (length b) b asked in absurd (omega arith)
+      go (inr (b, parsed, asked)) = let z = question-refused (leb (length b) (wordLimits .longest)) 70 (length b) b asked .1 in absurd (omega arith)
 
 -- Such a fault, said of codes that pass and of their spelling.
 module _ (name : Naming) (S : Spelled) (g : List Goal) (m : ℕ) where

@@ -122,9 +122,9 @@ module _ (name : Naming) (l : Limits) (P : List ℕ → Type 0) where
   says-fine (last {bytes} i h) pre k = rw (append-assoc pre (0x30 ∷ []) bytes) at (says-fine h (pre ++ 0x30 ∷ []) (k finish (record { numbers-fit = tt; levels-fit = omega arith })))
 
 -- A BOOK'S WORDS SAY A BOOK, AN EDIT'S AN EDIT.
-pub record SomeBook (l : Limits) (bytes : List ℕ) : Type 0 where
+pub record SomeBook (l : Limits) (m : ℕ) (bytes : List ℕ) : Type 0 where
   pub book : List (Expr rule)
-  pub spells : SpellsRules l mostRules bytes book
+  pub spells : SpellsRules l m bytes book
 
 pub record SomeEdit (l : Limits) (bytes : List ℕ) : Type 0 where
   pub what : Edit
@@ -132,8 +132,8 @@ pub record SomeEdit (l : Limits) (bytes : List ℕ) : Type 0 where
   pub within : Allowed l edit 1 what
 
 module _ (name : Naming) (l : Limits) where
-  pub says-book : {bytes : List ℕ} {ts : List Token} → Says name l bytes ts [] mostRules → SomeBook l bytes
-  says-book h = says-fine name l (SomeBook l) h [] (λ book few each. record { book = book; spells = record { text-is = refl; few = few; rules = each } })
+  pub says-book : {bytes : List ℕ} {ts : List Token} {m : ℕ} → Says name l bytes ts [] m → SomeBook l m bytes
+  says-book {m = m} h = says-fine name l (SomeBook l m) h [] (λ book few each. record { book = book; spells = record { text-is = refl; few = few; rules = each } })
 
   no-rules : (book : List (Expr rule)) → length book ≤ 0 → bookCode book ≡ []
   unfolding bookCode

@@ -4,4 +4,3 @@ pub mod Parse
 pub mod Layout
 pub mod Words
 pub mod Faults
-pub mod Promises

@@ -1,9 +1,10 @@
 -- Books, edits and rules in words: printing and reading. The ranges are those of texts for 60 nodes.
+use mathlib.Core.Bool.{cond}
 use mathlib.Core.List.{List, [], _∷_}
 use Prim.Native.Nat.{ℕ}
-use lib.Dec.{leb}
+use lib.Dec.{eqb, leb, ltb}
 use lib.ListN.{length, take}
-use Rattle.answer.specs.Asked.{Asked, passed, _>>=_, _>>_, is}
+use Rattle.answer.specs.Asked.{Asked, passed, refused, _>>=_, _>>_, is}
 use Rattle.answer.specs.Outputs.{askRoom}
 use Rattle.logic.specs.Syntax.{rule}
 use Rattle.logic.specs.Limits.{maxNodes}
@@ -97,3 +98,17 @@ askEditFromWords table text room = do
   es ← askNames table
   bytes ← readEdit (nameIn es) text
   askRoom bytes room
+
+-- Where a rule's first word stands in the words of a book, the rules counted from 0: where it would be the one too many, were its number the most that a book may have.
+-- The words' length where there is none, where a rule before it cannot be read, or the table is wrong; later faults do not matter.
+unfoldable pub tooMany : (end : ℕ) → Asked (List ℕ) → ℕ
+tooMany end (passed bytes) = end
+tooMany end (refused q p) = cond (eqb q 69) p end
+
+unfoldable pub ruleInWords : (table text : List ℕ) (i : ℕ) → ℕ
+ruleInWords table text i =
+    cond (ltb i mostRules)
+    (tooMany (length text) (do
+      es ← askNames table
+      parseText wordLimits (nameIn es) text bookGoals i))
+    (length text)

@@ -34,3 +34,7 @@ pub mod SheetFirst
 pub mod JoinedCarriedOut
 pub mod EventKept
 pub mod Witnesses
+pub mod WrongTables
+pub mod WordRefusals
+pub mod WordRules
+pub mod Words

@@ -18,6 +18,7 @@ use Rattle.promises.proofs.Item12.{item-12}
 use Rattle.promises.proofs.Item13.{item-13}
 use Rattle.log_edit.proofs.LoggedEdits.{logged-edits}
 use Rattle.promises.proofs.Witnesses.{witnesses}
+use Rattle.promises.proofs.Words.{word-promises}
 
 pub promises : Promises
 promises = record {
@@ -39,4 +40,5 @@ promises = record {
   item-13 = item-13;
   witnesses = witnesses;
   logged-edits = logged-edits;
+  words = word-promises;
 }

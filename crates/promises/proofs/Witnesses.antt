@@ -59,8 +59,14 @@ first-numbers (fault wrongSort p) {q} e = let z : q ≡ 13 = cc in (omega arith,
 first-numbers (fault tooDeep p) {q} e = let z : q ≡ 14 = cc in (omega arith, omega arith)
 first-numbers (fault outOfRange p) {q} e = let z : q ≡ 15 = cc in (omega arith, omega arith)
 
+pub first-refused : (l : Limits) (text : List ℕ) {q p : ℕ} → askFirst l (take (l .longest) text) ≡ refused q p → (12 ≤ q) × (q ≤ 15)
+unfolding askFirst
+first-refused l text e =
+    let t = take (l .longest) text in
+    first-numbers (readAs l (expr rule) t 0) (sym (so-then 11 0 (first (readAs l (expr rule) t 0)) (le-leb (length t) (l .longest) (omega (arith, length-take (l .longest) text)))) ∙ e)
+
 refusals : (sheet text : List ℕ) {q p : ℕ} → askWitness sheet text ≡ refused q p → ((1 ≤ q) × (q ≤ 4)) ⊎ ((12 ≤ q) × (q ≤ 15))
-unfolding askWitness _>>_ askFirst
+unfolding askWitness _>>_
 refusals sheet text {q} {p} e = go (askSheet sheet) refl e where
   t : List ℕ
   t = take longestCarried text
@@ -71,12 +77,9 @@ refusals sheet text {q} {p} e = go (askSheet sheet) refl e where
   asks : Asked Witness
   asks = askFirst l t >>= (λ K. passed (witness (graphOf sheet .n) (breaks (graphOf sheet) K)))
 
-  short : length t ≤ longestCarried
-  short = omega (arith, length-take longestCarried text)
-
   rule-first : asks ≡ refused q p → (12 ≤ q) × (q ≤ 15)
   rule-first f = ⊎-elim
-      (λ r. first-numbers (readAs l (expr rule) t 0) (sym (so-then 11 0 (first (readAs l (expr rule) t 0)) (le-leb (length t) longestCarried short)) ∙ r))
+      (λ r. first-refused l text r)
       (λ (K, r, w). refused-not-passed (sym w))
       (bind-refused (askFirst l t) _ f)
 

@@ -24,3 +24,4 @@ pub mod Played
 pub mod Promises
 pub mod StoreCalls
 pub mod Witnesses
+pub mod Words

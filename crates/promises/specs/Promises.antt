@@ -1,5 +1,5 @@
--- What we promise: the buyer's three demands, the thirteen requests of document 02, what a witness tells, and what an edit's blocks of a log hold: each a
--- record with a field for each sentence. proofs/Promises proves them all, by citation; every call meets its contract, and the contracts cite the definitions
+-- What we promise: the buyer's three demands, the thirteen requests of document 02, what a witness tells, what an edit's blocks of a log hold, and books and edits in
+-- words: each a record with a field for each sentence. proofs/Promises proves them all, by citation; every call meets its contract, and the contracts cite the definitions
 -- that these records speak of.
 use Rattle.runs.specs.Demand3.{Demand3}
 use Rattle.promises.specs.Demand1.{Demand1}
@@ -19,6 +19,7 @@ use Rattle.promises.specs.Item12.{Item12}
 use Rattle.promises.specs.Item13.{Item13}
 use Rattle.log_edit.specs.LoggedEdits.{LoggedEdits}
 use Rattle.promises.specs.Witnesses.{Witnesses}
+use Rattle.promises.specs.Words.{WordPromises}
 
 pub record Promises : Type 1 where
   -- Every input gets its answer.
@@ -57,3 +58,5 @@ pub record Promises : Type 1 where
   pub witnesses : Witnesses
   -- An edit cut into the blocks of a log.
   pub logged-edits : LoggedEdits
+  -- Books and edits in words.
+  pub words : WordPromises

@@ -17,6 +17,7 @@ mod sheets;
 mod small;
 mod version;
 mod witnesses;
+mod words;
 
 // Number and place of an answer, 0 and 0 for done.
 #[repr(C)]

@@ -6,5 +6,5 @@ ghost use Rattle.suite.specs.Version.{version};
 pub extern "C" fn zamiathen_version() -> usize
     ensures { λ r. ⌜ r ≡ version ⌝ }
 {
-    6001
+    6002
 }

@@ -1,9 +1,11 @@
 -- Places along a text.
-use mathlib.Core.Path.{_≡_, refl, _∙_}
+use mathlib.Core.Path.{_≡_, refl, sym, ap, _∙_}
 use mathlib.Core.List.{List, [], _∷_, _++_}
-use Prim.Native.Nat.{ℕ, suc, _+_}
+use Prim.Native.Nat.{ℕ, suc, min, _+_, _-_, _<_}
 use native.Mathlib.Omega.{arith}
-use lib.ListN.{length}
+use native.Mathlib.Decide.{decLt}
+use lib.ListN.{length, take}
+use lib.Seq.{take-all, take-length}
 
 -- the place behind bytes that begin at a place
 unfoldable pub placeBehind : List ℕ → ℕ → ℕ
@@ -19,3 +21,10 @@ pub placeBehind-append : (a b : List ℕ) (at : ℕ) → placeBehind (a ++ b) at
 unfolding placeBehind
 placeBehind-append [] b at = refl
 placeBehind-append (x ∷ a) b at = placeBehind-append a b (suc at)
+
+-- so much of a text as is looked at
+pub take-min : (t : List ℕ) (m e : ℕ) → e ≡ min (length t) m → take (e - 0) t ≡ take m t
+take-min t m e q = go (decLt (length t) m) where
+  go : Dec (length t < m) → take (e - 0) t ≡ take m t
+  go (yes l) = let z : e - 0 ≡ length t = omega (arith, q) in ap (λ k. take k t) z ∙ take-length t ∙ sym (take-all m t (omega arith))
+  go (no l) = let z : e - 0 ≡ m = omega (arith, q) in ap (λ k. take k t) z

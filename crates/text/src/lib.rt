@@ -5,12 +5,12 @@ use logic::Arrow;
 use logic::Label;
 use logic::Node;
 ghost use mathlib.Core.Path.{_≡_};
-ghost use Prim.Native.Nat.{_<_, _≤_};
+ghost use Prim.Native.Nat.{min, _<_, _≤_};
 ghost use Rattle.logic.specs.Limits.{maxNodes};
 ghost use Rattle.text.specs.Patterns.{itemOf, patternOf, sortOf, patternFormat, limitsOf, numberFits, turnAt, turnAnswer};
 ghost use Rattle.answer.specs.Answers.{asked};
 ghost use Rattle.answer.specs.Asked.{outcome};
-ghost use Rattle.text.specs.Reading.{textLimits, formerLimits, carriedLimits};
+ghost use Rattle.text.specs.Reading.{textLimits, formerLimits, carriedLimits, longestCarried};
 ghost use Rattle.text.specs.Questions.{askBook, askFirst, askRule, askEdit, askRuleEnd, firstPart, ruleStart};
 ghost use Rattle.text.specs.Part.{PartOf};
 
@@ -387,6 +387,17 @@ impl Text {
     {
         let limits = carried_limits(n);
         first_within(text, limits)
+    }
+
+    // How much of a text is looked at for its first rule: a carried rule is no longer.
+    pub fn looked_at(length: usize) -> usize
+        ensures { λ r. ⌜ r ≡ min length longestCarried ⌝ }
+    {
+        if length < Text::LONGEST_CARRIED {
+            length
+        } else {
+            Text::LONGEST_CARRIED
+        }
     }
 
     // Where rule i of a book stands, from 0: behind i rules; the book's length where there are not so many, or where they can't be read.

@@ -28,13 +28,6 @@ use Rattle.witness.specs.declared.Witness.{Witness}
 use Rattle.witness.proofs.PairLaws.{Unnamed, witness-is}
 use Rattle.witness.proofs.NamedParts.{IfBroken}
 
--- what is looked at
-pub take-min : (t : List ℕ) (m e : ℕ) → e ≡ min (length t) m → take (e - 0) t ≡ take m t
-take-min t m e q = go (decLt (length t) m) where
-  go : Dec (length t < m) → take (e - 0) t ≡ take m t
-  go (yes l) = let z : e - 0 ≡ length t = omega (arith, q) in ap (λ k. take k t) z ∙ take-length t ∙ sym (take-all m t (omega arith))
-  go (no l) = let z : e - 0 ≡ m = omega (arith, q) in ap (λ k. take k t) z
-
 module _ (sheet text : List ℕ) where
   pub sheet-refused : {a : Answer} {r : Refusal} → asked a ≡ askSheet sheet → a ≡ Refused r → refused (refusalNumber r) (refusalPlace r) ≡ askWitness sheet text
   sheet-refused h e = unfold askWitness _>>_ in rw (← h, e)

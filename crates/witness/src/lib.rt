@@ -1,7 +1,7 @@
 // Who breaks a rule: the lowest node or pair that is where it must not be.
 ghost use mathlib.Core.Path.{_≡_};
 ghost use mathlib.Core.Bool.{false, not, _&&_, cond};
-ghost use Prim.Native.Nat.{min, _≤_, _<_};
+ghost use Prim.Native.Nat.{_≤_, _<_};
 ghost use lib.ListN.{length, getD};
 ghost use Rattle.logic.specs.Syntax.{Expr, rule};
 ghost use Rattle.logic.specs.Graph.{Pairs, allBelow, implies};
@@ -10,7 +10,6 @@ ghost use Rattle.logic.specs.Limits.{ranges, maxNodes};
 ghost use Rattle.logic.specs.Witness.{nothing, pairs};
 ghost use Rattle.sheet.specs.Sheet.{graphOf, Rows};
 ghost use Rattle.sheet.specs.Questions.{Sound};
-ghost use Rattle.text.specs.Reading.{longestCarried};
 ghost use Rattle.text.specs.Stands.{Stands, SomeStands};
 ghost use Rattle.eval.specs.Evaluated.{Opened};
 ghost use Rattle.witness.specs.Witnessed.{witness, WitnessOf, witnessAsked, askWitness};
@@ -199,17 +198,6 @@ fn name_first(sheet: &[u8], text: &[u8]) -> Witness
     }
 }
 
-// How much of a text is looked at: a carried rule is no longer.
-fn looked_at(length: usize) -> usize
-    ensures { λ r. ⌜ r ≡ min length longestCarried ⌝ }
-{
-    if length < Text::LONGEST_CARRIED {
-        length
-    } else {
-        Text::LONGEST_CARRIED
-    }
-}
-
 // Who breaks the first rule of a text, a carried one or not: questions 1 to 4 of the sheet, then 12 to 15 of the rule.
 // After 41 of enter the scratch begins with the carried rule, whose witness before the edit is the rule's own after it.
 pub fn find(sheet: &[u8], text: &[u8]) -> Witnessed
@@ -219,7 +207,7 @@ pub fn find(sheet: &[u8], text: &[u8]) -> Witnessed
     if let Answer::Refused(r) = first {
         return Witnessed::Refused(r);
     }
-    let end = looked_at(text.len());
+    let end = Text::looked_at(text.len());
     let seen = &text[0..end];
     let second = Text::check_first_carried(seen, Sheet::node_count(sheet));
     if let Answer::Refused(r) = second {

@@ -6,6 +6,8 @@ pub mod damage;
 pub mod graphs;
 pub mod library;
 pub mod limits;
+pub mod names;
 pub mod random;
 pub mod terms;
 pub mod texts;
+pub mod words;

@@ -167,6 +167,54 @@ extern "C" {
         dispatchers: usize,
         moves: usize,
     ) -> CPlayed;
+    pub fn zamiathen_check_names(names: *const u8, names_length: usize) -> CAnswer;
+    pub fn zamiathen_book_to_words(
+        names: *const u8,
+        names_length: usize,
+        book: *const u8,
+        book_length: usize,
+        output: *mut u8,
+        output_length: usize,
+    ) -> CLength;
+    pub fn zamiathen_edit_to_words(
+        names: *const u8,
+        names_length: usize,
+        edit: *const u8,
+        edit_length: usize,
+        output: *mut u8,
+        output_length: usize,
+    ) -> CLength;
+    pub fn zamiathen_rule_to_words(
+        names: *const u8,
+        names_length: usize,
+        rule: *const u8,
+        rule_length: usize,
+        output: *mut u8,
+        output_length: usize,
+    ) -> CLength;
+    pub fn zamiathen_book_from_words(
+        names: *const u8,
+        names_length: usize,
+        words: *const u8,
+        words_length: usize,
+        output: *mut u8,
+        output_length: usize,
+    ) -> CLength;
+    pub fn zamiathen_edit_from_words(
+        names: *const u8,
+        names_length: usize,
+        words: *const u8,
+        words_length: usize,
+        output: *mut u8,
+        output_length: usize,
+    ) -> CLength;
+    pub fn zamiathen_rule_in_words(
+        names: *const u8,
+        names_length: usize,
+        words: *const u8,
+        words_length: usize,
+        rule: usize,
+    ) -> usize;
     pub fn zamiathen_rewrite(book: *const u8, book_length: usize, output: *mut u8, output_length: usize) -> CLength;
     pub fn zamiathen_apply(sheet: *mut u8, sheet_length: usize, edit: *const u8, edit_length: usize) -> CAnswer;
     pub fn zamiathen_carry_back(

@@ -10,7 +10,8 @@ use Rattle.sheet.proofs.BitReadLaws.{done-sound}
 use Rattle.text.specs.Reading.{longestCarried, carriedLimits}
 use Rattle.text.specs.Questions.{askFirst}
 use Rattle.judge.proofs.SheetAndBook.{done-learned}
-use Rattle.witness.proofs.WitnessStages.{take-min, sheet-refused, rule-refused, rule-found, rule-stands}
+use Rattle.text.proofs.TextPlaces.{take-min}
+use Rattle.witness.proofs.WitnessStages.{sheet-refused, rule-refused, rule-found, rule-stands}
 use Rattle.witness.proofs.find.Statement.{statement}
 use Rattle.witness.proofs.find.Tie as tie
 

@@ -1,103 +1,30 @@
--- The promises of words.
-use mathlib.Core.Path.{_≡_, refl, sym, _∙_, ap, subst}
+-- The promises of words are kept.
+use mathlib.Core.Path.{_≡_, sym, _∙_, ap, subst}
 use mathlib.Core.List.{List}
 use Prim.Native.Nat.{ℕ, _≤_}
 use lib.ListN.{length, take}
-use lib.Dec.{leb}
-use mathlib.Core.Logic.{_⊎_, inl, inr}
-use native.Mathlib.Omega.{arith}
-use Rattle.answer.specs.Asked.{Asked, passed, refused, _>>=_, _>>_}
+use Rattle.answer.specs.Asked.{passed, refused, _>>=_}
 use Rattle.answer.specs.Outputs.{askRoom}
-use Rattle.answer.proofs.AskedLaws.{passed-same, is-then, bind-on, then-on, bind-passed, then-passed, bind-refused}
-use Rattle.answer.proofs.OutputLaws.{room-enough}
+use Rattle.answer.proofs.AskedLaws.{bind-passed}
 use Rattle.logic.specs.Syntax.{Expr, rule, Edit}
 use Rattle.text.specs.Code.{code}
 use Rattle.text.specs.Reading.{mostRules}
 use Rattle.text.specs.Questions.{askBook, askFirst, askEdit}
 use Rattle.names.specs.Scan.{tokensOf, tokens}
-use Rattle.names.specs.Names.{Naming, Entry, nameIn, askNames}
-use Rattle.names.proofs.NameLaws.{table-free, table-refused}
+use Rattle.names.specs.Names.{Entry, nameIn, askNames}
+use Rattle.names.proofs.NameLaws.{table-free}
 use Rattle.notation.specs.Words.{wordLimits, ruleLimits, bookGoals, editGoals, bookWords, editWords, ruleWords, readBook, readEdit, readRule, askBookToWords, askEditToWords, askRuleToWords, askBookFromWords, askEditFromWords}
 use Rattle.notation.specs.Grammar.{Goal}
 use Rattle.notation.specs.Spell.{spell, uses}
 use Rattle.notation.specs.Layout.{laid}
 use Rattle.notation.specs.Faults.{SpelledBook, SpelledEdit}
-use Rattle.notation.specs.Promises.{RuleComesBack, IsBook, IsEdit, HasWords, SameNames, FaultOf, WordPromises}
 use Rattle.notation.proofs.SameSpelling.{same-spelling}
-use Rattle.notation.proofs.RoundTrip.{book-back, edit-back, rule-back, book-read, edit-read, question-refused, book-fault, edit-fault}
-
-room-passed : (bytes : List ℕ) (room : ℕ) {out : List ℕ} → askRoom bytes room ≡ passed out → bytes ≡ out
-unfolding askRoom
-room-passed bytes room e = passed-same (is-then (leb (length bytes) room) 33 (length bytes) (passed bytes) e .1)
-
-room-given : (bytes : List ℕ) (room : ℕ) → length bytes ≤ room → askRoom bytes room ≡ passed bytes
-room-given bytes room h = room-enough bytes room (length bytes) refl h
-
--- What a call that prints has asked; and one that reads.
-pub record Printed (table : List ℕ) {A : Type 0} (ask : Asked A) (print : Naming → List ℕ) (words : List ℕ) : Type 0 where
-  pub names : List Entry
-  pub table-passes : askNames table ≡ passed names
-  pub what : A
-  pub passes : ask ≡ passed what
-  pub words-are : print (nameIn names) ≡ words
-
-module _ (table : List ℕ) {A : Type 0} (ask : Asked A) (print : Naming → List ℕ) (room : ℕ) where
-  abbrev toWords : Asked (List ℕ)
-  toWords = askNames table >>= (λ es. ask >> askRoom (print (nameIn es)) room)
-
-  printed : {words : List ℕ} → toWords ≡ passed words → Printed table ask print words
-  printed {words} e =
-      let (es, t, f) = bind-passed (askNames table) (λ es. ask >> askRoom (print (nameIn es)) room) words e in
-      let (a, p, r) = then-passed ask (askRoom (print (nameIn es)) room) words f in
-      record { names = es; table-passes = t; what = a; passes = p; words-are = room-passed (print (nameIn es)) room r }
-
-  prints : {es : List Entry} {a : A} → askNames table ≡ passed es → ask ≡ passed a → length (print (nameIn es)) ≤ room → toWords ≡ passed (print (nameIn es))
-  prints {es} t p h = bind-on t (λ es. ask >> askRoom (print (nameIn es)) room) ∙ then-on p (askRoom (print (nameIn es)) room) ∙ room-given (print (nameIn es)) room h
-
-pub record WasRead (table : List ℕ) (read : Naming → Asked (List ℕ)) (codes : List ℕ) : Type 0 where
-  pub names : List Entry
-  pub table-passes : askNames table ≡ passed names
-  pub reads : read (nameIn names) ≡ passed codes
-
-module _ (table : List ℕ) (read : Naming → Asked (List ℕ)) (room : ℕ) where
-  abbrev fromWords : Asked (List ℕ)
-  fromWords = askNames table >>= (λ es. read (nameIn es) >>= (λ bytes. askRoom bytes room))
-
-  was-read : {codes : List ℕ} → fromWords ≡ passed codes → WasRead table read codes
-  was-read {codes} e =
-      let (es, t, f) = bind-passed (askNames table) (λ es. read (nameIn es) >>= (λ bytes. askRoom bytes room)) codes e in
-      let (b, p, r) = bind-passed (read (nameIn es)) (λ bytes. askRoom bytes room) codes f in
-      record { names = es; table-passes = t; reads = p ∙ ap passed (room-passed b room r) }
-
-  reads-so : {es : List Entry} {codes : List ℕ} → askNames table ≡ passed es → read (nameIn es) ≡ passed codes → length codes ≤ room → fromWords ≡ passed codes
-  reads-so {codes = codes} t p h = bind-on t (λ es. read (nameIn es) >>= (λ bytes. askRoom bytes room)) ∙ bind-on p (λ bytes. askRoom bytes room) ∙ room-given codes room h
-
--- What a call that reads has refused by: the words, where it is 64 to 70.
-room-refused : (bytes : List ℕ) (room : ℕ) {q p : ℕ} → askRoom bytes room ≡ refused q p → 33 ≡ q
-unfolding askRoom
-room-refused bytes room e = question-refused (leb (length bytes) room) 33 (length bytes) bytes e
-
-pub record WordsRefused (table : List ℕ) (read : Naming → Asked (List ℕ)) (q p : ℕ) : Type 0 where
-  pub names : List Entry
-  pub table-passes : askNames table ≡ passed names
-  pub refuses : read (nameIn names) ≡ refused q p
-
-module _ (table : List ℕ) (read : Naming → Asked (List ℕ)) (room : ℕ) {q p : ℕ} (low : 64 ≤ q) where
-  words-refused : fromWords table read room ≡ refused q p → WordsRefused table read q p
-  words-refused e = go (bind-refused (askNames table) (λ es. read (nameIn es) >>= (λ bytes. askRoom bytes room)) e)
-    where
-      inner : (es : List Entry) → askNames table ≡ passed es → (read (nameIn es) ≡ refused q p) ⊎ ((b : List ℕ) × (read (nameIn es) ≡ passed b) × (askRoom b room ≡ refused q p))
-          → WordsRefused table read q p
-      inner es t (inl f) = record { names = es; table-passes = t; refuses = f }
-      inner es t (inr (b, f, r)) = let z = room-refused b room r in absurd (omega arith)
-
-      go : (askNames table ≡ refused q p) ⊎ ((es : List Entry) × (askNames table ≡ passed es) × ((read (nameIn es) >>= (λ bytes. askRoom bytes room)) ≡ refused q p)) → WordsRefused table read q p
-      go (inl t) = let z = table-refused table t in absurd (omega arith)
-      go (inr (es, t, f)) = inner es t (bind-refused (read (nameIn es)) (λ bytes. askRoom bytes room) f)
-
--- One table has one list of names.
-one-table : (table : List ℕ) {es es′ : List Entry} → askNames table ≡ passed es → askNames table ≡ passed es′ → es ≡ es′
-one-table table t t′ = passed-same (sym t ∙ t′)
+use Rattle.notation.proofs.RoundTrip.{book-back, edit-back, rule-back, book-read, edit-read, book-fault, edit-fault}
+use Rattle.notation.proofs.Calls.{room-passed, printed, prints, was-read, reads-so, words-refused, one-table}
+use Rattle.promises.proofs.WrongTables.{wrong-table}
+use Rattle.promises.proofs.WordRefusals.{book-reading, edit-reading, book-printing, edit-printing, rule-printing}
+use Rattle.promises.proofs.WordRules.{rule-in-words, rule-placed, rules-before, not-after, later-words}
+use Rattle.promises.specs.Words.{RuleComesBack, IsBook, IsEdit, HasWords, SameNames, FaultOf, WordPromises}
 
 module _ (table : List ℕ) where
   book-again : (book words : List ℕ) (room enough : ℕ) → askBookToWords table book room ≡ passed words → length book ≤ enough → askBookFromWords table words enough ≡ passed book
@@ -120,7 +47,7 @@ module _ (table : List ℕ) where
       let first = askFirst ruleLimits (take (ruleLimits .longest) text) in
       let (es, t, f) = bind-passed (askNames table) (λ es. first >>= (λ K. askRoom (ruleWords (nameIn es) (code K)) room)) words e in
       let (K, p, r) = bind-passed first (λ K. askRoom (ruleWords (nameIn es) (code K)) room) words f in
-      let same = room-passed (ruleWords (nameIn es) (code K)) room r in
+      let same = room-passed (ruleWords (nameIn es) (code K)) room r .1 in
       record { names = es; table-passes = t; K = K; is-first = p; comes-back = subst (λ z. readRule (nameIn es) z ≡ passed (code K)) same (rule-back es (table-free table t) (take (ruleLimits .longest) text) p) }
 
   is-book : (words book : List ℕ) (room : ℕ) → askBookFromWords table words room ≡ passed book → IsBook table words book
@@ -217,6 +144,17 @@ word-promises =
       edit-normal = λ table words edit room e. let b = is-edit table words edit room e in edit-in-words table edit (b .names) (b .what) (b .table-passes) (b .passes);
       book-fault = book-faulty;
       edit-fault = edit-faulty;
+      table-fault = wrong-table;
+      book-reading = book-reading;
+      edit-reading = edit-reading;
+      book-printing = book-printing;
+      edit-printing = edit-printing;
+      rule-printing = rule-printing;
+      rule-in-words = rule-in-words;
+      rule-placed = rule-placed;
+      rules-before = rules-before;
+      not-after = not-after;
+      later-words = later-words;
       book-by-another = another-book;
       edit-by-another = another-edit;
     }

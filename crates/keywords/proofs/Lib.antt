@@ -1,0 +1,6 @@
+pub mod Each
+pub mod RowLaws
+pub mod PhraseRows
+pub mod WordSlots
+pub mod PickLaws
+pub mod KeywordLaws

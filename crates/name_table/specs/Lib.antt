@@ -1,0 +1,2 @@
+pub mod NameSlots
+pub mod Entries

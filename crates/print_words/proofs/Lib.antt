@@ -1,0 +1,9 @@
+pub mod PrintableLaws
+pub mod TextsPrintable
+pub mod PrintStages
+pub mod KnownRows
+pub mod OpeningLaws
+pub mod AddedLaws
+pub mod CodesAhead
+pub mod Printing
+pub mod Turns

@@ -1,0 +1,4 @@
+pub mod Printable
+pub mod Printed
+pub mod Opening
+pub mod Added

@@ -1,0 +1,4 @@
+pub mod Begun
+pub mod ReadTurns
+pub mod MeetLaws
+pub mod FromLaws
