@@ -12,11 +12,11 @@ use Rattle.logic.proofs.Bools.{true-false, and-left, and-right}
 use Rattle.names.specs.Token.{Token, same, ascii, Found, found, absent, firstBelow}
 use Rattle.names.specs.Names.{among, notationWords}
 use Rattle.names.proofs.TokenLaws.{same-true}
+use Rattle.names.proofs.FirstLaws.{upOne, first-front, first-same}
 use Rattle.notation.specs.Grammar.{phrases}
 use Rattle.buffers.specs.Slots.{orBound, slotAt}
 use Rattle.keywords.specs.Phrases.{allPhrases, words, wordTable, slotWidth}
 use Rattle.keywords.proofs.WordSlots.{slot-word}
-use Rattle.keywords.proofs.PickLaws.{upOne, first-front, first-same}
 
 -- A word is found below the bound where it is one of the list.
 found-among : (t : Token) (ws : List Token) → ltb (orBound (length ws) (firstBelow (λ x. same t (getD ws x [])) (length ws))) (length ws) ≡ among t ws

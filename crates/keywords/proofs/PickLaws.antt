@@ -2,8 +2,7 @@
 use mathlib.Core.Path.{_≡_, refl, sym, _∙_, ap, ap₂, subst}
 use mathlib.Core.Bool.{Bool, true, false, cond}
 use mathlib.Core.List.{List, [], _∷_, map}
-use Prim.Native.Nat.{ℕ, zero, suc, _+_, _-_, _≤_, _<_}
-use native.Mathlib.Nat.{mul-le-mul, le-trans}
+use Prim.Native.Nat.{ℕ, suc, _+_, _-_, _≤_, _<_}
 use native.Mathlib.Omega.{arith}
 use lib.Dec.{eqb, ltb, lit≤, leb·suc-suc}
 use lib.ListN.{length, getD, take, drop}
@@ -11,10 +10,12 @@ use lib.Seq.{getD-take, getD-drop}
 use borrow.Author.Tests.{lt-ltb, le-ltb, eqb-true, eqb-false}
 use Rattle.bytes.specs.Bytes.{indexAfter, indexOf, slice}
 use Rattle.names.specs.Token.{Token, same, Found, found, absent, firstBelow}
+use Rattle.names.proofs.FirstLaws.{upOne, first-front, first-same}
 use Rattle.notation.specs.Grammar.{Phrase, phrases}
 use Rattle.notation.specs.Spell.{phraseOf}
 use Rattle.notation.specs.Parse.{phraseFor}
 use Rattle.buffers.specs.Slots.{orBound, slotAt, Slots}
+use Rattle.buffers.proofs.SlotLaws.{fewer-slots}
 use Rattle.keywords.specs.Rows.{slotOf}
 use Rattle.keywords.specs.Phrases.{allPhrases, noPhrase, phraseAt, phraseCount, firstOf, countOf, InSlot, Picked, wordTable, slotWidth}
 use Rattle.keywords.proofs.Each.{Each, each-at}
@@ -43,31 +44,7 @@ by-code c (r ∷ rs) = go (eqb c (r .byte)) (eqb (r .byte) c) refl refl (by-code
     go true false e f h = absurd (eqb-false (r .byte) c f (sym (eqb-true c (r .byte) e)))
     go false true e f h = absurd (eqb-false c (r .byte) e (sym (eqb-true (r .byte) c f)))
 
--- By its word. The first number below a bound is 0, or the first from 1 on.
-abbrev onward : Found ℕ → Bool → ℕ → Found ℕ
-onward f b n = elim f as (λ z. Found ℕ) [ found x ↦ found x | absent ↦ cond b (found n) absent ]
-
-abbrev pub upOne : Found ℕ → Found ℕ
-upOne (found x) = found (suc x)
-upOne absent = absent
-
-pub first-front : (p : ℕ → Bool) (n : ℕ) → firstBelow p (suc n) ≡ cond (p 0) (found 0) (upOne (firstBelow (λ x. p (suc x)) n))
-unfolding firstBelow
-first-front p zero = refl
-first-front p (suc n) =
-    ap (λ (f : Found ℕ). onward f (p (suc n)) (suc n)) (first-front p n) ∙ go (p 0) (p (suc n)) (firstBelow (λ x. p (suc x)) n)
-  where
-    go : (a b : Bool) (f : Found ℕ) → onward (cond a (found 0) (upOne f)) b (suc n) ≡ cond a (found 0) (upOne (onward f b n))
-    go true b f = refl
-    go false b (found x) = refl
-    go false true absent = refl
-    go false false absent = refl
-
-pub first-same : (p q : ℕ → Bool) (n : ℕ) → ((x : ℕ) → x < n → p x ≡ q x) → firstBelow p n ≡ firstBelow q n
-unfolding firstBelow
-first-same p q zero h = refl
-first-same p q (suc n) h = ap₂ (λ (f : Found ℕ) (b : Bool). onward f b n) (first-same p q n (λ x l. h x (omega arith))) (h n (omega arith))
-
+-- By its word.
 pub by-word : (t : Token) (rs : List Phrase) → phraseFor t rs ≡ nth rs (orBound (length rs) (firstBelow (λ x. same t (getD rs x noPhrase .word)) (length rs)))
 unfolding phraseFor
 by-word t [] = unfold firstBelow in refl
@@ -108,9 +85,6 @@ all-parts =
 
 pub part : (item : ℕ) → 9 ≤ item → item < 18 → Part item
 part item h k = let e : item - 9 + 9 ≡ item = omega arith in subst Part e (each-at 9 (λ k. Part (k + 9)) all-parts (item - 9) (omega arith))
-
-fewer-slots : {width count fewer : ℕ} {table : List ℕ} → Slots width count table → fewer ≤ count → Slots width fewer table
-fewer-slots {width} {count} {fewer} s h = record { room = le-trans (mul-le-mul {n₂ = width} (omega arith) h) (s .room); short = λ i l. s .short i (omega arith) }
 
 pub phrase-below : (item p : ℕ) → InSlot item p → p < phraseCount
 phrase-below item p s = let ends = part item (s .a-thing) (s .known) .ends in omega arith

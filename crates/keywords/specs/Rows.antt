@@ -1,7 +1,8 @@
 -- What follows a word, as numbers: an item is a byte, a row of items a number whose lowest byte is the first item.
+use mathlib.Core.Path.{_≡_}
 use mathlib.Core.Bool.{cond}
 use mathlib.Core.List.{List, [], _∷_, _++_}
-use Prim.Native.Nat.{ℕ, zero, suc, _+_, _-_, _/_, _%_}
+use Prim.Native.Nat.{ℕ, zero, suc, _+_, _-_, _/_, _%_, _^_, _≤_, _<_}
 use lib.Dec.{eqb, leb}
 use lib.ListN.{getD}
 use Rattle.logic.specs.Syntax.{node, arrow, rule}
@@ -91,3 +92,12 @@ closingOf item = getD closings (item - 9) 0
 
 unfoldable pub rowOf : (item p : ℕ) → ℕ
 rowOf item p = getD rowTable p 0 + closingOf item
+
+-- A row on a level: each byte is an item, and steps up to the text's end are wanted on level 1 alone.
+pub data Items (d : ℕ) : (row : ℕ) → Type 0 where
+  none : Items d 0
+  more : (row : ℕ) → 1 ≤ row % 256 → row % 256 < 18 → (row % 256 ≡ 16 → d ≡ 1) → Items d (row / 256) → Items d row
+
+pub record Row (d row : ℕ) : Type 0 where
+  pub small : row < 2 ^ 64
+  pub items : Items d row

@@ -13,7 +13,7 @@ use Rattle.notation.specs.Grammar.{elseWord, endWord}
 use Rattle.notation.specs.Layout.{Before, atStart, opened, other, isMark, brackets, ifs, margin, gap, afterToken, lay}
 use Rattle.buffers.specs.Filled.{filledFrom}
 use Rattle.buffers.proofs.FilledLaws.{filled-none, filled-more}
-use Rattle.lay_words.specs.Laying.{beforeOf, lead, piece, After}
+use Rattle.lay_words.specs.Laying.{beforeOf, lead, piece, laidFrom, After}
 use Rattle.lay_words.specs.declared.Laid.{Laid}
 
 -- one less than none
@@ -208,10 +208,6 @@ ifs-most zero i t = go (same t (ascii "if")) (same t endWord)
     go false true = omega arith
     go false false = omega arith
 ifs-most (suc b) i t = omega arith
-
--- What is laid out from here on.
-abbrev pub laidFrom : Laid → List Token → List ℕ
-laidFrom s ts = lay (beforeOf (s .before)) (s .brackets) (s .ifs) ts
 
 lay-token : (p : Before) (b i : ℕ) (t : Token) (ts : List Token)
     → lay p b i (t ∷ ts) ≡ (cond (isMark t) [] (gap p b i t) ++ t) ++ lay (afterToken t) (brackets b t) (ifs b i t) ts

@@ -1,12 +1,12 @@
 -- The layout of tokens, one token after the other.
 use mathlib.Core.Path.{_≡_}
 use mathlib.Core.Bool.{cond}
-use mathlib.Core.List.{List, [], _∷_, _++_}
+use mathlib.Core.List.{List, [], _++_}
 use Prim.Native.Nat.{ℕ, _+_}
 use lib.Dec.{eqb}
 use lib.ListN.{length}
 use Rattle.names.specs.Token.{Token}
-use Rattle.notation.specs.Layout.{Before, atStart, opened, other, isMark, gap, afterToken, brackets, ifs}
+use Rattle.notation.specs.Layout.{Before, atStart, opened, other, isMark, gap, afterToken, brackets, ifs, lay}
 use Rattle.lay_words.specs.declared.Laid as declared
 
 -- What stands before, by its number: 0 nothing, 1 `(`, 2 another token.
@@ -19,6 +19,10 @@ lead s t = cond (isMark t) [] (gap (beforeOf (s .before)) (s .brackets) (s .ifs)
 
 unfoldable pub piece : declared.Laid → Token → List ℕ
 piece s t = lead s t ++ t
+
+-- What is laid out from here on.
+abbrev pub laidFrom : declared.Laid → List Token → List ℕ
+laidFrom s ts = lay (beforeOf (s .before)) (s .brackets) (s .ifs) ts
 
 -- What has been laid out after a token.
 pub record After (s : declared.Laid) (t : Token) (r : declared.Laid) : Type 0 where

@@ -2,7 +2,7 @@
 use mathlib.Core.Path.{_≡_, refl, sym, _∙_, ap, ap₂, subst}
 use mathlib.Core.Bool.{Bool, true, false, _||_, cond, and-eq-true-iff}
 use mathlib.Core.List.{List, [], _∷_}
-use Prim.Native.Nat.{ℕ, _+_, _*_, _-_, _≤_, _<_}
+use Prim.Native.Nat.{ℕ, _+_, _*_, _≤_, _<_}
 use native.Mathlib.Omega.{arith}
 use borrow.Author.Tests.{eqb-true, eq-eqb, lt-ltb, le-ltb}
 use lib.Dec.{eqb, ltb}
@@ -16,7 +16,7 @@ use Rattle.names.proofs.NameLaws.{HasNames}
 use Rattle.buffers.specs.Slots.{slotAt, putSlot}
 use Rattle.name_table.specs.NameSlots.{nameWidth, nameCount, slotBase, slotCount}
 use Rattle.name_table.specs.Entries.{namedSlots, orNothing, givenNames, Stands, Partly, wellSpelled}
-use Rattle.name_table.proofs.SlotLaws.{put-length, put-there, put-elsewhere, put-slots}
+use Rattle.buffers.proofs.SlotLaws.{put-length, put-there, put-elsewhere, put-slots}
 use Rattle.name_table.proofs.PartlyLaws.{given-names, slot-inside, spelled-some, spelled-short}
 
 -- A slot of a name is that of one kind and number.

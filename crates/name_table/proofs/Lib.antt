@@ -1,5 +1,3 @@
-pub mod SlotLaws
-pub mod SearchLaws
 pub mod SpellingLaws
 pub mod PlainLaws
 pub mod EntryLaws

@@ -19,7 +19,8 @@ use Rattle.notation.specs.Words.{wordLimits}
 use Rattle.buffers.specs.Slots.{Slots, slotAt, orBound}
 use Rattle.keywords.specs.Rows.{kindOf}
 use Rattle.name_table.specs.NameSlots.{nameWidth, nameCount, slotBase, slotCount, Holds}
-use Rattle.name_table.proofs.SearchLaws.{further, search-range, none-at, found-at}
+use Rattle.names.proofs.FirstLaws.{further, search-range}
+use Rattle.buffers.proofs.SameLaws.{none-at, found-at}
 
 -- The items that are names or counts.
 pub by-item : (P : ℕ → Type 0) → P 4 → P 5 → P 6 → P 7 → P 8 → (item : ℕ) → 4 ≤ item → item < 9 → P item

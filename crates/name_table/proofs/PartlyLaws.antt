@@ -14,15 +14,15 @@ use Rattle.logic.proofs.Bools.{true-false, and-left, and-right, is-false}
 use Rattle.names.specs.Token.{Token, same, Found, found, absent, firstBelow}
 use Rattle.names.specs.Scan.{isWord}
 use Rattle.names.specs.Names.{decimal, Entry, isFor, given, nameIn, taken, unnamed, nameBytes, longestName, notationWords, among, beginsPlain, freeName, countOf}
-use Rattle.names.proofs.TokenLaws.{same-true, same-refl, Hit, found-hit, found-only, found-none}
+use Rattle.names.proofs.TokenLaws.{same-true, same-refl, Hit, found-hit, none-hit, found-only, found-none}
 use Rattle.names.proofs.NameLaws.{HasNames, names-one}
 use Rattle.buffers.specs.Slots.{slotAt, orBound}
 use Rattle.keywords.specs.Rows.{kindOf}
-use Rattle.keywords.proofs.PickLaws.{first-same}
+use Rattle.names.proofs.FirstLaws.{first-same}
 use Rattle.name_table.specs.NameSlots.{nameWidth, nameCount, slotBase, slotCount}
 use Rattle.name_table.specs.Entries.{namedSlots, orNothing, givenNames, Partly, freeNumber, slotFound, wellSpelled}
-use Rattle.name_table.proofs.SlotLaws.{slot-length}
-use Rattle.name_table.proofs.SearchLaws.{absent-none, none-at, found-at}
+use Rattle.buffers.proofs.SlotLaws.{slot-length}
+use Rattle.buffers.proofs.SameLaws.{none-at, found-at}
 use Rattle.name_table.proofs.NumberLaws.{bases, counts, NameItem, name-item}
 
 or-left : (a b : Bool) → a ≡ true → (a || b) ≡ true
@@ -114,7 +114,7 @@ module _ {es : List Entry} {table : List ℕ} (p : Partly es table) where
     searched = first-same _ _ (countOf k) (λ x l. ap (same t) (count-slot x (let s = count-small k n in omega arith)))
 
     no-number : firstBelow (λ x. same t (slotAt nameWidth table (namedSlots + x))) (countOf k) ≡ absent → freeNumber es k t ≡ absent
-    no-number e = found-none _ (countOf k) (λ y l h. true-false (and-left _ _ h) (absent-none _ (countOf k) (sym searched ∙ e) y l))
+    no-number e = found-none _ (countOf k) (λ y l h. true-false (and-left _ _ h) (none-hit _ (countOf k) (sym searched ∙ e) y l))
 
     module _ (x : ℕ) (e : firstBelow (λ x. same t (slotAt nameWidth table (namedSlots + x))) (countOf k) ≡ found x) where
       hit : Hit (λ x. same t (decimal x)) (countOf k) x
@@ -185,7 +185,7 @@ module _ {es : List Entry} {table : List ℕ} (p : Partly es table) where
       none : firstBelow (λ x. same t (slotAt nameWidth table (0 + x))) namedSlots ≡ absent → taken es t ≡ true → ⊥
       none a e =
           let s = p .names t e in
-          true-false (same-refl t) (sym (ap (same t) (ap (slotAt nameWidth table) (zero-add (s .slot)) ∙ s .there)) ∙ absent-none _ namedSlots a (s .slot) (s .named))
+          true-false (same-refl t) (sym (ap (same t) (ap (slotAt nameWidth table) (zero-add (s .slot)) ∙ s .there)) ∙ none-hit _ namedSlots a (s .slot) (s .named))
 
       some : Hit (λ x. same t (slotAt nameWidth table (0 + x))) namedSlots x → taken es t ≡ true
       some i = slot-taken t h x (i .below) (sym (same-true t (slotAt nameWidth table (0 + x)) (i .yes-of) ∙ ap (slotAt nameWidth table) (zero-add x)))

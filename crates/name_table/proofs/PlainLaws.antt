@@ -17,7 +17,7 @@ use Rattle.names.specs.Names.{width, decimal}
 use Rattle.buffers.specs.Slots.{Slots, slotAt, putSlot}
 use Rattle.name_table.specs.NameSlots.{nameWidth, nameCount}
 use Rattle.name_table.specs.Entries.{orElse, Filled}
-use Rattle.name_table.proofs.SlotLaws.{slot-length, put-length, put-there, put-elsewhere, put-slots}
+use Rattle.buffers.proofs.SlotLaws.{slot-length, put-length, put-there, put-elsewhere, put-slots}
 
 pub width-small : (x : ℕ) → x < 100 → (0 < width x) × (width x ≤ 2)
 unfolding width

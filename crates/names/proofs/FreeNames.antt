@@ -76,8 +76,10 @@ one-more e es free l =
     let x = e .number in
     let c = count-leave (countOf k) x (named (e ∷ es) k) l (now-named e es) in
     let m = count-mono (countOf k) (named es k) (leave (named (e ∷ es) k) x)
-            (λ i j h. and-eq-true-iff (named (e ∷ es) k i) (not (eqb i x)) .1 (still-named e es k i h,
-             ap not (ne-eqb i x (λ q. never-both (unnamed es k x) free (subst (λ z. named es k z ≡ true) q h))))) in
+    (λ i j h. and-eq-true-iff (named (e ∷ es) k i) (not (eqb i x)) .1 (
+      still-named e es k i h,
+      ap not (ne-eqb i x (λ q. never-both (unnamed es k x) free (subst (λ z. named es k z ≡ true) q h))),
+    )) in
     omega (arith, c, m)
 
 few : (e : Entry) (es : List Entry) → unnamed es (e .kind) (e .number) ≡ true → e .number < countOf (e .kind)
@@ -138,7 +140,7 @@ spares-taken (e ∷ es) n h = go (firstBelow (λ x. same (spare x) (e .name)) n)
         let is = same-true (spare x) (e .name) (k .yes-of) in
         let c = count-leave n x v (k .below) (ap (_|| taken es (spare x)) (k .yes-of)) in
         let m = count-mono n (leave v x) (λ x. taken es (spare x)) (λ i l t. or-cases (same (spare i) (e .name)) (taken es (spare i)) (and-left (v i) (not (eqb i x)) t)
-                (other i x l (k .below) is (and-right (v i) (not (eqb i x)) t) (same (spare i) (e .name)) refl)) in
+        (other i x l (k .below) is (and-right (v i) (not (eqb i x)) t) (same (spare i) (e .name)) refl)) in
         omega (arith, c, m)
       where
         other : (i x : ℕ) → i < n → x < n → spare x ≡ e .name → not (eqb i x) ≡ true → (b : Bool) → same (spare i) (e .name) ≡ b → same (spare i) (e .name) ≡ false

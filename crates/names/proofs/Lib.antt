@@ -1,4 +1,5 @@
 pub mod TokenLaws
+pub mod FirstLaws
 pub mod ScanLaws
 pub mod ScannerLaws
 pub mod NameLaws

@@ -199,7 +199,7 @@ moved-tokens (b ∷ bs) comment at at′ p = go (eqb b 0x0A) (λ m p. moved-toke
   where
     go : (x : Bool) → ((m : Mode) (p : ℕ) → tokensOf (scan bs (moved m p) (suc at′)) ≡ tokensOf (scan bs m (suc at)))
         → tokensOf (elim x as (λ z. List Placed) [ true ↦ scan bs between (suc at′) | false ↦ scan bs comment (suc at′) ])
-          ≡ tokensOf (elim x as (λ z. List Placed) [ true ↦ scan bs between (suc at) | false ↦ scan bs comment (suc at) ])
+        ≡ tokensOf (elim x as (λ z. List Placed) [ true ↦ scan bs between (suc at) | false ↦ scan bs comment (suc at) ])
     go true r = r between 0
     go false r = r comment 0
 moved-tokens (b ∷ bs) (inWord q w) at at′ p = go (classOf b) (λ m p. moved-tokens bs m (suc at) (suc at′) p)

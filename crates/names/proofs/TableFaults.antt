@@ -73,13 +73,13 @@ entries-are end (s ∷ x ∷ t ∷ ts) es = go (kindOf (s .token)) (λ e. entrie
 
     numbered : (k : Kind) (g : Found ℕ) → ((e : Entry) → told (askEntries end ts (e ∷ es)) ≡ entries (tokensOf ts) (e ∷ es))
         → told (numberAsked x g >>= (λ n. is (freeName es (t .token)) 63 (t .place) >> then k n))
-          ≡ next g (λ n. cond (freeName es (t .token)) (tail k n) absent)
+        ≡ next g (λ n. cond (freeName es (t .token)) (tail k n) absent)
     numbered k (found n) r = free k n (freeName es (t .token)) (r (record { kind = k; number = n; name = t .token }))
     numbered k absent r = refl
 
     go : (f : Found Kind) → ((e : Entry) → told (askEntries end ts (e ∷ es)) ≡ entries (tokensOf ts) (e ∷ es))
         → told (kindAsked s f >>= (λ k. askNumber es k x >>= (λ n. is (freeName es (t .token)) 63 (t .place) >> then k n)))
-          ≡ next f (λ k. next (numberFor es k (x .token)) (λ n. cond (freeName es (t .token)) (tail k n) absent))
+        ≡ next f (λ k. next (numberFor es k (x .token)) (λ n. cond (freeName es (t .token)) (tail k n) absent))
     go (found k) r = numbered k (numberFor es k (x .token)) r
     go absent r = refl
 

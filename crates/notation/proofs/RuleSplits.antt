@@ -79,7 +79,7 @@ module _ (es : List Entry) (free : Free es) where
     cut-before : {p : ℕ} → RuleCut (nameIn es) wordLimits ps [] i p → CutBefore end ps rules i
     cut-before {p} r =
         let (b, f, whole) = prefixed-passed (r .bytes) (parse (nameIn es) wordLimits end (r .t ∷ r .rest) [] (mostRules - i))
-                (sym (r .onward end (mostRules - i) (r .t) (r .rest)) ∙ ap₂ (λ ts n. parse (nameIn es) wordLimits end ts [] n) (sym (r .is)) all ∙ read) in
+        (sym (r .onward end (mostRules - i) (r .t) (r .rest)) ∙ ap₂ (λ ts n. parse (nameIn es) wordLimits end ts [] n) (sym (r .is)) all ∙ read) in
         let a = rules-cut (nameIn es) wordLimits law r in
         let s = says-book (nameIn es) wordLimits (read-says (nameIn es) wordLimits end (r .t ∷ r .rest) [] (mostRules - i) f) in
         let codes : bookCode rules ≡ bookCode (a .rules ++ s .book) = whole ∙ ap₂ _++_ (a .text-is) (s .spells .text-is) ∙ codes-append (a .rules) (s .book) in
@@ -161,8 +161,8 @@ module _ (es : List Entry) (free : Free es) (words book : List ℕ) (rules : Lis
       let n : mostRules ≡ i + (mostRules - i) = omega arith in
       let before = ap₂ (λ ts n. parse (nameIn es) wordLimits (length (take at words)) ts [] n) (x .before-are) n ∙ r .before-read (length (take at words)) (mostRules - i) ∙ ap passed (c .first-is) in
       let from =
-          read-more (nameIn es) wordLimits (law es free) (length words) (length (drop at words)) (r .t ∷ r .rest) (tokens (drop at words)) [] (mostRules - i) mostRules
-          (omega arith) (x .from-are) (c .rest-read) in
+      read-more (nameIn es) wordLimits (law es free) (length words) (length (drop at words)) (r .t ∷ r .rest) (tokens (drop at words)) [] (mostRules - i) mostRules
+      (omega arith) (x .from-are) (c .rest-read) in
       let l = c .one-left in
       record {
         split = record { before-read = before; from-read = from };

@@ -96,9 +96,9 @@ module _ (es : List Entry) (free : Free es) (end : ℕ) (before : List Placed) (
           let r = c .cut in
           let rest = r .t ∷ r .rest in
           let e : tokensOf (before ++ rest) ≡ said .tokens =
-              map-append (λ t. t .token) before rest
-              ∙ ap (_++ tokensOf rest) (sym (same-before c))
-              ∙ sym (map-append (λ t. t .token) (r .before) rest)
-              ∙ ap tokensOf (sym (r .is))
-              ∙ bare-tokens (said .tokens) in
+          map-append (λ t. t .token) before rest
+          ∙ ap (_++ tokensOf rest) (sym (same-before c))
+          ∙ sym (map-append (λ t. t .token) (r .before) rest)
+          ∙ ap tokensOf (sym (r .is))
+          ∙ bare-tokens (said .tokens) in
           then-cut rest (cut-of (before ++ rest) e)

@@ -138,17 +138,20 @@ module _ (name : Naming) (l : Limits) where
       go true f r s = after f r s
       go false f r s = inr (omega arith, λ m. ap (λ b. atLevel end (0x30 ∷ []) b (parse name l end [] g (j + m))) f)
   stopped end (t ∷ ts) [] zero =
-      inl (refl, record {
-        before = [];
-        t = t;
-        rest = ts;
-        bytes = [];
-        is = refl;
-        place-is = refl;
-        before-read = λ end m. refl;
-        no-fewer = λ end k b h e. absurd (omega arith);
-        onward = λ end m u us. let e : 0 + m ≡ m = omega arith in ap (parse name l end (u ∷ us) []) e ∙ sym (prefixed-none (parse name l end (u ∷ us) [] m));
-      })
+      inl (
+        refl,
+        record {
+          before = [];
+          t = t;
+          rest = ts;
+          bytes = [];
+          is = refl;
+          place-is = refl;
+          before-read = λ end m. refl;
+          no-fewer = λ end k b h e. absurd (omega arith);
+          onward = λ end m u us. let e : 0 + m ≡ m = omega arith in ap (parse name l end (u ∷ us) []) e ∙ sym (prefixed-none (parse name l end (u ∷ us) [] m));
+        },
+      )
   stopped end (t ∷ ts) [] (suc j) =
       begin-stopped suc (λ j m. omega arith) t [] one-less 1 (expr rule) [] (λ end n us. refl) end ts j (start name l (expr rule) 1 (t .token)) refl (λ then. stopped end ts (then ++ []) j)
     where

@@ -19,10 +19,10 @@ use Rattle.keywords.specs.Phrases.{words, wordTable, slotWidth}
 use Rattle.keywords.proofs.WordSlots.{slot-word, word-slots}
 use Rattle.name_table.specs.NameSlots.{nameWidth, nameCount, slotBase, Holds}
 use Rattle.lay_words.specs.declared.Laid.{Laid}
-use Rattle.lay_words.specs.Laying.{piece, After}
+use Rattle.lay_words.specs.Laying.{piece, laidFrom, After}
 use Rattle.lay_words.proofs.LayingLaws.{piece-most, brackets-most, ifs-most, laid-on}
 use Rattle.print_words.specs.Opening.{wordsAt}
-use Rattle.print_words.specs.Added.{laidFrom, Added}
+use Rattle.print_words.specs.Added.{Added}
 
 -- A token, and no token.
 pub token-added : {s r : Laid} {t : Token} (u : Token) {o o′ : List ℕ} → t ≡ u → length t ≤ longestName → After s t r

@@ -15,8 +15,9 @@ use Rattle.keywords.specs.Phrases.{allPhrases, phraseAt, words, Picked}
 use Rattle.keywords.proofs.PhraseRows.{opens-by-phrase, opens-bare}
 use Rattle.keywords.proofs.WordSlots.{slot-word, phrase-word}
 use Rattle.print_words.specs.declared.print.Opened.{Opened}
-use Rattle.print_words.specs.Opening.{wordsAt, knownItems, Known, Opening}
-use Rattle.print_words.proofs.KnownRows.{row-known}
+use Rattle.print_words.specs.Opening.{wordsAt, Known, Opening}
+use Rattle.keywords.proofs.RowItems.{row-of-phrase}
+use Rattle.print_words.proofs.KnownRows.{known-one}
 
 -- A code without a phrase, by its word and row.
 abbrev Bare : (item c word row : ℕ) → Type 0
@@ -28,27 +29,27 @@ bare-at i item c word row e h = subst (λ i. Bare i c word row) (sym e) h
 -- a name alone
 module _ (item c : ℕ) where
   pub bare-label : item ≡ 9 → c ≡ 3 → Bare item c 29 4
-  unfolding bare slotOf wordsAt goalsOf goalOf kindOf knownItems
-  bare-label e h = bare-at 9 item c 29 4 e (record { is = λ d. rw (eq-eqb c 3 h, bare); known = refl; word-most = omega arith })
+  unfolding bare slotOf wordsAt goalsOf goalOf kindOf
+  bare-label e h = bare-at 9 item c 29 4 e (record { is = λ d. rw (eq-eqb c 3 h, bare); known = known-one 4 (omega arith); word-most = omega arith })
 
   pub bare-node : item ≡ 9 → (c ≡ 3 → ⊥) → Bare item c 29 6
-  unfolding bare slotOf wordsAt goalsOf goalOf kindOf knownItems
-  bare-node e h = bare-at 9 item c 29 6 e (record { is = λ d. rw (ne-eqb c 3 h, bare); known = refl; word-most = omega arith })
+  unfolding bare slotOf wordsAt goalsOf goalOf kindOf
+  bare-node e h = bare-at 9 item c 29 6 e (record { is = λ d. rw (ne-eqb c 3 h, bare); known = known-one 6 (omega arith); word-most = omega arith })
 
   pub bare-arrow : item ≡ 10 → Bare item c 29 5
-  unfolding bare slotOf wordsAt goalsOf goalOf kindOf knownItems
-  bare-arrow e = bare-at 10 item c 29 5 e (record { is = λ d. refl; known = refl; word-most = omega arith })
+  unfolding bare slotOf wordsAt goalsOf goalOf kindOf
+  bare-arrow e = bare-at 10 item c 29 5 e (record { is = λ d. refl; known = known-one 5 (omega arith); word-most = omega arith })
 
   -- the ends of steps
   pub bare-else : (item ≡ 12) ⊎ (item ≡ 14) → Bare item c 27 0
-  unfolding bare slotOf wordsAt words allPhrases phrases goalsOf knownItems
-  bare-else (inl e) = bare-at 12 item c 27 0 e (record { is = λ d. refl; known = refl; word-most = omega arith })
-  bare-else (inr e) = bare-at 14 item c 27 0 e (record { is = λ d. refl; known = refl; word-most = omega arith })
+  unfolding bare slotOf wordsAt words allPhrases phrases goalsOf
+  bare-else (inl e) = bare-at 12 item c 27 0 e (record { is = λ d. refl; known = known-one 0 (omega arith); word-most = omega arith })
+  bare-else (inr e) = bare-at 14 item c 27 0 e (record { is = λ d. refl; known = known-one 0 (omega arith); word-most = omega arith })
 
   pub bare-end : (item ≡ 13) ⊎ (item ≡ 15) → Bare item c 28 0
-  unfolding bare slotOf wordsAt words allPhrases phrases goalsOf knownItems
-  bare-end (inl e) = bare-at 13 item c 28 0 e (record { is = λ d. refl; known = refl; word-most = omega arith })
-  bare-end (inr e) = bare-at 15 item c 28 0 e (record { is = λ d. refl; known = refl; word-most = omega arith })
+  unfolding bare slotOf wordsAt words allPhrases phrases goalsOf
+  bare-end (inl e) = bare-at 13 item c 28 0 e (record { is = λ d. refl; known = known-one 0 (omega arith); word-most = omega arith })
+  bare-end (inr e) = bare-at 15 item c 28 0 e (record { is = λ d. refl; known = known-one 0 (omega arith); word-most = omega arith })
 
 past : (n item : ℕ) → n ≤ item → (item ≡ n → ⊥) → suc n ≤ item
 past n item l h = omega arith
@@ -59,10 +60,10 @@ only item l m = omega arith
 -- what writes nothing: the other items
 module _ (item c : ℕ) (least : 9 ≤ item) (most : item < 18) where
   pub bare-none : (item ≡ 9 → ⊥) → (item ≡ 10 → ⊥) → (((item ≡ 12) ⊎ (item ≡ 14)) → ⊥) → (((item ≡ 13) ⊎ (item ≡ 15)) → ⊥) → Bare item c 29 0
-  unfolding bare slotOf wordsAt goalsOf knownItems
+  unfolding bare slotOf wordsAt goalsOf
   bare-none n₉ n₁₀ n₁₂ n₁₃ = go (eqb item 11) refl (eqb item 16) refl where
     nothing : (i : ℕ) → bare (slotOf i) c ≡ record { tokens = []; then = [] } → item ≡ i → Bare item c 29 0
-    nothing i h e = bare-at i item c 29 0 e (record { is = λ d. h; known = refl; word-most = omega arith })
+    nothing i h e = bare-at i item c 29 0 e (record { is = λ d. h; known = known-one 0 (omega arith); word-most = omega arith })
 
     go : (x : Bool) → eqb item 11 ≡ x → (y : Bool) → eqb item 16 ≡ y → Bare item c 29 0
     go true e y f = nothing 11 refl (eqb-true item 11 e)
@@ -83,7 +84,7 @@ module _ (item c p : ℕ) (h : Picked item (phraseOf c (phrases (slotOf item))) 
   pub opening-phrase : p < 27 → (row : ℕ) → row ≡ rowOf item p → Opening (λ d. opens (slotOf item) d c) (record { word = p; row = row })
   opening-phrase k row e = record {
     is = λ d. opens-by-phrase item p d c h k ∙ ap₂ (λ ts g. record { tokens = ts; then = g }) (sym (word-of-phrase p k)) (ap (λ r. rowGoals r d) (sym e));
-    known = subst Known (sym e) (row-known item p (h .inside k));
+    known = subst Known (sym e) (row-of-phrase item p 1 (h .inside k) (λ i. refl));
     word-most = omega arith;
   }
 

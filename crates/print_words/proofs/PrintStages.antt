@@ -1,27 +1,23 @@
 -- The calls that print words, by where their questions stop.
 use mathlib.Core.Path.{_≡_, refl, sym, _∙_, ap, subst}
 use mathlib.Core.List.{List}
-use Prim.Native.Nat.{ℕ, _-_, _≤_, _<_, min}
+use Prim.Native.Nat.{ℕ, _≤_}
 use native.Mathlib.Omega.{arith}
-use native.Mathlib.Decide.{decLt}
 use lib.ListN.{length, take}
-use lib.Seq.{take-all, take-length}
-use Rattle.answer.specs.Asked.{Asked, passed, refused}
+use Rattle.answer.specs.Asked.{Asked, passed, refused, _>>=_, _>>_, outcome}
 use Rattle.answer.specs.Outputs.{askRoom, writtenLength, writtenOutput}
+use Rattle.answer.proofs.AnswerLaws.{learned}
 use Rattle.answer.proofs.AskedLaws.{bind-on, bind-ends, then-on, then-ends}
-use Rattle.logic.specs.Syntax.{Expr, rule, Edit}
 use Rattle.text.specs.Reading.{mostRules, longestCarried}
 use Rattle.text.specs.Questions.{askBook, askFirst, askEdit}
 use Rattle.text.proofs.TextSpelling.{book-is-spelled, edit-is-spelled, first-is-spelled}
-use Rattle.names.specs.Names.{Naming, Entry, nameIn, askNames}
-use Rattle.notation.specs.Spell.{spell}
+use Rattle.names.specs.Names.{Entry, nameIn, askNames}
 use Rattle.notation.specs.Layout.{laid}
 use Rattle.notation.specs.Words.{wordLimits, ruleLimits, bookGoals, editGoals, ruleGoals, askBookToWords, askEditToWords, askRuleToWords}
-use Rattle.buffers.specs.Slots.{Slots}
-use Rattle.name_table.specs.NameSlots.{nameWidth, nameCount, Holds, Held}
+use Rattle.name_table.specs.NameSlots.{Holds, Held}
 use Rattle.keywords.specs.Rows.{slotOf, levelOf, goalOf, goalsOf, rowGoals}
 use Rattle.print_words.specs.Printable.{Printable}
-use Rattle.print_words.specs.Printed.{printed}
+use Rattle.print_words.specs.Printed.{printed, askToWords}
 use Rattle.print_words.proofs.TextsPrintable.{book-printable, edit-printable, rule-printable, rule-spelled}
 
 -- The rows with which printing starts: nothing before the rules of a book, steps up to the text's end, a rule.
@@ -34,87 +30,68 @@ edit-row = unfold goalsOf goalOf slotOf levelOf in refl
 pub rule-row : rowGoals 17 1 ≡ ruleGoals
 rule-row = unfold goalsOf goalOf slotOf levelOf in refl
 
--- What is left where the questions before 33 have passed: codes are printed by a naming that the slots hold.
-pub record Prints (asks : (room : ℕ) → Asked (List ℕ)) (table codes : List ℕ) (start rules : ℕ) : Type 0 where
-  pub name : Naming
-  pub holds : Holds table name
-  pub printable : Printable ruleLimits codes (rowGoals start 1) rules
-  pub short : length codes ≤ longestCarried
-  pub to-room : (room : ℕ) → asks room ≡ askRoom (printed name codes start rules) room
+-- What a call answers and writes, by the same questions put in another way.
+pub answered-as : {q q′ : Asked (List ℕ)} → q ≡ q′ → (output : List ℕ) {r : Asked ℕ} {last : List ℕ}
+    → (r ≡ writtenLength q) × (last ≡ writtenOutput q output) → (r ≡ writtenLength q′) × (last ≡ writtenOutput q′ output)
+answered-as e output a = (a .0 ∙ ap writtenLength e, a .1 ∙ ap (λ q. writtenOutput q output) e)
 
-module _ {asks : (room : ℕ) → Asked (List ℕ)} {table codes : List ℕ} {start rules : ℕ} (p : Prints asks table codes start rules) where
-  pub ready : start < 18 → rules ≤ mostRules
-      → Slots nameWidth nameCount table × Printable ruleLimits codes (rowGoals start 1) rules × (length codes ≤ longestCarried) × (start < 18) × (rules ≤ mostRules)
-  ready a b = (p .holds .slots, p .printable, p .short, a, b)
+pub holds-names : (names : List ℕ) {es : List Entry} → askNames names ≡ passed es → {table : List ℕ} → Held (askNames names) table → Holds table (nameIn es)
+holds-names names e {table} h = unfold Held in subst (λ q. Held q table) e h
 
-  abbrev room-asked : Naming → ℕ → Asked (List ℕ)
-  room-asked name room = askRoom (printed name codes start rules) room
-
-  pub answered : {r : Asked ℕ} (output : List ℕ) {last : List ℕ}
-      → ((name : Naming) → Holds table name → r ≡ writtenLength (room-asked name (length output)))
-      × ((name : Naming) → Holds table name → last ≡ writtenOutput (room-asked name (length output)) output)
-      → (r ≡ writtenLength (asks (length output))) × (last ≡ writtenOutput (asks (length output)) output)
-  answered output e =
-      let same = sym (p .to-room (length output)) in
-      (e .0 (p .name) (p .holds) ∙ ap writtenLength same, e .1 (p .name) (p .holds) ∙ ap (λ q. writtenOutput q output) same)
-
-module _ (names : List ℕ) where
+module _ (names : List ℕ) (text : Asked (Unit {0})) (codes : List ℕ) (start rules room : ℕ) where
   -- 63
-  module _ {q p : ℕ} (e : askNames names ≡ refused q p) (text : List ℕ) (room : ℕ) where
-    pub book-names-refused : askBookToWords names text room ≡ refused q p
-    book-names-refused = unfold askBookToWords in bind-ends e _
-
-    pub edit-names-refused : askEditToWords names text room ≡ refused q p
-    edit-names-refused = unfold askEditToWords in bind-ends e _
-
-    pub rule-names-refused : askRuleToWords names text room ≡ refused q p
-    rule-names-refused = unfold askRuleToWords in bind-ends e _
+  pub names-refused : {q p : ℕ} → askNames names ≡ refused q p → askToWords names text codes start rules room ≡ refused q p
+  names-refused e = unfold askToWords in bind-ends e _
 
   module _ {es : List Entry} (e : askNames names ≡ passed es) where
-    -- 11 to 16, 21 to 26, 12 to 15
-    module _ (text : List ℕ) (room : ℕ) {q p : ℕ} where
-      pub book-refused : askBook wordLimits text ≡ refused q p → askBookToWords names text room ≡ refused q p
-      book-refused f = unfold askBookToWords in bind-on e _ ∙ then-ends f _
+    -- the text's own questions
+    pub text-refused : {q p : ℕ} → text ≡ refused q p → askToWords names text codes start rules room ≡ refused q p
+    text-refused f = unfold askToWords in bind-on e _ ∙ then-ends f _
 
-      pub edit-refused : askEdit wordLimits text ≡ refused q p → askEditToWords names text room ≡ refused q p
-      edit-refused f = unfold askEditToWords in bind-on e _ ∙ then-ends f _
+    pub to-room : text ≡ passed tt → askRoom (printed (nameIn es) codes start rules) room ≡ askToWords names text codes start rules room
+    to-room f = unfold askToWords in sym (bind-on e _ ∙ then-on f _)
 
-      pub rule-refused : {seen : List ℕ} → seen ≡ take longestCarried text → askFirst ruleLimits seen ≡ refused q p → askRuleToWords names text room ≡ refused q p
-      rule-refused s f = unfold askRuleToWords in bind-on e _ ∙ bind-ends (ap (askFirst ruleLimits) (sym s) ∙ f) _
+-- Questions of which the outcome alone is asked.
+bind-same : {A B : Type 0} (x : Asked A) (f g : A → Asked B) → ((a : A) → f a ≡ g a) → (x >>= f) ≡ (x >>= g)
+unfolding _>>=_
+bind-same (passed a) f g e = e a
+bind-same (refused q p) f g e = refl
 
-    module _ {table : List ℕ} (h : Held (askNames names) table) where
-      holds-names : Holds table (nameIn es)
-      holds-names = unfold Held in subst (λ q. Held q table) e h
+outcome-then : {A B : Type 0} (x : Asked A) (y : Asked B) → (outcome x >> y) ≡ (x >> y)
+unfolding outcome _>>_
+outcome-then (passed a) y = refl
+outcome-then (refused q p) y = refl
 
-      pub book-prints : (book : List ℕ) {rules : List (Expr rule)} → askBook wordLimits book ≡ passed rules → Prints (askBookToWords names book) table book 0 mostRules
-      unfolding askBookToWords
-      book-prints book {rules} f = record {
-        name = nameIn es;
-        holds = holds-names;
-        printable = rw book-row (book-printable book f);
-        short = omega (arith, book-is-spelled wordLimits book rules f .short);
-        to-room = λ room. bind-on e _ ∙ then-on f _ ∙ ap (λ g. askRoom (laid (spell (nameIn es) book g mostRules)) room) (sym book-row);
-      }
+outcome-on : {A B : Type 0} (x : Asked A) (y : Asked B) (f : A → Asked B) → ((a : A) → x ≡ passed a → y ≡ f a) → (outcome x >> y) ≡ (x >>= f)
+unfolding outcome _>>_ _>>=_
+outcome-on (passed a) y f e = e a refl
+outcome-on (refused q p) y f e = refl
 
-      pub edit-prints : (edit : List ℕ) {Z : Edit} → askEdit wordLimits edit ≡ passed Z → Prints (askEditToWords names edit) table edit 16 0
-      unfolding askEditToWords
-      edit-prints edit {Z} f = record {
-        name = nameIn es;
-        holds = holds-names;
-        printable = rw edit-row (edit-printable edit f);
-        short = omega (arith, edit-is-spelled wordLimits edit Z f .short);
-        to-room = λ room. bind-on e _ ∙ then-on f _ ∙ ap (λ g. askRoom (laid (spell (nameIn es) edit g 0)) room) (sym edit-row);
-      }
+-- The text's own questions are those of a book, an edit or a first rule: what passes them can be printed.
+abbrev Prints : (text : Asked (Unit {0})) (codes : List ℕ) (start rules : ℕ) → Type 0
+Prints text codes start rules = text ≡ passed tt → Printable ruleLimits codes (rowGoals start 1) rules × (length codes ≤ longestCarried)
 
-      pub rule-prints : (text : List ℕ) {seen : List ℕ} → seen ≡ take longestCarried text → {K : Expr rule} → askFirst ruleLimits seen ≡ passed K
-          → Prints (askRuleToWords names text) table seen 17 0
-      unfolding askRuleToWords
-      rule-prints text {seen} s {K} f = record {
-        name = nameIn es;
-        holds = holds-names;
-        printable = rw rule-row (rule-printable seen f);
-        short = first-is-spelled ruleLimits seen K f .short;
-        to-room = λ room.
-            bind-on e _ ∙ bind-on (ap (askFirst ruleLimits) (sym s) ∙ f) _
-            ∙ ap (λ ts. askRoom (laid ts) room) (sym (rule-spelled seen f (nameIn es)) ∙ ap (λ g. spell (nameIn es) seen g 0) (sym rule-row));
-      }
+module _ {text : Asked (Unit {0})} (book : List ℕ) (e : text ≡ outcome (askBook wordLimits book)) where
+  pub book-prints : Prints text book 0 mostRules
+  book-prints h = let b = learned _ (sym h ∙ e) in (rw book-row (book-printable book (b .is)), omega (arith, book-is-spelled wordLimits book _ (b .is) .short))
+
+  pub book-asked : (names : List ℕ) (room : ℕ) → askToWords names text book 0 mostRules room ≡ askBookToWords names book room
+  unfolding askToWords askBookToWords
+  book-asked names room = rw (e, book-row) (bind-same (askNames names) _ _ (λ es. outcome-then (askBook wordLimits book) _))
+
+module _ {text : Asked (Unit {0})} (edit : List ℕ) (e : text ≡ outcome (askEdit wordLimits edit)) where
+  pub edit-prints : Prints text edit 16 0
+  edit-prints h = let b = learned _ (sym h ∙ e) in (rw edit-row (edit-printable edit (b .is)), omega (arith, edit-is-spelled wordLimits edit _ (b .is) .short))
+
+  pub edit-asked : (names : List ℕ) (room : ℕ) → askToWords names text edit 16 0 room ≡ askEditToWords names edit room
+  unfolding askToWords askEditToWords
+  edit-asked names room = rw (e, edit-row) (bind-same (askNames names) _ _ (λ es. outcome-then (askEdit wordLimits edit) _))
+
+module _ {text : Asked (Unit {0})} (seen : List ℕ) (e : text ≡ outcome (askFirst ruleLimits seen)) where
+  pub rule-prints : Prints text seen 17 0
+  rule-prints h = let b = learned _ (sym h ∙ e) in (rw rule-row (rule-printable seen (b .is)), first-is-spelled ruleLimits seen _ (b .is) .short)
+
+  pub rule-asked : (names whole : List ℕ) (room : ℕ) → seen ≡ take longestCarried whole → askToWords names text seen 17 0 room ≡ askRuleToWords names whole room
+  unfolding askToWords askRuleToWords
+  rule-asked names whole room s =
+      rw (sym s, e, rule-row) (bind-same (askNames names) _ _ (λ es. outcome-on (askFirst ruleLimits seen) _ _ (λ K f. ap (λ ts. askRoom (laid ts) room) (rule-spelled seen f (nameIn es)))))

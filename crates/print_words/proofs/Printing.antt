@@ -15,7 +15,8 @@ use Rattle.buffers.specs.Slots.{Slots}
 use Rattle.buffers.specs.Filled.{filledFrom}
 use Rattle.name_table.specs.NameSlots.{nameWidth, nameCount, Holds}
 use Rattle.print_words.specs.Printable.{Printable}
-use Rattle.print_words.specs.Added.{laidFrom, Room, Added}
+use Rattle.lay_words.specs.Laying.{laidFrom}
+use Rattle.print_words.specs.Added.{Room, Added}
 use Rattle.print_words.specs.Printed.{printed}
 use Rattle.print_words.proofs.AddedLaws.{own, own-held}
 use Rattle.buffers.proofs.FilledLaws.{filled-more}

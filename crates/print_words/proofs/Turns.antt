@@ -23,15 +23,16 @@ use Rattle.print_words.specs.declared.print.Opened.{Opened}
 use Rattle.keywords.specs.Rows.{markOf, kindOf, slotOf, levelOf, goalOf, goalsOf, rowGoals, goalsAbove, wanted}
 use Rattle.buffers.specs.Slots.{Slots}
 use Rattle.buffers.specs.Filled.{filledFrom}
-use Rattle.lay_words.specs.Laying.{beforeOf}
+use Rattle.lay_words.specs.Laying.{beforeOf, laidFrom}
 use Rattle.name_table.specs.NameSlots.{nameWidth, nameCount, Holds}
 use Rattle.print_words.specs.Printable.{Printable}
 use Rattle.print_words.specs.Printed.{printed}
 use Rattle.print_words.specs.Opening.{Known, wordsAt, Opening}
-use Rattle.print_words.specs.Added.{laidFrom, Added}
+use Rattle.print_words.specs.Added.{Added}
 use Rattle.keywords.proofs.RowLaws.{row-first, row-last, popped, popped-all, pushed}
 use Rattle.buffers.proofs.FilledLaws.{filled-none, filled-more}
-use Rattle.print_words.proofs.KnownRows.{row-fits, known-rest, known-one, Levels, levels-none, levels-set}
+use Rattle.keywords.proofs.RowItems.{row-rest}
+use Rattle.print_words.proofs.KnownRows.{known-one, Levels, levels-none, levels-set}
 use Rattle.print_words.proofs.CodesAhead.{printable-mark, spell-mark, NumberHere, number-here, ThingHere, thing-here, rule-printable, rule-spells}
 use Rattle.print_words.proofs.Printing.{ahead, short-less, SoFar, Printing, printing-on}
 
@@ -175,7 +176,7 @@ module _ (table codes : List ℕ) (start rules : ℕ) (o₀ : List ℕ) where
       rest = wanted rows (row / 256) level
 
       first-wanted : item < 14 → wanted rows row level ≡ goalOf item level ∷ rest
-      first-wanted h = ap (_++ goalsAbove rows level) (row-first row level (row-fits row (t .known)) some h)
+      first-wanted h = ap (_++ goalsAbove rows level) (row-first row level (t .known .small) some h)
 
       last-wanted : 14 ≤ item → wanted rows row level ≡ goalOf item level ∷ goalsAbove rows level
       last-wanted h = ap (_++ goalsAbove rows level) (row-last row level some h)
@@ -202,7 +203,7 @@ module _ (table codes : List ℕ) (start rules : ℕ) (o₀ : List ℕ) where
                 (λ name held. a)
                 mark-ahead;
             levels = t .levels;
-            known = known-rest row (t .known) some;
+            known = row-rest 1 row (t .known) some;
             least = t .least;
             most = t .most;
             kept = k ∙ t .kept;
@@ -233,7 +234,7 @@ module _ (table codes : List ℕ) (start rules : ℕ) (o₀ : List ℕ) where
                 a
                 number-ahead;
             levels = t .levels;
-            known = known-rest row (t .known) some;
+            known = row-rest 1 row (t .known) some;
             least = t .least;
             most = t .most;
             kept = e ∙ t .kept;
@@ -282,7 +283,7 @@ module _ (table codes : List ℕ) (start rules : ℕ) (o₀ : List ℕ) where
             record {
               turn = record {
                 printing = opened (level + 1) rest deeper-wanted opening g′ w′ a;
-                levels = levels-set rows level (row / 256) (t .levels) (known-rest row (t .known) some);
+                levels = levels-set rows level (row / 256) (t .levels) (row-rest 1 row (t .known) some);
                 known = opening .known;
                 least = omega arith;
                 most = deeper-here .within;

@@ -5,14 +5,9 @@ use Prim.Native.Nat.{ℕ, _+_, _*_, _^_, _≤_, _<_}
 use lib.ListN.{length}
 use Rattle.names.specs.Token.{Token}
 use Rattle.names.specs.Names.{longestName}
-use Rattle.notation.specs.Layout.{lay}
 use Rattle.buffers.specs.Filled.{filledFrom}
-use Rattle.lay_words.specs.Laying.{beforeOf}
+use Rattle.lay_words.specs.Laying.{laidFrom}
 use Rattle.lay_words.specs.declared.Laid.{Laid}
-
--- The text of the tokens to come.
-abbrev pub laidFrom : Laid → List Token → List ℕ
-laidFrom s ts = lay (beforeOf (s .before)) (s .brackets) (s .ifs) ts
 
 -- There is room for one more token in the numbers.
 pub record Room (s : Laid) : Type 0 where

@@ -1,13 +1,13 @@
 -- What a code opens, by the number of its word and the row of what follows.
 use mathlib.Core.Path.{_≡_}
-use mathlib.Core.Bool.{Bool, true, _&&_, cond}
+use mathlib.Core.Bool.{cond}
 use mathlib.Core.List.{List, [], _∷_}
-use Prim.Native.Nat.{ℕ, zero, suc, _/_, _%_, _≤_}
-use lib.Dec.{eqb, leb, ltb}
+use Prim.Native.Nat.{ℕ, _≤_}
+use lib.Dec.{ltb}
 use lib.ListN.{getD}
 use Rattle.names.specs.Token.{Token}
 use Rattle.notation.specs.Spell.{Opens}
-use Rattle.keywords.specs.Rows.{rowGoals}
+use Rattle.keywords.specs.Rows.{rowGoals, Row}
 use Rattle.keywords.specs.Phrases.{words}
 use Rattle.print_words.specs.declared.print.Opened.{Opened}
 
@@ -15,13 +15,9 @@ use Rattle.print_words.specs.declared.print.Opened.{Opened}
 unfoldable pub wordsAt : ℕ → List Token
 wordsAt w = cond (ltb w 29) (getD words w [] ∷ []) []
 
--- A row of at most so many items, each of which is a mark, a number or a thing.
-unfoldable pub knownItems : (most row : ℕ) → Bool
-knownItems zero row = eqb row 0
-knownItems (suc n) row = cond (eqb row 0) true (leb 1 (row % 256) && (ltb (row % 256) 18 && knownItems n (row / 256)))
-
+-- A row of marks, numbers and things. On level 1 each thing may be wanted.
 abbrev pub Known : ℕ → Type 0
-Known row = knownItems 8 row ≡ true
+Known row = Row 1 row
 
 -- What is opened on each level.
 pub record Opening (what : ℕ → Opens) (r : Opened) : Type 0 where

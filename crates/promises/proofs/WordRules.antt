@@ -41,7 +41,7 @@ rule-in-words table words book rules room i e q =
     let s = rule-splits (w .names) (table-free table (w .table-passes)) words book rules q parsed table (w .table-passes) i in
     let p = ruleInWords table words i in
     let codes : book ≡ bookCode (take i rules) ++ bookCode (drop i rules) =
-        book-is-spelled wordLimits book rules q .spells .text-is ∙ ap bookCode (sym (take-append-drop i rules)) ∙ sym (codes-append (take i rules) (drop i rules)) in
+    book-is-spelled wordLimits book rules q .spells .text-is ∙ ap bookCode (sym (take-append-drop i rules)) ∙ sym (codes-append (take i rules) (drop i rules)) in
     let size : length book ≡ length (bookCode (take i rules)) + length (bookCode (drop i rules)) = ap length codes ∙ length-append (bookCode (take i rules)) (bookCode (drop i rules)) in
     let fits = w .fits in
     record {
@@ -70,18 +70,20 @@ rules-before table words i h =
     let c = text-cut words (r .before) (r .t) (r .rest) (r .is) in
     let n : mostRules ≡ i + (mostRules - i) = omega arith in
     let at = r .t .place in
-    let read = ap₂ (λ ts n. parse (nameIn (f .names)) wordLimits (length (take at words)) ts [] n) (c .before-are) n ∙ r .before-read (length (take at words)) (mostRules - i) in
-    (few, subst (RulesBefore table words i) (sym (r .place-is))
-    (record {
-      token-at = record { before = r .before; t = r .t; rest = r .rest; is = r .is; place-is = refl };
-      names = f .names;
-      table-passes = f .table-passes;
-      codes = r .bytes;
-      before-it = read;
-      rules = b .rules;
-      rules-are = wider (r .bytes) (b .rules) (b .text-is) (omega (arith, b .many)) (b .allowed);
-      many = b .many;
-    }))
+    let read = ap₂ (λ ts n. parse (nameIn (f .names)) wordLimits (length (take at words)) ts [] n) (c .before-are) n ∙ r .before-read (length (take at words)) (mostRules - i) in (
+      few,
+      subst (RulesBefore table words i) (sym (r .place-is))
+          (record {
+            token-at = record { before = r .before; t = r .t; rest = r .rest; is = r .is; place-is = refl };
+            names = f .names;
+            table-passes = f .table-passes;
+            codes = r .bytes;
+            before-it = read;
+            rules = b .rules;
+            rules-are = wider (r .bytes) (b .rules) (b .text-is) (omega (arith, b .many)) (b .allowed);
+            many = b .many;
+          }),
+    )
 
 placed-after : (table words : List ℕ) (i : ℕ) {names : List Entry} → askNames table ≡ passed names → i < mostRules → {before : List Placed} → RulesThen names before i
     → (t : Placed) (rest : List Placed) → tokens words ≡ before ++ t ∷ rest → ruleInWords table words i ≡ t .place
@@ -96,7 +98,7 @@ rule-placed table words i p few h =
     let free = table-free table (h .table-passes) in
     let c = text-cut words (w .before) t (w .rest) (w .is) in
     let read : parse name wordLimits (length (take at words)) (w .before) [] mostRules ≡ passed (h .codes) =
-        ap (λ ts. parse name wordLimits (length (take at words)) ts [] mostRules) (sym (c .before-are)) ∙ ap (λ p. parseText wordLimits name (take p words) [] mostRules) (w .place-is) ∙ h .before-it in
+    ap (λ ts. parse name wordLimits (length (take at words)) ts [] mostRules) (sym (c .before-are)) ∙ ap (λ p. parseText wordLimits name (take p words) [] mostRules) (w .place-is) ∙ h .before-it in
     let b = says-book name wordLimits (read-says name wordLimits (length (take at words)) (w .before) [] mostRules read) in
     let are : b .book ≡ h .rules = passed-same (sym (wider (h .codes) (b .book) (b .spells .text-is) (b .spells .few) (b .spells .rules)) ∙ h .rules-are) in
     let many : length (b .book) ≡ i = ap length are ∙ h .many in

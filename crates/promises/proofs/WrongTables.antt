@@ -49,6 +49,8 @@ inside end before (t ∷ rest) p i w = omega (arith, w .0, all-append (λ t. t .
 
 pub wrong-table : (table : List ℕ) (q p : ℕ) → askNames table ≡ refused q p → (q ≡ 63) × (p ≤ length table) × WrongTable table p
 wrong-table table q p e =
-    let f = table-fault table e in
-    (table-refused table e, inside (length table) (f .before) (f .rest) p (subst (Inside (length table)) (f .is) (tokens-inside table)) (f .wrong),
-     record { before = f .before; rest = f .rest; is = f .is; begun = begun (tokensOf (f .before)) (f .begun); wrong = wrong (length table) (f .before) (f .rest) p (f .wrong) })
+    let f = table-fault table e in (
+      table-refused table e,
+      inside (length table) (f .before) (f .rest) p (subst (Inside (length table)) (f .is) (tokens-inside table)) (f .wrong),
+      record { before = f .before; rest = f .rest; is = f .is; begun = begun (tokensOf (f .before)) (f .begun); wrong = wrong (length table) (f .before) (f .rest) p (f .wrong) },
+    )

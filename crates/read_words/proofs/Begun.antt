@@ -92,7 +92,8 @@ module _ (m : Met) (item d place : ℕ) (rest : List Goal → Asked (List ℕ)) 
   pub continued-wrong : m .wrong ≡ true → continued (goalOf item d) place (startOf m (levelOf item d)) rest ≡ refused (wrongNumber item) place
   unfolding startOf goalOf wrongNumber continued
   continued-wrong w = rw w (go (leb item 3) (leb item 8)) where
-    go : (b c : Bool) → continued (cond b (mark (markOf item)) (cond c (number (kindOf item)) (thing (slotOf item) (levelOf item d)))) place starts-nothing rest ≡ refused (cond b 66 (cond c 67 65)) place
+    go : (b c : Bool) → continued (cond b (mark (markOf item)) (cond c (number (kindOf item)) (thing (slotOf item) (levelOf item d)))) place starts-nothing rest
+        ≡ refused (cond b 66 (cond c 67 65)) place
     go true c = refl
     go false true = refl
     go false false = refl

@@ -1,15 +1,14 @@
 -- What the code says that a token begins is what it begins.
 use mathlib.Core.Path.{_≡_, refl, sym, _∙_, ap, ap₂, subst}
-use mathlib.Core.Bool.{Bool, true, false, not, _&&_, _||_, cond}
+use mathlib.Core.Bool.{Bool, true, false, not, cond}
 use mathlib.Core.List.{List, [], _∷_}
 use mathlib.Core.Logic.{_⊎_, inl, inr, ⊎-elim}
-use Prim.Native.Nat.{ℕ, zero, suc, _+_, _-_, _%_, _/_, _≤_, _<_}
+use Prim.Native.Nat.{ℕ, _-_, _≤_, _<_}
 use native.Mathlib.Decide.{decLt}
 use native.Mathlib.Omega.{arith}
-use lib.Dec.{eqb, leb, ltb}
+use lib.Dec.{ltb}
 use lib.ListN.{take, drop}
-use borrow.Author.Tests.{lt-ltb, le-ltb, le-leb, lt-leb, eq-eqb, leb-true, ltb-true, eqb-true}
-use Rattle.logic.proofs.Bools.{true-false, and-left, and-right}
+use borrow.Author.Tests.{lt-ltb, le-ltb, le-leb, lt-leb}
 use Rattle.logic.specs.Limits.{Kind, labelNumber, arrowNumber, nodeNumber}
 use Rattle.names.specs.Token.{Token, ascii, same, Found, found, absent}
 use Rattle.names.specs.Names.{Naming}
@@ -19,17 +18,25 @@ use Rattle.notation.specs.Grammar.{mark, number, thing, elseWord, endWord, phra
 use Rattle.notation.specs.Parse.{Start, starts, starts-nothing, numberOf, phraseFor, byName, bareStart}
 use Rattle.notation.specs.Words.{wordLimits}
 use Rattle.buffers.specs.Slots.{orBound}
-use Rattle.keywords.specs.Rows.{markOf, kindOf, slotOf, levelOf, goalOf, goalsOf, rowGoals, rowTable, closingOf, rowOf}
-use Rattle.keywords.specs.Phrases.{codeAt, firstOf, countOf, phraseCount, InSlot, Picked}
+use Rattle.keywords.specs.Rows.{markOf, kindOf, slotOf, levelOf, goalOf, goalsOf, rowGoals, rowOf, Items, none}
+use Rattle.keywords.specs.Phrases.{codeAt, phraseCount, Picked}
 use Rattle.name_table.specs.NameSlots.{Holds}
-use Rattle.read_words.specs.Meeting.{begun, startOf, aloneMet, countedMet, namedMet, Items, none, more, Meets, MeetsBare}
+use Rattle.read_words.specs.Meeting.{begun, startOf, aloneMet, foundMet, countedMet, namedMet, Meets, MeetsBare}
 use Rattle.read_words.specs.declared.Met.{Met}
 use Rattle.keywords.proofs.PhraseRows.{start-by-word, start-bare}
+use Rattle.keywords.proofs.RowItems.{row-of-phrase}
 
 -- Marks, as the code has them.
 pub mark-part : (item : ℕ) → 1 ≤ item → item < 4 → take (item - (item - 1)) (drop (item - 1) (0x28 ∷ 0x2C ∷ 0x29 ∷ [])) ≡ markOf item
 unfolding markOf ascii
 mark-part = each-from (λ x. take (x - (x - 1)) (drop (x - 1) (0x28 ∷ 0x2C ∷ 0x29 ∷ [])) ≡ markOf x) 1 3 (((tt, refl), refl), refl)
+
+-- A number that is found, and one that is not.
+pub met-there : (m : Met) (x : ℕ) → x < 256 → foundMet m x ≡ m
+met-there m x h = unfold foundMet in rw (lt-ltb x 256 h)
+
+pub met-none : (m : Met) (x : ℕ) → 256 ≤ x → foundMet m x ≡ aloneMet true 0 0 0
+met-none m x h = unfold foundMet in rw (le-ltb x 256 h)
 
 -- Goals of an item.
 mark-goal : (item d : ℕ) → item < 4 → goalOf item d ≡ mark (markOf item)
@@ -61,16 +68,16 @@ module _ (f : Found ℕ) (small : (y : ℕ) → f ≡ found y → y < 256) (x : 
 -- Meetings of tokens after which their rows go on.
 module _ (d x : ℕ) where
   counted-there : x < 256 → startOf (countedMet x) d ≡ starts (x ∷ []) []
-  counted-there h = unfold startOf countedMet goalsOf in rw (lt-ltb x 256 h)
+  counted-there h = unfold startOf foundMet goalsOf in rw (lt-ltb x 256 h)
 
   counted-none : 256 ≤ x → startOf (countedMet x) d ≡ starts-nothing
-  counted-none h = unfold startOf countedMet goalsOf in rw (le-ltb x 256 h)
+  counted-none h = unfold startOf foundMet goalsOf in rw (le-ltb x 256 h)
 
   named-there : (c : ℕ) → x < 256 → startOf (namedMet c x) d ≡ starts (c ∷ x ∷ []) []
-  named-there c h = unfold startOf namedMet goalsOf in rw (lt-ltb x 256 h)
+  named-there c h = unfold startOf foundMet goalsOf in rw (lt-ltb x 256 h)
 
   named-none : (c : ℕ) → 256 ≤ x → startOf (namedMet c x) d ≡ starts-nothing
-  named-none c h = unfold startOf namedMet goalsOf in rw (le-ltb x 256 h)
+  named-none c h = unfold startOf foundMet goalsOf in rw (le-ltb x 256 h)
 
 module _ (name : Naming) (k : Kind) (t : Token) (x d : ℕ) (e : x ≡ orBound 256 (numberOf name wordLimits k t)) where
   is-number : x < 256 → numberOf name wordLimits k t ≡ found x
@@ -95,75 +102,18 @@ module _ (name : Naming) (k : Kind) (t : Token) (x d : ℕ) (e : x ≡ orBound 2
   only-by-name : (c : ℕ) → byName name wordLimits c k t starts-nothing ≡ startOf (namedMet c x) d
   only-by-name c = elim (decLt x 256) [ yes h ↦ by-name c starts-nothing h | no h ↦ not-by-name c starts-nothing (omega arith) ∙ sym (named-none d x c (omega arith)) ]
 
-named-alone : (c x : ℕ) → (namedMet c x .row ≡ 0) × (namedMet c x .size ≤ 2)
-unfolding namedMet
-named-alone c x = go (ltb x 256) where
-  go : (b : Bool) → (cond b (aloneMet false 2 c x) (aloneMet true 0 0 0) .row ≡ 0) × (cond b (aloneMet false 2 c x) (aloneMet true 0 0 0) .size ≤ 2)
-  go true = (refl, omega arith)
+alone-found : (m : Met) (x : ℕ) → m .row ≡ 0 → m .size ≤ 2 → (foundMet m x .row ≡ 0) × (foundMet m x .size ≤ 2)
+unfolding foundMet
+alone-found m x r h = go (ltb x 256) where
+  go : (b : Bool) → (cond b m (aloneMet true 0 0 0) .row ≡ 0) × (cond b m (aloneMet true 0 0 0) .size ≤ 2)
+  go true = (r, h)
   go false = (refl, omega arith)
+
+named-alone : (c x : ℕ) → (namedMet c x .row ≡ 0) × (namedMet c x .size ≤ 2)
+named-alone c x = alone-found (aloneMet false 2 c x) x refl (omega arith)
 
 counted-alone : (x : ℕ) → (countedMet x .row ≡ 0) × (countedMet x .size ≤ 2)
-unfolding countedMet
-counted-alone x = go (ltb x 256) where
-  go : (b : Bool) → (cond b (aloneMet false 1 x 0) (aloneMet true 0 0 0) .row ≡ 0) × (cond b (aloneMet false 1 x 0) (aloneMet true 0 0 0) .size ≤ 2)
-  go true = (refl, omega arith)
-  go false = (refl, omega arith)
-
--- The rows of phrases: each byte is an item, and steps up to the text's end stand only where such steps were wanted.
-itemsOk : (most row : ℕ) (closing : Bool) → Bool
-itemsOk zero row c = eqb row 0
-itemsOk (suc n) row c = eqb row 0 || (leb 1 (row % 256) && (ltb (row % 256) 18 && ((not (eqb (row % 256) 16) || c) && itemsOk n (row / 256) c)))
-
-items-ok : (n row d : ℕ) (c : Bool) → itemsOk n row c ≡ true → (c ≡ true → d ≡ 1) → Items d row
-unfolding itemsOk
-items-ok zero row d c e i = subst (Items d) (sym (eqb-true row 0 e)) none
-items-ok (suc n) row d c e i = go (eqb row 0) refl e (λ h. items-ok n (row / 256) d c h i) where
-  closes : (b : Bool) → eqb (row % 256) 16 ≡ b → (not b || c) ≡ true → row % 256 ≡ 16 → d ≡ 1
-  closes true q h k = i h
-  closes false q h k = true-false (eq-eqb (row % 256) 16 k) q
-
-  go : (b : Bool) → eqb row 0 ≡ b → (b || (leb 1 (row % 256) && (ltb (row % 256) 18 && ((not (eqb (row % 256) 16) || c) && itemsOk n (row / 256) c)))) ≡ true
-      → (itemsOk n (row / 256) c ≡ true → Items d (row / 256)) → Items d row
-  go true q h rest = subst (Items d) (sym (eqb-true row 0 q)) none
-  go false q h rest =
-      let low = leb 1 (row % 256) in
-      let high = ltb (row % 256) 18 in
-      let shut = not (eqb (row % 256) 16) || c in
-      let on = itemsOk n (row / 256) c in
-      let h₁ = and-right low (high && (shut && on)) h in
-      let h₂ = and-right high (shut && on) h₁ in
-      more row (leb-true 1 (row % 256) (and-left low (high && (shut && on)) h)) (ltb-true (row % 256) 18 (and-left high (shut && on) h₁))
-      (closes (eqb (row % 256) 16) refl (and-left shut on h₂)) (rest (and-right shut on h₂))
-
-everyBelow : ℕ → (ℕ → Bool) → Bool
-everyBelow zero p = true
-everyBelow (suc n) p = p n && everyBelow n p
-
-every-below : (n : ℕ) (p : ℕ → Bool) → everyBelow n p ≡ true → (i : ℕ) → i < n → p i ≡ true
-unfolding everyBelow
-every-below zero p e i l = absurd (omega arith)
-every-below (suc n) p e i l = elim (decLt i n) [
-  | yes k ↦ every-below n p (and-right (p n) (everyBelow n p) e) i k
-  | no k ↦ (let q : n ≡ i = omega arith in ap p (sym q) ∙ and-left (p n) (everyBelow n p) e)
-]
-
-abbrev itemRow : (item p : ℕ) → Bool
-itemRow item p = itemsOk 8 (rowOf item p) (eqb item 16)
-
-all-rows : everyBelow 9 (λ k. everyBelow (countOf (9 + k)) (λ j. itemRow (9 + k) (firstOf (9 + k) + j))) ≡ true
-unfolding everyBelow itemsOk rowOf rowTable closingOf countOf firstOf
-all-rows = refl
-
-row-items : (item p d : ℕ) → InSlot item p → (item ≡ 16 → d ≡ 1) → Items d (rowOf item p)
-row-items item p d s i =
-    let f : 9 + (item - 9) ≡ item = omega (arith, s .a-thing) in
-    let e : firstOf item + (p - firstOf item) ≡ p = omega (arith, s .from) in
-    let h : everyBelow (countOf item) (λ j. itemRow item (firstOf item + j)) ≡ true =
-    subst (λ k. everyBelow (countOf k) (λ j. itemRow k (firstOf k + j)) ≡ true) f
-    (every-below 9 (λ k. everyBelow (countOf (9 + k)) (λ j. itemRow (9 + k) (firstOf (9 + k) + j))) all-rows (item - 9) (omega (arith, s .a-thing, s .known))) in
-    items-ok 8 (rowOf item p) d (eqb item 16)
-    (subst (λ p. itemRow item p ≡ true) e (every-below (countOf item) (λ j. itemRow item (firstOf item + j)) h (p - firstOf item) (omega (arith, s .from, s .to))))
-    (λ b. i (eqb-true item 16 b))
+counted-alone x = alone-found (aloneMet false 1 x 0) x refl (omega arith)
 
 module _ (table : List ℕ) where
   abbrev pub IsNumber : (item : ℕ) → Token → ℕ → Type 0
@@ -288,7 +238,7 @@ module _ (table : List ℕ) where
         record {
           begins = λ name o d. ap (λ g. begun name g t) (thing-goal item d h) ∙ start-by-word name wordLimits item p (levelOf item d) t f k
               ∙ ap₂ (λ c r. starts (c ∷ []) (rowGoals r (levelOf item d))) (sym e) (sym q);
-          items = λ d i. subst (Items d) (sym q) (row-items item p d (f .inside k) i);
+          items = λ d i. subst (Items d) (sym q) (row-of-phrase item p d (f .inside k) i .items);
           alone = λ i. absurd (omega arith);
           short = omega arith;
         }

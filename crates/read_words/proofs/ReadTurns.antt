@@ -25,11 +25,12 @@ use Rattle.notation.specs.Parse.{prefixed, parse}
 use Rattle.notation.specs.Words.{wordLimits, parseText}
 use Rattle.buffers.specs.Filled.{filledFrom}
 use Rattle.buffers.proofs.FilledLaws.{filled-none, filled-length, filled-more}
-use Rattle.keywords.specs.Rows.{levelOf, goalOf, rowGoals, goalsAbove, wanted}
+use Rattle.keywords.specs.Rows.{levelOf, goalOf, rowGoals, goalsAbove, wanted, Row}
 use Rattle.name_table.specs.NameSlots.{Holds}
-use Rattle.read_words.specs.Meeting.{wrongNumber, bytesOf, startOf, Items, none, more, Meets}
+use Rattle.read_words.specs.Meeting.{wrongNumber, bytesOf, startOf, Meets}
 use Rattle.read_words.specs.declared.Met.{Met}
-use Rattle.keywords.proofs.RowLaws.{row-zero, row-first, row-last, rest-small, popped, popped-all, pushed}
+use Rattle.keywords.proofs.RowItems.{First, first-item, row-rest, row-one}
+use Rattle.keywords.proofs.RowLaws.{row-zero, row-first, row-last, popped, popped-all, pushed}
 use Rattle.read_words.proofs.Begun.{prefixed-none, continued, parse-begun, parse-missing, parse-closing, parse-rule, continued-wrong, continued-small, continued-deep, continued-on}
 
 pub prefixed-more : (a b : List ℕ) (x : Asked (List ℕ)) → prefixed (a ++ b) x ≡ prefixed a (prefixed b x)
@@ -37,27 +38,12 @@ unfolding prefixed
 prefixed-more a b (passed bytes) = ap passed (append-assoc a b bytes)
 prefixed-more a b (refused q p) = refl
 
--- The first item of a row.
-pub record First (d row : ℕ) : Type 0 where
-  pub from : 1 ≤ row % 256
-  pub known : row % 256 < 18
-  pub closing : row % 256 ≡ 16 → d ≡ 1
-  pub rest : Items d (row / 256)
-
-pub first-item : (d row : ℕ) → Items d row → (row ≡ 0 → ⊥) → First d row
-first-item d row none n = absurd (n refl)
-first-item d row (more r a b c i) n = record { from = a; known = b; closing = c; rest = i }
-
-pub record Row (d row : ℕ) : Type 0 where
-  pub small : row < 2 ^ 64
-  pub items : Items d row
-
 -- The rows with which a book and an edit begin.
 pub begin-book : Row 1 0
-begin-book = record { small = omega arith; items = none }
+begin-book = row-one 1 0 (omega arith) (λ e. refl)
 
 pub begin-edit : Row 1 16
-begin-edit = record { small = omega arith; items = more 16 (omega arith) (omega arith) (λ e. refl) none }
+begin-edit = row-one 1 16 (omega arith) (λ e. refl)
 
 -- The rows of the levels above.
 pub record Above (rows : List ℕ) (level : ℕ) : Type 0 where
@@ -106,7 +92,7 @@ module _ (table words codes₀ : List ℕ) (begin rules : ℕ) where
       }
     where
       zeros : (k : ℕ) → k ≡ 0 → Row k (getD (replicate 33 0) k 0)
-      zeros k e = subst (λ k. Row k (getD (replicate 33 0) k 0)) (sym e) (record { small = omega arith; items = none })
+      zeros k e = subst (λ k. Row k (getD (replicate 33 0) k 0)) (sym e) (row-one _ 0 (omega arith) (λ e. absurd (omega arith)))
 
   module _ {rows : List ℕ} {level row left at size : ℕ} {codes : List ℕ} (s : Reading rows level row left at size codes) where
     -- The same is still to be read, told otherwise.
@@ -152,7 +138,7 @@ module _ (table words codes₀ : List ℕ) (begin rules : ℕ) where
         rule-begun h k =
             record {
               above = s .above;
-              here = record { small = omega arith; items = more 17 (omega arith) (omega arith) (λ e. absurd (omega arith)) none };
+              here = row-one _ 17 (omega arith) (λ e. absurd (omega arith));
               low = s .low;
               deep = s .deep;
               inside = s .inside;
@@ -249,7 +235,7 @@ module _ (table words codes₀ : List ℕ) (begin rules : ℕ) where
             small-taken k u e =
                 record {
                   above = s .above;
-                  here = record { small = rest-small row (s .here .small); items = first .rest };
+                  here = row-rest level row (s .here) z;
                   low = s .low;
                   deep = s .deep;
                   inside = n .inside;
@@ -296,7 +282,7 @@ module _ (table words codes₀ : List ℕ) (begin rules : ℕ) where
                     | no l ↦ (let c : level ≡ k = omega arith in
                         subst (λ j. Row j (getD (set rows level (row / 256)) j 0)) c
                         (subst (Row level) (sym (getD-set-same rows level (row / 256) 0 (omega (arith, s .above .all, s .deep))))
-                        (record { small = rest-small row (s .here .small); items = first .rest })))
+                        (row-rest level row (s .here) z)))
                   ]
 
             -- The steps after a step, or a rule, on the level of the row.

@@ -2,7 +2,7 @@
 use mathlib.Core.Path.{_≡_}
 use mathlib.Core.Bool.{Bool, true, false, cond}
 use mathlib.Core.List.{List, [], _∷_}
-use Prim.Native.Nat.{ℕ, _/_, _%_, _≤_, _<_}
+use Prim.Native.Nat.{ℕ, _≤_, _<_}
 use lib.Dec.{leb, ltb}
 use lib.ListN.{take}
 use Rattle.names.specs.Token.{Token, same, found, absent}
@@ -10,7 +10,7 @@ use Rattle.names.specs.Names.{Naming}
 use Rattle.notation.specs.Grammar.{Goal, mark, number, thing}
 use Rattle.notation.specs.Parse.{Start, starts, starts-nothing, numberOf, bareStart, start}
 use Rattle.notation.specs.Words.{wordLimits}
-use Rattle.keywords.specs.Rows.{slotOf, levelOf, goalOf, rowGoals}
+use Rattle.keywords.specs.Rows.{slotOf, levelOf, goalOf, rowGoals, Items}
 use Rattle.name_table.specs.NameSlots.{Holds}
 use Rattle.read_words.specs.declared.Met.{Met}
 
@@ -31,20 +31,18 @@ bytesOf m = take (m .size) (m .first ∷ m .second ∷ [])
 unfoldable pub startOf : Met → (level : ℕ) → Start
 startOf m d = cond (m .wrong) starts-nothing (starts (bytesOf m) (rowGoals (m .row) d))
 
--- A token that no row must follow; a count, or a name where one is wanted; a name alone, after the code of its sort.
+-- A token that no row must follow; a number, if there is one; a count, or a name where one is wanted; a name alone, after the code of its sort.
 abbrev pub aloneMet : (wrong : Bool) (size first second : ℕ) → Met
 aloneMet w n a b = record { wrong = w; size = n; first = a; second = b; row = 0 }
 
-unfoldable pub countedMet : ℕ → Met
-countedMet x = cond (ltb x 256) (aloneMet false 1 x 0) (aloneMet true 0 0 0)
+unfoldable pub foundMet : Met → (x : ℕ) → Met
+foundMet m x = cond (ltb x 256) m (aloneMet true 0 0 0)
 
-unfoldable pub namedMet : (code x : ℕ) → Met
-namedMet c x = cond (ltb x 256) (aloneMet false 2 c x) (aloneMet true 0 0 0)
+abbrev pub countedMet : ℕ → Met
+countedMet x = foundMet (aloneMet false 1 x 0) x
 
--- A row on a level: each byte is an item, and steps up to the text's end are wanted on level 1 alone.
-pub data Items (d : ℕ) : (row : ℕ) → Type 0 where
-  none : Items d 0
-  more : (row : ℕ) → 1 ≤ row % 256 → row % 256 < 18 → (row % 256 ≡ 16 → d ≡ 1) → Items d (row / 256) → Items d row
+abbrev pub namedMet : (code x : ℕ) → Met
+namedMet c x = foundMet (aloneMet false 2 c x) x
 
 -- What a token begins where an item is wanted.
 pub record Meets (table : List ℕ) (item : ℕ) (t : Token) (m : Met) : Type 0 where

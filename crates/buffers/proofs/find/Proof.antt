@@ -1,12 +1,13 @@
 -- The loop's invariant: none of the first x slots holds the word.
 use mathlib.Core.Path.{_≡_, refl, sym, _∙_, ap}
-use Prim.Native.Nat.{ℕ, _+_, _*_, _-_, _<_, _≤_}
+use Prim.Native.Nat.{_+_, _-_, _≤_}
 use native.Mathlib.Omega.{arith}
 use native.Mathlib.Numerals.{add-one}
 use borrow.Author.Needs.{needs}
 use Rattle.names.specs.Token.{same, firstBelow, absent}
 use Rattle.buffers.specs.Slots.{slotAt, orBound}
-use Rattle.buffers.proofs.SameLaws.{first-here, first-on, none-found}
+use Rattle.names.proofs.FirstLaws.{first-here, first-on}
+use Rattle.buffers.proofs.SameLaws.{none-found}
 use Rattle.buffers.proofs.SlotLaws.{slots-few, slot-end}
 use Rattle.buffers.proofs.find.Statement.{statement}
 use Rattle.buffers.proofs.find.Tie as tie

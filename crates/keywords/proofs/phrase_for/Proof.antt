@@ -16,29 +16,13 @@ add-result c = let ends = part (c .before .before .before .before .args .item) (
 
 returns : tie.Need-returns
 unfolding firstOf countOf allPhrases phrases words inSlots wordTable ascii
-returns c =
-    let a = c .before .before .before .before .args in
-    let q = c .before .before .before .before .pre in
-    word-picked (a .item) (q .0) (q .1) (a .word .now) _ (c .before .find .ensures) (c .if1 .taken)
+returns c = let s = c .before .before .before .before in word-picked (s .args .item) (s .pre .0) (s .pre .1) (s .args .word .now) _ (c .before .find .ensures) (c .if1 .taken)
 
 returns-2 : tie.Need-returns-2
 unfolding firstOf countOf allPhrases phrases words inSlots wordTable ascii
-returns-2 c =
-    let a = c .before .before .before .before .args in
-    let q = c .before .before .before .before .pre in
-    word-absent (a .item) (q .0) (q .1) (a .word .now) _ (c .before .find .ensures) (c .if1 .left)
+returns-2 c = let s = c .before .before .before .before in word-absent (s .args .item) (s .pre .0) (s .pre .1) (s .args .word .now) _ (c .before .find .ensures) (c .if1 .left)
 
 pub phrase-for-spec : {M : Type 1} → statement M
-phrase-for-spec =
-    tie.close
-    (tie.spec
-    (λ c. search needs)
-    (λ c. search needs)
-    (λ c. search needs)
-    (λ c. search needs)
-    (λ c. search needs)
-    (λ c. search needs)
-    find-requires
-    add-result
-    returns
-    returns-2)
+phrase-for-spec = tie.close (tie.spec
+    (λ c. search needs) (λ c. search needs) (λ c. search needs) (λ c. search needs) (λ c. search needs) (λ c. search needs)
+    find-requires add-result returns returns-2)

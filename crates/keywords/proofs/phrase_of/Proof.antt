@@ -15,29 +15,13 @@ find-requires c κs = let ends = part (c .before .args .item) (c .before .pre .0
 
 returns : tie.Need-returns
 unfolding firstOf countOf allPhrases phrases
-returns c =
-    let a = c .before .before .before .args in
-    let q = c .before .before .before .pre in
-    code-picked (a .item) (q .0) (q .1) (a .code) _ (c .before .find .ensures .0) (c .if1 .taken)
+returns c = let s = c .before .before .before in code-picked (s .args .item) (s .pre .0) (s .pre .1) (s .args .code) _ (c .before .find .ensures .0) (c .if1 .taken)
 
 returns-2 : tie.Need-returns-2
 unfolding firstOf countOf allPhrases phrases
-returns-2 c =
-    let a = c .before .before .before .args in
-    let q = c .before .before .before .pre in
-    code-absent (a .item) (q .0) (q .1) (a .code) _ (c .before .find .ensures .0) (c .if1 .left)
+returns-2 c = let s = c .before .before .before in code-absent (s .args .item) (s .pre .0) (s .pre .1) (s .args .code) _ (c .before .find .ensures .0) (c .if1 .left)
 
 pub phrase-of-spec : {M : Type 1} → statement M
-phrase-of-spec =
-    tie.close
-    (tie.spec
-    (λ c. search needs)
-    (λ c. search needs)
-    (λ c. search needs)
-    (λ c. search needs)
-    (λ c. search needs)
-    add-end
-    (λ c. search needs)
-    find-requires
-    returns
-    returns-2)
+phrase-of-spec = tie.close (tie.spec
+    (λ c. search needs) (λ c. search needs) (λ c. search needs) (λ c. search needs) (λ c. search needs)
+    add-end (λ c. search needs) find-requires returns returns-2)

@@ -3,7 +3,7 @@ use native.Mathlib.Omega.{arith}
 use borrow.Author.Needs.{needs}
 use lib.ListN.{getD}
 use Rattle.name_table.proofs.NumberLaws.{bases, item-inside, item-count, fewer-slots}
-use Rattle.name_table.proofs.SearchLaws.{found-most}
+use Rattle.buffers.proofs.SameLaws.{found-most}
 use Rattle.name_table.proofs.PartlyLaws.{slot-none, slot-named, slot-free}
 use Rattle.name_table.proofs.free_slot.Statement.{statement}
 use Rattle.name_table.proofs.free_slot.Tie as tie

@@ -3,7 +3,7 @@ use native.Mathlib.Omega.{arith}
 use borrow.Author.Needs.{needs}
 use Rattle.buffers.specs.Slots.{orBound}
 use Rattle.name_table.proofs.NumberLaws.{number-at, item-inside, fewer-slots, number-none, number-some}
-use Rattle.name_table.proofs.SearchLaws.{found-most}
+use Rattle.buffers.proofs.SameLaws.{found-most}
 use Rattle.name_table.proofs.number_of.Statement.{statement}
 use Rattle.name_table.proofs.number_of.Tie as tie
 

@@ -1,66 +1,15 @@
-use mathlib.Core.Path.{sym, _∙_, ap}
-use mathlib.Core.List.{List}
-use Prim.Native.Nat.{ℕ}
 use native.Mathlib.Omega.{arith}
 use borrow.Author.Needs.{needs}
 use denote.Ref.{now}
-use lib.ListN.{length}
-use Rattle.answer.specs.Asked.{Asked}
-use Rattle.answer.specs.Answers.{asked}
-use Rattle.answer.proofs.AnswerLaws.{Learned, learned, not-learned}
-use Rattle.answer.proofs.OutputLaws.{not-written}
-use Rattle.text.specs.Reading.{mostRules}
-use Rattle.names.specs.Names.{askNames}
-use Rattle.notation.specs.Words.{askBookToWords}
-use Rattle.print_words.proofs.PrintStages.{book-names-refused, book-refused, Prints, book-prints, ready, answered}
+use Rattle.print_words.proofs.PrintStages.{answered-as, book-prints, book-asked}
 use Rattle.print_words.proofs.book_to_words.Statement.{statement}
 use Rattle.print_words.proofs.book_to_words.Tie as tie
 
-module _ (s : tie.Start) where
-  abbrev output : List ℕ
-  output = now (s .args .output)
-
-  abbrev answer : ℕ → Asked (List ℕ)
-  answer room = askBookToWords (now (s .args .names)) (now (s .args .book)) room
-
--- the table has passed
-abbrev named-start : tie.After-enum-told → tie.Start
-named-start c = c .before .before .before .before .before .before .before .before
-
-named : (c : tie.After-enum-told) → Learned (askNames (now (named-start c .args .names)))
-named c = learned _ (sym (ap asked (c .enum-told .given .1)) ∙ c .before .before .before .read-names .ensures .0)
-
--- the book has passed
-abbrev to-named : tie.After-enum-told2 → tie.After-enum-told
-to-named c = c .before .before .before
-
-prints : (c : tie.After-enum-told2) → let n = to-named c in let s = named-start n in
-    Prints (answer s) (n .before .before .before .read-names .last .1 .0) (now (s .args .book)) 0 mostRules
-prints c =
-    let n = to-named c in
-    let b = learned _ (sym (ap asked (c .enum-told2 .given .1)) ∙ c .before .before .check-book .ensures) in
-    book-prints _ (named n .is) (n .before .before .before .read-names .ensures .1) _ (b .is)
-
 returns : tie.Need-returns
 returns c =
-    let r = c .before .before .before .before in
-    let s = r .before .before .before .before .before in
-    not-written (answer s (length (output s))) (output s) _ _ (book-names-refused _ (not-learned _ _ _ (sym (ap asked (c .before .first .given .1)) ∙ r .read-names .ensures .0)) _ _)
-
-returns-2 : tie.Need-returns-2
-returns-2 c =
-    let b = c .before .before .before in
-    let n = b .before in
-    let s = named-start n in
-    not-written (answer s (length (output s))) (output s) _ _ (book-refused _ (named n .is) _ _ (not-learned _ _ _ (sym (ap asked (c .before .second .given .1)) ∙ b .check-book .ensures)))
-
-print-into-requires : tie.Need-print-into-requires
-print-into-requires c κs = ready (prints (c .before .before)) (omega arith) (omega arith)
-
-returns-3 : tie.Need-returns-3
-returns-3 c = let e = c .before .before .before .before .before in answered (prints e) (output (named-start (to-named e))) (c .before .before .print-into .ensures)
+    let b = c .before .before .before .before in
+    let s = b .before .before .before .before in
+    answered-as (book-asked _ (b .check-book .ensures) _ _) (now (s .args .output)) (c .before .before .to-words .ensures)
 
 pub book-to-words-spec : {M : Type 1} → statement M
-book-to-words-spec = tie.close (tie.spec
-    (λ c. search needs) (λ c κs. search needs) (λ c. search needs) returns (λ c. search needs) (λ c κs. search needs) (λ c. search needs) returns-2
-    (λ c. search needs) (λ c. search needs) print-into-requires (λ c. search needs) returns-3)
+book-to-words-spec = tie.close (tie.spec (λ c κs. search needs) (λ c κs. (book-prints _ (c .before .check-book .ensures), omega arith, omega arith)) (λ c. search needs) returns)

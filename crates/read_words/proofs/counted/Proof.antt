@@ -1,17 +1,10 @@
 use mathlib.Core.Path.{sym, _∙_}
 use borrow.Author.Needs.{needs}
-use borrow.Author.Tests.{lt-ltb, le-ltb}
-use Rattle.read_words.specs.Meeting.{countedMet}
+use Rattle.read_words.proofs.MeetLaws.{met-there, met-none}
 use Rattle.read_words.proofs.counted.Statement.{statement}
 use Rattle.read_words.proofs.counted.Tie as tie
 
-returns : tie.Need-returns
-unfolding countedMet
-returns c = c .alone .ensures ∙ sym (rw (lt-ltb _ _ (c .before .if1 .taken)))
-
-returns-2 : tie.Need-returns-2
-unfolding countedMet
-returns-2 c = c .alone2 .ensures ∙ sym (rw (le-ltb _ _ (c .before .if1 .left)))
-
 pub counted-spec : {M : Type 1} → statement M
-counted-spec = tie.close (tie.spec (λ c. search needs) (λ c κs. search needs) returns (λ c κs. search needs) returns-2)
+counted-spec = tie.close (tie.spec
+    (λ c. search needs) (λ c κs. search needs) (λ c. c .alone .ensures ∙ sym (met-there _ _ (c .before .if1 .taken)))
+    (λ c κs. search needs) (λ c. c .alone2 .ensures ∙ sym (met-none _ _ (c .before .if1 .left))))

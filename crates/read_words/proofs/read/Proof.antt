@@ -9,7 +9,10 @@ use lib.ListN.{length}
 use Rattle.answer.specs.Asked.{refused}
 use Rattle.answer.specs.declared.Refusal.the-variants.{WordsRules, WordsLevel}
 use Rattle.buffers.proofs.FilledLaws.{filled-none}
-use Rattle.read_words.proofs.ReadTurns.{first-item, Row, begin-book, begin-edit, Reading, to-begin, popped-row, all-read, rule-too-many, rule-begun, token-wrong, small-taken, too-deep, deeper, on-level, refuses, passes, ends-text}
+use Rattle.keywords.specs.Rows.{Row}
+use Rattle.keywords.proofs.RowItems.{first-item}
+use Rattle.read_words.proofs.ReadTurns.{begin-book, begin-edit, Reading, to-begin, popped-row, all-read, rule-too-many, rule-begun}
+use Rattle.read_words.proofs.ReadTurns.{token-wrong, small-taken, too-deep, deeper, on-level, refuses, passes, ends-text}
 use Rattle.read_words.proofs.read.Statement.{statement}
 use Rattle.read_words.proofs.read.Tie as tie
 

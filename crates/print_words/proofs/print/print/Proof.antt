@@ -14,7 +14,7 @@ use Rattle.notation.specs.Words.{ruleLimits}
 use Rattle.buffers.specs.Slots.{Slots}
 use Rattle.name_table.specs.NameSlots.{nameWidth, nameCount}
 use Rattle.print_words.proofs.CodesAhead.{end-spells, none-spells}
-use Rattle.print_words.proofs.KnownRows.{item-least, item-most}
+use Rattle.keywords.proofs.RowItems.{first-item}
 use Rattle.print_words.proofs.Printing.{short-room}
 use Rattle.print_words.proofs.Turns.{toDo, Turn, Next, first-turn, up, another, marked, a-number, numbered, thing-inside, deeper, here, next-as, end-size, end-written}
 use Rattle.print_words.proofs.print.print.Statement.{statement}
@@ -71,7 +71,7 @@ put-mark-requires : tie.Need-put-mark-requires Inv-loop μ-loop
 put-mark-requires c κs =
     let d = c .before in
     let t = d .before .before .loop .inv in
-    (short-room _ _ (t .printing .short), item-least _ (t .known) (d .before .if1 .left), d .if5 .taken)
+    (short-room _ _ (t .printing .short), first-item 1 _ (t .known .items) (d .before .if1 .left) .from, d .if5 .taken)
 
 next-mark : (c : tie.After-slice-known3 Inv-loop μ-loop)
     → let l = c .before .before .before .before .before .before in
@@ -156,7 +156,7 @@ print-spec = tie.close (tie.spec
     put-mark-requires (λ c. next-mark c .less) (λ c. next-mark c .turn)
     number-there put-number-requires add-at (λ c. next-number c .less) (λ c. next-number c .turn)
     (λ c. thing-there (c .before))
-    (λ c κs. let d = c .before in (d .if6 .left, item-most _ (d .before .before .before .loop .inv .known) (d .before .before .if1 .left)))
+    (λ c κs. let d = c .before in (d .if6 .left, first-item 1 _ (d .before .before .before .loop .inv .known .items) (d .before .before .if1 .left) .known))
     (λ c κs. (short-room _ _ (c .before .before .before .before .before .before .loop .inv .printing .short), c .before .opens .ensures .word-most))
     (λ c. record { fits = omega (arith, level-small c) })
     level-small

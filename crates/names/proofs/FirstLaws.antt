@@ -1,18 +1,54 @@
--- The first number of which a test says yes, where the test says no outside a range.
+-- The first number below a bound of which a test says yes.
 use mathlib.Core.Path.{_≡_, refl, sym, _∙_, ap, ap₂}
 use mathlib.Core.Bool.{Bool, true, false, cond}
 use Prim.Native.Nat.{ℕ, zero, suc, _+_, _<_, _≤_}
 use native.Mathlib.Nat.{add-zero, add-suc}
 use native.Mathlib.Omega.{arith}
 use native.Mathlib.Decide.{decLt}
-use Rattle.names.specs.Token.{Found, found, absent, firstBelow}
-use Rattle.names.proofs.TokenLaws.{found-hit, found-none}
-use Rattle.buffers.specs.Slots.{orBound}
 use Rattle.logic.proofs.Bools.{true-false}
+use Rattle.names.specs.Token.{Found, found, absent, firstBelow}
+use Rattle.names.proofs.TokenLaws.{found-none}
 
 abbrev onward : Found ℕ → Bool → ℕ → Found ℕ
 onward f b n = elim f as (λ z. Found ℕ) [ found x ↦ found x | absent ↦ cond b (found n) absent ]
 
+-- Looked for one by one: none so far, and here it is, or is not.
+pub first-here : (p : ℕ → Bool) (n x : ℕ) → x < n → firstBelow p x ≡ absent → p x ≡ true → firstBelow p n ≡ found x
+unfolding firstBelow
+first-here p zero x h a e = absurd (omega arith)
+first-here p (suc n) x h a e = elim (decLt x n) [
+  | yes k ↦ ap (λ f. onward f (p n) n) (first-here p n x k a e)
+  | no k ↦ (let q : x ≡ n = omega arith in ap₂ (λ f b. onward f b n) (sym (ap (firstBelow p) q) ∙ a) (sym (ap p q) ∙ e) ∙ ap found (sym q))
+]
+
+pub first-on : (p : ℕ → Bool) (x : ℕ) → firstBelow p x ≡ absent → p x ≡ false → firstBelow p (suc x) ≡ absent
+unfolding firstBelow
+first-on p x a e = ap₂ (λ f b. onward f b x) a e
+
+-- It is 0, or the first from 1 on.
+abbrev pub upOne : Found ℕ → Found ℕ
+upOne (found x) = found (suc x)
+upOne absent = absent
+
+pub first-front : (p : ℕ → Bool) (n : ℕ) → firstBelow p (suc n) ≡ cond (p 0) (found 0) (upOne (firstBelow (λ x. p (suc x)) n))
+unfolding firstBelow
+first-front p zero = refl
+first-front p (suc n) =
+    ap (λ (f : Found ℕ). onward f (p (suc n)) (suc n)) (first-front p n) ∙ go (p 0) (p (suc n)) (firstBelow (λ x. p (suc x)) n)
+  where
+    go : (a b : Bool) (f : Found ℕ) → onward (cond a (found 0) (upOne f)) b (suc n) ≡ cond a (found 0) (upOne (onward f b n))
+    go true b f = refl
+    go false b (found x) = refl
+    go false true absent = refl
+    go false false absent = refl
+
+-- Tests that agree find the same.
+pub first-same : (p q : ℕ → Bool) (n : ℕ) → ((x : ℕ) → x < n → p x ≡ q x) → firstBelow p n ≡ firstBelow q n
+unfolding firstBelow
+first-same p q zero h = refl
+first-same p q (suc n) h = ap₂ (λ (f : Found ℕ) (b : Bool). onward f b n) (first-same p q n (λ x l. h x (omega arith))) (h n (omega arith))
+
+-- A test that says no outside a range finds what is found there.
 no-further : (f : Found ℕ) (b : Bool) (n : ℕ) → b ≡ false → onward f b n ≡ f
 no-further (found x) b n e = refl
 no-further absent b n e = ap (λ b. cond b (found n) absent) e
@@ -44,38 +80,3 @@ module _ (p q : ℕ → Bool) (m : ℕ) (none : (x : ℕ) → x < m → p x ≡ 
         | no k ↦ let l : m + n ≤ bound = omega arith in no-further (firstBelow p bound) (p bound) bound (b bound l) ∙ search-range n bound l a b
         | yes k ↦ let e : suc bound ≡ m + n = omega arith in ap (firstBelow p) e ∙ found-further n a
       ]
-
--- What was found, or that nothing was, by its number.
-absent-parts : (p : ℕ → Bool) (n : ℕ) (f : Found ℕ) → firstBelow p n ≡ f → (b : Bool) → p n ≡ b → onward f b n ≡ absent → (firstBelow p n ≡ absent) × (p n ≡ false)
-absent-parts p n (found x) q b r e = let z : _≡_ {A = ℕ} 0 1 = cc in absurd (omega arith)
-absent-parts p n absent q true r e = let z : _≡_ {A = ℕ} 0 1 = cc in absurd (omega arith)
-absent-parts p n absent q false r e = (q, r)
-
-pub absent-none : (p : ℕ → Bool) (n : ℕ) → firstBelow p n ≡ absent → (y : ℕ) → y < n → p y ≡ false
-unfolding firstBelow
-absent-none p zero e y l = absurd (omega arith)
-absent-none p (suc n) e y l =
-    let h = absent-parts p n (firstBelow p n) refl (p n) refl e in
-    elim (decLt y n) [ yes k ↦ absent-none p n (h .0) y k | no k ↦ let q : n ≡ y = omega arith in sym (ap p q) ∙ h .1 ]
-
-module _ (p : ℕ → Bool) (n : ℕ) {x : ℕ} (e : x ≡ orBound n (firstBelow p n)) where
-  pub found-most : x ≤ n
-  found-most = go (firstBelow p n) refl e
-    where
-      go : (f : Found ℕ) → firstBelow p n ≡ f → x ≡ orBound n f → x ≤ n
-      go (found y) q e = let b = found-hit p n y q .below in omega arith
-      go absent q e = omega arith
-
-  pub none-at : x ≡ n → firstBelow p n ≡ absent
-  none-at l = go (firstBelow p n) refl e
-    where
-      go : (f : Found ℕ) → firstBelow p n ≡ f → x ≡ orBound n f → f ≡ absent
-      go (found y) q e = let b = found-hit p n y q .below in absurd (omega arith)
-      go absent q e = refl
-
-  pub found-at : (x ≡ n → ⊥) → firstBelow p n ≡ found x
-  found-at l = go (firstBelow p n) e
-    where
-      go : (f : Found ℕ) → x ≡ orBound n f → f ≡ found x
-      go (found y) e = ap found (sym e)
-      go absent e = absurd (l e)
