@@ -6,47 +6,74 @@ CFLAGS = -std=c11 -Wall -Wextra -O2
 
 sources := crates.txt $(shell find crates -type f)
 archive := target/staticlib/libsuite.a
+# another archive, built elsewhere, is taken as it is, and what is linked with it stands apart; its name may have a blank
+ARCHIVE ?= $(archive)
+linked := $(if $(filter-out $(archive),$(ARCHIVE)),target/given,target)
+made := $(if $(filter-out $(archive),$(ARCHIVE)),given,$(archive))
 header := include/zamiathen.h
-installed := $(DESTDIR)$(PREFIX)/lib/libzamiathen.a $(DESTDIR)$(PREFIX)/include/zamiathen.h $(DESTDIR)$(PREFIX)/lib/pkgconfig/zamiathen.pc
 # the header alone says the version
-version := $(shell sed -n 's/^\#define ZAMIATHEN_VERSION_FIRST \([0-9]*\)$$/\1/p' $(header)).$(shell sed -n 's/^\#define ZAMIATHEN_VERSION_SECOND \([0-9]*\)$$/\1/p' $(header))
+first := $(shell sed -n 's/^\#define ZAMIATHEN_VERSION_FIRST \([0-9]*\)$$/\1/p' $(header))
+version := $(first).$(shell sed -n 's/^\#define ZAMIATHEN_VERSION_SECOND \([0-9]*\)$$/\1/p' $(header))
+platform := $(shell uname -m)-$(shell uname -s | tr A-Z a-z)
+package := zamiathen-$(version)-$(platform)
+shared := $(linked)/lib/libzamiathen.so.$(first)
+command := $(if $(wildcard tools/zamiathen.c),$(linked)/bin/zamiathen)
+programs := target/bin/enter target/bin/replay $(command)
 
-.PHONY: all help demo counts replay test bench install uninstall clean
-all: $(archive)
+# stops where a tool is missing, with what it is for: $(call needs,TOOL,what it does,what works without it)
+needs = @command -v $(firstword $(1)) >/dev/null || { echo "$(firstword $(1)) is not found: it $(2). Without it: $(3)." >&2; exit 1; }
+needs_cc = $(call needs,$(CC),compiles the examples and links the shared library,make and make replay)
+
+.DELETE_ON_ERROR:
+.PHONY: all help demo counts replay test bench install uninstall dist clean given
+all: $(archive) $(command)
 
 help:
-	@echo "make             proves and builds the archive with the C functions, $(archive)"
+	@echo "make             proves and builds the archive with the C functions, $(archive), and the command $(command)"
 	@echo "make demo        the same, and runs the example station through them"
 	@echo "make counts      the same, and prints what an edit does to every small sheet (examples/small)"
-	@echo "make replay      proves and builds the program replay, and runs the example station's week of edits again through it"
+	@echo "make replay      proves and builds the program replay, and runs the example station's week of edits again through it (needs python3)"
 	@echo "make test        the gate: proves every crate from nothing, tries the must-fail edits, runs all tests"
-	@echo "make bench       times and instructions of each call, and of a region of sheets, beside plain Rust on the same inputs (needs valgrind)"
-	@echo "make install     archive, header and pkg-config file, under PREFIX or prefix ($(PREFIX)); DESTDIR is put before it"
-	@echo "make uninstall   removes these three"
+	@echo "make bench       times and instructions of each call, and of a region of sheets, beside plain Rust on the same inputs (needs rustc and valgrind)"
+	@echo "make install     command, manual page, archive, shared library, header, pkg-config file, bindings and examples, under PREFIX or prefix ($(PREFIX)); DESTDIR is put before it;"
+	@echo "                 ARCHIVE=FILE takes a built archive, and nothing is proved"
+	@echo "make uninstall   removes these"
+	@echo "make dist        a tar file of them and of the programs, target/$(package).tar.gz, which installs without the kit"
 	@echo "make clean       removes target/"
 
-# proves a crate and builds it by a command of rt
-define built
-	@mkdir -p target
-	@echo "Proving and building $@, some minutes the first time; the prover's log is target/$*.log"
-	@$(1) $* > target/$*.log 2>&1 || { tail -n 40 target/$*.log; exit 1; }
-	@tail -n 1 target/$*.log
-	@touch $@
-endef
-
 target/staticlib/lib%.a: $(sources)
-	$(call built,rt staticlib)
+	@tools/build archive $*
+	@touch $@
 
 target/bin/%: $(sources)
-	$(call built,rt check)
+	@tools/build program $*
+	@touch $@
+
+ifneq ($(command),)
+$(command): tools/zamiathen.c $(header) $(made)
+	$(needs_cc)
+	@mkdir -p $(@D)
+	@$(CC) $(CFLAGS) -Wpedantic -Iinclude tools/zamiathen.c "$(ARCHIVE)" -o $@
+endif
+
+given:
+	@[ -f "$(ARCHIVE)" ] || { echo "ARCHIVE: there is no file $(ARCHIVE)" >&2; exit 1; }
+
+$(shared): $(made) tools/exported.map
+	$(needs_cc)
+	@mkdir -p $(@D)
+	@$(CC) -shared -nostartfiles -Wl,-soname,libzamiathen.so.$(first) -Wl,--version-script,tools/exported.map -Wl,--no-undefined \
+	    -Wl,--whole-archive "$(ARCHIVE)" -Wl,--no-whole-archive -lc -o $@
 
 target/demo: examples/demo.c $(header) $(archive)
+	$(needs_cc)
 	@$(CC) $(CFLAGS) -Iinclude examples/demo.c $(archive) -o $@
 
 demo: target/demo
 	@target/demo examples/station
 
 target/counts: examples/counts.c $(header) $(archive)
+	$(needs_cc)
 	@$(CC) $(CFLAGS) -Iinclude examples/counts.c $(archive) -o $@
 
 counts: target/counts
@@ -54,23 +81,36 @@ counts: target/counts
 
 # the lines, without the sheet that follows them
 replay: target/bin/replay
-	@python3 examples/pack.py examples/station/sheet.bin examples/station/book.bin --log examples/station/week.bin | target/bin/replay > target/replayed
+	$(call needs,python3,writes the input of the programs,make and make demo and make install)
+	@python3 examples/pack.py examples/station/sheet.bin examples/station/book.bin --log examples/station/week.bin > target/replay.in || { rm -f target/replay.in; exit 1; }
+	@target/bin/replay < target/replay.in > target/replayed || { rm -f target/replayed; exit 1; }
 	@head -c -8704 target/replayed
 
 test:
+	$(call needs,rt,proves the crates,tests/bindings and tests/install run on a built archive)
+	$(call needs,rustc,builds the reference that the tests compare with,all but make test and make bench)
+	$(call needs,cargo,builds the Rust binding,all but make test)
+	$(call needs,python3,runs the tests,all but make test and make replay)
 	.ci/run
 
 bench: $(archive)
+	$(call needs,rustc,builds the bench,all but make test and make bench)
+	$(call needs,valgrind,counts instructions,all but make bench)
 	bench/run
 
-install: $(archive)
-	install -d $(DESTDIR)$(PREFIX)/lib/pkgconfig $(DESTDIR)$(PREFIX)/include
-	install -m 644 $(archive) $(DESTDIR)$(PREFIX)/lib/libzamiathen.a
-	install -m 644 $(header) $(DESTDIR)$(PREFIX)/include/zamiathen.h
-	sed 's|@PREFIX@|$(PREFIX)|; s|@VERSION@|$(version)|' zamiathen.pc.in > $(DESTDIR)$(PREFIX)/lib/pkgconfig/zamiathen.pc
+install: $(made) $(shared) $(command)
+	@tools/stage target/stage "$(ARCHIVE)" $(shared) $(version) $(command)
+	@DESTDIR="$(DESTDIR)" target/stage/install.sh "$(PREFIX)"
 
 uninstall:
-	rm -f $(installed)
+	@DESTDIR="$(DESTDIR)" tools/install.sh --remove "$(PREFIX)"
+
+dist: $(made) $(shared) $(programs)
+	@tools/stage target/$(package) "$(ARCHIVE)" $(shared) $(version) $(programs)
+	@tools/proved target/$(package) "$(ARCHIVE)" > target/$(package)/PROVED || { rm -rf target/$(package); exit 1; }
+	@tar -C target --sort=name --owner=0 --group=0 --numeric-owner -czf target/$(package).new $(package) || { rm -f target/$(package).new; exit 1; }
+	@mv target/$(package).new target/$(package).tar.gz
+	@echo "target/$(package).tar.gz"
 
 clean:
 	rm -rf target
