@@ -15,6 +15,7 @@ usage() {
 files() {
     echo "644 lib/libzamiathen.a lib/libzamiathen.a"
     echo "755 $shared $shared"
+    [ ! -f lib/zamiathen_sqlite.so ] || echo "755 lib/zamiathen_sqlite.so lib/zamiathen_sqlite.so"
     echo "644 include/zamiathen.h include/zamiathen.h"
     for program in enter replay; do
         [ ! -f "bin/$program" ] || echo "755 bin/$program bin/zamiathen-$program"
@@ -22,7 +23,7 @@ files() {
     [ ! -f bin/zamiathen ] || echo "755 bin/zamiathen bin/zamiathen"
     [ ! -f man/zamiathen.1 ] || echo "644 man/zamiathen.1 share/man/man1/zamiathen.1"
     [ ! -f PROVED ] || echo "644 PROVED share/zamiathen/PROVED"
-    find bindings examples -type f | sort | while read -r file; do
+    find bindings examples sql -type f | sort | while read -r file; do
         echo "644 $file share/zamiathen/$file"
     done
 }

@@ -10,8 +10,10 @@
  *   enter BOOK EDIT     number, place and the sheet's bytes after the call; each call begins with the sheet of the file
  *   close BOOK NODE     the same
  *   open BOOK NODE      the same
+ *   page - ARROW        number, place and the page of an arrow kind
  *   book_words NAMES WORDS      number, place and the codes
  *   edit_words NAMES WORDS      the same
+ *   steps RULE STEPS SENT       number and place
  *   play BOOK GOAL DISPATCHERS MOVES EDIT...    number, place, outcome and edit
  */
 #include "zamiathen.h"
@@ -82,11 +84,30 @@ static int turn(zamiathen_answer (*call)(uint8_t *, size_t, const uint8_t *, siz
     return 1;
 }
 
+static int page(const char *word) {
+    if (word == NULL)
+        return 0;
+    zamiathen_length p = zamiathen_print_arrow(sheet, sizeof sheet, strtoul(word, NULL, 10), scratch, sizeof scratch);
+    printf("%02zu %05zu ", p.number, p.place);
+    print_bytes(scratch, p.length);
+    return 1;
+}
+
 static int words(zamiathen_length (*call)(const uint8_t *, size_t, const uint8_t *, size_t, uint8_t *, size_t),
                  const struct text *names, const struct text *given) {
     zamiathen_length r = call(names->bytes, names->length, given->bytes, given->length, scratch, sizeof scratch);
     printf("%02zu %05zu ", r.number, r.place);
     print_bytes(scratch, r.length);
+    return 1;
+}
+
+static int steps(const struct text *rule, const struct text *steps) {
+    static struct text sent;
+    if (!read_text(&sent, strtok(NULL, " \n")))
+        return 0;
+    zamiathen_answer a =
+        zamiathen_check_steps(rule->bytes, rule->length, steps->bytes, steps->length, sent.bytes, sent.length);
+    printf("%02zu %05zu\n", a.number, a.place);
     return 1;
 }
 
@@ -130,6 +151,8 @@ static int call(char *line) {
         print_bytes(scratch, r.length);
         return 1;
     }
+    if (strcmp(name, "page") == 0)
+        return page(strtok(NULL, " \n"));
     if (strcmp(name, "close") == 0)
         return turn(zamiathen_close, &book, strtok(NULL, " \n"));
     if (strcmp(name, "open") == 0)
@@ -142,6 +165,8 @@ static int call(char *line) {
         return words(zamiathen_book_from_words, &book, &edit);
     if (strcmp(name, "edit_words") == 0)
         return words(zamiathen_edit_from_words, &book, &edit);
+    if (strcmp(name, "steps") == 0)
+        return steps(&book, &edit);
     if (strcmp(name, "carry") == 0) {
         zamiathen_length c =
             zamiathen_carry_back(book.bytes, book.length, edit.bytes, edit.length, scratch, sizeof scratch);

@@ -1,8 +1,9 @@
 /* Damaged inputs for the command: its functions, called in one process under the sanitizers, the same inputs in each run.
  *
- * Words, codes, tables of names and sheets of the station are damaged and lent to the commands in files of a folder of its
- * own. Each call must end with status 0, 1 or 2. A sheet on disk must be sound after each enter, and as it was after
- * each refusal and each trial. What the command prints is thrown away; the last line counts.
+ * Words, codes, tables of names, sheets, cards, pages, stores and logs of the station are damaged and lent to the commands in
+ * files of a folder of its own. Each call must end with status 0, 1 or 2. A sheet on disk must be sound after each command that
+ * changes it, and as it was after each refusal and each trial; a damaged sheet, store or log that a command does not take must
+ * be as it was, too. What the command prints is thrown away; the last line counts.
  *
  *   damaged [COUNT]      in the repository's folder; 100,000 if nothing else is said
  */
@@ -15,6 +16,16 @@ static FILE *thrown;
 #define stderr thrown
 
 #define ZAMIATHEN_NO_MAIN
+#include "../../tools/edits.c"
+#include "../../tools/enter.c"
+#include "../../tools/files.c"
+#include "../../tools/logs.c"
+#include "../../tools/pages.c"
+#include "../../tools/plans.c"
+#include "../../tools/sheets.c"
+#include "../../tools/tables.c"
+#include "../../tools/why.c"
+#include "../../tools/words.c"
 #include "../../tools/zamiathen.c"
 
 #include <dirent.h>
@@ -26,7 +37,7 @@ const char *__asan_default_options(void) {
     return "malloc_context_size=3:quarantine_size_mb=16";
 }
 
-enum { LONGEST = 40000, WORDS_MOST = 16 };
+enum { LONGEST = 70000, WORDS_MOST = 16 };
 
 typedef struct {
     uint8_t bytes[LONGEST];
@@ -107,7 +118,7 @@ static void mend(input *in) {
 
 static void damage_sheet(input *in) {
     for (size_t i = 0; i < 1 + below(3) && in->length > 0; i++) {
-        size_t place = below(4) == 0 ? below(in->length) : 512 * below(17) + 16 + below(480);
+        size_t place = below(4) == 0 ? below(in->length) : 512 * below(in->length / 512 + 1) + 16 + below(480);
         in->bytes[place % in->length] ^= (uint8_t)(1u << below(8));
     }
     if (below(16) == 0)
@@ -116,8 +127,16 @@ static void damage_sheet(input *in) {
         mend(in);
 }
 
+/* Other squares, and other bytes in place of squares; the length stays. */
+static void damage_page(input *in) {
+    static const char bytes[] = "##..  0aLA\n\r";
+    for (size_t i = 0, many = 1 + below(4); i < many; i++)
+        in->bytes[below(in->length)] = (uint8_t)bytes[below(sizeof bytes)];
+}
+
 static char folder[256];
 
+/* The path of a file in the folder. */
 static const char *path_of(char *path, const char *name) {
     snprintf(path, 512, "%s/%s", folder, name);
     return path;
@@ -140,9 +159,13 @@ static void load(const char *path, input *in) {
     fclose(from);
 }
 
+/* Loads a file of the station, or one of the folder, written %NAME. */
 static void load_station(const char *name, input *in) {
-    char path[256];
-    snprintf(path, sizeof path, "examples/station/%s", name);
+    char path[512];
+    if (name[0] == '%')
+        path_of(path, name + 1);
+    else
+        snprintf(path, sizeof path, "examples/station/%s", name);
     load(path, in);
 }
 
@@ -166,7 +189,7 @@ static int call(const char *line) {
 
 /* What is damaged, into which file, and the commands that read it. A sheet on disk is sheet.bin, which enter may change. */
 typedef struct {
-    char sort; /* w words or codes, n names, s sheet */
+    char sort; /* w words or codes, n names, s sheet, p page */
     const char *source, *target;
     unsigned weight;
     const char *lines[6];
@@ -185,6 +208,22 @@ static const plan plans[] = {
         "judge --names %bad.names %clash.bin %book.bin", "show --names %bad.names %sheet.bin stands-at --svg %out.svg"}},
     {'s', "sheet.bin", "bad.bin", 3, {"judge %bad.bin %book.words", "show %bad.bin", "diff %sheet.bin %bad.bin", "show %bad.bin serves --svg %out.svg",
         "table %bad.bin berth has-platform has-slot stands-at --svg %out.svg", "enter %bad.bin %book.words %move.words --try"}},
+    {'s', "sheet.bin", "bad.bin", 3, {"close %bad.bin %book.words P1-S1", "open %bad.bin %book.bin T34", "keep %bad.bin %plans.bin 2", "return %bad.bin %store.bin 1 %book.words"}},
+    {'s', "sheet.bin", "bad.bin", 3, {"join %bad.bin %clash.bin %out.bin", "convert %bad.bin %out.bin", "page %bad.bin stands-at", "page %bad.bin labels %out.page", "type %bad.bin %stands_at.page"}},
+    {'s', "card_257.bin", "bad.bin", 2, {"convert %bad.bin %out.bin"}},
+    {'p', "stands_at.page", "bad.page", 3, {"type %sheet.bin %bad.page"}},
+    {'p', "%labels.page", "bad.page", 2, {"type %sheet.bin %bad.page"}},
+    {'w', "swap.words", "bad.words", 6, {"chain %bad.words %move.bin %out.words", "chain %move.words %bad.words %out.bin", "count 1 %goal.words %bad.words",
+        "play %sheet.bin %book.words %goal.words 2 %bad.words --against %swap.words"}},
+    {'w', "swap.bin", "bad.bin", 6, {"chain %bad.bin %bad.bin %out.words", "play %sheet.bin %book.words %goal.words 3 %swap.words --against %bad.bin %move.bin"}},
+    {'w', "../small/edit.bin", "bad.bin", 3, {"count 2 %small.words %bad.bin"}},
+    {'w', "../small/book.bin", "bad.bin", 3, {"count 2 %bad.bin %bad.bin", "count 1 %bad.bin %step.words"}},
+    {'w', "goal.bin", "bad.bin", 4, {"count 2 %bad.bin %swap.words", "play %sheet.bin %book.bin %bad.bin 1 %swap.words", "play %sheet.bin %bad.bin %goal.words 2 %move.words"}},
+    {'w', "swap.bin", "bad.bin", 3, {"log %bad.bin %new.log", "log %move.words %bad.bin"}},
+    {'s', "week.bin", "bad.bin", 1, {"replay %sheet.bin %book.bin %bad.bin", "replay %sheet.bin %book.words %bad.bin %out.bin", "log %move.bin %bad.bin", "log %swap.words %bad.bin",
+        "log %bad.bin %bad.bin"}},
+    {'w', "book.bin", "bad.bin", 4, {"close %sheet.bin %bad.bin P1-S2", "open %sheet.bin %bad.bin node:59", "return %sheet.bin %store.bin 2 %bad.bin"}},
+    {'s', "%store.bin", "bad.bin", 3, {"keep %sheet.bin %bad.bin 3", "return %sheet.bin %bad.bin 1 %book.words", "return %sheet.bin %bad.bin 2 %book.bin", "drop %bad.bin 1"}},
 };
 
 enum { PLANS = sizeof plans / sizeof *plans };
@@ -204,32 +243,68 @@ static const plan *choose(size_t *index) {
 /* A line of words taken at random, in no order. */
 static int call_odd(void) {
     static const char *const words[] = {
-        "new", "make", "codes", "words", "list", "judge", "enter", "why", "show", "table", "diff", "help", "book", "edit", "rule",
-        "--names", "--try", "--book", "--svg", "--closed", "--who", "--", "--no", "-1", "0", "1", "60", "61", "99999999999999999999",
+        "book", "edit", "rule", "enter", "%store.bin", "labels", "P6", "%swap.words", "%goal.words",
+        "--names", "--try", "--book", "--svg", "--closed", "--who", "--", "--against", "--no", "-1", "0", "1", "60", "61", "99999999999999999999",
         "%sheet.bin", "%book.words", "%move.words", "%book.bin", "%move.bin", "%out.bin", "%none", "%", "berth", "has-slot",
         "has-platform", "stands-at", "train", "T34", "T34,all)#", "", "is(", "closed",
     };
     char line[512] = "";
     size_t count = below(9);
     for (size_t i = 0; i < count; i++) {
-        const char *word = words[below(i == 0 ? 12 : sizeof words / sizeof *words)];
+        const char *word = i == 0 ? commands[below(COMMANDS)].name : words[below(sizeof words / sizeof *words)];
         strcat(line, strcmp(word, "%sheet.bin") == 0 && i > 0 && below(2) == 0 ? "%clash.bin" : word);
         strcat(line, " ");
     }
     return call(line);
 }
 
-/* Is the sheet on disk sound, and as it was unless it was entered? Entered sheets are put back. */
+/* Is this a command that changes the sheet on disk if it is done? */
+static bool changes_sheet(const char *line) {
+    static const char *const changing[] = {"enter %sheet", "close %sheet", "open %sheet", "return %sheet", "type %sheet"};
+    bool found = false;
+    for (size_t i = 0; i < sizeof changing / sizeof *changing; i++)
+        found |= strncmp(line, changing[i], strlen(changing[i])) == 0;
+    return found;
+}
+
+/* Is the sheet on disk sound, and as it was unless the command was done? Then it is put back. */
 static bool sheet_kept(int status, const char *line) {
     char path[512];
     static input now;
     load(path_of(path, "sheet.bin"), &now);
     bool same = now.length == sheet_before.length && memcmp(now.bytes, sheet_before.bytes, now.length) == 0;
-    bool may_change = status == DONE && strncmp(line, "enter", 5) == 0 && strstr(line, "--try") == NULL;
+    bool may_change = status == DONE && strstr(line, "--try") == NULL;
     bool sound = zamiathen_check(now.bytes, now.length).number == ZAMIATHEN_DONE;
     if (!same)
         store("sheet.bin", &sheet_before);
     return sound && (same || may_change);
+}
+
+/* The files that are not damaged, as they were; the last is made by the command. */
+typedef struct {
+    const char *name;
+    input content;
+} original;
+
+static original originals[] = {
+    {"station.names", {{0}, 0}}, {"book.words", {{0}, 0}}, {"book.bin", {{0}, 0}},  {"move.words", {{0}, 0}}, {"move.bin", {{0}, 0}},
+    {"clash.bin", {{0}, 0}},     {"sheet.bin", {{0}, 0}},  {"swap.words", {{0}, 0}}, {"goal.words", {{0}, 0}}, {"stands_at.page", {{0}, 0}},
+    {"store.bin", {{0}, 0}},
+};
+
+enum { ORIGINALS = sizeof originals / sizeof *originals };
+
+static void lay_out_files(void) {
+    for (size_t i = 0; i < ORIGINALS; i++)
+        store(originals[i].name, &originals[i].content);
+}
+
+/* Is the damaged file as it was? */
+static bool target_kept(const char *name, const input *in) {
+    char path[512];
+    static input now;
+    load(path_of(path, name), &now);
+    return now.length == in->length && memcmp(now.bytes, in->bytes, now.length) == 0;
 }
 
 static bool one(void) {
@@ -238,12 +313,15 @@ static bool one(void) {
     const plan *p = choose(&index);
     if (below(40) == 0) {
         int status = call_odd();
-        store("sheet.bin", &sheet_before); /* new and make may have written it */
+        lay_out_files(); /* new and others may have written them */
         return status >= DONE && status <= WRONG;
     }
-    in = seeds[index];
+    in.length = seeds[index].length;
+    memcpy(in.bytes, seeds[index].bytes, in.length);
     if (p->sort == 's')
         damage_sheet(&in);
+    else if (p->sort == 'p' && below(4) != 0)
+        damage_page(&in);
     else
         for (size_t i = 0, many = 1 + below(below(8) == 0 ? 12 : 2); i < many; i++)
             damage(&in);
@@ -252,7 +330,9 @@ static bool one(void) {
         lines++;
     const char *line = p->lines[below(lines)];
     int status = call(line);
-    bool kept = strncmp(line, "enter", 5) != 0 || sheet_kept(status, line);
+    bool kept = !changes_sheet(line) || sheet_kept(status, line);
+    if (status != DONE && (p->sort == 's' || strncmp(line, "log", 3) == 0))
+        kept &= target_kept(p->target, &in);
     return status >= DONE && status <= WRONG && kept;
 }
 
@@ -275,19 +355,41 @@ static void shorten_names(input *in) {
     in->length = end;
 }
 
-static void set_up(void) {
-    static const char *const files[] = {"station.names", "book.words", "book.bin", "move.words", "move.bin", "clash.bin", "sheet.bin"};
+static void store_words(const char *name, const char *words) {
     static input in;
+    in.length = strlen(words);
+    memcpy(in.bytes, words, in.length);
+    store(name, &in);
+}
+
+/* The program replay is that of the repository, if it is built. */
+static void set_path(void) {
+    char here[512], path[600];
+    if (getcwd(here, sizeof here) == NULL)
+        exit(WRONG);
+    snprintf(path, sizeof path, "%s/target/bin", here);
+    setenv("PATH", path, 1);
+}
+
+static void set_up(void) {
+    set_path();
     snprintf(folder, sizeof folder, "%s/damaged.XXXXXX", access("/dev/shm", W_OK) == 0 ? "/dev/shm" : "/tmp");
     if (mkdtemp(folder) == NULL)
         exit(WRONG);
-    for (size_t i = 0; i < sizeof files / sizeof *files; i++) {
-        load_station(files[i], &in);
-        if (i == 0)
-            shorten_names(&in);
-        store(files[i], &in);
-    }
+    for (size_t i = 0; i + 1 < ORIGINALS; i++)
+        load_station(originals[i].name, &originals[i].content);
+    shorten_names(&originals[0].content);
+    originals[ORIGINALS - 1].content.length = ZAMIATHEN_STORE_BYTES;
+    zamiathen_store_blank(originals[ORIGINALS - 1].content.bytes, ZAMIATHEN_STORE_BYTES);
+    lay_out_files();
+    if (call("keep %sheet.bin %store.bin 1") != DONE || call("keep %clash.bin %store.bin 2") != DONE)
+        exit(WRONG);
+    load_station("%store.bin", &originals[ORIGINALS - 1].content);
     load_station("sheet.bin", &sheet_before);
+    store_words("small.words", "each(platform, some(stands-at, platform))");
+    store_words("step.words", "mark(platform, some(stands-at, all))");
+    if (call("page %sheet.bin labels %labels.page") != DONE)
+        exit(WRONG);
     for (size_t i = 0; i < PLANS; i++)
         load_station(plans[i].source, &seeds[i]);
 }
@@ -309,11 +411,11 @@ static void clear_up(void) {
 int main(int count, char **words) {
     size_t many = count > 1 ? strtoul(words[1], NULL, 10) : 100000, passed = 0;
     int output = dup(STDOUT_FILENO);
-    set_up();
-    if (chdir(folder) != 0)
-        return WRONG;
     thrown = fopen("/dev/null", "w");
     if (thrown == NULL || freopen("/dev/null", "w", stdout) == NULL)
+        return WRONG;
+    set_up();
+    if (chdir(folder) != 0)
         return WRONG;
     for (size_t i = 0; i < many; i++) {
         bool fine = one();

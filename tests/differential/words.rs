@@ -388,19 +388,7 @@ fn load(path: &str) -> Vec<u8> {
     std::fs::read(path).unwrap_or_else(|error| panic!("{path}: {error}"))
 }
 
-/// The lines of a text without their comments.
-fn uncommented(path: &str) -> Vec<String> {
-    let text = String::from_utf8(load(path)).expect("UTF-8");
-    text.lines().map(|line| line.split('#').next().unwrap_or("").to_string()).collect()
-}
-
-/// The bytes of commented hexadecimal.
-fn hexadecimal(path: &str) -> Vec<u8> {
-    let byte = |pair: &str| u8::from_str_radix(pair, 16).unwrap_or_else(|_| panic!("{path}: {pair}"));
-    uncommented(path).iter().flat_map(|line| line.split_whitespace().map(byte).collect::<Vec<_>>()).collect()
-}
-
-/// The station's book and edits in words are read to the bytes of its hexadecimal, by both sides; each has words.
+/// The station's book and edits in words are read to the bytes beside them, by both sides; the opening has none beside it.
 fn station(tally: &mut Tally) {
     let station = "examples/station";
     let table = load(&format!("{station}/station.names"));
@@ -408,8 +396,8 @@ fn station(tally: &mut Tally) {
     for folder in [station.to_string(), format!("{station}/carrying")] {
         for entry in std::fs::read_dir(&folder).unwrap_or_else(|error| panic!("{folder}: {error}")) {
             let path = entry.expect("an entry").path().to_string_lossy().into_owned();
-            let Some(stem) = path.strip_suffix(".hex") else { continue };
-            let (codes, words) = (hexadecimal(&path), load(&format!("{stem}.words")));
+            let Some(stem) = path.strip_suffix(".words").filter(|stem| !stem.ends_with("/opening")) else { continue };
+            let (codes, words) = (load(&format!("{stem}.bin")), load(&path));
             let call = if codes[0] < 0x30 { BOOK_FROM_WORDS } else { EDIT_FROM_WORDS };
             assert_eq!(call.wanted(&table, &words, ROOM), (codes.clone(), [0, 0]), "{stem}.words by the reference");
             call.answers(tally, &table, &words, ROOM, [0, 0], &codes);
@@ -417,21 +405,8 @@ fn station(tally: &mut Tally) {
             read += 1;
         }
     }
-    assert_eq!(read, 23, "texts of the station");
-    station_names(&table);
+    assert_eq!(read, 24, "texts of the station");
     station_rules(tally, &table);
-}
-
-/// The names are those of the station's source.
-fn station_names(table: &[u8]) {
-    let source = uncommented("examples/station/station.txt");
-    let named = source.iter().map(|line| line.split_whitespace().take(3).collect::<Vec<_>>());
-    let named =
-        named.filter(|words| ["label", "arrow", "node", "closed-node"].iter().any(|sort| words.first() == Some(sort)));
-    let wanted: Vec<String> = named.map(|words| words.join(" ").replace("closed-", "")).collect();
-    let found = uncommented("examples/station/station.names");
-    let found: Vec<String> = found.into_iter().filter(|line| !line.is_empty()).collect();
-    assert_eq!(found, wanted, "{} bytes of names", table.len());
 }
 
 /// In the station's book each rule begins at the start of a line, and no other line begins with a letter.
