@@ -1,4 +1,4 @@
-"""The codes of books and edits and what follows each (docs/CODES.md): k, a, i, j, m are one byte each, capitals are texts."""
+"""The codes of books and edits and what follows each (docs/RULES.md): k, a, i, j, m are one byte each, capitals are texts."""
 
 FOLLOW = {
     # nodes

@@ -1,4 +1,4 @@
-"""The form of the bytes of sheets and logs (docs/CODES.md, "The sheet" and "Logs"), for the tests."""
+"""The form of the bytes of sheets and logs (docs/RULES.md, "The sheet" and "Logs"), for the tests."""
 from itertools import accumulate
 
 NODES, LABELS, ARROWS = 60, 48, 16
@@ -35,7 +35,7 @@ def seal(sheet, block):
     sheet[start + SUMS : start + BLOCK] = sums(sheet[start : start + SUMS])
 
 
-# A block of a log (docs/CODES.md, "Logs"): its check bytes are those of a sheet's block.
+# A block of a log (docs/RULES.md, "Logs"): its check bytes are those of a sheet's block.
 
 LOG = 3
 FIRST, LAST = 1, 2
