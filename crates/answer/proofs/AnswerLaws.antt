@@ -14,13 +14,13 @@ numbers-of Done (refused n p) e = ((cc), (cc))
 numbers-of (Refused r) (passed x) e = ((cc), (cc))
 numbers-of (Refused r) (refused n p) e = ((cc), (cc))
 
--- Questions from which nothing is learned.
+-- Questions without a result.
 pub unit-numbers : (a : Answer) (q : Asked (Unit {0})) → asked a ≡ q → (answerNumber a ≡ askedNumber q) × (answerPlace a ≡ askedPlace q)
 unfolding outcome
 unit-numbers a (passed u) e = numbers-of a (passed u) e
 unit-numbers a (refused n p) e = numbers-of a (refused n p) e
 
--- What was learned from questions that were passed; and those that were not.
+-- The result of questions that passed; and questions that did not.
 pub record Learned {A : Type 0} (q : Asked A) : Type 0 where
   pub what : A
   pub is : q ≡ passed what

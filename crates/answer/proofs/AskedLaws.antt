@@ -1,4 +1,4 @@
--- Laws of a list of questions: what passed passes on, a refusal ends the list, and where all have passed, each has.
+-- Laws of a list of questions: what passes goes on, a refusal ends the list, and if all have passed, each has.
 use mathlib.Core.Path.{_≡_, refl, sym}
 use mathlib.Core.Bool.{Bool, true, false}
 use mathlib.Core.Logic.{_⊎_, inl, inr}
@@ -6,7 +6,7 @@ use Prim.Native.Nat.{ℕ}
 use native.Mathlib.Omega.{arith}
 use Rattle.answer.specs.Asked.{Asked, passed, refused, _>>=_, _>>_, is, after, outcome}
 
--- Questions that pass teach one thing, and a refusal is no pass.
+-- Questions that pass have one result, and a refusal is not a pass.
 pub passed-same : {A : Type 0} {a b : A} → passed a ≡ passed b → a ≡ b
 passed-same e = cc
 
@@ -37,7 +37,7 @@ unfolding is _>>_
 is-then true q p y e = (refl, e)
 is-then false q p y e = refused-not-passed e
 
--- What passed passes on.
+-- What passes goes on.
 module _ {A B : Type 0} {x : Asked A} {a : A} (e : x ≡ passed a) where
   pub bind-on : (f : A → Asked B) → (x >>= f) ≡ f a
   bind-on f = unfold _>>=_ in rw e
@@ -62,7 +62,7 @@ module _ {A B : Type 0} {x : Asked A} {q p : ℕ} (e : x ≡ refused q p) where
 pub outcome-ends : {A : Type 0} {x : Asked A} {q p : ℕ} → x ≡ refused q p → outcome x ≡ refused q p
 outcome-ends e = unfold outcome in rw e
 
--- Where all have passed, each has; where one has not, it is the first or one of the others.
+-- If all have passed, each has; if one has not, it is the first or one of the others.
 module _ {A B : Type 0} where
   pub bind-passed : (x : Asked A) (f : A → Asked B) (b : B) → (x >>= f) ≡ passed b → (a : A) × (x ≡ passed a) × (f a ≡ passed b)
   unfolding _>>=_
@@ -89,13 +89,13 @@ unfolding outcome
 outcome-passed (passed a) e = (a, refl)
 outcome-passed (refused n p) e = refused-not-passed e
 
--- The outcome does not tell what was learned.
+-- The outcome does not depend on the result.
 pub outcome-bind : {A B : Type 0} (x : Asked A) (f : A → B) → outcome (x >>= (λ a. passed (f a))) ≡ outcome x
 unfolding outcome _>>=_
 outcome-bind (passed a) f = refl
 outcome-bind (refused q p) f = refl
 
--- Questions are asked in the same order, however they are put together.
+-- Grouping does not change the order of questions.
 module _ {A B C : Type 0} where
   pub bind-bind : (x : Asked A) (f : A → Asked B) (k : B → Asked C) → ((x >>= f) >>= k) ≡ (x >>= (λ a. f a >>= k))
   unfolding _>>=_

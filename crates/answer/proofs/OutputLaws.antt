@@ -1,4 +1,4 @@
--- A call that writes an output, by its questions.
+-- A call that writes an output, in terms of its questions.
 use mathlib.Core.Path.{_≡_, sym, ap}
 use mathlib.Core.List.{List}
 use Prim.Native.Nat.{ℕ, _≤_, _<_}
@@ -20,6 +20,6 @@ module _ (q : Asked (List ℕ)) (output : List ℕ) where
   pub not-written : (n p : ℕ) → q ≡ refused n p → (refused n p ≡ writtenLength q) × (output ≡ writtenOutput q output)
   not-written n p e = unfold writtenLength writtenOutput _>>=_ after in (rw e, rw e)
 
-  -- what was learned is written
+  -- the result is written
   pub is-written : (bytes : List ℕ) (size : ℕ) → q ≡ passed bytes → size ≡ length bytes → (passed size ≡ writtenLength q) × (writtenAtStart bytes output ≡ writtenOutput q output)
   is-written bytes size e s = unfold writtenLength writtenOutput _>>=_ after in (rw (e, s), rw e)

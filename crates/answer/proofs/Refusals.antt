@@ -1,4 +1,4 @@
--- The numbers and places that questions can answer: whatever refusal they give, its number lies between two numbers, and its place is at most a third.
+-- The numbers and places that questions can give: the number of any refusal is between two numbers, and its place is at most a third.
 use mathlib.Core.Path.{_≡_, refl}
 use mathlib.Core.Bool.{Bool, true, false}
 use Prim.Native.Nat.{ℕ, _≤_}
@@ -22,7 +22,7 @@ module _ {from to most : ℕ} where
   asked-refuses false {q = q} {p = p} i j k h = refuses q p i j k
 
 module _ {from to most : ℕ} {A : Type 0} where
-  -- The numbers that are answered.
+  -- The number of the answer.
   pub number-by : {x : Asked A} → Refuses from to most x → askedNumber x ≤ to
   unfolding askedNumber
   number-by passes = omega arith

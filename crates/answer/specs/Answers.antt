@@ -1,5 +1,5 @@
--- The papers' number and place of each answer. A contract that gives an `Answer` cites `asked`. A bit read, and a call that writes an output, have answers of
--- their own, which hold a bit or a length: their contracts cite `bitAsked` and `writtenAsked`, with the same numbers and places for refusals.
+-- The papers' number and place of each answer. A contract that gives an `Answer` cites `asked`. A bit read and a call that writes an output have
+-- answer types with a bit or a length inside; their contracts cite `bitAsked` and `writtenAsked`, with the same numbers and places for refusals.
 use Prim.Native.Nat.{ℕ}
 use Rattle.answer.specs.declared.Refusal.{Refusal}
 use Rattle.answer.specs.declared.Refusal.the-variants.{SheetLength, CheckBytes, BlockHead, NotZero, NodeCount, BitRange, BookLength, BookEnds, BookCode, BookLevel, BookNumber, BookRules, EditLength, EditEnds, EditCode, EditLevel, EditNumber, EditExtra, CarriedLength, CarriedLevels, OutputLength, RuleBroken, PageLine, LogSums, LogBlock, NodeTaken, StoreBytes, PlanName, PlanUnfilled, NodesTotal, LawStep, TextSent, SmallSheets, GameRange, NameTable, WordsEnd, WordsStart, WordsMark, WordsNumber, WordsLevel, WordsRules, WordsLength}
@@ -103,7 +103,7 @@ abbrev pub answerPlace : Answer → ℕ
 answerPlace Done = 0
 answerPlace (Refused r) = refusalPlace r
 
--- What an answer says of the questions: all passed, or the first that did not.
+-- What an answer says about the questions: all passed, or the first that failed.
 abbrev pub asked : Answer → Asked (Unit {0})
 asked Done = passed tt
 asked (Refused r) = refused (refusalNumber r) (refusalPlace r)

@@ -1,4 +1,4 @@
--- A call that writes into an output: its questions learn the bytes, which it writes at the output's start. It answers their length.
+-- A call that writes an output: its questions result in the bytes, which it writes at the output's start. Its answer is their length.
 use mathlib.Core.List.{List, _++_}
 use Prim.Native.Nat.{ℕ}
 use lib.Dec.{leb}
@@ -8,24 +8,24 @@ use Rattle.answer.specs.declared.Written.the-variants.{Length, Refused}
 use Rattle.answer.specs.Asked.{Asked, passed, refused, _>>=_, _>>_, is, after}
 use Rattle.answer.specs.Answers.{refusalNumber, refusalPlace}
 
--- Is there room for them? 33, place their length.
+-- Is there room for the bytes? If not, 33; the place is their length.
 unfoldable pub askRoom : List ℕ → (room : ℕ) → Asked (List ℕ)
 askRoom bytes room = do
   is (leb (length bytes) room) 33 (length bytes)
   passed bytes
 
--- What its answer says of the questions: the length, or the number and place of the refusal.
+-- What the call's answer says about the questions: the length, or the number and place of the refusal.
 abbrev pub writtenAsked : Written → Asked ℕ
 writtenAsked (Length n) = passed n
 writtenAsked (Refused r) = refused (refusalNumber r) (refusalPlace r)
 
--- The answer that is due.
+-- The answer that the questions call for.
 unfoldable pub writtenLength : Asked (List ℕ) → Asked ℕ
 writtenLength questions = do
   bytes ← questions
   passed (length bytes)
 
--- A buffer with bytes written at its start, the rest of it unchanged.
+-- A buffer with bytes written at its start and the rest unchanged.
 abbrev pub writtenAtStart : List ℕ → List ℕ → List ℕ
 writtenAtStart bytes buffer = bytes ++ drop (length bytes) buffer
 

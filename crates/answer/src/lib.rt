@@ -2,7 +2,7 @@
 ghost use mathlib.Core.Path.{_≡_};
 ghost use Rattle.answer.specs.Answers.{refusalNumber, refusalPlace, answerNumber, answerPlace};
 
-// What is wrong, a case for each number of "The questions, in order", each with its place.
+// What is wrong: a case for each number of "The questions, in order", each with its place.
 pub enum Refusal {
     // 1: the sheet is not 8,704 bytes long
     SheetLength { place: usize },
@@ -12,15 +12,15 @@ pub enum Refusal {
     BlockHead { place: usize },
     // 4: a byte or bit of a block that must be zero is not
     NotZero { place: usize },
-    // 5: a blank sheet of no such n
+    // 5: n is not 1 to 60, for a blank sheet
     NodeCount { place: usize },
-    // 7: a label, arrow or node number that the sheet does not have
+    // 7: the sheet does not have the label, arrow or node
     BitRange { place: usize },
     // 11: the book is longer than 4,096 bytes
     BookLength { place: usize },
     // 12: the book ends where a byte is wanted; the place is its length
     BookEnds { place: usize },
-    // 13: no code of the sort wanted; the place of this and the next two is that byte
+    // 13: not a code of the sort wanted; the place of this and the next two is that byte
     BookCode { place: usize },
     // 14: a code deeper than level 32
     BookLevel { place: usize },
@@ -28,13 +28,13 @@ pub enum Refusal {
     BookNumber { place: usize },
     // 16: a 33rd rule; the place is its first byte
     BookRules { place: usize },
-    // 21: the same of an edit
+    // 21 to 25: the same for an edit
     EditLength { place: usize },
     EditEnds { place: usize },
     EditCode { place: usize },
     EditLevel { place: usize },
     EditNumber { place: usize },
-    // 26: bytes behind the edit; the place is the first of them
+    // 26: bytes follow the edit; the place is the first of them
     EditExtra { place: usize },
     // 31: the carried book is longer than 16,384 bytes
     CarriedLength { place: usize },
@@ -44,13 +44,13 @@ pub enum Refusal {
     OutputLength { place: usize },
     // 41: a rule does not hold; the place is the first such rule, from 0
     RuleBroken { place: usize },
-    // 51: a page that printing a sheet of this n could not give; the place is the first such line, from 0
+    // 51: printing a sheet of this n and nodes in use could not give this page; the place is 0 for its length, else the first such line, from 0
     PageLine { place: usize },
-    // 52: the sums of a log's block are wrong; the place of this and the next is the block
+    // 52: the sums of a block of the log are wrong; the place of this and the next is the block
     LogSums { place: usize },
     // 53: its fields are wrong, its number is above 65,534, it is cut short, or the log ends inside an edit
     LogBlock { place: usize },
-    // 54: the node to be closed has a label or an arrow or is the only one in use; the place is the node
+    // 54: the node to be closed has a label or an arrow, or is the only one in use; the place is the node
     NodeTaken { place: usize },
     // 55: the store's length, its head, a filled sheet or an unfilled place is wrong
     StoreBytes { place: usize },
@@ -64,21 +64,21 @@ pub enum Refusal {
     LawStep { place: usize },
     // 60: the last text is not the one sent; the place is the first byte that differs, or the shorter length
     TextSent { place: usize },
-    // 61: n is not 1 to 3, or another label or arrow than 0 is named
+    // 61: n is not 1 to 3, or a label or arrow other than 0 is named
     SmallSheets { place: usize },
-    // 62: a list of edits or the number of moves is out of its range
+    // 62: a list of edits or the number of moves is out of range
     GameRange { place: usize },
-    // 63: the table of names is wrong; the place is its first wrong token, or its length where one is missing
+    // 63: the table of names is wrong; the place is the first wrong token, or the table's length if a token is missing
     NameTable { place: usize },
     // 64: the words end where a token is wanted; the place is their length
     WordsEnd { place: usize },
-    // 65: a token that begins no such thing as is wanted; the place of this and the next four is the token
+    // 65: the token begins nothing of the sort wanted; the place of this and the next four is the token
     WordsStart { place: usize },
-    // 66: another token than the mark that is wanted
+    // 66: the token is not the mark wanted
     WordsMark { place: usize },
-    // 67: no name or count of the sort wanted, in its range
+    // 67: not a name or count of the sort wanted, or out of range
     WordsNumber { place: usize },
-    // 68: what the token begins would stand below level 32
+    // 68: the token begins something deeper than level 32
     WordsLevel { place: usize },
     // 69: a 33rd rule
     WordsRules { place: usize },
@@ -91,13 +91,13 @@ pub enum Answer {
     Refused(Refusal),
 }
 
-// The answer of a call that writes at the start of an output: how many bytes, or why none.
+// The answer of a call that writes at the start of an output: how many bytes it wrote, or why it wrote none.
 pub enum Written {
     Length(usize),
     Refused(Refusal),
 }
 
-// The number that document 01 gives a refusal.
+// The papers' number of a refusal.
 pub fn refusal_number(r: Refusal) -> usize
     ensures { λ x. ⌜ x ≡ refusalNumber r ⌝ }
 {
@@ -147,7 +147,7 @@ pub fn refusal_number(r: Refusal) -> usize
     }
 }
 
-// Its place.
+// The place of a refusal.
 pub fn refusal_place(r: Refusal) -> usize
     ensures { λ x. ⌜ x ≡ refusalPlace r ⌝ }
 {
@@ -197,7 +197,7 @@ pub fn refusal_place(r: Refusal) -> usize
     }
 }
 
-// The number that document 01 gives an answer, 0 for done.
+// The papers' number of an answer; 0 is done.
 pub fn number(a: Answer) -> usize
     ensures { λ x. ⌜ x ≡ answerNumber a ⌝ }
 {
@@ -207,7 +207,7 @@ pub fn number(a: Answer) -> usize
     }
 }
 
-// Its place, 0 for done.
+// The place of an answer; 0 for done.
 pub fn place(a: Answer) -> usize
     ensures { λ x. ⌜ x ≡ answerPlace a ⌝ }
 {

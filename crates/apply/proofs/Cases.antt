@@ -27,7 +27,7 @@ labelMade c g k v = relabel g k (λ i. labelOperation c (g .labelled k i) (v i))
 abbrev pub arrowMade : ℕ → Graph → ℕ → Pairs → Graph
 arrowMade c g a v = rejoin g a (λ i j. arrowOperation (arrowCode c) (g .joined a i j) (v i j))
 
--- A step 31 to 34: a number below a limit and an expression, of which the step makes a graph.
+-- A step 31 to 34: a number below a limit, an expression, and the graph that the step makes from them.
 pub record IsStep (r : Ranges) (text : List ℕ) (at : ℕ) (Z : Edit) (s : Sort) (limit : ℕ) (made : ℕ → Graph → ℕ → Value s → Graph) : Type 0 where
   pub number : ℕ
   pub what : Expr s

@@ -1,4 +1,4 @@
--- Step by step the buffer is the sheet of the graph so far, and what is left to do there is what was left before.
+-- After each step the buffer is the sheet of the graph so far, and what remains to be done there is what remained before.
 use mathlib.Core.Path.{_≡_, refl, sym, ap, ap₂, _∙_, subst}
 use mathlib.Core.Bool.{Bool, true, false, _&&_, cond}
 use mathlib.Core.List.{List}
@@ -35,7 +35,7 @@ use Rattle.apply.proofs.Cases.{labelMade, arrowMade, IsStep, IsChoose, 
 graph-again : (g : Graph) (t : List ℕ) → Within g → t ≡ store g → graphOf t ≡ g
 graph-again g t w e = ap graphOf e ∙ read-back g w
 
--- A sound sheet, once its n and its nodes are loaded, is ready.
+-- A sound sheet is ready once its n and its nodes are loaded.
 pub ready-first : (t : List ℕ) (n all : ℕ) → Bytes t → Sound t → n ≡ graphOf t .n → all ≡ setOf (graphOf t .n) (isNode (graphOf t)) → Ready t n all
 ready-first t n all small sound c a =
     let o = sound-is-stored present t small sound in
@@ -79,7 +79,7 @@ module _ (t : List ℕ) (n all : ℕ) (r : Ready t n all) where
       },
     )
 
-    -- 31 and 32: the words x of the label, e of the expression, y of what both make.
+    -- 31 and 32: the words x of the label, e of the expression, y of their combination.
     pub label-made : (q : IsStep (ranges n) edit at Z node labelCount labelMade) (x e y next : ℕ) (t′ : List ℕ) → x ≡ setOf (graphOf t .n) (graphOf t .labelled (getD edit (at + 1) 0))
         → ((E : Expr node) → Stands (ranges n) edit (at + 2) E → IsSet t n (at + 2) E e next) → y ≡ combined (labelOperation (getD edit at 0)) x e
         → ((v : Nodes) → y ≡ setOf (graphOf t .n) v → t′ ≡ store (relabel (graphOf t) (getD edit (at + 1) 0) v)) → Ready t′ n all × StepMade n edit at Z next t t′
@@ -91,7 +91,7 @@ module _ (t : List ℕ) (n all : ℕ) (r : Ready t n all) where
         ∙ combined-sets (labelOperation c) (cond-both (_≡ false) (eqb c 0x31) false false refl refl) (g .n) (g .labelled k) (value g E) (omega (arith, r .within .few-nodes)) in
         step-made labelCount labelMade (λ c g k v. (refl, refl)) q next t′ (f .ends) (put (λ i. labelOperation c (g .labelled k i) (value g E i)) u ∙ ap (λ (a : ℕ). store (labelMade c g a (value g E))) (q .reads))
 
-    -- 33 and 34: the rows of the arrow, of the expression, and what both make.
+    -- 33 and 34: the rows of the arrow, of the expression, and their combination.
     pub arrow-made : (q : IsStep (ranges n) edit at Z arrow arrowCount arrowMade) (c : ℕ) (old new rows : List ℕ) (next : ℕ) (t′ : List ℕ) → Rows n (graphOf t .joined (getD edit (at + 1) 0)) old
         → ((R : Expr arrow) → Stands (ranges n) edit (at + 2) R → IsRelation t n (at + 2) R new next) → c ≡ arrowCode (getD edit at 0)
         → ((v w : Pairs) → Rows n v old → Rows n w new → Rows n (λ i j. arrowOperation c (v i j) (w i j)) rows)

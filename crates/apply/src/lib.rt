@@ -1,4 +1,4 @@
-// Carrying out an edit in the sheet's buffer. Each step evaluates its expression whole on the sheet just before it, then writes
+// Carrying out an edit in the sheet's buffer. Each step evaluates its whole expression on the sheet just before it, then writes
 // its label or its rows and seals that one block: after each step the buffer is the sheet of the graph after that step.
 ghost use mathlib.Core.Path.{_≡_};
 ghost use Prim.Native.Nat.{_<_, _≤_};
@@ -20,7 +20,7 @@ use sheet::Sheet;
 use store::Store;
 use text::Text;
 
-// 31 and 32: the word of a label from the word x that it had and the word e of the expression.
+// 31 and 32: the new word of a label, from its old word x and the word e of the expression.
 fn changed_label(c: u8, x: u64, e: u64) -> u64
     ensures { λ r. ⌜ r ≡ combined (labelOperation c) x e ⌝ }
 {
@@ -39,7 +39,7 @@ fn arrow_code(c: u8) -> u8
 }
 
 // 31 and 32. Inner, as all up to `run_edit`: the sheet is sound with these n nodes, and an edit in range stands at `at`.
-// Each of them answers where the next step stands.
+// Each of them returns where the next step stands.
 fn label_step(sheet: &mut [u8], n: usize, all: u64, edit: &[u8], at: usize) -> usize
     requires { ⌜ Ready (now sheet) n all × SomeEditStands (ranges n) (now edit) at × (0x30 < getD (now edit) at 0) × (getD (now edit) at 0 ≤ 0x32) ⌝ }
     ensures { λ r. ⌜ Ready (now (sheet .exit)) n all × ((Z : Edit) → EditStands (ranges n) (now (edit .entry)) at Z → StepMade n (now (edit .entry)) at Z r (now (sheet .entry)) (now (sheet .exit))) ⌝ }
@@ -68,7 +68,7 @@ fn arrow_step(sheet: &mut [u8], n: usize, all: u64, edit: &[u8], at: usize) -> u
     next
 }
 
-// 35: P where its rule holds, else Q; the other is passed over.
+// 35: makes P if its rule holds, else Q, and skips the other.
 fn choose_step(sheet: &mut [u8], n: usize, all: u64, edit: &[u8], at: usize) -> usize
     requires { ⌜ Ready (now sheet) n all × SomeEditStands (ranges n) (now edit) at × (0x34 < getD (now edit) at 0) ⌝ }
     ensures { λ r. ⌜ Ready (now (sheet .exit)) n all × ((Z : Edit) → EditStands (ranges n) (now (edit .entry)) at Z → StepMade n (now (edit .entry)) at Z r (now (sheet .entry)) (now (sheet .exit))) ⌝ }
@@ -98,8 +98,8 @@ fn one_step(sheet: &mut [u8], n: usize, all: u64, edit: &[u8], at: usize) -> usi
     }
 }
 
-// The steps of an edit in their order, by a loop: the stack grows with the nesting of 35 alone, at most 31 deep.
-// Answers the place behind the edit.
+// The steps of an edit in order, by a loop: the stack grows only with the nesting of 35, at most 31 deep.
+// Returns the place after the edit.
 fn make_steps(sheet: &mut [u8], n: usize, all: u64, edit: &[u8], at: usize) -> usize
     requires { ⌜ Ready (now sheet) n all × SomeEditStands (ranges n) (now edit) at ⌝ }
     ensures { λ r. ⌜ Ready (now (sheet .exit)) n all × ((Z : Edit) → EditStands (ranges n) (now (edit .entry)) at Z → Made at Z r (now (sheet .entry)) (now (sheet .exit))) ⌝ }
@@ -111,7 +111,7 @@ fn make_steps(sheet: &mut [u8], n: usize, all: u64, edit: &[u8], at: usize) -> u
     p + 1
 }
 
-// Carries out the edit that stands at `at`; answers the place behind it. Inner: the sheet is sound, and the edit was read before.
+// Carries out the edit that stands at `at` and returns the place after it. Inner: the sheet is sound, and the edit was read before.
 pub fn run_edit(sheet: &mut [u8], edit: &[u8], at: usize) -> usize
     requires { ⌜ Sound (now sheet) × SomeEditStands (ranges (graphOf (now sheet) .n)) (now edit) at ⌝ }
     ensures { λ r. ⌜ Sound (now (sheet .exit)) × ((Z : Edit) → EditStands (ranges (graphOf (now (sheet .entry)) .n)) (now (edit .entry)) at Z → Made at Z r (now (sheet .entry)) (now (sheet .exit))) ⌝ }

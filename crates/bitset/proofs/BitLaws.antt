@@ -1,4 +1,4 @@
--- Bit j of what the machine's operations give.
+-- Bit j of the results of the machine's operations.
 use mathlib.Core.Path.{_≡_, refl, sym, ap, ap₂, _∙_}
 use mathlib.Core.Bool.{Bool, true, false, not, _&&_, _||_}
 use mathlib.Core.Logic.{_⊎_, inl, inr}
@@ -22,7 +22,7 @@ bit-digit : (b : Bool) → eqb (digit b) 1 ≡ b
 bit-digit true = refl
 bit-digit false = refl
 
--- an operation that commutes with a shift and with the lowest digit works on each bit, and so on words of 64
+-- an operation that commutes with a shift and with the lowest digit works bit by bit, and so on words of 64 bits
 module _ (op : ℕ → ℕ → ℕ) (f : Bool → Bool → Bool)
     (shifted : (a b k : ℕ) → op a b / 2 ^ k ≡ op (a / 2 ^ k) (b / 2 ^ k)) (lowest : (a b k : ℕ) → op a b % 2 ^ k ≡ op (a % 2 ^ k) (b % 2 ^ k))
     (small : (k a b : ℕ) → a < 2 ^ k → b < 2 ^ k → op a b < 2 ^ k) (one : (a b : Bool) → op (digit a) (digit b) ≡ digit (f a b)) where
@@ -43,7 +43,7 @@ digits op f x y z w false true = y
 digits op f x y z w true false = z
 digits op f x y z w true true = w
 
--- one and not the other
+-- exclusive or
 abbrev differ : Bool → Bool → Bool
 differ false b = b
 differ true b = not b

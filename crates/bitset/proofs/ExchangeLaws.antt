@@ -1,4 +1,4 @@
--- The six exchanges of blocks, one after the other, exchange rows and columns: by tests that are computed.
+-- The six exchanges of blocks, one after the other, transpose the matrix, by tests that are computed.
 use mathlib.Core.Path.{_≡_, refl, sym, ap, ap₂, _∙_}
 use mathlib.Core.Bool.{Bool, true, false, not, _&&_, cond, and-eq-true-iff}
 use mathlib.Core.List.{List}
@@ -39,7 +39,7 @@ blocks s m h l t u e = record {
   mask = e;
 }
 
--- the six that halve 64
+-- the six exchanges that halve 64
 pub record Six : Type 0 where
   pub of-32 : Blocks 32 0xffffffff
   pub of-16 : Blocks 16 0x0000ffff0000ffff
@@ -60,7 +60,7 @@ six =
       of-1 = blocks _ _ (lit< tt) (lit< tt) refl refl refl;
     }
 
--- a row or a column that comes from k stays below 64
+-- the row or column that k comes from is below 64
 moved-lt : (s k : ℕ) → k < 64 → (a b : Bool) → (a ≡ true → k + s < 64) → (cond a (cond b k (k + s)) (cond b (k - s) k) < 64) × (cond b (cond a k (k - s)) (cond a (k + s) k) < 64)
 moved-lt s k h true true f = (h, h)
 moved-lt s k h true false f = (f refl, f refl)
@@ -78,7 +78,7 @@ after {s} {a = a} {f = f} {g} B p q = record {
       ap (λ (x : ℕ). member x (fromColumn s i j)) (q .rows k r) ∙ member-setOf 64 (λ j. member (getD a (f k j) 0) (g k j)) (fromColumn s i j) c);
 }
 
--- where the bit of row i and column j comes from, all in all
+-- where the bit at row i and column j comes from after all exchanges
 abbrev from : ℕ → ℕ × ℕ → ℕ × ℕ
 from s p = (fromRow s (p .0) (p .1), fromColumn s (p .0) (p .1))
 

@@ -22,7 +22,7 @@ either-half : (x y n : Bool) → ((x && not n) || (y && n)) ≡ cond (not n) x y
 either-half x y true = rw (and-false x, and-true y)
 either-half x y false = rw (and-true x, and-false y) (or-false x)
 
--- a bit chosen is the bit of what is chosen
+-- choosing a bit is choosing the row and the column
 chosen : (x : Bool) (a : List ℕ) (i k j l : ℕ) → cond x (member (getD a i 0) j) (member (getD a k 0) l) ≡ member (getD a (cond x i k) 0) (cond x j l)
 chosen true a i k j l = refl
 chosen false a i k j l = refl
@@ -31,7 +31,7 @@ and-swap : (k y m : Bool) → (k && (y && m)) ≡ (y && (k && m))
 and-swap true y m = refl
 and-swap false y m = sym (and-false y)
 
--- bit j of a row that is put together
+-- bit j of a row that the code puts together
 module _ (x y s m : ℕ) (B : Blocks s m) (j : ℕ) (h : j < 64) where
   in-mask : (k : ℕ) → k < 64 → member m k ≡ lowHalf s k
   in-mask k l = ap (λ (w : ℕ). member w k) (B .mask) ∙ member-setOf 64 (lowHalf s) k l
@@ -56,7 +56,7 @@ module _ (x y s m : ℕ) (B : Blocks s m) (j : ℕ) (h : j < 64) where
       ∙ either-half (member x (j + s)) (member y j) (leb s j && lowHalf s (j - s))
       ∙ ap (λ (b : Bool). cond b (member x (j + s)) (member y j)) (sym in-low)
 
--- and the row
+-- and the whole row
 module _ (x y s m : ℕ) (B : Blocks s m) (hx : x < 2 ^ 64) (hy : y < 2 ^ 64) (hm : m < 2 ^ 64) where
   pub low-word : bitOr (bitAnd x m) (bitAnd y m * 2 ^ s % 2 ^ 64) ≡ setOf 64 (λ j. cond (lowHalf s j) (member x j) (member y (j - s)))
   low-word = is-setOf 64 _ _ (or-lt 64 _ _ (and-lt 64 x m hx hm) (mod-lt (bitAnd y m * 2 ^ s) (pow-pos 64))) (low-bit x y s m B)
@@ -66,7 +66,7 @@ module _ (x y s m : ℕ) (B : Blocks s m) (hx : x < 2 ^ 64) (hy : y < 2 ^ 64) (h
       is-setOf 64 _ _ (or-lt 64 _ _ (and-lt 64 (x / 2 ^ s) m (omega (arith, shr-le x s)) hm) (and-lt 64 y (m * 2 ^ s % 2 ^ 64) hy (mod-lt (m * 2 ^ s) (pow-pos 64))))
       (high-bit x y s m B)
 
--- the rows of a low half, and those behind them
+-- the rows of a low half, and those after them
 module _ {s m : ℕ} (B : Blocks s m) where
   behind-half : (i : ℕ) → i + s < 64 → lowHalf s (i + s) ≡ not (lowHalf s i)
   behind-half i h =
@@ -78,7 +78,7 @@ module _ {s m : ℕ} (B : Blocks s m) where
   low-none = record { low = λ i h l k. sym (Bool·not-not (lowHalf s i)) ∙ ap not (sym (B .halves i k) ∙ ap (_&& lowHalf s (i - s)) (lt-leb s i (omega arith))) }
 
   module _ (b : ℕ) (L : LowFrom s b) where
-    -- a low half that starts in the word has room for itself and as much again
+    -- a low half that starts within 64 leaves room for the high half after it
     pub low-room : b < 64 → b + s + s ≤ 64
     low-room h =
         let r : b + s < 64 = B .room b h (L .low b (omega arith) (omega (arith, B .some)) h) in
@@ -93,7 +93,7 @@ module _ {s m : ℕ} (B : Blocks s m) where
           ∙ Bool·not-not (lowHalf s (i - s - s)) ∙ L .low (i - s - s) (omega arith) (omega arith) (omega arith);
     }
 
-    -- what is exchanged with a row from b on is a row from b on
+    -- a row from b on is exchanged with a row from b on
     from-row-le : (i j : ℕ) → b ≤ i → i < 64 → b ≤ fromRow s i j
     unfolding fromRow
     from-row-le i j h l = go (lowHalf s i) (lowHalf s j) refl where
@@ -103,7 +103,7 @@ module _ {s m : ℕ} (B : Blocks s m) where
       go false true e = ⊎-elim (λ (k : i < b + s). absurd (true≢false (sym (L .low i h k l) ∙ e))) (λ (k : b + s ≤ i). omega arith) (below-or-not i (b + s))
       go false false e = h
 
--- What the loop over the rows of a low half has done up to row i.
+-- What the loop over the rows of a low half has done before row i.
 pub record Moving (b i s : ℕ) (a r : List ℕ) : Type 0 where
   pub low : (k : ℕ) → b ≤ k → k < i → getD r k 0 ≡ exchangedRow s a k
   pub high : (k : ℕ) → b ≤ k → k < i → getD r (k + s) 0 ≡ exchangedRow s a (k + s)
@@ -156,7 +156,7 @@ module _ {s m : ℕ} (B : Blocks s m) (b : ℕ) (L : LowFrom s b) (i : ℕ) (a r
         behind = λ k p. other k (λ y. omega (arith, B .some)) (λ y. omega arith) ∙ d .behind k (omega arith);
       }
 
--- What the loop over the low halves has done: the rows below b are exchanged, the others as they were.
+-- What the loop over the low halves has done: the rows below b are exchanged, the others unchanged.
 pub record Done (b s : ℕ) (a r : List ℕ) : Type 0 where
   pub below : (k : ℕ) → k < b → k < 64 → getD r k 0 ≡ exchangedRow s a k
   pub above : (k : ℕ) → b ≤ k → getD r k 0 ≡ getD a k 0

@@ -1,4 +1,4 @@
--- A set member by member: the lowest of them, and what is left without one.
+-- Sets member by member: the lowest member, and the set without it.
 use mathlib.Core.Path.{_≡_, refl, sym, ap, ap₂, _∙_, subst}
 use mathlib.Core.Bool.{true, false, true≢false, and-true}
 use mathlib.Core.Logic.{⊎-elim}
@@ -16,7 +16,7 @@ use Rattle.bitset.specs.Words.{digit, setOf, member}
 use Rattle.bitset.proofs.SetLaws.{setOf-lt, setOf-cong, setOf-member-lt, member-setOf, member-beyond}
 use Rattle.bitset.proofs.BitLaws.{below-or-not}
 
--- with its closing zeros divided out, a number is odd
+-- a number shifted right by its trailing zeros is odd
 first-digit : (d q : ℕ) → 0 < q → q < 2 ^ d → q / 2 ^ trailingZeros d q % 2 ≡ 1
 unfolding trailingZeros
 first-digit zero q h k = absurd (omega arith)
@@ -30,7 +30,7 @@ first-digit (suc d) q h k = go (q % 2) refl (λ (e : q % 2 ≡ 0). first-digit d
 pub first-member : (x : ℕ) → 0 < x → x < 2 ^ 64 → member x (trailingZeros 64 x) ≡ true
 first-member x h k = unfold member in eq-eqb _ 1 (first-digit 64 x h k)
 
--- before its lowest member a set has none
+-- a set has no members below its lowest
 before-first : (d q i : ℕ) → i < trailingZeros d q → q / 2 ^ i % 2 ≡ 0
 unfolding trailingZeros
 before-first zero q i h = absurd (omega arith)
@@ -43,14 +43,14 @@ before-first (suc d) q i h = go (q % 2) refl i h (before-first d (q / 2)) where
 pub none-before-first : (x i : ℕ) → i < trailingZeros 64 x → member x i ≡ false
 none-before-first x i l = unfold member in ne-eqb _ 1 (λ (z : x / 2 ^ i % 2 ≡ 1). omega (arith, before-first 64 x i l))
 
--- a member of a set of the nodes below n is below n
+-- a member of a set of nodes below n is below n
 pub member-small : (n x i : ℕ) → x < 2 ^ n → member x i ≡ true → i < n
 member-small n x i h e = ⊎-elim
     (λ (l : i < n). l)
     (λ (l : n ≤ i). absurd (true≢false (sym e ∙ ap (λ (y : ℕ). member y i) (sym (setOf-member-lt n x h)) ∙ member-beyond n (member x) i l)))
     (below-or-not i n)
 
--- the lowest digit of the word of a set is its lowest member
+-- the lowest bit of a set's word is its lowest member
 pub first-is-lowest : (n : ℕ) (v : Nodes) (x r : ℕ) → n ≤ 64 → x ≡ setOf n v → member x r ≡ true → r ≡ trailingZeros 64 x → IsLowest n v r
 first-is-lowest n v x r h e m t =
     let l = member-small n x r (subst (λ (y : ℕ). y < 2 ^ n) (sym e) (setOf-lt n v)) m in
@@ -71,7 +71,7 @@ setOf-leave (suc n) i p h e = ⊎-elim
     (λ (l : i < n). rw (ne-eqb n i (λ (z : n ≡ i). omega arith), and-true (p n)) (omega (arith, setOf-leave n i p l e)))
     (eq-or-lt-of-le (le-of-suc-le-suc h))
 
--- x & (x - 1) is x without its lowest digit
+-- x & (x - 1) is x without its lowest bit
 lowest-gone : (d x : ℕ) → 0 < x → x < 2 ^ d → bitAnd x (x - 1) + 2 ^ trailingZeros d x ≡ x
 unfolding trailingZeros
 lowest-gone zero x h k = absurd (omega arith)

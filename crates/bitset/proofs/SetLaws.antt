@@ -57,7 +57,7 @@ count-le (suc n) p = go (p n) (count-le n p) where
   go false h = omega arith
   go true h = omega arith
 
--- a set is empty when nothing is in it
+-- a set is empty when it has no members
 pub setOf-empty : (n : ℕ) (p : Nodes) → eqb (setOf n p) 0 ≡ not (anyBelow n p)
 unfolding setOf anyBelow
 setOf-empty zero p = refl
@@ -91,7 +91,7 @@ unfolding member
 top-bit n r false h = rw (high 0 n h)
 top-bit n r true h = rw (high 1 n h)
 
--- member i of x stands among the low n bits
+-- member i of x is among the low n bits
 pub member-low : (n i x : ℕ) → i < n → member (x % 2 ^ n) i ≡ member x i
 unfolding member
 member-low n i x h =
@@ -118,7 +118,7 @@ shl-one i h = shl-exact {a = 1} 1 i 64 (lit< tt) (omega arith) ∙ one-mul (2 ^ 
 pub test-member : (x i : ℕ) → eqb (bitAnd (x / 2 ^ i) 1) 1 ≡ member x i
 test-member x i = unfold member in ap (λ (y : ℕ). eqb y 1) (and-mask (x / 2 ^ i) 1)
 
--- a set grows by one digit: r |= d << n
+-- a set grows by one bit: r |= d << n
 pub setOf-more : (n : ℕ) (p : Nodes) (r d : ℕ) → n < 64 → r ≡ setOf n p → d ≡ digit (p n) → bitOr r (d * 2 ^ n % 2 ^ 64) ≡ setOf (n + 1) p
 unfolding setOf
 setOf-more n p r d h q e =
@@ -130,11 +130,11 @@ setOf-more n p r d h q e =
       small false = lit< tt
       small true = lit< tt
 
--- or stays, where the next digit is 0
+-- or stays the same if the next bit is 0
 pub setOf-same : (n : ℕ) (p : Nodes) (r : ℕ) → r ≡ setOf n p → p n ≡ false → r ≡ setOf (n + 1) p
 setOf-same n p r q e = unfold setOf in rw (add-one, e) (omega arith)
 
--- at a loop's end i is n
+-- at the loop's end i is n
 pub setOf-end : (n i : ℕ) (p : Nodes) (r : ℕ) → i ≤ n → n ≤ i → r ≡ setOf i p → r ≡ setOf n p
 setOf-end n i p r h l e = let q : i ≡ n = omega arith in e ∙ ap (λ (k : ℕ). setOf k p) q
 
@@ -146,7 +146,7 @@ unfolding setOf
 setOf-past zero i h = refl
 setOf-past (suc n) i h = rw (ne-eqb n i (λ e. omega arith), setOf-past n i (omega arith)) (omega arith)
 
--- the set of one member
+-- the set with one member
 pub setOf-only : (n i : ℕ) → i < n → setOf n (λ k. eqb k i) ≡ 2 ^ i
 unfolding setOf
 setOf-only zero i h = absurd (omega arith)
@@ -155,7 +155,7 @@ setOf-only (suc n) i h = ⊎-elim
     (λ (l : i < n). rw (ne-eqb n i (λ e. omega arith), setOf-only n i l) (omega arith))
     (eq-or-lt-of-le (le-of-suc-le-suc h))
 
--- A set of the nodes below n in a wider word.
+-- A set of nodes below n in a wider word.
 pub setOf-wide : (n m : ℕ) (p : Nodes) → n ≤ m → setOf m (λ i. ltb i n && p i) ≡ setOf n p
 unfolding setOf
 setOf-wide n zero p h = let e : n ≡ 0 = omega arith in ap (λ (k : ℕ). setOf k p) (sym e)
@@ -171,14 +171,14 @@ setOf-lowest n m h = setOf-cong m _ _ (λ i l. sym (and-true (ltb i n))) ∙ set
 pub member-beyond : (n : ℕ) (p : Nodes) (i : ℕ) → n ≤ i → member (setOf n p) i ≡ false
 member-beyond n p i h = unfold member in ap (λ (x : ℕ). eqb (x % 2) 1) (div-eq-of-lt (lt-of-lt-of-le (setOf-lt n p) (pow-mono h)))
 
--- The members of a word made of a set are the set's, below n.
+-- The members of a set's word are the set's members below n.
 pub member-of : (n : ℕ) (p : Nodes) (i : ℕ) → member (setOf n p) i ≡ (ltb i n && p i)
 member-of n p i = go (ltb i n) refl where
   go : (b : Bool) → ltb i n ≡ b → member (setOf n p) i ≡ (b && p i)
   go true e = member-setOf n p i (ltb-true i n e)
   go false e = member-beyond n p i (ltb-false i n e)
 
--- ONE law for every operation and width: what is combined of two words is combined of the sets.
+-- ONE law for every operation and width: combining two words combines their sets.
 pub combined-sets : (f : Bool → Bool → Bool) → f false false ≡ false → (n : ℕ) (p q : Nodes) → n ≤ 64 → combined f (setOf n p) (setOf n q) ≡ setOf n (λ i. f (p i) (q i))
 combined-sets f z n p q h =
     setOf-cong 64 _ (λ i. ltb i n && f (p i) (q i)) (λ i l. ap₂ f (member-of n p i) (member-of n q i) ∙ go (ltb i n) (p i) (q i))
@@ -187,6 +187,6 @@ combined-sets f z n p q h =
       go true x y = refl
       go false x y = z
 
--- so what two words have in common is counted in the sets
+-- so counting what two words have in common counts it in the sets
 pub common-sets : (n : ℕ) (p q : Nodes) → n ≤ 64 → countBelow 64 (λ i. member (setOf n p) i && member (setOf n q) i) ≡ countBelow n (λ i. p i && q i)
 common-sets n p q h = sym (ones-setOf 64 _) ∙ ap ones (combined-sets _&&_ refl n p q h) ∙ ones-setOf n _

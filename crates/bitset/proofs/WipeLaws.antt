@@ -11,7 +11,7 @@ zeros-more : (n : ℕ) → _++_ {A = ℕ} (replicate n 0) (0 ∷ []) ≡ replica
 zeros-more zero = refl
 zeros-more (suc n) = ap (0 ∷_) (zeros-more n)
 
--- one byte more wiped, and all
+-- one more byte wiped, and all
 pub wiped : (l : List ℕ) (i : ℕ) → i < length l → take i l ≡ replicate i 0 → take (i + 1) (set l i 0) ≡ replicate (i + 1) 0
 wiped l i h e = ap (λ x. take x (set l i 0)) (add-one i) ∙ take-suc-set l i 0 h ∙ ap (_++ (0 ∷ [])) e ∙ zeros-more i ∙ ap (λ x. replicate x 0) (sym (add-one i))
 

@@ -14,7 +14,7 @@ use Rattle.bitset.specs.Words.{Bytes, member, bytes, numberOf, wordAt, p
 use Rattle.bitset.proofs.SetLaws.{member-low, member-zero}
 use Rattle.bitset.proofs.BitLaws.{below-or-not, member-shr}
 
--- bytes of a number, and the number of bytes
+-- the bytes of a number, and the number of bytes
 
 pub length-bytes : (k x : ℕ) → length (bytes k x) ≡ k
 unfolding bytes
@@ -67,7 +67,7 @@ member-numberOf (b ∷ bs) small i = ⊎-elim first (later (member-numberOf bs (
 pub getD-eight : (l : List ℕ) (at j : ℕ) → j < 8 → getD (take 8 (drop at l)) j 0 ≡ getD l (at + j) 0
 getD-eight l at j h = getD-take 8 (drop at l) j 0 h ∙ getD-drop at l j 0
 
--- a part of bytes is bytes
+-- part of a list of bytes is a list of bytes
 pub part-small : (l : List ℕ) (size at : ℕ) → Bytes l → Bytes (take size (drop at l))
 part-small l size at small j = ⊎-elim
     (λ (b : j < size). omega (arith, getD-take size (drop at l) j 0 b, getD-drop at l j 0, small (at + j)))
@@ -113,7 +113,7 @@ module _ (l : List ℕ) (at x : ℕ) (h : at + 8 ≤ length l) where
         ∙ getD-append-add (take at l ++ bytes 8 x) (drop (at + 8) l) (i - (at + 8)) 0
         ∙ getD-drop (at + 8) l (i - (at + 8)) 0 ∙ ap (λ (k : ℕ). getD l k 0) f
 
-  -- a word beside it is as before
+  -- a word next to it is unchanged
   pub wordAt-other : (p : ℕ) → (p + 8 ≤ at) ⊎ (at + 8 ≤ p) → wordAt (putWord l at x) p ≡ wordAt l p
   unfolding wordAt
   wordAt-other p o =

@@ -1,4 +1,4 @@
--- Bytes of a word that are zero: its remainder or its quotient by a power of 256 is.
+-- Some bytes of a word are zero exactly when its remainder or quotient by a power of 256 is.
 use mathlib.Core.Path.{_≡_, refl, sym, ap, ap₂, _∙_}
 use mathlib.Core.List.{List, [], _∷_}
 use Prim.Native.Nat.{ℕ, zero, suc, _+_, _-_, _*_, _/_, _%_, _^_, _≤_, _<_}

@@ -1,4 +1,4 @@
-// Sets of nodes as u64, a u64 in 8 bytes, bytes made zero, and rows and columns of 64 words exchanged.
+// Sets of nodes as u64; a u64 in 8 bytes; bytes made zero; 64 words transposed.
 ghost use mathlib.Core.Path.{_≡_};
 ghost use mathlib.Core.Bool.{true, not, _&&_, _||_, cond};
 ghost use Prim.Native.Nat.{ℕ, _+_, _-_, _*_, _<_, _≤_};
@@ -9,7 +9,7 @@ ghost use Rattle.logic.specs.Graph.{countBelow};
 ghost use Rattle.bitset.specs.Words.{setOf, member, combined, wordAt, putWord};
 ghost use Rattle.bitset.specs.Transpose.{Transposed, lowHalf, fromRow, fromColumn, Blocks, LowFrom, Moved, MovedFrom};
 
-// Whether node i is in the set x. Inner: i is the number of a bit.
+// Whether node i is in the set x. Inner: i is below 64.
 pub fn member(x: u64, i: usize) -> bool
     requires { ⌜ i < 64 ⌝ }
     ensures { λ r. ⌜ r ≡ member x i ⌝ }
@@ -17,7 +17,7 @@ pub fn member(x: u64, i: usize) -> bool
     x >> i & 1 == 1
 }
 
-// The set of node i alone. Inner: i is the number of a bit.
+// The set of node i alone. Inner: i is below 64.
 pub fn only(i: usize) -> u64
     requires { ⌜ i < 64 ⌝ }
     ensures { λ r. ⌜ r ≡ setOf 64 (λ j. eqb j i) ⌝ }
@@ -25,7 +25,7 @@ pub fn only(i: usize) -> u64
     1 << i
 }
 
-// The set of the n lowest nodes. Inner: a sheet has fewer than 64, so that the shift stays in the word.
+// The set of the n lowest nodes. Inner: a sheet has fewer than 64 nodes, so the shift stays within the word.
 pub fn lowest(n: usize) -> u64
     requires { ⌜ n < 64 ⌝ }
     ensures { λ r. ⌜ r ≡ setOf 64 (λ j. ltb j n) ⌝ }
@@ -33,35 +33,35 @@ pub fn lowest(n: usize) -> u64
     (1 << n) - 1
 }
 
-// What is in x and in y.
+// The nodes in x and in y.
 pub fn both(x: u64, y: u64) -> u64
     ensures { λ r. ⌜ r ≡ combined _&&_ x y ⌝ }
 {
     x & y
 }
 
-// What is in x or in y.
+// The nodes in x or in y.
 pub fn either(x: u64, y: u64) -> u64
     ensures { λ r. ⌜ r ≡ combined _||_ x y ⌝ }
 {
     x | y
 }
 
-// What is in x and not in y.
+// The nodes in x and not in y.
 pub fn minus(x: u64, y: u64) -> u64
     ensures { λ r. ⌜ r ≡ combined (λ a b. a && not b) x y ⌝ }
 {
     x & (x ^ y)
 }
 
-// How many nodes are in x and in y.
+// How many nodes are in both x and y.
 pub fn count_common(x: u64, y: u64) -> u32
     ensures { λ r. ⌜ r ≡ countBelow 64 (λ i. member x i && member y i) ⌝ }
 {
     u64::count_ones(x & y)
 }
 
-// The lowest node of the set x. Inner: there is one, here and in `but_first`.
+// The lowest node of the set x. Inner: x is not empty; the same goes for `but_first`.
 pub fn first(x: u64) -> usize
     requires { ⌜ 0 < x ⌝ }
     ensures { λ r. ⌜ (member x r ≡ true) × (r < 64) × (r ≡ trailingZeros 64 x) ⌝ }
@@ -69,7 +69,7 @@ pub fn first(x: u64) -> usize
     u64::trailing_zeros(x) as usize
 }
 
-// The set x without its lowest node: the smaller number, so that a loop over the members ends.
+// The set x without its lowest node. It is the smaller number, so a loop over the members ends.
 pub fn but_first(x: u64) -> u64
     requires { ⌜ 0 < x ⌝ }
     ensures { λ r. ⌜ ((i : ℕ) → i ≡ trailingZeros 64 x → r ≡ setOf 64 (λ j. member x j && not (eqb j i))) × (r < x) ⌝ }
@@ -77,15 +77,15 @@ pub fn but_first(x: u64) -> u64
     x & (x - 1)
 }
 
-// A byte as a word. Inner: says beside its value that it is below 256.
+// A byte as a word, and the fact that it is below 256.
 fn wide(x: u8) -> u64
     ensures { λ r. ⌜ (r ≡ x) × (r < 256) ⌝ }
 {
     x as u64
 }
 
-// Four bytes from `at` on as a number, the lowest first. Inner: they are there.
-// Two of these make a word: of two halves the compiler makes one load of 8 bytes before it looks at what is done with the word.
+// Four bytes from `at` on as a number, the lowest first. Inner: the callers' bytes reach that far.
+// A word is made of two halves because the compiler then turns them into one load of 8 bytes, before it looks at how the word is used.
 fn half(s: &[u8], at: usize) -> u64
     requires { ⌜ at + 4 ≤ length (now s) ⌝ }
     ensures { λ r. ⌜ (r ≡ getD (now (s .entry)) at 0 + getD (now (s .entry)) (at + 1) 0 * 0x100 + getD (now (s .entry)) (at + 2) 0 * 0x10000 + getD (now (s .entry)) (at + 3) 0 * 0x1000000) × (r < 0x100000000) ⌝ }
@@ -96,7 +96,7 @@ fn half(s: &[u8], at: usize) -> u64
         + wide(s[at + 3]) * 0x100_0000
 }
 
-// The word in the 8 bytes from `at` on. Inner: they are there.
+// The word in the 8 bytes from `at` on. Inner: the callers' bytes reach that far.
 pub fn load(s: &[u8], at: usize) -> u64
     requires { ⌜ at + 8 ≤ length (now s) ⌝ }
     ensures { λ r. ⌜ r ≡ wordAt (now (s .entry)) at ⌝ }
@@ -104,7 +104,7 @@ pub fn load(s: &[u8], at: usize) -> u64
     half(s, at) + half(s, at + 4) * 0x1_0000_0000
 }
 
-// Puts x into the 8 bytes from `at` on. Inner: they are there.
+// Puts x into the 8 bytes from `at` on. Inner: the callers' bytes reach that far.
 pub fn store(s: &mut [u8], at: usize, x: u64)
     requires { ⌜ at + 8 ≤ length (now s) ⌝ }
     ensures { λ _. ⌜ now (s .exit) ≡ putWord (now (s .entry)) at x ⌝ }
@@ -130,7 +130,7 @@ pub fn wipe(s: &mut [u8])
     }
 }
 
-// A row in the low half of its blocks, from the row x there was and the row y that is s further on. Inner: m is the mask of s.
+// The new row in the low half of its block, from its old value x and the row y, which is s rows further on. Inner: m is the mask for s.
 fn low_row(x: u64, y: u64, s: usize, m: u64) -> u64
     requires { ⌜ Blocks s m ⌝ }
     ensures { λ r. ⌜ r ≡ setOf 64 (λ j. cond (lowHalf s j) (member x j) (member y (j - s))) ⌝ }
@@ -138,7 +138,7 @@ fn low_row(x: u64, y: u64, s: usize, m: u64) -> u64
     (x & m) | (y & m) << s
 }
 
-// A row in the high half, from the row x that is s before and the row y there was. Inner: m is the mask of s.
+// The new row in the high half, from the row x, which is s rows before, and its old value y. Inner: m is the mask for s.
 fn high_row(x: u64, y: u64, s: usize, m: u64) -> u64
     requires { ⌜ Blocks s m ⌝ }
     ensures { λ r. ⌜ r ≡ setOf 64 (λ j. cond (lowHalf s j) (member x (j + s)) (member y j)) ⌝ }
@@ -146,7 +146,7 @@ fn high_row(x: u64, y: u64, s: usize, m: u64) -> u64
     (x >> s & m) | (y & m << s)
 }
 
-// Exchanges blocks in the s rows from b on and the s rows behind them. Inner: m is the mask of s, and b starts a low half.
+// Exchanges blocks between the s rows from b on and the next s rows. Inner: m is the mask for s, and b starts a low half.
 fn exchange_rows(rows: &mut [u64], b: usize, s: usize, m: u64)
     requires { ⌜ Blocks s m × LowFrom s b × (b + s + s ≤ 64) × (length (now rows) ≡ 64) ⌝ }
     ensures { λ _. ⌜ MovedFrom b s (now (rows .entry)) (now (rows .exit)) × (length (now (rows .exit)) ≡ 64) ⌝ }
@@ -162,7 +162,7 @@ fn exchange_rows(rows: &mut [u64], b: usize, s: usize, m: u64)
     }
 }
 
-// Exchanges blocks of s rows and s columns in all 64 rows. Inner: m is the mask of s.
+// Exchanges blocks of s rows and s columns in all 64 rows. Inner: m is the mask for s.
 fn exchange_blocks(rows: &mut [u64], s: usize, m: u64)
     requires { ⌜ Blocks s m × (length (now rows) ≡ 64) ⌝ }
     ensures { λ _. ⌜ Moved (now (rows .entry)) (now (rows .exit)) (fromRow s) (fromColumn s) × (length (now (rows .exit)) ≡ 64) ⌝ }
@@ -174,7 +174,7 @@ fn exchange_blocks(rows: &mut [u64], s: usize, m: u64)
     }
 }
 
-// Exchanges rows and columns in place: by halves, then by quarters, and so on down to single bits. Inner: there are 64 rows.
+// Transposes the rows in place: by halves, then by quarters, and so on down to single bits. Inner: there are 64 rows.
 pub fn transpose(rows: &mut [u64])
     requires { ⌜ length (now rows) ≡ 64 ⌝ }
     ensures { λ _. ⌜ Transposed (now (rows .entry)) (now (rows .exit)) × (length (now (rows .exit)) ≡ 64) ⌝ }

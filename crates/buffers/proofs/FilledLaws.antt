@@ -24,17 +24,17 @@ unfolding filledFrom
 filled-more at [] v b = ap (λ (n : ℕ). sets b n v) (add-zero at)
 filled-more at (x ∷ u) v b = ap (λ (n : ℕ). sets (sets (set b at x) (suc at) u) n v) (let e : at + suc (length u) ≡ suc at + length u = omega arith in e) ∙ filled-more (suc at) u v (set b at x)
 
--- past the end nothing is stored
+-- outside the buffer nothing is stored
 pub filled-out : (at : ℕ) (bytes b : List ℕ) → length b ≤ at → filledFrom at bytes b ≡ b
 unfolding filledFrom
 filled-out at [] b h = refl
 filled-out at (x ∷ bytes) b h = filled-out (suc at) bytes (set b at x) (omega (arith, length-set b at x)) ∙ set-out b at x h
 
--- where the bytes fit, the rest of the buffer is unchanged
+-- if the bytes fit, the rest of the buffer is unchanged
 pub filled-at-start : (bytes b : List ℕ) → length bytes ≤ length b → filledFrom 0 bytes b ≡ writtenAtStart bytes b
 filled-at-start bytes b h = unfold filledFrom in sets-eq bytes b 0 (omega arith) ∙ ap (λ (n : ℕ). bytes ++ drop n b) (let e : 0 + length bytes ≡ length bytes = omega arith in e)
 
--- one byte more of those that are written
+-- one more of the bytes is written
 module _ (at : ℕ) (bytes b : List ℕ) (i : ℕ) (h : i < length bytes) where
   pub filled-next : {o : List ℕ} → o ≡ filledFrom at (take i bytes) b → set o (at + i) (getD bytes i 0) ≡ filledFrom at (take (i + 1) bytes) b
   filled-next {o} e =
@@ -45,7 +45,7 @@ module _ (at : ℕ) (bytes b : List ℕ) (i : ℕ) (h : i < length bytes) where
       ∙ filled-more at (take i bytes) (getD bytes i 0 ∷ []) b
       ∙ ap (λ l. filledFrom at l b) (sym (take-suc bytes i 0 h) ∙ ap (λ k. take k bytes) (sym (add-one i)))
 
-  -- the rest has no room
+  -- the rest does not fit
   pub filled-rest : {o : List ℕ} → o ≡ filledFrom at (take i bytes) b → length o ≤ at + i → o ≡ filledFrom at bytes b
   filled-rest {o} e k =
       let n : length (take i bytes) ≡ i = length-take i bytes ∙ (omega arith) in

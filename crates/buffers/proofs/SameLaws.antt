@@ -1,4 +1,4 @@
--- Words compared byte by byte; the first slot that is found.
+-- Comparing words byte by byte; the first slot that is found.
 use mathlib.Core.Path.{_≡_, refl, sym, _∙_, ap, ap₂}
 use mathlib.Core.Bool.{Bool, true, false, _&&_, and-false}
 use mathlib.Core.List.{[], _∷_}

@@ -1,4 +1,4 @@
--- Slots of one width; a word put into a slot stands there, and the other slots keep theirs.
+-- Slots of one width: a word put into a slot is there, and the other slots keep theirs.
 use mathlib.Core.Path.{_≡_, sym, _∙_, ap, subst}
 use mathlib.Core.List.{List, _∷_, _++_}
 use Prim.Native.Nat.{ℕ, suc, _+_, _*_, _-_, _≤_, _<_, min}
@@ -10,11 +10,11 @@ use lib.Seq.{length-take-le, take-append-seam, drop-append-add, getD-append-add,
 use Rattle.names.specs.Token.{Token}
 use Rattle.buffers.specs.Slots.{Slots, slotAt, putSlot}
 
--- A slot ends at the latest where the last one does.
+-- No slot ends after the last one.
 pub slot-end : (width count i : ℕ) → i < count → width * i + width ≤ width * count
 slot-end width count i h = subst (λ x. x ≤ width * count) (mul-suc width i) (mul-le-mul {n₂ = width} (omega arith) h)
 
--- Where there is a slot, slots are no more than bytes.
+-- If there is a slot, there are no more slots than bytes.
 pub slots-few : {width count : ℕ} {table : List ℕ} → Slots width count table → (i : ℕ) → i < count → count ≤ length table
 slots-few {width} {count} {table} s i h = le-trans (subst (λ x. x ≤ width * count) (one-mul count) (mul-le-mul {n₂ = width} (omega (arith, s .short i h)) (le-refl count))) (s .room)
 
@@ -51,7 +51,7 @@ slot-same width s t j e h f =
         ∙ f (width * j + 1 + x) (omega arith) (omega arith)
         ∙ sym (getD-take (getD t (width * j) 0) (drop (width * j + 1) t) x 0 l ∙ getD-drop (width * j + 1) t x 0)
 
--- A word put into a slot that is there, and into which it fits.
+-- A word put into a slot that exists and that it fits into.
 module _ (width : ℕ) (table : List ℕ) (i : ℕ) (word : Token) (room : width * i + width ≤ length table) (small : length word < width) where
   front : length (take (width * i) table) ≡ width * i
   front = length-take-le (width * i) table (omega arith)

@@ -1,4 +1,4 @@
--- Bytes written into a buffer from a place on, as far as there is room: one past its end is not stored.
+-- Bytes written into a buffer from a place on, as far as there is room: those outside the buffer are not stored.
 use mathlib.Core.List.{List}
 use Prim.Native.Nat.{ℕ}
 use lib.Seq.{sets}

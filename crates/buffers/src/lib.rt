@@ -6,7 +6,7 @@ ghost use Rattle.names.specs.Token.{same, firstBelow};
 ghost use Rattle.buffers.specs.Slots.{Slots, slotAt, putSlot, orBound};
 ghost use Rattle.buffers.specs.Filled.{filledFrom};
 
-// Are two words the same?
+// Whether two words are the same.
 pub fn same(a: &[u8], b: &[u8]) -> bool
     ensures { λ r. ⌜ r ≡ same (now (a .entry)) (now (b .entry)) ⌝ }
 {
@@ -23,7 +23,7 @@ pub fn same(a: &[u8], b: &[u8]) -> bool
     true
 }
 
-// The word in a slot. Inner: the slot is there, and its word fits into it.
+// The word in a slot. Inner: the table has the slot, and the word fits into it.
 pub fn slot(table: &[u8], width: usize, i: usize) -> &[u8]
     requires { ⌜ (width * i + width ≤ length (now table)) × (getD (now table) (width * i) 0 < width) ⌝ }
     ensures { λ r. ⌜ now r ≡ slotAt width (now (table .entry)) i ⌝ }
@@ -34,7 +34,7 @@ pub fn slot(table: &[u8], width: usize, i: usize) -> &[u8]
     &table[from..to]
 }
 
-// The first of `count` slots from number `base` on that holds the word, counted from `base`; `count` where none does. Inner: the slots are there.
+// The first of `count` slots from number `base` on that holds the word, counted from `base`; `count` if none does. Inner: the table has the slots.
 pub fn find(table: &[u8], width: usize, base: usize, count: usize, word: &[u8]) -> usize
     requires { ⌜ Slots width (base + count) (now table) ⌝ }
     ensures { λ r. ⌜ r ≡ orBound count (firstBelow (λ x. same (now (word .entry)) (slotAt width (now (table .entry)) (base + x))) count) ⌝ }
@@ -50,7 +50,7 @@ pub fn find(table: &[u8], width: usize, base: usize, count: usize, word: &[u8]) 
     count
 }
 
-// Writes bytes from a place on, as far as there is room, and says where they end. Inner: that place is a number.
+// Writes bytes from a place on, as far as there is room, and returns where they end. Inner: that place fits into a usize.
 pub fn put(output: &mut [u8], at: usize, bytes: &[u8]) -> usize
     requires { ⌜ at + length (now bytes) < 2 ^ 64 ⌝ }
     ensures { λ r. ⌜ r ≡ at + length (now (bytes .entry)) ⌝ }
@@ -68,7 +68,7 @@ pub fn put(output: &mut [u8], at: usize, bytes: &[u8]) -> usize
     at + bytes.len()
 }
 
-// Puts a word into a slot. Inner: the slot is there, and the word fits into it and has at most 255 bytes.
+// Puts a word into a slot. Inner: the table has the slot, and the word fits into it and has at most 255 bytes.
 pub fn put_slot(table: &mut [u8], width: usize, i: usize, word: &[u8])
     requires { ⌜ (width * i + width ≤ length (now table)) × (length (now word) < width) × (length (now word) < 256) ⌝ }
     ensures { λ _. ⌜ now (table .exit) ≡ putSlot width (now (table .entry)) i (now (word .entry)) ⌝ }

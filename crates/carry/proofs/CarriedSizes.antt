@@ -35,7 +35,7 @@ module _ (carried : List (Expr rule)) (out : List ℕ) where
   into-refused : (r : Refusal) → askSize carried (length out) ≡ refused (refusalNumber r) (refusalPlace r) → Into carried (Refused r) out out
   into-refused r e = record { answer-is = sym (then-ends e _); output-is = sym (after-ends e _ out) }
 
--- the questions of a length, a number of levels, the length needed and a room
+-- the questions about a length, a number of levels, the length needed and a room
 unfoldable pub sized : (len levels needed room : ℕ) → Asked (Unit {0})
 sized len levels needed room = (is (leb len longestCarried) 31 0 >> is (leb levels deepestCarried) 32 0) >> is (leb needed room) 33 needed
 

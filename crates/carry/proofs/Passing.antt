@@ -1,4 +1,4 @@
--- What the questions of a book and an edit say of their texts, and carry back by its questions.
+-- What the questions of a book and an edit mean for their texts, and carry back by its questions.
 use mathlib.Core.Path.{_≡_, refl, sym, ap, _∙_}
 use mathlib.Core.List.{List}
 use Prim.Native.Nat.{ℕ, _≤_}
@@ -29,7 +29,7 @@ module _ (n : ℕ) {t : List ℕ} where
   pub edit-passed : {Z : Edit} → askEdit (textLimits n) t ≡ passed Z → EditAt t 0 Z × (length t ≤ longestText)
   edit-passed {Z} h = let s = edit-is-spelled (textLimits n) t Z h in (record { limits = textLimits n .numbers; place = read-edit-stands (textLimits n) h }, s .short)
 
--- the bytes learned once the size has passed
+-- the resulting bytes once the size has passed
 length-of : (q : Asked (Unit {0})) (bytes : List ℕ) → (q >> passed (length bytes)) ≡ ((q >> passed bytes) >>= (λ b. passed (length b)))
 unfolding _>>_ _>>=_
 length-of (passed u) bytes = refl

@@ -13,19 +13,19 @@ unfoldable pub use Rattle.text.specs.Code.{bookLevels}
 use Rattle.text.specs.Reading.{longestCarried, deepestCarried, textLimits}
 use Rattle.text.specs.Questions.{askBook, askEdit}
 
--- 31 and 32 of a carried book.
+-- 31 and 32 for a carried book.
 unfoldable pub askCarried : List (Expr rule) → Asked (Unit {0})
 askCarried carried = do
   is (leb (length (bookCode carried)) longestCarried) 31 0
   is (leb (bookLevels carried) deepestCarried) 32 0
 
--- And 33: the room that there is for all of it.
+-- And 33: whether there is room for all of it.
 unfoldable pub askSize : List (Expr rule) → ℕ → Asked (Unit {0})
 askSize carried room = do
   askCarried carried
   is (leb (length (bookCode carried)) room) 33 (length (bookCode carried))
 
--- Carry back: book, then edit, with n as 60, then the size. What is learned are the bytes to write.
+-- Carry back: book, then edit, with n as 60, then the size. The result is the bytes to write.
 unfoldable pub askCarry : List ℕ → List ℕ → ℕ → Asked (List ℕ)
 askCarry bookText editText room = do
   book ← askBook (textLimits maxNodes) bookText
@@ -37,6 +37,6 @@ askCarry bookText editText room = do
 unfoldable pub carryAnswer : (book edit : List ℕ) (room : ℕ) → Asked ℕ
 carryAnswer book edit room = writtenLength (askCarry book edit room)
 
--- The output after it.
+-- The output afterwards.
 unfoldable pub carryOutput : (book edit output : List ℕ) → List ℕ
 carryOutput book edit output = writtenOutput (askCarry book edit (length output)) output

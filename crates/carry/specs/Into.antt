@@ -1,4 +1,4 @@
--- 31 to 33 asked of a carried book: the answer, and the output after it.
+-- 31 to 33 for a carried book: the answer, and the output afterwards.
 use mathlib.Core.Path.{_≡_}
 use mathlib.Core.List.{List}
 use Prim.Native.Nat.{ℕ}

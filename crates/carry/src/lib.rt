@@ -15,13 +15,13 @@ ghost use Rattle.carry.specs.Carrying.{carriedBook, carryAnswer, carryOu
 ghost use Rattle.carry.specs.Into.{Into};
 ghost use Rattle.text.specs.Reading.{longestText};
 
-// Bytes and levels of a carried book.
+// The most bytes and levels of a carried book.
 pub const LONGEST_CARRIED: usize = Text::LONGEST_CARRIED;
 
 pub const DEEPEST_CARRIED: usize = Text::DEEPEST_CARRIED as usize;
 
-// Carries a book back through an edit into an output: 31, 32, 33, and only then it is written, at the output's start.
-// The edit that is written with lacks the idle steps, which change nothing, so that none is passed more than once in vain.
+// Carries a book back through an edit into an output: asks 31, 32, 33, and only then writes, at the output's start.
+// It writes with the edit without its idle steps, which change nothing, so that no rule passes them in vain.
 // Inner: book and edit were read before.
 pub fn carry_into(book: &[u8], edit: &[u8], out: &mut [u8]) -> Written
     requires { ⌜ SomeBook (now book) × SomeEdit (now edit) 0 × (length (now edit) ≤ longestText) ⌝ }

@@ -35,7 +35,7 @@ module _ (carried steps sent : List ℕ) where
       let n : Asks ≡ refused (refusalNumber r) (refusalPlace r) = not-learned Asks (refusalNumber r) (refusalPlace r) (sym (ap asked e) ∙ s) in
       ap asked e ∙ sym (ap (_>>= (λ K. askChain K steps sent)) n)
 
--- The carried rule that was read, and what stands in the work text.
+-- The carried rule that was read, and what the work text holds.
 module _ (carried : List ℕ) (read : Learned (askRule (carriedLimits maxNodes) carried)) where
   abbrev K : Expr rule
   K = read .what
@@ -58,7 +58,7 @@ module _ (carried : List ℕ) (read : Learned (askRule (carriedLimits maxNodes) 
         range = spelled .within .numbers-fit;
       }
 
-  -- What the steps answered.
+  -- What the steps gave.
   module _ (steps sent : List ℕ) where
     chained : askCheck carried steps sent ≡ askSteps steps 0 K >>= (λ L. askSame (code L) sent 0)
     chained = unfold askCheck askChain _>>=_ in ap (_>>= (λ K. askChain K steps sent)) (read .is)

@@ -1,4 +1,4 @@
--- The text compared with the one sent, byte by byte.
+-- Comparing the text with the one sent, byte by byte.
 use mathlib.Core.Path.{_≡_, refl, ap, _∙_}
 use mathlib.Core.List.{List, [], _∷_}
 use Prim.Native.Nat.{ℕ, suc, _+_, _%_, _≤_, _<_}

@@ -1,4 +1,4 @@
--- Where the right side is found, a law's left side stands: so a step on the text is the step on the term.
+-- If the right side is found, a law's left side is there: so a step on the text is the step on the term.
 use mathlib.Core.Path.{_≡_, refl, sym, ap, ap₂, _∙_, subst}
 use mathlib.Core.List.{List, [], _∷_, _++_}
 use Prim.Native.Nat.{ℕ, _≤_, _<_}
@@ -31,7 +31,7 @@ use Rattle.check_steps.proofs.Tops.{Begun, begun-by}
 use Rattle.check_steps.proofs.StandsTwice.{top-at, same-again, contrary-of}
 use Rattle.check_steps.proofs.Lefts.{Makes, Plain, laws-make}
 
--- What the first byte says of the term where the right side is found, and the second of its first operand.
+-- What the first byte says about the term if the right side is found, and the second byte about its first operand.
 first-begun : {s : Sort} (x : Expr s) (B D : List ℕ) {n : ℕ} → Found (B ++ (textOf x ++ D)) (length B) n → Begun s (getD firstBytes n 0) x
 first-begun x B D f = begun-by x _ (sym (top-at B [] x D) ∙ ap (λ k. getD (B ++ (textOf x ++ D)) k 0) (add-zero (length B)) ∙ f .first-is)
 
@@ -59,7 +59,7 @@ module _ {s : Sort} (x : Expr s) (B D : List ℕ) {n : ℕ} (f : Found (B ++ (te
           e
           ∙ ap (build2 b E) (sym (same-again B (c ∷ []) E [] D F (λ z. opened .rest (sym (right-again _ (length B) n (plain .1) (plain .2) any) ∙ z)) (parts .0) (parts .1)))
 
--- A term where the right side of the law with a number is found is a left side of that law.
+-- A term for which the right side of the law with a number is found is a left side of that law.
 abbrev Left : {s : Sort} → ℕ → Law s → Type 0
 Left {s} n l =
     (x : Expr s) (B D : List ℕ) → InRange (ranges maxNodes) x → Found (B ++ (textOf x ++ D)) (length B) n → Begun s (getD firstBytes n 0) x → (v : Expr s) × (x ≡ l .left v)
@@ -91,7 +91,7 @@ no-arrow = unfold firstBytes in each-below (λ n. 0x11 ≤ getD firstBytes n 0 �
 first-low : (n : ℕ) → n < 9 → getD firstBytes n 0 < 128
 first-low = unfold firstBytes in each-below (λ n. getD firstBytes n 0 < 128) 9 (omega arith)
 
--- one number more
+-- one more number
 infixl 20 _▸_
 _▸_ : {A B : Type 0} → A → B → A × B
 a ▸ b = (a, b)

@@ -1,4 +1,4 @@
--- The steps made so far lead to the rule that stands in the work text.
+-- The steps made so far lead to the rule in the work text.
 use mathlib.Core.Path.{_≡_, refl, sym, ap, ap₂, _∙_}
 use mathlib.Core.List.{List, [], _∷_, _++_}
 use Prim.Native.Nat.{ℕ, suc, _+_, _*_, _-_, _≤_, _<_}
@@ -23,7 +23,7 @@ use Rattle.check_steps.proofs.Texts.{textOf}
 use Rattle.check_steps.proofs.LawFits.{step-text}
 use Rattle.check_steps.proofs.Leaving.{OfStep, of-step, leaves-length}
 
--- One step: where it does not fit, 59; else the rule that stands there then.
+-- One step: 59 if it does not fit; else the rule that is then there.
 pub record Turned (K : Expr rule) (at law : ℕ) : Type 0 where
   pub then : Expr rule
   pub made-is : makeStep law K at ≡ table.made then
@@ -55,7 +55,7 @@ module _ (K : Expr rule) (r : InRange (ranges maxNodes) K) (at law : ℕ) where
     go (table.made M) e o = absurd (omega (arith, o .1))
     go table.unfit e o = e
 
--- What the loop over the steps keeps: from every rule that may have stood in the work text.
+-- What the loop over the steps keeps, for every rule that may have been in the work text.
 pub record Reached (K : Expr rule) (steps work : List ℕ) (len p i : ℕ) : Type 0 where
   pub now-rule : Expr rule
   pub stands : RuleIs work len now-rule
@@ -79,7 +79,7 @@ module _ {work₀ : List ℕ} {len₀ : ℕ} {steps work : List ℕ} {len p i : 
       let r = l .leads K k in
       record { last = r .now-rule; asked = sym (r .asks) ∙ ap (λ t. askSteps t i (r .now-rule)) (drop-of-length-le steps h); stands = r .stands }
 
-  -- a step that is cut
+  -- a cut step
   pub leading-cut : p < length steps → length steps - p < 3 → (K : Expr rule) → RuleIs work₀ len₀ K → askSteps steps 0 K ≡ refused 59 i
   unfolding askSteps
   leading-cut h m K k =
@@ -101,7 +101,7 @@ module _ {work₀ : List ℕ} {len₀ : ℕ} {steps work : List ℕ} {len p i : 
   pub leading-room : (len ≤ length work) × (length text ≤ longestCarried)
   leading-room = let r = l .leads (l .some .what) (l .some .stands) .stands in (r .room, omega (arith, r .room, r .short, text-long r))
 
-  -- What a step that is whole leaves of the work text: it is as long, and the step fits or not.
+  -- What a whole step leaves of the work text: its length is unchanged, and the step fits or not.
   pub record Onward (left : List ℕ) (next : ℕ) : Type 0 where
     pub same-length : length (left ++ postOf 0 (len - 0) work) ≡ length work₀
     pub unfit : next ≡ 0 → (K : Expr rule) → RuleIs work₀ len₀ K → askSteps steps 0 K ≡ refused 59 i

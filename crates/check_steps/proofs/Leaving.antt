@@ -14,7 +14,7 @@ use Rattle.check_steps.specs.Raised.{width, behindAt, againAt, secondByt
 use Rattle.check_steps.proofs.Spans.{behind-in, again-in}
 use Rattle.check_steps.proofs.Sides.{contrary-none, contrary-other, contrary-found, right-4, right-5, right-again, right-next, found}
 
--- The right side lies in the text, behind the step's place.
+-- The right side is within the text, after the step's place.
 pub record Bounds (t : List ℕ) (at from : ℕ) : Type 0 where
   pub low : at ≤ from
   pub high : from < length t
@@ -77,7 +77,7 @@ module _ (t : List ℕ) (from law : ℕ) where
   pub byte-none : (law ≡ 4 → ⊥) → (law ≡ 5 → ⊥) → t ≡ withByte t from law
   byte-none n m = unfold withByte in cc (ne-eqb law 4 n, ne-eqb law 5 m)
 
-  -- the text with a byte put, or as it was
+  -- the text with a byte put, or unchanged
   byte-cases : (P : List ℕ → Type 0) → ((b : ℕ) → P (set t from b)) → P t → P (withByte t from law)
   unfolding withByte
   byte-cases P put left = go (eqb law 4) (eqb law 5) where

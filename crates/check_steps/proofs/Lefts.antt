@@ -20,7 +20,7 @@ use Rattle.check_steps.proofs.Tops.{text-some}
 use Rattle.check_steps.proofs.StandsTwice.{behind-term, byte-behind, again-there}
 use Rattle.check_steps.proofs.Leaving.{byte-none}
 
--- A step where the right side is found.
+-- A step if the right side is found.
 step-found : (t : List ℕ) (at law start : ℕ) → start ≡ rightAt t at law → 1 ≤ start → stepOn t at law ≡ made (take at t ++ drop start (withByte t start law))
 step-found t at law start e h = unfold stepOn in cc (ne-eqb start 0 (λ q. absurd (omega arith)))
 
@@ -28,7 +28,7 @@ step-found t at law start e h = unfold stepOn in cc (ne-eqb start 0 (λ q. absur
 abbrev pub Makes : {s : Sort} → ℕ → Law s → Type 0
 Makes {s} n l = (v : Expr s) (B D : List ℕ) → stepOn (B ++ (textOf (l .left v) ++ D)) (length B) n ≡ made (B ++ (textOf (l .right v) ++ D))
 
--- The laws that put no byte.
+-- The laws that do not put a byte.
 abbrev pub Plain : ℕ → Type 0
 Plain n = (n ≤ 8) × (n ≡ 4 → ⊥) × (n ≡ 5 → ⊥)
 
@@ -65,7 +65,7 @@ module _ {s : Sort} (v : Expr s) (B D : List ℕ) (n : ℕ) (plain : Plain n) wh
       place ∙ right-again (B ++ Y) at n (plain .1) (plain .2) any ∙ side-any (B ++ Y) at n long (plain .0) (getD-append-seam B c (X ++ (X ++ D)) 0 ∙ first) any in
       ap (λ z. stepOn (B ++ z) at n) is ∙ cut Y (suc (length X)) (omega arith) side ∙ ap (λ z. made (B ++ z)) (drop-at X (X ++ D) (length X) refl)
 
--- The laws that put a byte: the last of the left side becomes it.
+-- The laws that put a byte: the last byte of the left side becomes it.
 last-byte : (Q D : List ℕ) (start a : ℕ) → suc start ≡ length Q → drop start (set (Q ++ D) start a) ≡ a ∷ D
 last-byte Q D start a e =
     let there : start < length (Q ++ D) = omega (arith, length-append Q D) in

@@ -1,4 +1,4 @@
--- A term in a raised text: where a byte is below 128, a term begins.
+-- Terms in a raised text: where a byte is below 128, a term begins.
 use mathlib.Core.Path.{_≡_, refl, sym, ap, _∙_, subst}
 use mathlib.Core.List.{List, [], _∷_, _++_, append-nil}
 use Prim.Native.Nat.{ℕ, zero, suc, _+_, _-_, _≤_, _<_}
@@ -16,7 +16,7 @@ use Rattle.check_steps.proofs.Spans.{raised-length}
 use Rattle.check_steps.proofs.TermHeads.{Head, head-0, head-1, head-2}
 use Rattle.check_steps.proofs.Texts.{textOf, marks, numbers, length-marks, front, front-length, text-leaf, text-one, text-two}
 
--- no number is below 128
+-- a raised number is not below 128
 marks-high : (ns : List ℕ) (i : ℕ) → i < length ns → 128 ≤ getD (marks ns) i 0
 marks-high [] i h = absurd (omega arith)
 marks-high (x ∷ ns) zero h = omega arith

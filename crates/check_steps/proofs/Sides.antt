@@ -1,4 +1,4 @@
--- The right side of a law, in each case of the code, and what is known where it is found; and bytes moved down.
+-- The right side of a law in each case of the code, and what is known if it is found; and moving bytes down.
 use mathlib.Core.Path.{_≡_, sym, ap, ap₂, _∙_}
 use mathlib.Core.Bool.{cond}
 use mathlib.Core.List.{List, _++_}
@@ -63,7 +63,7 @@ module _ (t : List ℕ) (at law : ℕ) where
           pub side-both : getD t (at + 1) 0 ≡ getD secondBytes law 0 → rightOf t at law ≡ rightAt t at law
           side-both e = begins (cc (ne-eqb (getD secondBytes law 0) 0 fixed, eq-eqb (getD t (at + 1) 0) (getD secondBytes law 0) e))
 
--- What is known where the right side is found.
+-- What is known if the right side is found.
 pub record Found (t : List ℕ) (at n : ℕ) : Type 0 where
   pub known : n < 9
   pub room : at + 3 ≤ length t
@@ -86,7 +86,7 @@ found t at n h = go (decLt (length t) (at + 3)) (decLt 8 n) (ℕ-discrete (getD 
     go (no a) (no b) (yes c) (no d) (no e) = absurd (h (sym (side-second t at n (omega arith) (omega arith) c d e)))
     go (no a) (no b) (yes c) (no d) (yes e) = there (omega arith) (omega arith) c (λ q. e) (side-both t at n (omega arith) (omega arith) c d e)
 
--- Bytes moved down, some of them so far.
+-- Some of the bytes have been moved down.
 pub record Moving (t : List ℕ) (at from i : ℕ) (t′ : List ℕ) : Type 0 where
   pub some : i ≤ length t - from
   pub moved : t′ ≡ paste t at (drop from t) i

@@ -19,7 +19,7 @@ use Rattle.check_steps.specs.Raised.{numbersOf, operandsOf, nextNumbers,
 pub shape-none : (c : ℕ) → 40 ≤ c → 0 ≡ shapeOf c
 shape-none c h = unfold shapes in sym (List·getD-eq-default shapes 0 h)
 
--- One byte more.
+-- One more byte.
 pub after-number : (n w x : ℕ) → 0 < n → (n - 1 ≡ nextNumbers n x) × (x % 128 + 128 ≡ raisedByte n x) × (w ≡ nextWanted n w x)
 unfolding nextNumbers raisedByte nextWanted
 after-number zero w x h = absurd (omega arith)
@@ -35,7 +35,7 @@ unfolding raised
 raised-length n [] = refl
 raised-length n (x ∷ t) = ap suc (raised-length (nextNumbers n x) t)
 
--- The bytes before a place are raised; those from it on begin with so many numbers.
+-- The bytes before a place are raised; those from it on begin with n numbers.
 pub record Raising (text work₀ : List ℕ) (p n : ℕ) (work : List ℕ) : Type 0 where
   pub on : p ≤ length text
   pub written : work ≡ paste work₀ 0 (raised 0 text) p
@@ -72,7 +72,7 @@ pub record Passing (text : List ℕ) (at p n w : ℕ) : Type 0 where
   pub low : n ≤ 3
   pub ends : p + width n w (drop p text) ≡ behindAt text at
 
--- Where nothing is to come, the end is here.
+-- If nothing is to come, the end is here.
 pub width-none : (n w : ℕ) → n + w ≡ 0 → (t : List ℕ) → width n w t ≡ 0
 unfolding width
 width-none n w e [] = refl
@@ -100,7 +100,7 @@ module _ (text : List ℕ) (at : ℕ) where
         let turned : width n w (drop p text) ≡ suc (width m v (drop (p + 1) text)) = cc (drop-cons text p 0 l, ne-eqb (n + w) 0 some, add-one p) in
         omega (arith, r .from, r .few, r .ends, few-next n w (getD text p 0) (r .low))
 
--- An expression that stands once more.
+-- An expression that occurs again.
 module _ (text : List ℕ) (at gap end : ℕ) (is : end ≡ behindAt text at) where
   again-is : againAt text at gap ≡ cond (leb (end + gap + (end - at)) (length text) && alike text at (end + gap) (end - at)) (end + gap) 0
   again-is = unfold againAt in ap (λ z. cond (leb (z + gap + (z - at)) (length text) && alike text at (z + gap) (z - at)) (z + gap) 0) (sym is)
@@ -118,7 +118,7 @@ module _ (text : List ℕ) (at gap end : ℕ) (is : end ≡ behindAt text at) wh
     pub again-found : (i : ℕ) → i ≤ end - at → end - at ≤ i → alike text at (end + gap) i ≡ true → end + gap ≡ againAt text at gap
     again-found i h l e = sym (whole true (all-end (λ i. eqb (getD text (at + i) 0) (getD text (end + gap + i) 0)) (end - at) i h l e))
 
--- A place behind an expression is in the text.
+-- The place after an expression is within the text.
 width-in : (n w : ℕ) (t : List ℕ) → width n w t ≤ length t
 unfolding width
 width-in n w [] = omega arith
@@ -127,7 +127,7 @@ width-in n w (x ∷ t) = cond-both (λ z. z ≤ suc (length t)) (eqb (n + w) 0) 
 pub behind-in : (text : List ℕ) (at : ℕ) → at ≤ length text → behindAt text at ≤ length text
 behind-in text at h = omega (arith, width-in 0 1 (drop at text), length-drop at text)
 
--- A place found again lies in the text, and so does all that stands there.
+-- A place found again is within the text, and so is all of the expression there.
 pub record AgainIn (text : List ℕ) (at gap place : ℕ) : Type 0 where
   pub low : at + gap ≤ place
   pub room : place + (place - gap - at) ≤ length text

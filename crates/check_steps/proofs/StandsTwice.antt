@@ -1,4 +1,4 @@
--- A term that stands twice, some bytes between: the code finds it, and what the code finds is such a term.
+-- A term that occurs twice, with some bytes between: the code finds it, and what the code finds is such a term.
 use mathlib.Core.Path.{_≡_, refl, sym, ap, _∙_, subst}
 use mathlib.Core.List.{List, [], _∷_, _++_}
 use Prim.Native.Nat.{ℕ, _+_, _-_, _≤_, _<_}
@@ -22,7 +22,7 @@ use Rattle.check_steps.proofs.TermHeads.{head-1}
 use Rattle.check_steps.proofs.Texts.{textOf, text-one-then, width-text, lowered-append, lowered-text}
 use Rattle.check_steps.proofs.Tops.{top, text-some, begun-by}
 
--- A term behind the bytes B and h, and Z behind it.
+-- A term after the bytes B and h, with Z after it.
 module _ (B h : List ℕ) {s : Sort} (E : Expr s) (Z : List ℕ) where
   abbrev at : ℕ
   at = length B + length h
@@ -54,7 +54,7 @@ module _ (B h : List ℕ) {s : Sort} (E : Expr s) (Z : List ℕ) where
   again-place : (gap : ℕ) → (againAt t at gap ≡ 0 → ⊥) → againAt t at gap ≡ at + length (textOf E) + gap
   again-place gap nonzero = again-in t at gap (againAt t at gap) refl nonzero .is ∙ ap (_+ gap) behind-term
 
--- The bytes behind it and a gap G.
+-- The bytes after it and a gap G.
 module _ (B h : List ℕ) {s : Sort} (E : Expr s) (G : List ℕ) where
   abbrev n : ℕ
   n = length (textOf E)
@@ -65,7 +65,7 @@ module _ (B h : List ℕ) {s : Sort} (E : Expr s) (G : List ℕ) where
   byte-again : (Y : List ℕ) (i : ℕ) → getD (t B h E (G ++ Y)) (start + n + length G + i) 0 ≡ getD Y i 0
   byte-again Y i = cc (add-assoc (start + n) (length G) i, byte-behind B h E (G ++ Y) (length G + i), getD-append-add G Y i 0)
 
-  -- A term that stands twice is found,
+  -- A term that occurs twice is found,
   pub again-there : (D : List ℕ) → againAt (t B h E (G ++ (textOf E ++ D))) start (length G) ≡ start + n + length G
   again-there D =
       let Z : List ℕ = G ++ (textOf E ++ D) in
@@ -95,7 +95,7 @@ module _ (B h : List ℕ) {s : Sort} (E : Expr s) (G : List ℕ) where
         one-reading l (expr s) 1 E F (lowered (drop n Y)) (lowered D) (record { numbers-fit = r; levels-fit = omega arith }) (record { numbers-fit = q; levels-fit = omega arith })
         (cc (lowered-text E r, lowered-append (textOf E) (drop n Y), copied, take-append-drop n Y, lowered-append (textOf F) D, lowered-text F q))
 
--- c E F with F begun by 05, and E again behind that.
+-- c E F where F begins with 05 and then has E again.
 pub contrary-of : (B : List ℕ) (c : ℕ) (D : List ℕ) (E F : Expr node) → InRange (ranges maxNodes) E → InRange (ranges maxNodes) F
     → (contraryAt (B ++ (c ∷ (textOf E ++ (textOf F ++ D)))) (length B) ≡ 0 → ⊥) → F ≡ complement E
 unfolding InRange build1 head-1

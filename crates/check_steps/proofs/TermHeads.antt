@@ -15,7 +15,7 @@ use Rattle.ends.specs.Shapes.{shapes, shapeOf}
 use Rattle.ends.proofs.Formed.{shape-1, shape-2}
 use Rattle.check_steps.specs.Raised.{numbersOf, operandsOf}
 
--- A code, and as many numbers as it has; the code has so many operands.
+-- A code with all its numbers; the code has this many operands.
 pub record Head (h : List ℕ) (operands : ℕ) : Type 0 where
   pub byte : ℕ
   pub kinds : List (Kind × ℕ)
@@ -24,7 +24,7 @@ pub record Head (h : List ℕ) (operands : ℕ) : Type 0 where
   pub wants : operandsOf byte ≡ operands
   pub low : byte < 128
 
--- No byte beyond the table is a code.
+-- No byte outside the table is a code.
 pub low-byte : (c : ℕ) → (shapeOf c ≡ 0 → ⊥) → c < 128
 unfolding shapes
 low-byte c some = go (decLt c 128) where

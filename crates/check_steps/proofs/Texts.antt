@@ -72,7 +72,7 @@ module _ {h : List ℕ} {k : ℕ} (H : Head h k) where
       let numbers-over = width-numbers (numbersOf (H .byte)) (w + k) (marks numbers) z (length-marks numbers ∙ counted) in
       ap₂ (λ b v. cond b 0 (suc (width (numbersOf (H .byte)) v (marks numbers ++ z)))) (ne-eqb (0 + suc w) 0 (λ q. absurd (omega arith))) e ∙ omega (arith, numbers-over, front-length)
 
--- A text that goes on as if what follows stood alone.
+-- A text after which the rest reads as if it stood alone.
 abbrev Splits : List ℕ → Type 0
 Splits l = (z : List ℕ) → raised 0 (l ++ z) ≡ raised 0 l ++ raised 0 z
 
@@ -100,7 +100,7 @@ text-one b x = ap (raised 0) (code-1 b x) ∙ raised-head (head-1 b) (code x)
 pub text-two : {u v t : Sort} (b : Binary u v t) (x : Expr u) (y : Expr v) → textOf (build2 b x y) ≡ front (head-2 b) ++ (textOf x ++ textOf y)
 text-two b x y = ap (raised 0) (code-2 b x y) ∙ raised-head (head-2 b) (code x ++ code y) ∙ ap (front (head-2 b) ++_) (splits x (code y))
 
--- The same with a text behind.
+-- The same with a text after it.
 pub text-one-then : {u t : Sort} (b : Unary u t) (x : Expr u) (z : List ℕ) → textOf (build1 b x) ++ z ≡ front (head-1 b) ++ (textOf x ++ z)
 text-one-then b x z = ap (_++ z) (text-one b x) ∙ append-assoc (front (head-1 b)) (textOf x) z
 
@@ -144,7 +144,7 @@ low nodeNumber x h = omega (arith, ltb→lt x 60 h)
 low leastCount x h = omega (arith, leb→le x 60 (both-so (leb 1 x) (leb x 60) h .1))
 low mostCount x h = omega (arith, leb→le x 59 h)
 
--- so that raising and lowering it is nothing.
+-- so raising and then lowering it changes nothing.
 lower-numbers : (ns : List (Kind × ℕ)) → Fit (ranges maxNodes) ns → lowered (marks (map (λ n. n .1) ns)) ≡ map (λ n. n .1) ns
 lower-numbers [] f = refl
 lower-numbers (n ∷ ns) f = ap₂ _∷_ (let l = low (n .0) (n .1) (f .0) in omega arith) (lower-numbers ns (f .1))

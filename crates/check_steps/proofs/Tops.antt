@@ -1,4 +1,4 @@
--- The first byte of a term, and what a term is that a byte begins.
+-- The first byte of a term, and what kind of term a byte begins.
 use mathlib.Core.Path.{_≡_, refl, subst}
 use mathlib.Core.Bool.{cond}
 use Prim.Native.Nat.{ℕ, _≤_}
@@ -12,14 +12,14 @@ use Rattle.check_steps.specs.Raised.{raisedByte, raised}
 use Rattle.check_steps.proofs.Spans.{raised-length}
 use Rattle.check_steps.proofs.Texts.{textOf}
 
--- The first byte of a term: there is one.
+-- Every term has a first byte.
 pub text-some : {s : Sort} (e : Expr s) → 1 ≤ length (textOf e)
 text-some e = omega (arith, raised-length 0 (code e), code-some e)
 
 abbrev pub top : {s : Sort} → Expr s → ℕ
 top e = getD (textOf e) 0 0
 
--- What is known of a term begun by a byte: where the byte is a code in the laws, what the term is made of; else that it is one of the sort's codes.
+-- What is known about a term from its first byte: if a law has that code, what the term is made of; else that it is one of the sort's codes.
 abbrev pub Begun : (s : Sort) → ℕ → Expr s → Type 0
 Begun node c e =
     cond (eqb c 0x01) (e ≡ all)

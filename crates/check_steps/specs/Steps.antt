@@ -1,4 +1,4 @@
--- A rule in the work text, and what the steps make of it.
+-- A rule in the work text, and what the steps turn it into.
 use mathlib.Core.Path.{_≡_}
 use mathlib.Core.List.{List}
 use Prim.Native.Nat.{ℕ, _≤_}
@@ -13,7 +13,7 @@ use Rattle.check_steps.specs.declared.Outcome.{Outcome}
 use Rattle.check_steps.specs.declared.Outcome.the-variants.{Length, Unfit}
 use Rattle.check_steps.specs.Raised.{raised}
 
--- The first bytes of the work text are a rule, its numbers raised.
+-- The first bytes of the work text are a rule with its numbers raised.
 pub record RuleIs (work : List ℕ) (len : ℕ) (K : Expr rule) : Type 0 where
   pub is : take len work ≡ raised 0 (code K)
   pub room : len ≤ length work
@@ -24,7 +24,7 @@ pub record SomeRuleIs (work : List ℕ) (len : ℕ) : Type 0 where
   pub what : Expr rule
   pub stands : RuleIs work len what
 
--- The steps lead from K to the rule that stands in the work text; or the one with this number does not fit.
+-- The steps lead from K to the rule in the work text; or the step with this number does not fit.
 pub record Led (K : Expr rule) (steps work : List ℕ) (len : ℕ) : Type 0 where
   pub last : Expr rule
   pub asked : askSteps steps 0 K ≡ passed last

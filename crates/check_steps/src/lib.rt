@@ -1,4 +1,4 @@
-// Shorter conditions from a partner's tool (document 02, item 11): a carried rule is changed step by step, and compared with the text sent.
+// Shorter conditions from a partner's tool (item 11 of document 02): changes a carried rule step by step and compares it with the text sent.
 use answer::Answer;
 use answer::Refusal;
 use text::Text;
@@ -14,19 +14,19 @@ ghost use Rattle.check_steps.specs.Raised.{nextNumbers, raisedByte, rais
 ghost use Rattle.check_steps.specs.Steps.{RuleIs, SomeRuleIs, Stepped};
 ghost use Rattle.logic.specs.Syntax.{Expr, rule};
 
-// The first byte of each law's left side, by the law's number, and the second where it is fixed; 0 else.
+// The first byte of each law's left side, by the law's number; the second if it is fixed, else 0.
 const FIRST: [u8; 9] = [0, 0x05, 0x06, 0x07, 0x06, 0x07, 0x06, 0x27, 0x26];
 
 const SECOND: [u8; 9] = [0, 0x05, 0, 0, 0, 0x01, 0x01, 0x27, 0];
 
-// How a code goes on, 0 for a byte that is no code.
+// The shape of a code, 0 if the byte is not a code.
 fn shape_of(code: u8) -> usize
     ensures { λ r. ⌜ r ≡ shapeOf code ⌝ }
 {
     if code < 40 { ends::shape(code) } else { 0 }
 }
 
-// The numbers still to come behind a byte, where some are to come with it.
+// How many numbers are due after a byte, if `numbers` are due at it.
 fn next_numbers(numbers: usize, byte: u8) -> usize
     ensures { λ r. ⌜ r ≡ nextNumbers numbers byte ⌝ }
 {
@@ -37,15 +37,15 @@ fn next_numbers(numbers: usize, byte: u8) -> usize
     }
 }
 
-// What becomes of a byte: a number is raised by 128, so that it is not taken for a code.
+// What a byte becomes: a number is raised by 128, so that it is not taken for a code.
 fn raised_byte(numbers: usize, byte: u8) -> u8
     ensures { λ r. ⌜ r ≡ raisedByte numbers byte ⌝ }
 {
     if 0 < numbers { byte % 128 + 128 } else { byte }
 }
 
-// Writes a text at the work's start, its numbers raised.
-// Inner: there is room.
+// Writes a text at the work's start with its numbers raised.
+// Inner: callers leave room for it.
 fn raise_numbers(text: &[u8], work: &mut [u8])
     requires { ⌜ length (now text) ≤ length (now work) ⌝ }
     ensures { λ _. ⌜ now (work .exit) ≡ writtenAtStart (raised 0 (now (text .entry))) (now (work .entry)) ⌝ }
@@ -60,8 +60,8 @@ fn raise_numbers(text: &[u8], work: &mut [u8])
     }
 }
 
-// The expressions still wanted behind a byte: a code takes one from them, and adds its operands.
-// Inner: there are few.
+// The expressions still wanted after a byte: a code is one of them and adds its operands.
+// Inner: a text wants too few for the sum to overflow.
 fn next_wanted(numbers: usize, wanted: usize, byte: u8) -> usize
     requires { ⌜ (0 < numbers + wanted) × (wanted ≤ 65536) ⌝ }
     ensures { λ r. ⌜ r ≡ nextWanted numbers wanted byte ⌝ }
@@ -73,7 +73,7 @@ fn next_wanted(numbers: usize, wanted: usize, byte: u8) -> usize
     }
 }
 
-// The place behind the expression at `at`.
+// The place after the expression at `at`.
 // Inner: the work text has at most 16,384 bytes.
 fn behind(text: &[u8], at: usize) -> usize
     requires { ⌜ (at ≤ length (now text)) × (length (now text) ≤ longestCarried) ⌝ }
@@ -94,7 +94,7 @@ fn behind(text: &[u8], at: usize) -> usize
     p
 }
 
-// Where the expression at `at` stands once more, `gap` bytes behind its end; 0 where it does not.
+// Where the expression at `at` occurs again, `gap` bytes after its end; 0 if it does not.
 // Inner: the work text has at most 16,384 bytes, and a gap is 0 or 1.
 fn again(text: &[u8], at: usize, gap: usize) -> usize
     requires { ⌜ (at ≤ length (now text)) × (length (now text) ≤ longestCarried) × (gap ≤ 1) ⌝ }
@@ -116,8 +116,8 @@ fn again(text: &[u8], at: usize, gap: usize) -> usize
     second
 }
 
-// Where 06 E 05 E at `at` ends, less 1; 0 where it does not stand there.
-// Inner: the work text has at most 16,384 bytes, and E begins in it.
+// One less than the place where 06 E 05 E at `at` ends; 0 if the text does not have it there.
+// Inner: the work text has at most 16,384 bytes, and E begins within it.
 fn contrary(text: &[u8], at: usize) -> usize
     requires { ⌜ (at + 1 ≤ length (now text)) × (length (now text) ≤ longestCarried) ⌝ }
     ensures { λ r. ⌜ r ≡ contraryAt (now (text .entry)) at ⌝ }
@@ -132,7 +132,7 @@ fn contrary(text: &[u8], at: usize) -> usize
     second + (second - (at + 2)) - 1
 }
 
-// Where the right side of a law begins, if its first bytes stand at `at`; 0 where the left side does not stand there.
+// Where the right side of a law begins, if the law's first bytes are at `at`; 0 if the left side is not there.
 // Inner: the work text has at most 16,384 bytes, and the law is one of the eight.
 fn right_of(text: &[u8], at: usize, law: usize) -> usize
     requires { ⌜ (at + 3 ≤ length (now text)) × (length (now text) ≤ longestCarried) × (law ≤ 8) ⌝ }
@@ -150,7 +150,7 @@ fn right_of(text: &[u8], at: usize, law: usize) -> usize
     at + 2
 }
 
-// The same with the first bytes asked.
+// The same, with the first bytes checked.
 // Inner: the work text has at most 16,384 bytes.
 fn right_side(text: &[u8], at: usize, law: usize) -> usize
     requires { ⌜ (at ≤ 65535) × (length (now text) ≤ longestCarried) ⌝ }
@@ -174,7 +174,7 @@ fn right_side(text: &[u8], at: usize, law: usize) -> usize
     right_of(text, at, law)
 }
 
-// The text without the bytes from `at` up to `from`: those behind are moved down. Those at its end are left.
+// Cuts out the bytes from `at` up to `from` and moves those after them down. The bytes left over at the end stay.
 // Inner: both places are in the text.
 fn cut(text: &mut [u8], at: usize, from: usize)
     requires { ⌜ (at ≤ from) × (from ≤ length (now text)) ⌝ }
@@ -188,7 +188,7 @@ fn cut(text: &mut [u8], at: usize, from: usize)
     }
 }
 
-// Puts the byte that law 4 or 5 makes, at the place of its right side.
+// Puts the byte that law 4 or 5 makes at the start of its right side.
 // Inner: the place is in the text.
 fn put_byte(text: &mut [u8], from: usize, law: usize)
     requires { ⌜ from < length (now text) ⌝ }
@@ -203,7 +203,7 @@ fn put_byte(text: &mut [u8], from: usize, law: usize)
     }
 }
 
-// Makes a step and answers how long the text then is; 0 where the step does not fit.
+// Makes a step and returns the new length of the text; 0 if the step does not fit.
 // Inner: the work text has at most 16,384 bytes.
 fn make_step(text: &mut [u8], at: usize, law: usize) -> usize
     requires { ⌜ (at ≤ 65535) × (length (now text) ≤ longestCarried) ⌝ }
@@ -219,13 +219,13 @@ fn make_step(text: &mut [u8], at: usize, law: usize) -> usize
     text.len() - (from - at)
 }
 
-// How long the text is when all steps are made; or the first that is cut, unknown or does not fit.
+// The length of the text after all steps; or the first step that is cut, unknown or does not fit.
 pub enum Outcome {
     Length(usize),
     Unfit(usize),
 }
 
-// A step's offset, and its law's number, from its bytes.
+// A step's offset and its law's number, from its bytes.
 fn offset(low: u8, high: u8) -> usize
     ensures { λ r. ⌜ (r ≡ low + 256 * high) × (r ≤ 65535) ⌝ }
 {
@@ -238,8 +238,8 @@ fn law_number(byte: u8) -> usize
     byte as usize
 }
 
-// Makes the steps, one after the other. What stands in the work behind the text is of no account.
-// Inner: a rule stands in the work text.
+// Makes the steps one after the other. Work bytes after the text do not matter.
+// Inner: the work text begins with a rule of this length.
 fn make_steps(work: &mut [u8], length: usize, steps: &[u8]) -> Outcome
     requires { ⌜ SomeRuleIs (now work) length ⌝ }
     ensures { λ r. ⌜ ((K : Expr rule) → RuleIs (now (work .entry)) length K → Stepped K (now (steps .entry)) r (now (work .exit))) ⌝ }
@@ -264,7 +264,7 @@ fn make_steps(work: &mut [u8], length: usize, steps: &[u8]) -> Outcome
     Outcome::Length(len)
 }
 
-// Is the text, its numbers lowered, the one sent? 60.
+// Is the text, with its numbers lowered, the one sent? 60.
 fn compare(text: &[u8], sent: &[u8]) -> Answer
     ensures { λ r. ⌜ asked r ≡ askSame (lowered (now (text .entry))) (now (sent .entry)) 0 ⌝ }
 {
@@ -284,8 +284,8 @@ fn compare(text: &[u8], sent: &[u8]) -> Answer
     Answer::Done
 }
 
-// Is the text sent what the steps make of the carried rule? 11 to 16 of the rule, 59 of the steps, 60 of the text sent. The work text is on
-// the stack. At most 8,191 steps fit, and each moves down what stands behind it.
+// Is the text sent what the steps make of the carried rule? 11 to 16 for the rule, 59 for the steps, 60 for the text sent. The work text is on
+// the stack. At most 8,191 steps fit, and each moves down what follows it.
 pub fn check_steps(rule: &[u8], steps: &[u8], sent: &[u8]) -> Answer
     ensures { λ r. ⌜ asked r ≡ askCheck (now (rule .entry)) (now (steps .entry)) (now (sent .entry)) ⌝ }
 {

@@ -55,7 +55,7 @@ module _ (sheet book : List ℕ) (node : ℕ) where
       let read : askSheetAndBook sheet book ≡ passed rules = asked ∙ same in
       record { is-read = e; read = read; below = ltb-true node (graphOf sheet .n) below; sound = sheet-sound sheet book read; stand = rules-stand sheet book read }
 
-  -- The same of a sheet of bytes.
+  -- The same for a sheet of bytes.
   pub record AskPassed : Type 0 where
     pub rules : List (Expr rule)
     pub ready : Ready rules
@@ -82,7 +82,7 @@ module _ (sheet book : List ℕ) (node : ℕ) where
     open-stops = unfold askOpen openedSheet _>>=_ after in rw (e, refused-asked s e) (refl, refl)
 
   module _ {rules : List (Expr rule)} (q : Ready rules) where
-    -- the sheet is the same where the node is so already
+    -- the sheet is the same where the node is already so
     same-sheet : Bytes sheet → (used : Bool) → graphOf sheet .inUse node ≡ used → sheet ≡ store (setUse (graphOf sheet) node used)
     same-sheet small used e = sound-is-stored present sheet small (q .sound) .stored ∙ ap store (sym (use-same (graphOf sheet) node used e))
 

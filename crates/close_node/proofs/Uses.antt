@@ -1,4 +1,4 @@
--- A node put into the nodes in use or taken out of them: the word, the graph, and the sheet that was judged so.
+-- A node put into the nodes in use or taken out of them: the word, the graph, and the sheet judged with that change.
 use mathlib.Core.Path.{_≡_, refl, sym, ap, ap₂, _∙_, subst, fun-ext}
 use mathlib.Core.Bool.{Bool, true, false, not, _&&_, cond}
 use mathlib.Core.List.{List}
@@ -45,7 +45,7 @@ module _ (g : Graph) (i : ℕ) (used : Bool) (f : Bool → Bool → Bool) (there
         go k true e = there _ ∙ sym (ap (_&& used) (ap (λ (j : ℕ). ltb j (g .n)) (eqb-true k i e) ∙ lt-ltb i (g .n) l))
         go k false e = elsewhere _ ∙ twice (ltb k (g .n)) (g .inUse k)
 
--- A node that is so already; one put back.
+-- A node that is already so; one put back.
 pub use-same : (g : Graph) (i : ℕ) (used : Bool) → g .inUse i ≡ used → setUse g i used ≡ g
 unfolding update
 use-same g i used h = ap (withUse g) (fun-ext (λ x. go x (eqb x i) refl)) where

@@ -1,4 +1,4 @@
--- Closing then opening a node gives the sheet back, byte for byte, when both are done; and opening then closing it. proofs/Back proves it.
+-- Closing and then opening a node gives the sheet back, byte for byte, when both are done; so does opening and then closing it. proofs/Back proves it.
 use mathlib.Core.Path.{_≡_}
 use mathlib.Core.Bool.{true, false}
 use mathlib.Core.List.{List}

@@ -1,4 +1,4 @@
--- Of the inner functions: a node put into the nodes in use or taken out of them, and the graph so changed judged.
+-- For the inner functions: a node put into the nodes in use or taken out of them, and the changed graph judged.
 use mathlib.Core.Path.{_≡_}
 use mathlib.Core.Bool.{Bool}
 use mathlib.Core.List.{List}
@@ -17,7 +17,7 @@ use Rattle.judge.specs.Questions.{askRules}
 abbrev pub setUse : Graph → ℕ → Bool → Graph
 setUse g i used = withUse g (update (g .inUse) i used)
 
--- The rules were asked of the graph h; after done the sheet stores it, else it is as it was.
+-- The rules were evaluated on the graph h; after done the sheet stores it, else it is as it was.
 pub record Judged (rules : List (Expr rule)) (h : Graph) (answer : Answer) (sheet sheet′ : List ℕ) : Type 0 where
   pub answer-is : asked answer ≡ askRules h rules 0
   pub sheet-is : sheet′ ≡ after (askRules h rules 0) (λ u. store h) sheet

@@ -1,4 +1,4 @@
--- Closing and opening a node of a sheet under a book (item 6 of document 02): calls, no steps of an edit. "The order is sheet, book, range (7), 54, 41."
+-- Closing and opening a node of a sheet under a book (item 6 of document 02): calls, not steps of an edit. "The order is sheet, book, range (7), 54, 41."
 use mathlib.Core.Bool.{cond}
 use mathlib.Core.List.{List}
 use Prim.Native.Nat.{ℕ}
@@ -9,7 +9,7 @@ use Rattle.logic.specs.Closing.{closeNode, openNode, canClose}
 use Rattle.sheet.specs.Sheet.{store, graphOf}
 use Rattle.judge.specs.Questions.{askSheetAndBook, askRules}
 
--- Sheet, then book, then the node's number. What is learned are the rules.
+-- Sheet, then book, then the node's number. The result is the rules.
 unfoldable pub askNode : (sheet book : List ℕ) (node : ℕ) → Asked (List (Expr rule))
 askNode sheet book node = do
   rules ← askSheetAndBook sheet book
@@ -27,7 +27,7 @@ askOpen sheet book node = do
   rules ← askNode sheet book node
   cond (graphOf sheet .inUse node) (passed tt) (askRules (openNode (graphOf sheet) node) rules 0)
 
--- The sheet after it: after done the one that stores the graph with the node closed, or open; else as it was.
+-- The sheet afterwards: after done the one that stores the graph with the node closed, or open; else as it was.
 unfoldable pub closedSheet : (sheet book : List ℕ) (node : ℕ) → List ℕ
 closedSheet sheet book node = after (askClose sheet book node) (λ u. store (closeNode (graphOf sheet) node)) sheet
 

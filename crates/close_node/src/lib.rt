@@ -1,4 +1,4 @@
-// Closing and opening a node: calls, no steps of an edit. Both judge the sheet that they would leave, in its own buffer; a refusal puts
+// Closing and opening a node: calls, not steps of an edit. Both judge the sheet that they would leave, in the sheet's buffer; a refusal puts
 // the nodes in use back.
 ghost use mathlib.Core.Path.{_≡_};
 ghost use mathlib.Core.Bool.{not, _||_};
@@ -27,7 +27,7 @@ use logic::Node;
 use sheet::Sheet;
 use text::Text;
 
-// The word of the nodes in use with that node in it, or without it. Inner: the word is a graph's, and the node below its n.
+// The word of the nodes in use with that node, or without it. Inner: the word is a graph's, and the node is below its n.
 fn with_use(all: u64, node: Node, used: bool) -> u64
     requires { ⌜ node .0 < 64 ⌝ }
     ensures { λ r. ⌜ ((g : Graph) → g .n ≤ 64 → node .0 < g .n → all ≡ setOf (g .n) (isNode g) → r ≡ setOf (g .n) (update (g .inUse) (node .0) used)) ⌝ }
@@ -94,7 +94,7 @@ fn has_arrow(sheet: &[u8], node: Node) -> bool
     false
 }
 
-// 54: the node has no label and no arrow, and another one is in use.
+// 54: the node has no label and no arrow, and another node is in use.
 fn can_close(sheet: &[u8], node: Node) -> bool
     requires { ⌜ Sound (now sheet) × (node .0 < graphOf (now sheet) .n) ⌝ }
     ensures { λ r. ⌜ r ≡ canClose (graphOf (now (sheet .entry))) (node .0) ⌝ }
@@ -135,7 +135,7 @@ fn ask(sheet: &[u8], book: &[u8], node: usize) -> Answer
     Answer::Refused(Refusal::BitRange { place: 0 })
 }
 
-// 41 of the sheet with that node in use, or not; a refusal puts it back. Inner: it is not so before, a sheet can store it so, and the book was read.
+// 41 for the sheet with that node in use, or not; a refusal puts it back. Inner: that is a change, a sheet can store the result, and the book was read.
 fn judge_with(sheet: &mut [u8], book: &[u8], node: Node, used: bool) -> Answer
     requires { ⌜ Sound (now sheet)
         × (node .0 < graphOf (now sheet) .n)

@@ -1,4 +1,4 @@
--- The questions of counting, in order, by what the checks of book and edit answer and which names the texts have.
+-- The questions of counting, in order, by the answers about book and edit and the names in the texts.
 use mathlib.Core.Path.{_≡_, refl, sym, _∙_}
 use mathlib.Core.Bool.{Bool, true, false, _&&_, and-false, and-eq-true-iff}
 use mathlib.Core.List.{List}
@@ -26,7 +26,7 @@ use Rattle.count_small.specs.Counting.{TextsStand}
 use Rattle.count_small.proofs.NameWalks.{walk-rules, walk-whole-edit}
 
 module _ (n : ℕ) (book edit : List ℕ) where
-  -- 61 of n
+  -- 61 for n
   pub too-few : n < 1 → refused 61 0 ≡ outcome (askCount n book edit)
   too-few l = unfold askCount is _>>_ outcome in rw (lt-leb 1 n l)
 
@@ -52,7 +52,7 @@ module _ (n : ℕ) (book edit : List ℕ) where
             let s = edit-is-spelled (textLimits n) edit (E .what) (E .is) in
             rw (s .text-is) (sym (walk-whole-edit (textLimits n .numbers) (E .what) (s .within .numbers-fit)))
 
-        -- 61 of the names
+        -- 61 for the names
         pub names-asked : (x y : Bool) → walk 0 book ≡ x → walk 0 edit ≡ y → is (x && y) 61 0 ≡ outcome (askCount n book edit)
         unfolding askCount _>>=_ is _>>_ outcome
         names-asked x y p q = rw (le-leb 1 n some, le-leb n mostSmall few, B .is, E .is, book-names, edit-names, p, q) (last (x && y) _) where

@@ -31,7 +31,7 @@ few-bits (suc (suc (suc (suc n)))) l = absurd (omega arith)
 pub row-few : (n i : ℕ) → n ≤ mostSmall → i < n → n * i ≤ 9
 row-few n i l k = let h : i ≤ n = omega arith in omega (arith, few-bits n l .0, mul-le-mul-left n h)
 
--- n bits of x, from one on
+-- n bits of x, from a bit on
 pub part-is : (x from n low : ℕ) → n < 64 → low ≡ setOf 64 (λ j. ltb j n) → combined _&&_ (x / 2 ^ from) low ≡ setOf n (λ j. member x (from + j))
 part-is x from n low l e =
     setOf-cong 64 _ (λ j. ltb j n && member x (from + j)) (λ j k. ap (member (x / 2 ^ from) j &&_) (ap (λ (y : ℕ). member y j) e ∙ member-setOf 64 (λ i. ltb i n) j k)
@@ -45,7 +45,7 @@ label-is n x w e = unfold smallSheet in e ∙ setOf-cong n _ _ (λ j l. let z : 
 pub row-is : (n x i w : ℕ) → i < n → w ≡ setOf n (λ j. member x (n + n * i + j)) → w ≡ setOf n (smallSheet n x .joined 0 i)
 row-is n x i w k e = unfold smallSheet in e ∙ setOf-cong n _ _ (λ j l. ap (member x) (add-assoc n (n * i) j) ∙ sym (rw (lt-ltb i n k, lt-ltb j n l)))
 
--- One sheet more is counted.
+-- One more sheet is counted.
 pub tally-more : (x : ℕ) (before next : Nodes) → tallied (fourOf x before next) (before x) (next x) ≡ fourOf (x + 1) before next
 unfolding tallied fourOf countBelow
 tally-more x before next =

@@ -1,4 +1,4 @@
--- The counts that are answered: on graphs, what they total, and that those kept after the edit are those on which the carried rules hold.
+-- The counts in the answer: on graphs, their total, and that those kept after the edit are those on which the carried rules hold.
 use mathlib.Core.Path.{_≡_, refl, sym, ap, _∙_, subst}
 use mathlib.Core.Bool.{Bool, true, false, not, _&&_, cond}
 use mathlib.Core.List.{List}
@@ -21,7 +21,7 @@ use Rattle.count_small.proofs.Totals.{totals}
 use Rattle.count_small.proofs.ExactCounts.{SmallAnd, CountedGraphs, exactly, counted}
 use Rattle.count_small.proofs.CountStages.{found}
 
--- before or not, those with `next` are counted
+-- whatever `before` is, those with `next` are counted
 next-counted : (m : ℕ) (before next : Nodes) → countBelow m (λ x. before x && next x) + countBelow m (λ x. not (before x) && next x) ≡ countBelow m next
 unfolding countBelow
 next-counted zero before next = refl
@@ -47,7 +47,7 @@ module _ (n : ℕ) (book edit : List ℕ) (t : Texts) (is-read : askCount n book
   pub in-range : (1 ≤ n) × (n ≤ maxNodes)
   in-range = unfold outcome in let q = found n book edit (sym (ap outcome is-read)) in (q .some, omega (arith, q .few))
 
-  -- "each is the exact number by the definitions", on graphs; crate `promises`, Item12, says it of sheets
+  -- "each is the exact number by the definitions", on graphs; crate `promises`, Item12, says it for sheets
   pub counted-graphs : CountedGraphs n (t .rules) (t .edit) (countsOf n book edit)
   counted-graphs = subst (CountedGraphs n (t .rules) (t .edit)) (sym counts) (counted n (t .rules) (t .edit) (in-range .0) (in-range .1))
 

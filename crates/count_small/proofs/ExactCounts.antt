@@ -82,7 +82,7 @@ module _ (n : ℕ) (P : Graph → Bool) where
         all-those = λ g (s, p). let (x, l, e) = each-numbered n g s in listed-all (2 ^ bits n) g (x, l, e, p);
       }
 
--- The four counts are those numbers, by what is so of the book before and after.
+-- The four counts are those numbers, by whether the book holds before and after.
 abbrev pub SmallAnd : (n : ℕ) → (Graph → Bool) → Graph → Type 0
 SmallAnd n P g = Small n g × (P g ≡ true)
 

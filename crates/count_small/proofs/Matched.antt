@@ -1,4 +1,4 @@
--- As many as those that they are matched with, one to one.
+-- There are as many as of those they are matched with, one to one.
 use mathlib.Core.Path.{_≡_, refl, sym, _∙_, ap, subst}
 use mathlib.Core.Logic.{inl, inr}
 use mathlib.Core.List.{List, [], _∷_, map}
@@ -19,7 +19,7 @@ module _ {A B : Type 0} (f : A → B) where
   in-mapped (b ∷ l) a (inl e) = inl (ap f e)
   in-mapped (b ∷ l) a (inr i) = inr (in-mapped l a i)
 
-  -- where f tells apart what stands in the list
+  -- where f is one-to-one on the list
   mapped-once : (l : List A) → ((a b : A) → In a l → In b l → f a ≡ f b → a ≡ b) → Once l → Once (map f l)
   unfolding In Once
   mapped-once [] h o = tt

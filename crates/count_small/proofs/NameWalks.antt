@@ -43,7 +43,7 @@ shape-is : (c s : ℕ) → shapeOf c ≡ s → 0 < s → codeShape c ≡ s
 unfolding codeShape
 shape-is c s e l = ap (λ (b : Bool). cond b (shapeOf c) (cond (ltb c 0x31) 1 (cond (ltb c 0x35) 18 1))) (lt-ltb c 40 (code-low c (omega (arith, e)))) ∙ e
 
--- a code with as many numbers, none of them a name's
+-- a code with this many numbers, none of them a name's
 due-is : (c m k : ℕ) → m < 3 → k ≤ 2 → shapeOf c ≡ 1 + m + 4 * k → dueNext 0 c ≡ m
 unfolding dueNext
 due-is c m k l h e =

@@ -16,7 +16,7 @@ use Rattle.logic.proofs.Bools.{true-false}
 use Rattle.logic.proofs.Inside.{no-node}
 use Rattle.count_small.specs.Small.{Small, bits, smallSheet}
 
--- the bit of a pair is one of the bits, behind those of the nodes
+-- the bit of a pair is one of the bits, after those of the nodes
 pair-bit : (n i j : ℕ) → i < n → j < n → n + (n * i + j) < bits n
 pair-bit n i j l k = let row : n * suc i ≤ n * n = mul-le-mul-left n l in omega (arith, mul-suc n i)
 
@@ -27,7 +27,7 @@ pair-row n i j l k = let some : 0 < n = omega arith in mul-add-div some i j ∙ 
 pair-column : (n i j : ℕ) → j < n → (n * i + j) % n ≡ j
 pair-column n i j k = mul-add-mod-self-left n i j ∙ mod-eq-of-lt k
 
--- a bit behind those of the nodes is that of a pair
+-- a bit after those of the nodes is that of a pair
 bit-pair : (n p : ℕ) → 0 < n → n ≤ p → p < bits n → (i : ℕ) × (j : ℕ) × (i < n) × (j < n) × (p ≡ n + (n * i + j))
 bit-pair n p some l u =
     let q : ℕ = p - n in

@@ -1,5 +1,5 @@
--- An edit that names only label 0 and arrow 0 changes no other, so that it leaves a small sheet; and any small sheet becomes any other by its label 0 and
--- its arrow 0 alone.
+-- An edit that names only label 0 and arrow 0 changes no other, so it leaves a small sheet; and any small sheet becomes any other by changing only its
+-- label 0 and its arrow 0.
 use mathlib.Core.Path.{_≡_, refl, ap, _∙_}
 use mathlib.Core.Logic.{_≢_}
 use mathlib.Core.Bool.{Bool, true, false, _&&_, cond, and-eq-true-iff}
@@ -18,7 +18,7 @@ use Rattle.tree.specs.Tree.{tree}
 use Rattle.count_small.specs.Small.{Small, smallSheet}
 use Rattle.count_small.specs.Names.{onlyFirst, editOnlyFirst}
 
--- No label and no arrow but 0 differs.
+-- No label and no arrow except 0 differs.
 pub record SameOthers (g h : Graph) : Type 0 where
   pub labels : (k i : ℕ) → k ≢ 0 → h .labelled k i ≡ g .labelled k i
   pub arrows : (a i j : ℕ) → a ≢ 0 → h .joined a i j ≡ g .joined a i j
@@ -54,7 +54,7 @@ run-others (choose K P Q Z) o g =
     (cond-both (SameOthers g) (value g K) (run P g) (run Q g) (run-others P p g) (run-others Q q g))
     (run-others Z z _)
 
--- What such an edit leaves of a small sheet is one.
+-- Such an edit leaves a small sheet.
 pub small-after : (r : Ranges) (n : ℕ) (Z : Edit) (g : Graph) → EditInRange r Z → editOnlyFirst Z ≡ true → Small n g → Small n (run Z g)
 small-after r n Z g f o s =
     let q = run-others Z o g in
@@ -66,7 +66,7 @@ small-after r n Z g f o s =
       one-arrow = λ a i j e. q .arrows a i j e ∙ s .one-arrow a i j e;
     }
 
--- Its label 0 and its arrow 0 put, a small sheet is that of the number.
+-- With its label 0 and arrow 0 put, a small sheet is the one of that number.
 abbrev pub relabelledAs : ℕ → ℕ → Graph → Graph
 relabelledAs n x g = relabel g 0 (smallSheet n x .labelled 0)
 

@@ -32,7 +32,7 @@ use Rattle.count_small.proofs.Numbering.{number-small}
 use Rattle.count_small.proofs.Others.{relabelledAs, put-small, small-after}
 
 module _ (n : ℕ) where
-  -- of a small graph: its nodes, and that it has some
+  -- for a small graph: its nodes, and that it has some
   small-nodes : (g : Graph) → Small n g → (x i : ℕ) → isNode g i ≡ isNode (smallSheet n x) i
   small-nodes g s x i = unfold isNode smallSheet in ap (λ (m : ℕ). ltb i m && g .inUse i) (s .count) ∙ ap (ltb i n &&_) (s .all-in-use i)
 
@@ -95,7 +95,7 @@ module _ (n : ℕ) where
           let inside : PairsIn (relabelledAs n x g) v = record { starts = λ i j h. p .starts i j (sym (small-nodes (relabelledAs n x g) label-small x i) ∙ h); ends = λ i j h. p .ends i j (sym (small-nodes (relabelledAs n x g) label-small x j) ∙ h) } in
           put v (subst (λ (h : Graph). PairsIn h v) (sym q) inside) (subst (λ (k : ℕ). Rows k v rows) (sym m) r) ∙ ap (λ (h : Graph). store (rejoin h 0 v)) q ∙ ap store (put-small n x g (l .small))
 
-  -- The buffer holds small sheet x, and then what the edit leaves of it.
+  -- The buffer holds small sheet x, and then what the edit leaves there.
   module _ (some : 1 ≤ n) (few : n ≤ mostSmall) (x : ℕ) where
     number-is-small : Small n (smallSheet n x)
     number-is-small = number-small n x some (omega arith)

@@ -1,4 +1,4 @@
--- Of the inner functions: the sheet that is counted on, the texts, and one more sheet counted.
+-- For the inner functions: the sheet that is counted on, the texts, and one more sheet counted.
 use mathlib.Core.Path.{_≡_}
 use mathlib.Core.Bool.{Bool, true, not, _&&_, cond}
 use mathlib.Core.List.{List}
@@ -33,12 +33,12 @@ pub record SomeTextsStand (n : ℕ) (book edit : List ℕ) : Type 0 where
   pub what : Edit
   pub stand : TextsStand n book edit rules what
 
--- Of small sheet x: whether the rules hold before the edit, and after it.
+-- For small sheet x: whether the rules hold before the edit, and after it.
 pub record Turned (n x : ℕ) (rules : List (Expr rule)) (Z : Edit) (before next : Bool) : Type 0 where
   pub before-is : before ≡ holdAll (smallSheet n x) rules
   pub next-is : next ≡ holdAll (run Z (smallSheet n x)) rules
 
--- One sheet more.
+-- One more sheet counted.
 unfoldable pub tallied : Four → (before next : Bool) → Four
 tallied f before next =
     record {
@@ -48,7 +48,7 @@ tallied f before next =
       broken = cond (not before && not next) (f .broken + 1) (f .broken);
     }
 
--- There is room for one more of each.
+-- There is room for one more in each count.
 pub record Room (f : Four) : Type 0 where
   pub kept-room : f .kept < 4096
   pub lost-room : f .lost < 4096

@@ -1,4 +1,4 @@
--- "each is the exact number by the definitions": so many things are such.
+-- "each is the exact number by the definitions": exactly m things have a property.
 use mathlib.Core.Path.{_≡_}
 use mathlib.Core.Logic.{_⊎_}
 use mathlib.Core.List.{List, [], _∷_}
@@ -9,12 +9,12 @@ unfoldable pub In : {A : Type 0} → A → List A → Type 0
 In a [] = ⊥
 In a (b ∷ l) = (b ≡ a) ⊎ In a l
 
--- Nothing stands twice in a list.
+-- Nothing occurs twice in a list.
 unfoldable pub Once : {A : Type 0} → List A → Type 0
 Once [] = Unit {0}
 Once (a ∷ l) = (¬ In a l) × Once l
 
--- A list of m things, none twice, that has those of which P is so and no others.
+-- A list of m things, none twice, of exactly those that satisfy P.
 pub record Exactly {A : Type 0} (P : A → Type 0) (m : ℕ) : Type 0 where
   pub list : List A
   pub many : length list ≡ m

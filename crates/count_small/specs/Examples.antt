@@ -1,4 +1,4 @@
--- The marked case of item 12 and a case of our own with n = 2, on the bytes.
+-- The marked case of item 12 and one more with n = 2, on the bytes.
 use mathlib.Core.List.{List, [], _∷_}
 use Prim.Native.Nat.{ℕ}
 use Rattle.answer.specs.Asked.{Asked, refused, outcome}
@@ -12,7 +12,7 @@ allLabelled = 0x21 ∷ 0x01 ∷ 0x03 ∷ 0x00 ∷ []
 abbrev pub labelledGoOn : List ℕ
 labelledGoOn = 0x21 ∷ 0x03 ∷ 0x00 ∷ 0x08 ∷ 0x11 ∷ 0x00 ∷ 0x01 ∷ []
 
--- Arrow 0 from node 0 to node 1, then label 0 onto node 1.
+-- Adds arrow 0 from node 0 to node 1, then label 0 to node 1.
 abbrev pub joinAndLabel : List ℕ
 joinAndLabel = 0x33 ∷ 0x00 ∷ 0x17 ∷ 0x00 ∷ 0x01 ∷ 0x31 ∷ 0x00 ∷ 0x04 ∷ 0x01 ∷ 0x30 ∷ []
 

@@ -1,4 +1,4 @@
--- "when another label or arrow is named": whether every name in a text is label 0 or arrow 0, in steps that are taken and in those that are not.
+-- "when another label or arrow is named": whether every name in a text is label 0 or arrow 0, in steps that are made and in those that are not.
 use mathlib.Core.Bool.{Bool, true, _&&_}
 use mathlib.Core.List.{List, [], _∷_}
 use lib.Dec.{eqb}
@@ -16,7 +16,7 @@ unfoldable pub rulesOnlyFirst : List (Expr rule) → Bool
 rulesOnlyFirst [] = true
 rulesOnlyFirst (K ∷ rules) = onlyFirst (tree K) && rulesOnlyFirst rules
 
--- A step names its label or arrow too.
+-- A step names its label or arrow, too.
 unfoldable pub editOnlyFirst : Edit → Bool
 editOnlyFirst finish = true
 editOnlyFirst (addLabel k E Z) = eqb k 0 && (onlyFirst (tree E) && editOnlyFirst Z)

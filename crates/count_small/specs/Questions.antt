@@ -16,7 +16,7 @@ use Rattle.count_small.specs.Names.{rulesOnlyFirst, editOnlyFirst}
 abbrev pub mostSmall : ℕ
 mostSmall = 3
 
--- What is learned: the rules of the book, and the edit.
+-- The result of the questions: the rules of the book, and the edit.
 pub record Texts : Type 0 where
   pub rules : List (Expr rule)
   pub edit : Edit
@@ -29,7 +29,7 @@ askCount n book edit = do
   is (rulesOnlyFirst rules && editOnlyFirst Z) 61 0
   passed (record { rules = rules; edit = Z })
 
--- The four counts; 0 each after a refusal.
+-- The four counts after a refusal, each 0.
 abbrev pub noCounts : Four
 noCounts = record { kept = 0; lost = 0; repaired = 0; broken = 0 }
 

@@ -21,7 +21,7 @@ pub record Small (n : ℕ) (g : Graph) : Type 0 where
   pub one-label : (k i : ℕ) → k ≢ 0 → g .labelled k i ≡ false
   pub one-arrow : (a i j : ℕ) → a ≢ 0 → g .joined a i j ≡ false
 
--- A small sheet is said by so many bits: one for each node, whether it has label 0; one for each pair, whether arrow 0 joins it.
+-- How many bits give a small sheet: one for each node, whether it has label 0; one for each pair, whether arrow 0 joins it.
 abbrev pub bits : ℕ → ℕ
 bits n = n + n * n
 
@@ -35,7 +35,7 @@ smallSheet n x =
       joined = λ a i j. eqb a 0 && ((ltb i n && ltb j n) && member x (n + (n * i + j)));
     }
 
--- "book kept before and after, kept then broken, broken then kept, broken twice": of the sheets with numbers below `most`, by what is so of them
+-- "book kept before and after, kept then broken, broken then kept, broken twice": the sheets with numbers below `most`, by what holds of them
 -- before and after.
 unfoldable pub fourOf : (most : ℕ) (before next : ℕ → Bool) → Four
 fourOf most before next =

@@ -1,7 +1,6 @@
-// How many small sheets keep a book before and after an edit (item 12 of document 02). One sheet's buffer holds them all in turn: only label 0 and
-// arrow 0 differ, and the edit can change nothing else.
-//
-// Stack: the buffer, 8,704 bytes, beside what judging and carrying out an edit need.
+// How many small sheets keep a book before and after an edit (item 12 of document 02). One sheet's buffer holds them all, one after the other: only label 0
+// and arrow 0 differ, and the edit can change nothing else.
+// Stack: the buffer, 8,704 bytes, in addition to what judging and carrying out an edit need.
 ghost use mathlib.Core.Path.{_≡_};
 ghost use Rattle.answer.specs.Answers.{asked};
 ghost use Rattle.answer.specs.Asked.{outcome};
@@ -22,7 +21,7 @@ pub struct Four {
     pub broken: usize,
 }
 
-// What counting answers; the counts are 0 after a refusal.
+// The answer of counting; the counts are 0 after a refusal.
 pub struct Counts {
     pub answer: Answer,
     pub four: Four,
@@ -31,7 +30,7 @@ pub struct Counts {
 // The most nodes of a small sheet.
 const MOST_SMALL: usize = 3;
 
-// 61 of n, 11 to 16, 21 to 26, 61 of the names.
+// 61 for n, 11 to 16, 21 to 26, 61 for the names.
 fn ask(n: usize, book: &[u8], edit: &[u8]) -> Answer
     ensures { λ r. ⌜ asked r ≡ outcome (askCount n (now (book .entry)) (now (edit .entry))) ⌝ }
 {

@@ -1,12 +1,12 @@
-// Whether a text names only label 0 and arrow 0. Codes stand one behind the other, each with its numbers, so one walk over the bytes finds them all, in
-// steps that are taken and in those that are not.
+// Whether a text names only label 0 and arrow 0. Codes stand one after the other, each with its numbers, so one walk over the bytes finds them all, in
+// steps that are made and in those that are not.
 ghost use mathlib.Core.Path.{_≡_};
 ghost use Rattle.count_small.specs.Walk.{codeShape, dueNext, otherNamed, walk};
 
 // What is due at a byte: a code, a number before a code, two of them, or this, the number of a name.
 const NAME: usize = 3;
 
-// How a code goes on, as `ends` has it, and for the codes of edits.
+// How a code goes on, as in `ends`, and for the codes of edits.
 fn shape(code: u8) -> usize
     ensures { λ r. ⌜ r ≡ codeShape code ⌝ }
 {
@@ -21,7 +21,7 @@ fn shape(code: u8) -> usize
     }
 }
 
-// What is due behind a byte.
+// What is due after a byte.
 fn due_next(due: usize, byte: u8) -> usize
     ensures { λ r. ⌜ r ≡ dueNext due byte ⌝ }
 {

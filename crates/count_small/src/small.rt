@@ -1,4 +1,4 @@
-// The small sheets by their numbers, put into one buffer in turn, and counted.
+// The small sheets by their numbers, put into one buffer one after the other, and counted.
 // Inner, all of them: n is 1 to 3, book and edit were read with it, the edit names only label 0 and arrow 0, and the buffer holds a small sheet of n nodes.
 ghost use mathlib.Core.Path.{_≡_};
 ghost use mathlib.Core.List.{List};
@@ -31,7 +31,7 @@ pub fn none() -> Four
     }
 }
 
-// n bits of a number, from one of them on.
+// n bits of a number, starting at bit `from`.
 fn part(x: u64, from: usize, n: usize) -> u64
     requires { ⌜ (from < 64) × (n < 64) ⌝ }
     ensures { λ r. ⌜ r ≡ setOf n (λ j. member x (from + j)) ⌝ }
@@ -62,7 +62,7 @@ fn put_small(sheet: &mut [u8], n: usize, x: u64)
     Store::put_rows(sheet, Arrow(0), rows_of(x, n));
 }
 
-// Small sheet x, before the edit and after it. The edit is made in the buffer, which then holds another small sheet.
+// Judges small sheet x before the edit and after it. The edit is made in the buffer, which then holds another small sheet.
 fn turn(sheet: &mut [u8], n: usize, x: u64, book: &[u8], edit: &[u8]) -> Judged
     requires { ⌜ Loaded n (now sheet) × (1 ≤ n) × (n ≤ mostSmall) × SomeTextsStand n (now book) (now edit) ⌝ }
     ensures { λ r. ⌜ Loaded n (now (sheet .exit)) × ((rules : List (Expr rule)) (Z : Edit) → TextsStand n (now (book .entry)) (now (edit .entry)) rules Z → Turned n x rules Z (r .before) (r .next)) ⌝ }
@@ -74,7 +74,7 @@ fn turn(sheet: &mut [u8], n: usize, x: u64, book: &[u8], edit: &[u8]) -> Judged
     Judged { before, next }
 }
 
-// One sheet more in the counts. Inner: there is room.
+// Counts one more sheet. Inner: there is room.
 fn tally(four: Four, before: bool, next: bool) -> Four
     requires { ⌜ Room four ⌝ }
     ensures { λ r. ⌜ r ≡ tallied four before next ⌝ }
@@ -119,7 +119,7 @@ fn how_many(n: usize) -> u64
     1 << (n + n * n)
 }
 
-// Counts them all, the buffer being any of them first.
+// Counts them all; the buffer may hold any of them at first.
 pub fn count_all(sheet: &mut [u8], n: usize, book: &[u8], edit: &[u8]) -> Four
     requires { ⌜ Loaded n (now sheet) × (1 ≤ n) × (n ≤ mostSmall) × SomeTextsStand n (now book) (now edit) ⌝ }
     ensures { λ r. ⌜ ((rules : List (Expr rule)) (Z : Edit) → TextsStand n (now (book .entry)) (now (edit .entry)) rules Z → r ≡ fourCounts n rules Z) ⌝ }

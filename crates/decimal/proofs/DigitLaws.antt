@@ -1,4 +1,4 @@
--- Digits written from the last to the first, and what they say.
+-- Digits written from the last to the first, and the number that they say.
 use mathlib.Core.Path.{_≡_, refl, sym, _∙_, ap, ap₂}
 use mathlib.Core.List.{List, [], _∷_, _++_, append-assoc, append-nil}
 use Prim.Native.Nat.{ℕ, zero, suc, _+_, _*_, _-_, _/_, _%_, _≤_, _<_}
@@ -13,7 +13,7 @@ use Rattle.decimal.specs.Digits.{digits, said}
 pub none-written : (o : List ℕ) (n : ℕ) → digits (length o) n ++ drop (length o) o ≡ digits (length o) n
 none-written o n = ap (λ (l : List ℕ). digits (length o) n ++ l) (drop-length o) ∙ append-nil (digits (length o) n)
 
--- One digit more, before those written.
+-- One more digit, before those already written.
 module _ (o : List ℕ) (rest : ℕ) where
   written-at : (k : ℕ) → k < length o → drop k (set o k (48 + rest % 10)) ≡ (48 + rest % 10) ∷ drop (suc k) o
   written-at k h =
@@ -35,19 +35,19 @@ unfolding digits
 all-written o zero rest h e = e
 all-written o (suc k) rest h e = absurd (omega arith)
 
--- How many they are.
+-- How many digits there are.
 pub digits-length : (w n : ℕ) → length (digits w n) ≡ w
 unfolding digits
 digits-length zero n = refl
 digits-length (suc w) n = length-append (digits w (n / 10)) ((48 + n % 10) ∷ []) ∙ omega (arith, digits-length w (n / 10))
 
--- What they say: the number, where it has no more digits.
+-- They say the number, if it has no more digits than that.
 said-append : (n : ℕ) (a b : List ℕ) → said n (a ++ b) ≡ said (said n a) b
 unfolding said
 said-append n [] b = refl
 said-append n (d ∷ a) b = said-append (10 * n + (d - 48)) a b
 
--- What w digits leave out of a number.
+-- The part of a number that w digits leave out.
 unfoldable pub Left : ℕ → ℕ → ℕ
 Left zero n = n
 Left (suc w) n = Left w (n / 10)

@@ -1,4 +1,4 @@
--- The place behind an expression of any sort that stands in range.
+-- The place after an expression of any sort whose numbers are in range.
 use mathlib.Core.Path.{_≡_, sym, ap, _∙_}
 use mathlib.Core.List.{List, _++_}
 use Prim.Native.Nat.{ℕ, _+_}

@@ -21,7 +21,7 @@ use Rattle.ends.proofs.Formed.{formed-tree}
 use Rattle.ends.proofs.TreePlaces.{inside}
 use Rattle.ends.proofs.Behind.{size-code, stands-tree}
 
--- the code byte of an edit, and the number and the expression of its first step where that is 31 to 34
+-- the code byte of an edit, and the number and the expression of its first step if that is 31 to 34
 abbrev pub editTag : Edit → ℕ
 editTag finish = 0x30
 editTag (addLabel k E Z) = 0x31
@@ -83,7 +83,7 @@ edit-long text at Z h = omega (arith, within text at (editCode Z) (h .place .res
 pub edit-inside : (text : List ℕ) (at : ℕ) (Z : Edit) → EditAt text at Z → at < length text
 edit-inside text at Z h = omega (arith, edit-long text at Z h, code-pos Z)
 
--- what stands behind a part, at that place
+-- what follows a part, at that place
 pub from : (text : List ℕ) (at : ℕ) (h l : List ℕ) → drop at text ≡ h ++ l → (p : ℕ) → p ≡ at + length h → drop p text ≡ l
 from text at h l e p q = ap (λ (x : ℕ). drop x text) q ∙ behind text at h l e
 

@@ -1,4 +1,4 @@
--- The head of each code is as the table of shapes says, so that an expression in range is a formed tree.
+-- The head of each code is as the table of shapes says, so an expression in range is a formed tree.
 use mathlib.Core.Path.{refl}
 use mathlib.Core.Logic.{inl, inr}
 use native.Mathlib.Omega.{arith}

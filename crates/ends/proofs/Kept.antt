@@ -1,4 +1,4 @@
--- Lists that are the same below a place, and a copy made number by number.
+-- Lists that agree below a place, and a copy made number by number.
 use mathlib.Core.Path.{_≡_, sym, ap, _∙_}
 use mathlib.Core.List.{List}
 use Prim.Native.Nat.{ℕ, _+_, _≤_, _<_}

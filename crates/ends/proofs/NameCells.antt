@@ -1,4 +1,4 @@
--- The cells of names: 64 of them, and different names have different ones.
+-- The cells of names: there are 64, and different names have different cells.
 use mathlib.Core.Path.{_≡_, refl, sym, ap, ap₂, _∙_}
 use mathlib.Core.Bool.{Bool, true, false, cond}
 use mathlib.Core.Logic.{⊎-elim}
@@ -14,7 +14,7 @@ use Rattle.ends.specs.Shapes.{Named, labelCell, arrowCell, cell}
 use Rattle.ends.proofs.Kept.{elsewhere}
 use Rattle.logic.proofs.Bools.{true-false}
 
--- a label's and an arrow's
+-- the cell of a label and of an arrow
 pub cell-label : (c k : ℕ) → c ≡ 0x03 → cell c k ≡ labelCell k
 cell-label c k e = unfold cell in ap (λ (x : ℕ). cell x k) e
 
@@ -37,7 +37,7 @@ apart c k c′ k′ n m e q = let p = cell-inj c k c′ k′ n m q in true-false
 pub alike : (c k c′ k′ : ℕ) → same c k c′ k′ ≡ true → cell c′ k′ ≡ cell c k
 alike c k c′ k′ e = let p = same-eq c k c′ k′ e in ap₂ cell (sym (p .0)) (sym (p .1))
 
--- A number stored in the cell of a name, and read in that of any: A says what is read there, by whether the names are the same.
+-- A number stored in the cell of one name and read from that of another: A says what is read, by whether the names are the same.
 pub stored-name : (l : List ℕ) {c k i x : ℕ} (base : ℕ) → Named c k → i ≡ base + cell c k → i < length l → (A : ℕ → ℕ → Bool → ℕ) → x ≡ A c k true
     → (c′ k′ j : ℕ) → Named c′ k′ → j ≡ base + cell c′ k′ → getD l j 0 ≡ A c′ k′ false → getD (set l i x) j 0 ≡ A c′ k′ (same c′ k′ c k)
 stored-name l {c} {k} {i} {x} base n e r A f c′ k′ j n′ e′ g = go (same c′ k′ c k) refl where

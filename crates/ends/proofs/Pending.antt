@@ -1,4 +1,4 @@
--- An expression passed from left to right: what is still to come is a list of trees one behind the other, and a code takes one from it and
+-- An expression passed from left to right: what is still to come is a list of trees one after the other; a code is one of them and
 -- adds its operands.
 use mathlib.Core.Path.{_≡_, refl, sym, ap, _∙_, subst}
 use mathlib.Core.List.{List, [], _∷_, _++_, append-assoc, append-nil}
@@ -26,7 +26,7 @@ partsOf (leaf h) = []
 partsOf (one h x) = x ∷ []
 partsOf (two h x y) = x ∷ y ∷ []
 
--- texts of trees one behind the other
+-- the texts of trees one after the other
 unfoldable pub texts : (Tree → List ℕ) → List Tree → List ℕ
 texts g [] = []
 texts g (t ∷ ts) = g t ++ texts g ts
@@ -50,13 +50,13 @@ parts-formed (leaf h) more f m = m
 parts-formed (one h x) more f m = (f .1, m)
 parts-formed (two h x y) more f m = (f .1, (f .2, m))
 
--- each has a byte
+-- each has at least one byte
 few : (ts : List Tree) → All Formed ts → length ts ≤ length (texts treeCode ts)
 unfolding texts
 few [] f = omega arith
 few (t ∷ ts) f = omega (arith, few ts (f .1), size-pos t (f .0), size-is t, length-append (treeCode t) (texts treeCode ts))
 
--- what the table says of a tree
+-- what the table says about a tree
 record Shaped (t : Tree) (s : ℕ) : Type 0 where
   head : length (headOf t) ≡ s % 4
   on : 0 < s % 4
@@ -76,7 +76,7 @@ code-low c l = elim (decLt c 40) [ yes h ↦ h | no h ↦ (let g : 40 ≤ c = om
 pub code-at : (text : List ℕ) (at : ℕ) (t : Tree) → At text at t → getD text at 0 < 40
 code-at text at t h = code-low (getD text at 0) (omega (arith, shaped t (h .formed) (shapeOf (getD text at 0)) (tag-at text at t h) .on))
 
--- so many trees are wanted at p
+-- this many trees are wanted at p
 pub record Pending (text : List ℕ) (p wanted : ℕ) (parts : List Tree) : Type 0 where
   pub rest : List ℕ
   pub here : drop p text ≡ texts treeCode parts ++ rest
@@ -141,7 +141,7 @@ turn {text} {p} {wanted} {parts} v f s e =
       bytes-are = split;
     }
 
--- The place behind an expression: whatever stands at `at`, what is wanted at p ends where it ends.
+-- The place after an expression: whatever tree is at `at`, what is wanted at p ends where that tree ends.
 pub record To (text : List ℕ) (at p wanted : ℕ) (t : Tree) : Type 0 where
   pub parts : List Tree
   pub pending : Pending text p wanted parts

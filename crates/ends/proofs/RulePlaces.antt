@@ -38,7 +38,7 @@ pub record RulesLeft (book : List ℕ) (at : ℕ) (left : List (Expr rule)) : Ty
 pub all-left : {book : List ℕ} {rules : List (Expr rule)} → BookIs book rules → RulesLeft book 0 rules
 all-left b = record { limits = b .limits; range = b .range; here = b .is }
 
--- while bytes are left, a rule is
+-- if bytes are left, a rule is left
 pub record FirstLeft (book : List ℕ) (at : ℕ) (left : List (Expr rule)) : Type 0 where
   pub K : Expr rule
   pub others : List (Expr rule)

@@ -1,4 +1,4 @@
--- What stands in a text at the place of a tree.
+-- What a text has at the place of a tree.
 use mathlib.Core.Path.{_≡_, refl, sym, ap, _∙_}
 use mathlib.Core.List.{List, [], _∷_, _++_, append-assoc}
 use mathlib.Core.Logic.{⊎-elim}
@@ -15,7 +15,7 @@ byte-head : (text : List ℕ) (at : ℕ) (h l : List ℕ) → 0 < length h → d
 byte-head text at [] l p e = absurd (omega arith)
 byte-head text at (x ∷ h) l p e = byte-at text at x (h ++ l) e
 
--- what the table says of a tree's first byte
+-- what the table says about a tree's first byte
 abbrev pub tag : Tree → ℕ
 tag (name c k) = 18
 tag (leaf h) = length h
@@ -141,7 +141,7 @@ module _ (text : List ℕ) (at : ℕ) where
         room = omega (arith, fits text at (two l x y) h, inside text at (two l x y) h);
       }
 
-  -- the first operand of whatever has one
+  -- the first operand of any tree that has one
   pub record IsAny (t : Tree) : Type 0 where
     pub x : Tree
     pub first : At text (at + shapeOf (getD text at 0) % 4) x

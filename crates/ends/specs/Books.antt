@@ -9,7 +9,7 @@ use Rattle.text.specs.Code.{bookCode}
 use Rattle.text.specs.Questions.{mostRules}
 use Rattle.text.specs.Stands.{Stands, RulesInRange}
 
--- a rule whose numbers are in range stands in a text at a place, whatever the ranges
+-- A rule starts at this place of the text, with its numbers in some ranges.
 pub record RuleAt (text : List ℕ) (at : ℕ) (K : Expr rule) : Type 0 where
   pub limits : Ranges
   pub place : Stands limits text at K
@@ -18,7 +18,7 @@ pub record SomeRule (text : List ℕ) (at : ℕ) : Type 0 where
   pub what : Expr rule
   pub stands : RuleAt text at what
 
--- a text is a book of these rules
+-- The text is a book of these rules.
 pub record BookIs (book : List ℕ) (rules : List (Expr rule)) : Type 0 where
   pub limits : Ranges
   pub is : book ≡ bookCode rules

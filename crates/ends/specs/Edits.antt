@@ -8,7 +8,7 @@ use Rattle.logic.specs.Limits.{Ranges}
 use Rattle.text.specs.Code.{editCode}
 use Rattle.text.specs.Stands.{EditStands}
 
--- what follows the first step
+-- What follows the first step; what follows the first j steps.
 unfoldable pub behindStep : Edit → Edit
 behindStep finish = finish
 behindStep (addLabel k E Z) = Z
@@ -21,7 +21,7 @@ unfoldable pub behindSteps : ℕ → Edit → Edit
 behindSteps zero Z = Z
 behindSteps (suc j) Z = behindStep (behindSteps j Z)
 
--- an edit whose numbers are in range stands in a text at a place, whatever the ranges
+-- An edit starts at this place of the text, with its numbers in some ranges.
 pub record EditAt (text : List ℕ) (at : ℕ) (Z : Edit) : Type 0 where
   pub limits : Ranges
   pub place : EditStands limits text at Z
@@ -30,7 +30,7 @@ pub record SomeEdit (text : List ℕ) (at : ℕ) : Type 0 where
   pub what : Edit
   pub stands : EditAt text at what
 
--- a place is behind an edit's first step, or behind the edit
+-- `next` is the place after an edit's first step.
 pub record NextAt (text : List ℕ) (at : ℕ) (Z : Edit) (next : ℕ) : Type 0 where
   pub stands : EditAt text next (behindStep Z)
   pub ends : next + length (editCode (behindStep Z)) ≡ at + length (editCode Z)

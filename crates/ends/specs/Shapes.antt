@@ -1,4 +1,4 @@
--- How each code goes on: its length with its numbers, plus 4 for each operand, plus 16 for a name; 0 for no code of an expression.
+-- The shape of each code: its length with its numbers, plus 4 for each operand, plus 16 for a name; 0 if it is not a code of an expression.
 use mathlib.Core.Path.{_≡_}
 use mathlib.Core.List.{List, [], _∷_, _++_}
 use mathlib.Core.Bool.{cond}
@@ -18,18 +18,18 @@ shapes =
 abbrev pub shapeOf : ℕ → ℕ
 shapeOf c = getD shapes c 0
 
--- 03 k and 11 a
+-- 03 k and 11 a.
 abbrev pub Named : ℕ → ℕ → Type 0
 Named c k = ((c ≡ 0x03) × (k < 48)) ⊎ ((c ≡ 0x11) × (k < 16))
 
--- The 64 cells, a column for each label and each arrow kind in the tables of measuring and writing: a cell is of either sort on purpose.
+-- The 64 cells: the tables of measuring and writing have a column for each label and each arrow kind, so a cell may be of either sort.
 abbrev pub labelCell : ℕ → ℕ
 labelCell k = k
 
 abbrev pub arrowCell : ℕ → ℕ
 arrowCell a = labelCount + a
 
--- the cell of a name
+-- The cell of a name.
 unfoldable pub cell : ℕ → ℕ → ℕ
 cell c k = cond (eqb c 0x03) (labelCell k) (arrowCell k)
 
@@ -44,7 +44,7 @@ Formed (leaf h) = Head h 0
 Formed (one h x) = Head h 1 × Formed x
 Formed (two h x y) = Head h 2 × Formed x × Formed y
 
--- a tree stands in a text at a place
+-- A tree starts at this place of the text.
 pub record At (text : List ℕ) (at : ℕ) (t : Tree) : Type 0 where
   pub rest : List ℕ
   pub here : drop at text ≡ treeCode t ++ rest

@@ -1,5 +1,5 @@
-// Where expressions, steps and edits end, found from the code bytes alone: a table says of each code how long it is and how many operands follow.
-// At the end of the file: the 64 cells of names.
+// Where expressions, steps and edits end, found from the code bytes alone: a table gives each code's length and number of operands.
+// The end of the file has the 64 cells of names.
 ghost use mathlib.Core.Path.{_≡_};
 ghost use Prim.Native.Nat.{_+_, _<_};
 ghost use lib.ListN.{length, getD};
@@ -12,9 +12,9 @@ ghost use Rattle.ends.specs.Edits.{EditAt, SomeEdit, NextAt};
 use logic::Arrow;
 use logic::Label;
 
-// How each code goes on: the length of the code byte with its numbers, plus 4 for each operand, plus 16 for a name (03, 11); 0 for no code.
-// The table is in specs/Shapes.antt. One `match` with constants: the compiler makes it a table in read-only memory.
-// Inner: asks for a code of the table.
+// The shape of each code: the length of the code byte with its numbers, plus 4 for each operand, plus 16 for a name (03, 11); 0 if it is not a code.
+// The table is in specs/Shapes.antt. A single `match` with constants, which the compiler turns into a table in read-only memory.
+// Inner: callers pass a byte that is within the table.
 pub fn shape(code: u8) -> usize
     requires { ⌜ code < 40 ⌝ }
     ensures { λ r. ⌜ r ≡ shapeOf code ⌝ }
@@ -49,8 +49,8 @@ pub fn shape(code: u8) -> usize
     }
 }
 
-// The place behind the expression at `at`: each code takes one from the expressions that are wanted, and adds its operands.
-// Inner: the text was read before.
+// The place after the expression at `at`: each code is one of the expressions wanted and adds its operands to them.
+// Inner: callers have read the text before.
 pub fn past(text: &[u8], at: usize) -> usize
     requires { ⌜ Some (now text) at ⌝ }
     ensures { λ r. ⌜ ((t : Tree) → At (now (text .entry)) at t → r ≡ at + size t) ⌝ }
@@ -65,8 +65,8 @@ pub fn past(text: &[u8], at: usize) -> usize
     p
 }
 
-// The place behind the first step of the edit at `at`.
-// Inner: the text was read before.
+// The place after the first step of the edit at `at`.
+// Inner: callers have read the text before, and a step is there.
 pub fn next_step(text: &[u8], at: usize) -> usize
     requires { ⌜ SomeEdit (now text) at × (getD (now text) at 0 ≡ 0x30 → ⊥) ⌝ }
     ensures { λ r. ⌜ ((Z : Edit) → EditAt (now (text .entry)) at Z → NextAt (now (text .entry)) at Z r) ⌝ }
@@ -80,8 +80,8 @@ pub fn next_step(text: &[u8], at: usize) -> usize
     end_of(text, q)
 }
 
-// The place behind the edit at `at`.
-// Inner: the text was read before.
+// The place after the edit at `at`.
+// Inner: callers have read the text before.
 pub fn end_of(text: &[u8], at: usize) -> usize
     requires { ⌜ SomeEdit (now text) at ⌝ }
     ensures { λ r. ⌜ ((Z : Edit) → EditAt (now (text .entry)) at Z → r ≡ at + length (editCode Z)) ⌝ }
@@ -93,8 +93,8 @@ pub fn end_of(text: &[u8], at: usize) -> usize
     p + 1
 }
 
-// The cells: a column for each of the 64 names in the tables of measuring and writing, so that a cell stands for a label or an arrow on purpose.
-// A label comes to its own here, an arrow to its own, and no other function makes a cell of a number.
+// The cells: the tables of measuring and writing have a column for each of the 64 names, so a cell may be a label's or an arrow's.
+// Labels and arrows get their cells here only; no other function makes a cell from a number.
 fn label_cell(k: Label) -> usize
     ensures { λ r. ⌜ r ≡ labelCell (k .0) ⌝ }
 {
@@ -107,7 +107,7 @@ fn arrow_cell(a: Arrow) -> usize
     Label::COUNT as usize + a.0 as usize
 }
 
-// The cell of a name as it stands in a text, 03 k or 11 a: its code says of which sort the number is.
+// The cell of a name in a text, 03 k or 11 a: the code gives the sort of the number.
 pub fn cell_of(code: u8, number: u8) -> usize
     ensures { λ r. ⌜ r ≡ cell code number ⌝ }
 {
@@ -118,7 +118,7 @@ pub fn cell_of(code: u8, number: u8) -> usize
     }
 }
 
-// The code of the names that a step touches: it stands before the step's number where that is read as a name.
+// The code of the names that a step changes. With the step's number it makes the name.
 pub fn name_code(op: u8) -> u8
     ensures { λ r. ⌜ r ≡ touched op ⌝ }
 {

@@ -35,7 +35,7 @@ tails : {x y : List ℕ} {xs ys : List (List ℕ)} → x ∷ xs ≡ y ∷ ys →
 tails e = cc
 
 module _ (g : Graph) (n : ℕ) (book edit : List ℕ) (from : ℕ) (scratch₀ : List ℕ) where
-  -- Of the rules, those before `at` hold when carried, i of them; the rest is left.
+  -- Of the rules, those before `at` hold when carried, i of them; the rest are left.
   pub record Reached (at i : ℕ) (scratch : List ℕ) (rules : List (Expr rule)) (Z : Edit) : Type 0 where
     pub left : List (Expr rule)
     pub stand : RulesStand (ranges n) book at (length book) left
@@ -60,7 +60,7 @@ module _ (g : Graph) (n : ℕ) (book edit : List ℕ) (from : ℕ) (scratch₀ :
     scratch-same = refl;
   }
 
-  -- While bytes of the book are left, a rule is.
+  -- While bytes of the book are left, so is a rule.
   pub record Next (at i : ℕ) (scratch : List ℕ) (rules : List (Expr rule)) (Z : Edit) : Type 0 where
     pub K : Expr rule
     pub stands : Stands (ranges n) book at K

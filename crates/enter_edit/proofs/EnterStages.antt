@@ -36,11 +36,11 @@ both-read {s} {b} k =
     record { is = h .text-is; range = rules-in-range l (k .rules) (h .rules); few = h .few; stands = read-edit-stands l (k .steps-are) }
 
 module _ (s b e scratch : List ℕ) where
-  -- What enter answers and leaves, as its contract says.
+  -- What enter answers and leaves, by its contract.
   abbrev pub Left : Answer → List ℕ → List ℕ → Type 0
   Left a s′ scratch′ = (asked a ≡ enterAnswer s b e (length scratch)) × ((s′ ≡ enterSheet s b e (length scratch)) × (scratch′ ≡ enterScratch s b e scratch))
 
-  -- A refusal before 41 leaves all as it was: of sheet or book, or of the edit.
+  -- A refusal before 41 leaves everything as it was: for sheet or book, or for the edit.
   pub book-stops : {a : Answer} {r : Refusal} → askSheetAndBook s b ≡ refused (refusalNumber r) (refusalPlace r) → a ≡ Refused r → Left a s scratch
   book-stops q p = unfold enterSheet enterScratch askEnter askBefore41 after outcome _>>=_ in rw (p, q) (refl, (refl, refl))
 
@@ -49,7 +49,7 @@ module _ (s b e scratch : List ℕ) where
   edit-stops h q p = unfold enterSheet enterScratch askEnter askBefore41 after outcome _>>=_ in rw (p, h, q) (refl, (refl, refl))
 
   module _ (k : AllRead s b e) {a : Answer} {scratch′ : List ℕ} (j : Singly (graphOf s) (carriedBook (k .steps) (k .rules)) a scratch scratch′) where
-    -- All has been asked: the sheet is as the answer says.
+    -- All questions have been asked: the sheet is as the answer says.
     ends : (s′ : List ℕ) → s′ ≡ after (asked a) (λ u. afterSteps (k .steps) s) s → Left a s′ scratch′
     unfolding enterSheet enterScratch askEnter askBefore41 after outcome _>>=_ _>>_
     ends s′ m = go _ _ refl refl (j .answer-is) (m ∙ ap (λ x. after x (λ u. afterSteps (k .steps) s) s) (j .answer-is)) (j .scratch-is) where

@@ -19,7 +19,7 @@ pub record Left (book : List ℕ) (rules : List (Expr rule)) (Z : Edit) (at most
   pub stand : RulesLeft book at left
   pub so : max most (longestRule (carriedBook Z left)) ≡ longestRule (carriedBook Z rules)
 
--- while bytes are left, a rule is
+-- while bytes are left, so is a rule
 pub record First (book : List ℕ) (rules : List (Expr rule)) (Z : Edit) (at most : ℕ) : Type 0 where
   pub K : Expr rule
   pub K-at : RuleAt book at K

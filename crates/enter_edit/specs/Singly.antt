@@ -1,4 +1,4 @@
--- Carried rules judged one by one, in a scratch: what is asked of the texts, and what is found.
+-- Carried rules judged one by one, in a scratch: what is required of the texts, and what is found.
 use mathlib.Core.Path.{_≡_}
 use mathlib.Core.List.{List, map}
 use Prim.Native.Nat.{ℕ, _≤_}
@@ -30,12 +30,12 @@ pub record SomeRead (r : Ranges) (book edit : List ℕ) : Type 0 where
   pub Z : Edit
   pub read : BothRead r book edit rules Z
 
--- The answer and the scratch after 31 to 33 and 41 of carried rules.
+-- The answer and the scratch after 31 to 33 and 41 for carried rules.
 pub record Singly (g : Graph) (carried : List (Expr rule)) (answer : Answer) (scratch scratch′ : List ℕ) : Type 0 where
   pub answer-is : asked answer ≡ (askScratch carried (length scratch) >> askRules g carried 0)
   pub scratch-is : scratch′ ≡ after (askScratch carried (length scratch)) (λ u. writings g carried scratch) scratch
 
--- Rules stand in a text, and in another an edit which carries each of them to the text that Z does; each fits a buffer of `room` bytes.
+-- Rules stand in a text, and in another an edit that carries each of them to the same text as Z does; each fits a buffer of `room` bytes.
 pub record EachFits (r : Ranges) (book edit : List ℕ) (from room : ℕ) (rules : List (Expr rule)) (Z : Edit) : Type 0 where
   pub stand : RulesStand r book 0 (length book) rules
   pub what : Edit

@@ -1,8 +1,7 @@
 // Entering an edit: judged as a whole, on the sheet as it is, by the rules carried back through it; entered entire or not at all.
 // The carried rules are judged one by one, in a scratch that need not hold the whole carried book (item 10 of document 02).
-//
-// Stack: 13,784 bytes for the edit without its idle steps and the work array, under what measuring, writing and evaluating take; 16,384 more during
-// a dry run of writing.
+// Stack: 13,784 bytes for the edit without its idle steps and the work array, in addition to what measuring, writing and evaluating take; 16,384 more
+// during a dry run of writing.
 ghost use mathlib.Core.Path.{_≡_};
 ghost use mathlib.Core.List.{List};
 ghost use Prim.Native.Nat.{_<_, _≤_};
@@ -28,7 +27,7 @@ use text::Text;
 use write::Place;
 
 // The length of the longest of a book's rules, each carried back by itself through the edit that stands at `from`: a dry run of writing them.
-// Inner: both texts were read before, and the whole carried book fits `out`. What `work` and `out` hold before and after is free.
+// Inner: both texts were read before, and the whole carried book fits `out`. `work` and `out` may hold anything before and after.
 fn longest_rule(book: &[u8], edit: &[u8], from: usize, work: &mut [u16], out: &mut [u8]) -> usize
     requires { ⌜ SomeBookFits (now book) (now edit) from (length (now out)) × Fitting (now edit) (now work) ⌝ }
     ensures { λ r. ⌜ ((rules : List (Expr rule)) (Z : Edit) → BookIs (now (book .entry)) rules → EditAt (now (edit .entry)) from Z
@@ -46,9 +45,9 @@ fn longest_rule(book: &[u8], edit: &[u8], from: usize, work: &mut [u16], out: &m
     most
 }
 
-// Writes each rule of a book, carried back through the edit that stands at `from`, at the scratch's start over the one before, and judges it there on
+// Writes each rule of a book, carried back through the edit that stands at `from`, at the scratch's start over the previous one, and judges it there on
 // the sheet, up to the first that is broken.
-// Inner: sheet, book and edit were read before, and each carried rule fits. What `work` holds before and after is free.
+// Inner: sheet, book and edit were read before, and each carried rule fits. `work` may hold anything before and after.
 fn judge_each(
     sheet: &[u8],
     book: &[u8],
@@ -82,7 +81,7 @@ fn judge_each(
 }
 
 // A length that the scratch must have: that of the whole carried book where there is room for it, else that of the longest single carried rule.
-// Inner: both texts were read before, and the carried book has at most 16,384 bytes. What `work` holds before and after is free.
+// Inner: both texts were read before, and the carried book has at most 16,384 bytes. `work` may hold anything before and after.
 fn room_needed(
     book: &[u8],
     edit: &[u8],
@@ -103,7 +102,7 @@ fn room_needed(
     longest_rule(book, edit, from, work, &mut out)
 }
 
-// 31 and 32 of the book carried back through an edit, 33 of its longest single rule; then each carried rule written into the scratch and judged.
+// 31 and 32 for the book carried back through an edit, 33 for its longest single rule; then each carried rule is written into the scratch and judged.
 // Inner: the sheet is sound, and book and edit were read for its n.
 fn judge_carried(sheet: &[u8], book: &[u8], edit: &[u8], scratch: &mut [u8]) -> Answer
     requires { ⌜ Sound (now sheet) × SomeRead (ranges (graphOf (now sheet) .n)) (now book) (now edit) × (length (now edit) ≤ longestText) ⌝ }
@@ -133,8 +132,8 @@ fn judge_carried(sheet: &[u8], book: &[u8], edit: &[u8], scratch: &mut [u8]) -> 
     judge_each(sheet, book, &kept, start, &mut work, scratch)
 }
 
-// Enters an edit: all questions in order; each carried rule at the scratch's start, over the one before, judged there on the present sheet; then the
-// steps.
+// Enters an edit: asks all questions in order; writes each carried rule at the scratch's start, over the previous one, and judges it there on the present
+// sheet; then makes the steps.
 pub fn enter(sheet: &mut [u8], book: &[u8], edit: &[u8], scratch: &mut [u8]) -> Answer
     ensures { λ r. ⌜ asked r
         ≡ enterAnswer (now (sheet .entry)) (now (book .entry)) (now (edit .entry)) (length (now (scratch .entry))) ⌝ }

@@ -17,7 +17,7 @@ use Rattle.text.specs.Stands.{Stands, SomeStands}
 use Rattle.text.proofs.StandingLaws.{byte-at, behind, within}
 use Rattle.text.proofs.HeadLaws.{code-some}
 
--- the number bytes behind a code
+-- the number bytes after a code
 pub first-number : (text : List ℕ) (at x m : ℕ) (l : List ℕ) → drop at text ≡ x ∷ m ∷ l → getD text (at + 1) 0 ≡ m
 first-number text at x m l e = byte-at text (at + 1) m l (behind text at (x ∷ []) (m ∷ l) e)
 
@@ -32,7 +32,7 @@ module _ (r : Ranges) (text : List ℕ) (at : ℕ) {s : Sort} (e : Expr s) (h : 
   pub code-at : getD text at 0 ≡ codeByte e
   code-at = let z : at ≡ at + 0 = omega arith in ap (λ k. getD text k 0) z ∙ sym (getD-drop at text 0 0) ∙ ap (λ l. getD l 0 0) (h .here) ∙ List·getD-append (code e) (h .rest) 0 0 (code-some e)
 
-  -- What is so of a term by its code is so by the byte read.
+  -- What holds for a term by its code holds by the byte read.
   pub by-byte : (P : ℕ → Expr s → Type 0) → P (codeByte e) e → (c : ℕ) → getD text at 0 ≡ c → P c e
   by-byte P x c q = subst (λ (c : ℕ). P c e) (sym code-at ∙ q) x
 
@@ -52,14 +52,14 @@ below {c} k A B x h = subst (λ (b : Bool). cond b A B) (le-leb c k h) x
 pub above : {c : ℕ} (k : ℕ) (A B : Type 0) → cond (leb c k) A B → k < c → B
 above {c} k A B x h = subst (λ (b : Bool). cond b A B) (lt-leb c k h) x
 
--- A term of k bytes without operands: what is known of its numbers, and what it means by them.
+-- A term of k bytes without operands: what is known about its numbers, and what it means by them.
 pub record Leaf (text : List ℕ) (at k : ℕ) (numbers : Type 0) {s : Sort} (mean : Graph → Value s) (e : Expr s) : Type 0 where
   pub range : numbers
   pub means : (g : Graph) → value g e ≡ mean g
   pub inside : at + k ≤ length text
   pub size : length (code e) ≡ k
 
--- A term of one operand, k bytes behind the code.
+-- A term of one operand, k bytes after the code.
 pub record One (r : Ranges) (text : List ℕ) (at k : ℕ) (numbers : Type 0) {s : Sort} (a : Sort) (mean : Graph → Value a → Value s) (e : Expr s) : Type 0 where
   pub A : Expr a
   pub range : numbers
@@ -68,7 +68,7 @@ pub record One (r : Ranges) (text : List ℕ) (at k : ℕ) (numbers : Type 0) {s
   pub inside : at + k < length text
   pub size : length (code e) ≡ k + length (code A)
 
--- A term of two operands, the first k bytes behind the code.
+-- A term of two operands, the first k bytes after the code.
 pub record Two (r : Ranges) (text : List ℕ) (at k : ℕ) {s : Sort} (a b : Sort) (mean : Graph → Value a → Value b → Value s) (e : Expr s) : Type 0 where
   pub A : Expr a
   pub B : Expr b

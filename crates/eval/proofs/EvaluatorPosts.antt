@@ -1,4 +1,4 @@
--- What an evaluator finds at a place: of every expression that stands there.
+-- What an evaluator finds at a place, for every expression that stands there.
 use mathlib.Core.Bool.{Bool}
 use mathlib.Core.List.{List}
 use Prim.Native.Nat.{ℕ}

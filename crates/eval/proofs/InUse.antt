@@ -1,4 +1,4 @@
--- Sets of nodes in use, and what is asked of such nodes alone.
+-- Sets of nodes in use, and evaluation for those nodes alone.
 use mathlib.Core.Path.{_≡_, refl, sym, ap, ap₂, _∙_}
 use mathlib.Core.Bool.{Bool, true, false, not, _&&_, and-false}
 use mathlib.Core.List.{List}
@@ -19,7 +19,7 @@ use Rattle.rows.specs.Operations.{Among}
 use Rattle.rows.proofs.Quantifiers.{set-small}
 use Rattle.eval.specs.Evaluated.{Opened, Used, IsSet, IsSetWithin}
 
--- What is asked of nodes in use may take them for nodes.
+-- An evaluation for nodes in use may take each of them to be a node.
 pub in-use : (u b : Bool) (f : Bool → Bool) → (b ≡ false → u ≡ false) → (u && f b) ≡ (u && f true)
 in-use u true f h = refl
 in-use u false f h = rw (h refl)
@@ -33,11 +33,11 @@ all-members {sheet} {n} o i =
 pub all-used : {sheet : List ℕ} {n all : ℕ} → Opened sheet n all → Used sheet n all
 all-used {sheet} {n} o = record { small = set-small n (isNode (graphOf sheet)) (o .nodes); nodes = λ i h. all-members o i ∙ h }
 
--- a relation that has nodes in use only
+-- a relation that joins only nodes in use
 pub among-all : {sheet : List ℕ} {n all : ℕ} {v : Pairs} → Opened sheet n all → PairsIn (graphOf sheet) v → Among all v
 among-all o p = record { starts = λ i j h. p .starts i j (sym (all-members o i) ∙ h); ends = λ i j h. p .ends i j (sym (all-members o j) ∙ h) }
 
--- asked of all nodes, the part is the whole
+-- for all nodes, the part is the whole
 pub part-whole : (sheet : List ℕ) (n all : ℕ) → Opened sheet n all → (e : Expr node) (x : ℕ) → x ≡ setOf n (λ i. member all i && value (graphOf sheet) e i) → x ≡ setOf n (value (graphOf sheet) e)
 part-whole sheet n w o e x h =
     h ∙ setOf-cong n _ _ (λ i l. ap (_&& value (graphOf sheet) e i) (all-members o i) ∙ and-only (isNode (graphOf sheet) i) (value (graphOf sheet) e i) (value-in (graphOf sheet) (o .within) e i))
@@ -55,7 +55,7 @@ part-used {sheet} {n} {e = e} {within} u h = set-used n (λ i. member within i &
 pub nominal-used : {sheet : List ℕ} {n x : ℕ} (i : ℕ) → x ≡ setOf n (λ k. isNode (graphOf sheet) k && eqb k i) → Used sheet n x
 nominal-used {sheet} {n} i e = set-used n (λ k. isNode (graphOf sheet) k && eqb k i) e (λ k z. ap (_&& eqb k i) z)
 
--- the nodes that are asked about, combined with a set
+-- the nodes evaluated for, combined with a set
 pub combined-used : {sheet : List ℕ} {n within x z : ℕ} (f : Bool → Bool → Bool) → f false false ≡ false → (v : Nodes) → n ≤ 64 → Used sheet n within → x ≡ setOf n v → z ≡ combined f within x → z ≡ setOf n (λ i. f (member within i) (v i))
 combined-used {n = n} {within = within} f q v h u s e = e ∙ ap₂ (combined f) (sym (setOf-member-lt n within (u .small))) s ∙ combined-sets f q n (member within) v h
 
@@ -64,6 +64,6 @@ minus-used n within x w h p q e =
     set-used n (λ i. member within i && not (member x i)) (combined-used (λ a b. a && not b) refl (member x) h p (sym (setOf-member-lt n x (q .small))) e)
     (λ i z. ap (_&& not (member x i)) (p .nodes i z))
 
--- asked of none, there is none
+-- for no nodes, the set is empty
 pub nothing-asked : (n within : ℕ) (p : Nodes) → within ≡ 0 → 0 ≡ setOf n (λ i. member within i && p i)
 nothing-asked n within p e = sym (setOf-cong n _ (λ i. false) (λ i l. ap (_&& p i) (ap (λ (x : ℕ). member x i) e ∙ member-zero i)) ∙ setOf-none n)

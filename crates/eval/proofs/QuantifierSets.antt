@@ -40,7 +40,7 @@ nodes-there c m n nodes v w i u h = ap (u &&_) (go (eqb c 0x08) (quantified c m 
     go false q = refl
 
 module _ (n : ℕ) (text : List ℕ) (at : ℕ) (sheet : List ℕ) (all : ℕ) (o : Opened sheet n all) (within : ℕ) (u : Used sheet n within) (e : Expr node) where
-  -- the nodes asked about that are quantified over v, turned or not
+  -- the nodes evaluated for that are quantified over v, turned or not
   abbrev Part : (k : ℕ) → Bool → Pairs → (x : ℕ) → ℕ
   Part k turned v x = setOf n (λ i. member within i && quantified (getD text at 0) (getD text (at + k - 1) 0) n (turn turned v i) (member x))
 

@@ -1,4 +1,4 @@
--- 12s in front of an arrow expression, passed one by one.
+-- The 12s before an arrow expression, skipped one by one.
 use mathlib.Core.Path.{_≡_, refl, ap, _∙_}
 use mathlib.Core.Bool.{Bool, true, false, not}
 use mathlib.Core.List.{List}

@@ -1,8 +1,7 @@
 // Evaluating expressions and rules where they stand in a text, on the graph that a sheet stores.
 // Inner, all of them: the sheet is sound, and an expression in range stands at `at`. Levels have no bound here.
-// A relation is put into `out`, which is 64 zeros before; what is returned is then where the text goes on.
-//
-// What a level takes of the stack: DECISIONS 21.
+// A relation is written to `out`, which holds 64 zeros before; the function then returns where the text goes on.
+// Each level takes stack: tests/c/stack.c measures enter on carried rules of 255 levels.
 ghost use mathlib.Core.Path.{_≡_};
 ghost use mathlib.Core.Bool.{true};
 ghost use Prim.Native.Nat.{_<_, _≤_};
@@ -29,13 +28,13 @@ pub struct Truth {
     pub next: usize,
 }
 
-// 12s in front of an arrow expression passed over.
+// The arrow expression after any leading 12s, and whether their number is odd.
 pub struct Turned {
     pub turned: bool,
     pub next: usize,
 }
 
-// 01 to 04, of the nodes within.
+// 01 to 04, for the nodes of `within`.
 fn leaf_node(sheet: &[u8], n: usize, within: u64, text: &[u8], at: usize) -> NodeSet
     requires { ⌜ Sound (now sheet) × (n ≡ graphOf (now sheet) .n) × (n ≤ maxNodes) × Used (now sheet) n within × SomeStands (ranges n) (now text) at node × (getD (now text) at 0 ≤ 0x04) ⌝ }
     ensures { λ r. ⌜ ((e : Expr node) → Stands (ranges n) (now (text .entry)) at e → IsSetWithin (now (sheet .entry)) n at e within (r .set) (r .next)) ⌝ }
@@ -82,7 +81,7 @@ fn one_pair(sheet: &[u8], n: usize, all: u64, text: &[u8], at: usize, out: &mut 
     at + 3
 }
 
-// 13, 14, 15 with 11 as the second.
+// 13, 14, 15 with 11 as second operand.
 fn combine_kind(c: u8, sheet: &[u8], n: usize, text: &[u8], at: usize, out: &mut [u64]) -> usize
     requires { ⌜ Sound (now sheet) × (n ≡ graphOf (now sheet) .n) × (n ≤ maxNodes) × SomeStands (ranges n) (now text) at arrow × (getD (now text) at 0 ≤ 0x11) × (length (now out) ≡ 64) ⌝ }
     ensures { λ r. ⌜ ((e : Expr arrow) → Stands (ranges n) (now (text .entry)) at e → IsCombined (now (sheet .entry)) n at c e (now (out .entry)) (now (out .exit)) r) × (length (now (out .exit)) ≡ 64) ⌝ }
@@ -91,7 +90,7 @@ fn combine_kind(c: u8, sheet: &[u8], n: usize, text: &[u8], at: usize, out: &mut
     at + 2
 }
 
-// 13, 15 with 17 as the second.
+// 13, 15 with 17 as second operand.
 fn combine_pair(
     c: u8,
     sheet: &[u8],
@@ -108,7 +107,7 @@ fn combine_pair(
     at + 3
 }
 
-// Whether one row alone changes: 13 or 15 with 17 as the second.
+// Whether only one row changes: 13 or 15 with 17 as second operand.
 fn one_row(c: u8, code: u8) -> bool
     ensures { λ r. ⌜ (r ≡ true → (0x16 < code) × (c ≡ 0x14 → ⊥)) ⌝ }
 {
@@ -118,14 +117,14 @@ fn one_row(c: u8, code: u8) -> bool
     c != 0x14
 }
 
-// How far behind the code of a quantifier its operands stand: 0A and 0B have a count between.
+// How far after a quantifier's code its operands stand: 0A and 0B have a count between.
 fn ahead(c: u8) -> usize
     ensures { λ r. ⌜ (c ≤ 0x09 → r ≡ 1) × (0x09 < c → r ≡ 2) ⌝ }
 {
     if c <= 0x09 { 1 } else { 2 }
 }
 
-// Behind the 12s in front of an arrow expression: two of them cancel out.
+// Skips the 12s before an arrow expression: two of them cancel out.
 fn behind_turns(n: usize, text: &[u8], at: usize) -> Turned
     requires { ⌜ SomeStands (ranges n) (now text) at arrow ⌝ }
     ensures { λ r. ⌜ ((e : Expr arrow) → Stands (ranges n) (now (text .entry)) at e → IsTurned n (now (text .entry)) at e (r .turned) (r .next)) ⌝ }
@@ -139,8 +138,8 @@ fn behind_turns(n: usize, text: &[u8], at: usize) -> Turned
     Turned { turned, next }
 }
 
-// The set that a node expression means, of the nodes within: an expression that is asked of no node is passed over, and of two operands
-// the second is asked of those nodes only that the first leaves open.
+// The set that a node expression means, for the nodes of `within`. An expression that no node needs is skipped, and the second of two operands
+// is evaluated only for the nodes that the first leaves open.
 fn node_within(sheet: &[u8], n: usize, all: u64, within: u64, text: &[u8], at: usize) -> NodeSet
     requires { ⌜ Opened (now sheet) n all × Used (now sheet) n within × SomeStands (ranges n) (now text) at node ⌝ }
     ensures { λ r. ⌜ ((e : Expr node) → Stands (ranges n) (now (text .entry)) at e → IsSetWithin (now (sheet .entry)) n at e within (r .set) (r .next)) ⌝ }
@@ -235,8 +234,9 @@ pub fn eval_arrow(
     }
 }
 
-// 13, 14, 15: the relation that the second operand means combined with what is in `out`; only one that is no leaf needs rows of its own.
-// That one is evaluated where it stands: the unread length fell at the call of this function, and not again here. The measure is twice the unread length, here one more.
+// 13, 14, 15: combines the relation that the second operand means with the one in `out`; only an operand that is not a leaf needs rows of its own.
+// It is evaluated where it stands: the unread length fell when this function was called, not again here. So the measure is twice the unread length,
+// here plus one.
 fn combine_arrow(
     c: u8,
     sheet: &[u8],
@@ -270,7 +270,7 @@ pub fn eval_node(sheet: &[u8], n: usize, all: u64, text: &[u8], at: usize) -> No
     node_within(sheet, n, all, all, text, at)
 }
 
-// 21: the second expression is asked of the nodes of the first.
+// 21: the second expression is evaluated for the nodes of the first.
 fn sub_nodes(sheet: &[u8], n: usize, all: u64, text: &[u8], at: usize) -> Truth
     requires { ⌜ Opened (now sheet) n all × SomeStands (ranges n) (now text) at rule × (getD (now text) at 0 ≤ 0x21) ⌝ }
     ensures { λ r. ⌜ ((e : Expr rule) → Stands (ranges n) (now (text .entry)) at e → IsTruth (now (sheet .entry)) at e (r .holds) (r .next)) ⌝ }
@@ -298,7 +298,7 @@ fn sub_arrows(sheet: &[u8], n: usize, all: u64, text: &[u8], at: usize) -> Truth
     }
 }
 
-// 23: the expression is asked of that node.
+// 23: the expression is evaluated for that node.
 fn node_in(sheet: &[u8], n: usize, all: u64, text: &[u8], at: usize) -> Truth
     requires { ⌜ Opened (now sheet) n all × SomeStands (ranges n) (now text) at rule × (0x22 < getD (now text) at 0) × (getD (now text) at 0 ≤ 0x23) ⌝ }
     ensures { λ r. ⌜ ((e : Expr rule) → Stands (ranges n) (now (text .entry)) at e → IsTruth (now (sheet .entry)) at e (r .holds) (r .next)) ⌝ }
@@ -324,7 +324,7 @@ fn pair_in(sheet: &[u8], n: usize, all: u64, text: &[u8], at: usize) -> Truth
     }
 }
 
-// 21 to 24: the rules without a rule inside. A function of its own, so that a level of 25, 26 or 27 has no relation on the stack.
+// 21 to 24: the rules without a rule inside. A separate function, so that a level of 25, 26 or 27 keeps no relation on the stack.
 fn leaf_rule(sheet: &[u8], n: usize, all: u64, text: &[u8], at: usize) -> Truth
     requires { ⌜ Opened (now sheet) n all × SomeStands (ranges n) (now text) at rule × (getD (now text) at 0 ≤ 0x24) ⌝ }
     ensures { λ r. ⌜ ((e : Expr rule) → Stands (ranges n) (now (text .entry)) at e → IsTruth (now (sheet .entry)) at e (r .holds) (r .next)) ⌝ }
@@ -348,8 +348,8 @@ fn decided(c: u8, k: bool) -> bool
     if c == 0x25 { !k } else { k }
 }
 
-// Whether a rule holds. Where the first rule of a 25 or 26 decides, the second is passed over.
-// An answer is taken apart and put together again: handed on whole, it is copied with the bytes between its fields, which takes longer.
+// Whether a rule holds. Where the first rule of a 25 or 26 decides, the second is skipped.
+// An answer is taken apart and put together again: passed on whole, it is copied with the bytes between its fields, which takes longer.
 pub fn eval_rule(sheet: &[u8], n: usize, all: u64, text: &[u8], at: usize) -> Truth
     requires { ⌜ Opened (now sheet) n all × SomeStands (ranges n) (now text) at rule ⌝ }
     ensures { λ r. ⌜ ((e : Expr rule) → Stands (ranges n) (now (text .entry)) at e → IsTruth (now (sheet .entry)) at e (r .holds) (r .next)) ⌝ }

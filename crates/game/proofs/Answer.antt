@@ -1,4 +1,4 @@
--- The answer of item 13 is right in its words.
+-- The answer of item 13 is right, in the item's words.
 use mathlib.Core.Path.{_≡_, refl, ap, ap₂, subst}
 use mathlib.Core.Bool.{Bool, true, false, _&&_, cond}
 use mathlib.Core.List.{[]}
@@ -54,12 +54,12 @@ module _ (G : Game) (m : ℕ) (g : Graph) where
     go (at i) h = (h .1, h .2)
     go nothing h = none (forcesBy G m g pass) refl h
 
-  -- Where a pass can be made no edit can.
+  -- If a pass can be made, no edit can.
   pass-alone : (i : ℕ) {A : Type 0} → forcesBy G m g pass ≡ true → forcesBy G m g (edit i) ≡ true → A
   unfolding legal
   pass-alone i p e = true-false (legal-first (edit i) e) (any-not (length (G .dispatchers)) (canMake G dispatcher g) (not-true _ (legal-first pass p)) i (edit-below G dispatcher g i (legal-first (edit i) e)))
 
-  -- No answer but the right one says what is so.
+  -- Only the right answer says what is true.
   is-edit : (i : ℕ) → forcesBy G m g (edit i) ≡ true → ((j : ℕ) → j < i → forcesBy G m g (edit j) ≡ true → ⊥) → (a : Outcome) → Says a → a ≡ first (edit i)
   is-edit i t h cannot s = true-false t (s (edit i))
   is-edit i t h (first pass) s = pass-alone i s t

@@ -1,4 +1,4 @@
--- The search by sides is the game's: with the dispatcher to move it finds the answer, and it goes well with one exactly when the other has no move.
+-- The search by sides agrees with the game: it finds the answer for the dispatcher, and one side gets what it wants exactly when the other has no move.
 use mathlib.Core.Path.{_≡_, refl, sym, _∙_, ap}
 use mathlib.Core.Bool.{Bool, true, false, not, _&&_, _||_, cond}
 use Prim.Native.Nat.{ℕ, zero, suc, _<_}
@@ -21,7 +21,7 @@ abbrev pub isCannot : Outcome → Bool
 isCannot cannot = true
 isCannot (first x) = false
 
--- the edit of the lowest number, or else a pass where it serves
+-- the edit with the lowest number, else a pass if it serves
 abbrev orPass : Lowest → Bool → Outcome
 orPass l b = elim l [ at i ↦ first (edit i) | nothing ↦ cond b (first pass) cannot ]
 
@@ -33,7 +33,7 @@ lowest-none n v b = go (lowestBelow n v) (lowest-right n v) b where
   go nothing h true = rw (any-none n v h)
   go nothing h false = rw (any-none n v h)
 
--- and no move of a side exactly when no move that it can make serves.
+-- and a side has no move exactly when no move that it can make serves.
 none-serves : (G : Game) (s : Side) (g : Graph) (f : Move → Bool) → isCannot (lowestMove (length (editsOf G s)) (λ x. legal G s g x && f x)) ≡ not (someMove G s g f)
 none-serves G s g f = unfold lowestMove someMove in lowest-none (length (editsOf G s)) (λ i. legal G s g (edit i) && f (edit i)) (legal G s g pass && f pass)
 
@@ -48,7 +48,7 @@ module _ (G : Game) (g : Graph) where
   well-more m true = every-is G disruption g (λ x. forced G m dispatcher (leaves G disruption g x)) ∙ sym (none-serves G disruption g (λ x. not (forced G m dispatcher (leaves G disruption g x))))
   well-more m false = sym (none-serves G dispatcher g (λ x. forced G m disruption (leaves G dispatcher g x)))
 
--- What the lowest number is, it alone is.
+-- Only the lowest number has that property.
 lowest-is : (n : ℕ) (v : Nodes) (l : Lowest) → IsLowest n v l → lowestBelow n v ≡ l
 lowest-is n v l h = go (lowestBelow n v) l (lowest-right n v) h where
   go : (k l : Lowest) → IsLowest n v k → IsLowest n v l → k ≡ l
@@ -65,17 +65,17 @@ module _ (G : Game) (m : ℕ) (ours : Bool) (g : Graph) where
   abbrev edits : ℕ
   edits = length (editsOf G (sideOf ours))
 
-  -- The first edit that serves;
+  -- The first edit that serves is chosen;
   pub chosen-edit : (i : ℕ) → i < edits → serves G m ours g (edit i) ≡ true → ((j : ℕ) → j < i → serves G m ours g (edit j) ≡ false) → chosen G m ours g ≡ first (edit i)
   unfolding chosen lowestMove
   chosen-edit i l e none = ap (λ (l : Lowest). orPass l (serves G m ours g pass)) (lowest-is edits (λ j. serves G m ours g (edit j)) (at i) (l, e, none))
 
-  -- where none does, a pass if it serves.
+  -- if none does, a pass if it serves.
   pub chosen-last : ((j : ℕ) → j < edits → serves G m ours g (edit j) ≡ false) → (b : Bool) → serves G m ours g pass ≡ b → chosen G m ours g ≡ cond b (first pass) cannot
   unfolding chosen lowestMove
   chosen-last none b e = ap (λ (l : Lowest). orPass l (serves G m ours g pass)) (lowest-is edits (λ j. serves G m ours g (edit j)) nothing none) ∙ ap (λ (c : Bool). cond c (first pass) cannot) e
 
-  -- A pass cannot be made where an edit can; where none can, it serves when it goes well.
+  -- A pass cannot be made if an edit can; if none can, the pass serves when the side then gets what it wants.
   pub no-pass : anyBelow edits (canMake G (sideOf ours) g) ≡ true → serves G m ours g pass ≡ false
   no-pass e = unfold serves legal in ap (λ (b : Bool). not b && goesWell G m ours (leaves G (sideOf ours) g pass)) e
 

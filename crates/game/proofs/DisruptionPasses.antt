@@ -10,7 +10,7 @@ use Rattle.logic.specs.Graph.{Graph, anyBelow}
 use Rattle.logic.proofs.Below.{any-one}
 use Rattle.game.specs.Game.{disruption, Game, pass, mayLeave, canMake, legal}
 
--- The disruption's edits can always be made: it passes only where it has none ("0 to 4 disruption edits").
+-- The disruption's edits can always be made, so it passes only if it has none ("0 to 4 disruption edits").
 pub disruption-passes : (G : Game) (g : Graph) → legal G disruption g pass ≡ eqb (length (G .disruptions)) 0
 unfolding legal canMake mayLeave anyBelow
 disruption-passes G g = go (length (G .disruptions)) refl where

@@ -1,4 +1,4 @@
--- The course told with what has happened so far at hand: the strategy is asked of the whole history at each of the dispatcher's turns.
+-- The course of a play with the moves so far at hand: at each of the dispatcher's turns the strategy sees all of them.
 use mathlib.Core.Path.{_≡_, refl, sym, _∙_, ap, fun-ext}
 use mathlib.Core.Bool.{true, false}
 use mathlib.Core.List.{[], _∷_, _++_, append-assoc, append-nil}
@@ -16,7 +16,7 @@ told G (suc m) disruption g history p (x ∷ q) = elim (legal G disruption g x) 
 joined : (history : History) (p : Strategy) (x : Move) → _≡_ {A = Strategy} (λ later. p ((history ++ (x ∷ [])) ++ later)) (λ later. p (history ++ (x ∷ later)))
 joined history p x = fun-ext (λ later. ap p (append-assoc history (x ∷ []) later))
 
--- it goes on as the course does with the strategy that has this history before it
+-- it continues as the course does with the strategy after these moves
 onwards : (G : Game) (m : ℕ) (s : Side) (g : Graph) (history : History) (p : Strategy) (q : Replies) → told G m s g history p q ≡ course G m s g (λ later. p (history ++ later)) q
 unfolding told course
 onwards G zero s g history p q = refl
@@ -29,6 +29,6 @@ onwards G (suc m) dispatcher g history p q =
 onwards G (suc m) disruption g history p [] = refl
 onwards G (suc m) disruption g history p (x ∷ q) = λ t. elim (legal G disruption g x) [ true ↦ (onwards G m dispatcher (leaves G disruption g x) (history ++ (x ∷ [])) p q ∙ ap (λ r. course G m dispatcher (leaves G disruption g x) r q) (joined history p x)) t | false ↦ wrong disruption ]
 
--- From the beginning, where nothing has happened so far, it is the course.
+-- From the beginning, with no moves so far, it is the course.
 pub told-is : (G : Game) (m : ℕ) (s : Side) (g : Graph) (p : Strategy) (q : Replies) → told G m s g [] p q ≡ course G m s g p q
 told-is G m s g p q = onwards G m s g [] p q

@@ -1,4 +1,4 @@
--- Some and each of the moves that can be made, and the lowest number in a set.
+-- Some and every one of the moves that can be made, and the lowest number in a set.
 use mathlib.Core.Path.{_≡_, refl, sym, _∙_, ap, ap₂, subst}
 use mathlib.Core.Bool.{Bool, true, false, not, _&&_, _||_, cond}
 use Prim.Native.Nat.{ℕ, zero, suc, _<_}
@@ -12,7 +12,7 @@ use Rattle.logic.proofs.Below.{any-found, any-not, all-not-any}
 use Rattle.logic.proofs.Bools.{and-left, and-right, or-left-false, or-right-false, and-true-false}
 use Rattle.game.specs.Game.{Side, Game, Move, pass, edit, editsOf, mayLeave, leaves, canMake, legal, someMove, everyMove, Lowest, nothing, at, lowestBelow}
 
--- What the lowest number is.
+-- What being the lowest number means.
 abbrev pub IsLowest : ℕ → Nodes → Lowest → Type 0
 IsLowest n v nothing = (j : ℕ) → j < n → v j ≡ false
 IsLowest n v (at i) = (i < n) × (v i ≡ true) × ((j : ℕ) → j < i → v j ≡ false)
@@ -57,7 +57,7 @@ module _ (G : Game) (s : Side) (g : Graph) where
       (any-not (length (editsOf G s)) (λ i. legal G s g (edit i) && f (edit i)) (or-left-false (anyBelow (length (editsOf G s)) (λ i. legal G s g (edit i) && f (edit i))) _ h) i (edit-below i a))
       a
 
-  -- each is not some that is not
+  -- every move is in f unless some move is not
   pub every-is : (f : Move → Bool) → everyMove G s g f ≡ not (someMove G s g (λ x. not (f x)))
   unfolding someMove everyMove
   every-is f =

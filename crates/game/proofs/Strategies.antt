@@ -1,4 +1,4 @@
--- A win can be forced exactly when some strategy wins against all replies; where none can, every strategy meets replies that break the goal.
+-- A win can be forced exactly when some strategy wins against all replies; if none can, every strategy meets replies that break the goal.
 use mathlib.Core.Path.{_≡_, refl, sym, _∙_, subst}
 use mathlib.Core.Bool.{Bool, true, false, not}
 use mathlib.Core.List.{[], _∷_}
@@ -25,11 +25,11 @@ module _ (G : Game) where
       → course G (suc m) disruption g p (x ∷ q) ≡ course G m dispatcher (leaves G disruption g x) (continued p x) q
   disruption-moves m g p x q e = unfold course in rw (e, course)
 
-  -- A strategy that can be followed says a move that can be made.
+  -- A strategy that can be followed names a first move that can be made.
   pub first-legal : (m : ℕ) (g : Graph) (p : Strategy) → AlwaysLegal G (suc m) dispatcher g p → legal G dispatcher g (p []) ≡ true
   first-legal m g p f = unfold course in is-so _ (λ e. rw (e, Legal, course) at (f []))
 
-  -- Where no win can be forced, every strategy that can be followed meets replies that leave the goal broken.
+  -- If no win can be forced, every strategy that can be followed meets replies that leave the goal broken.
   pub breaks : (m : ℕ) (s : Side) (g : Graph) (p : Strategy) → forced G m s g ≡ false → AlwaysLegal G m s g p → SomeBreaks G m s g p
   unfolding forced course
   breaks zero s g p e f = ([], so-not e)
@@ -43,21 +43,21 @@ module _ (G : Game) where
       let (q, b) = breaks m dispatcher (leaves G disruption g x) (continued p x) (not-true _ l) (λ q. subst Legal (disruption-moves m g p x q a) (f (x ∷ q))) in
       (x ∷ q, subst (Broken G) (sym (disruption-moves m g p x q a)) b)
 
-  -- The strategy that begins with x and goes on by p.
+  -- The strategy that begins with x and continues with p.
   abbrev pub begin : Move → Strategy → Strategy
   begin x p [] = x
   begin x p (y ∷ history) = p history
 
-  -- The strategy that goes on by a strategy for each of the disruption's moves.
+  -- The strategy that continues with a strategy of its own for each of the disruption's moves.
   abbrev pub branches : (Move → Strategy) → Strategy
   branches p [] = pass
   branches p (x ∷ history) = p x history
 
-  -- A strategy for the moves after x wins after x, if x can be made;
+  -- A strategy that wins after x wins with x before it, if x can be made;
   pub begin-wins : (m : ℕ) (g : Graph) (x : Move) (p : Strategy) → legal G dispatcher g x ≡ true → Wins G m disruption (leaves G dispatcher g x) p → Wins G (suc m) dispatcher g (begin x p)
   begin-wins m g x p a w q = subst (Won G) (sym (dispatcher-moves m g (begin x p) q a)) (w q)
 
-  -- strategies for the moves after each that the disruption can make win.
+  -- strategies that win after each move that the disruption can make win together.
   branches-win : (m : ℕ) (g : Graph) (p : Move → Strategy) → ((x : Move) → legal G disruption g x ≡ true → Wins G m dispatcher (leaves G disruption g x) (p x)) → Wins G (suc m) disruption g (branches p)
   unfolding course
   branches-win m g p w [] = tt
@@ -66,7 +66,7 @@ module _ (G : Game) where
     go true e = w x e q
     go false e = tt
 
-  -- Where a win can be forced, some strategy wins.
+  -- If a win can be forced, some strategy wins.
   pub wins : (m : ℕ) (s : Side) (g : Graph) → forced G m s g ≡ true → (p : Strategy) × Wins G m s g p
   unfolding forced course
   wins zero s g e = ((λ history. pass), (λ q. so e))
@@ -86,7 +86,7 @@ module _ (G : Game) where
       go x rest true f = (rest f .0, λ a. rest f .1)
       go x rest false f = ((λ history. pass), λ a. true-false (each x a) f)
 
-  -- A strategy that wins can be followed, and no replies break the goal under it.
+  -- A strategy that wins can be followed, and no replies against it break the goal.
   pub won-legal : (c : Course) → Won G c → Legal c
   won-legal (ended h) w = tt
   won-legal (wrong dispatcher) w = w
@@ -96,7 +96,7 @@ module _ (G : Game) where
   won-unbroken (ended h) w b = let x = value h (G .goal) in true-false (is-true x w) (not-true x (is-true (not x) b))
   won-unbroken (wrong s) w b = b
 
-  -- Where some strategy wins, a win can be forced.
+  -- If some strategy wins, a win can be forced.
   pub forced-by : (m : ℕ) (s : Side) (g : Graph) (p : Strategy) → Wins G m s g p → forced G m s g ≡ true
   forced-by m s g p w = is-so _ (λ e. let (q, b) = breaks m s g p e (λ q. won-legal (course G m s g p q) (w q)) in won-unbroken (course G m s g p q) (w q) b)
 
@@ -117,7 +117,7 @@ module _ (G : Game) where
     go r [] = tt
     go r (x ∷ q) = one x (r x .0) (r x .1) q (legal G disruption g x)
 
-  -- and under each such strategy there are replies up to the end.
+  -- and against each such strategy there are replies up to the end.
   pub some-replies : (m : ℕ) (s : Side) (g : Graph) (p : Strategy) → AlwaysLegal G m s g p → (q : Replies) × (h : Graph) × (course G m s g p q ≡ ended h)
   unfolding course
   some-replies zero s g p f = ([], g, refl)

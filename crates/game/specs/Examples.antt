@@ -1,4 +1,4 @@
--- Small games, each with its answer: proofs/Examples computes them. One node, label 0 on it or not; a book and a goal about that label.
+-- Small games, each with its answer, which proofs/Examples computes. One node, with label 0 or without it; book and goal are about that label.
 use mathlib.Core.Bool.{false}
 use mathlib.Core.List.{List, [], _∷_}
 use Prim.Native.Nat.{ℕ}
@@ -39,12 +39,12 @@ games =
     ∷ played [] isSet (set ∷ []) [] 1
     -- the lowest-numbered edit that forces it
     ∷ played [] isSet (clear ∷ stay ∷ set ∷ set ∷ []) [] 0
-    -- a pass where the book keeps the only edit from being made; no pass where it can be made
+    -- a pass, because the book keeps the only edit from being made; no pass where it can be made
     ∷ played (isClear ∷ []) isClear (set ∷ []) [] 0
     ∷ played [] isClear (set ∷ []) [] 0
     -- the disruption's edits are carried out without the book
     ∷ played (isClear ∷ []) isClear (stay ∷ []) (set ∷ []) 1
-    -- the book is asked after the dispatcher's edits only, and a sheet need not keep it
+    -- the book is checked only after the dispatcher's edits, and the given sheet need not keep it
     ∷ played (isSet ∷ []) isSet (stay ∷ set ∷ []) (clear ∷ []) 2
     ∷ []
 

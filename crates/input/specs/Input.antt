@@ -1,4 +1,4 @@
--- What the reading of a program's input promises. No contract can say which bytes a read finds.
+-- What reading a program's input promises. No contract can say which bytes a read finds.
 use Prim.Native.Nat.{ℕ}
 use Rattle.input.specs.declared.Got.{Got}
 use Rattle.input.specs.declared.Got.the-variants.{Length, Early}

@@ -33,7 +33,7 @@ module _ (p q : List ℕ) (P Q : Edit) (p-read : askEdit (textLimits maxNodes) p
   read-so : askEdit (textLimits maxNodes) (editCode (followedBy P Q)) ≡ passed (followedBy P Q)
   read-so = joined-passes (textLimits maxNodes) p q P Q p-read q-read short
 
--- what joined is read as what it says
+-- joined bytes are read as the joined edit
 read-joined : {p q joined : List ℕ} (j : Joins p q joined) → askEdit (textLimits maxNodes) joined ≡ passed (followedBy (j .P) (j .Q))
 read-joined {p} {q} j = ap (askEdit (textLimits maxNodes)) (j .bytes-are) ∙ read-so p q (j .P) (j .Q) (j .p-read) (j .q-read) (omega (arith, j .short, ap length (j .bytes-are)))
 

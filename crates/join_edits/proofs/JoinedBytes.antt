@@ -49,7 +49,7 @@ module _ (P : Edit) where
   long : length (editCode P) ≡ length (stepBytes P) + 1
   long = ap length ends-so ∙ length-append (stepBytes P) (0x30 ∷ [])
 
-  -- No edit is without bytes.
+  -- Every edit has at least one byte.
   pub some-byte : 0 < length (editCode P)
   some-byte = omega (arith, long)
 

@@ -39,7 +39,7 @@ no-deeper d Q (takeArrow a R P) i j = omega (arith, i, no-deeper d Q P (omega (a
 no-deeper d Q (choose K P₁ Q₁ P) i j = omega (arith, i, no-deeper d Q P (omega (arith, i)) j)
 
 module _ (l : Limits) (p q : List ℕ) (P Q : Edit) where
-  -- By whatever limits both pass, if it is short enough,
+  -- Under any limits that both pass, if it is short enough,
   pub joined-passes : askEdit l p ≡ passed P → askEdit l q ≡ passed Q → length (editCode (followedBy P Q)) ≤ l .longest
       → askEdit l (editCode (followedBy P Q)) ≡ passed (followedBy P Q)
   joined-passes e f short =
@@ -55,7 +55,7 @@ module _ (l : Limits) (p q : List ℕ) (P Q : Edit) where
         };
       })
 
--- and where its numbers are in range, both edits, read before by other ranges, pass.
+-- and where its numbers are in range, both edits, read before with other ranges, pass.
 module _ (r r′ : Ranges) (p q : List ℕ) (P Q : Edit) where
   pub both-pass : askEdit (limitsBy r) p ≡ passed P → askEdit (limitsBy r) q ≡ passed Q → EditInRange r′ (followedBy P Q)
       → (askEdit (limitsBy r′) p ≡ passed P) × (askEdit (limitsBy r′) q ≡ passed Q)
@@ -67,7 +67,7 @@ module _ (r r′ : Ranges) (p q : List ℕ) (P Q : Edit) where
         spelled-edit-passes (limitsBy r′) q Q (record { text-is = t .text-is; short = t .short; within = record { numbers-fit = k; levels-fit = t .within .levels-fit } }),
       )
 
--- Edits that join: what they say, and what the joined bytes are.
+-- Edits that join: what they mean, and what the joined bytes are.
 pub record Joins (p q joined : List ℕ) : Type 0 where
   pub P : Edit
   pub Q : Edit
@@ -85,6 +85,6 @@ joins p q joined h =
     let bytes = passed-same same in
     record { P = P; Q = Q; p-read = f; q-read = g; bytes-are = sym bytes; short = omega (arith, ap length bytes, leb-true (length (editCode (followedBy P Q))) longestText l) }
 
--- What the call writes are such joined bytes.
+-- The call writes these joined bytes.
 pub call-joins : (p q : List ℕ) (room : ℕ) (joined : List ℕ) → askJoinEdits p q room ≡ passed joined → askJoined p q ≡ passed joined
 call-joins p q room joined h = unfold askJoinEdits askRoom in let (x, e, f) = bind-passed _ _ _ h in e ∙ is-then _ _ _ _ f .1

@@ -35,7 +35,7 @@ pub record Passed (t : List ℕ) : Type 0 where
 pub edit-passed : (t : List ℕ) (a : Answer) → asked a ≡ outcome (askEdit (textLimits maxNodes) t) → a ≡ Done → Passed t
 edit-passed t a check e = let l = learned _ (sym (ap asked e) ∙ check) in record { what = l .what; is = l .is }
 
--- its text is the edit's own bytes
+-- its text is the edit's bytes
 pub spelled : (t : List ℕ) (s : Passed t) → t ≡ editCode (s .what)
 spelled t s = edit-is-spelled (textLimits maxNodes) t (s .what) (s .is) .text-is
 
@@ -43,11 +43,11 @@ pub passed-some : (t : List ℕ) → Passed t → 0 < length t
 passed-some t s = omega (arith, ap length (spelled t s), some-byte (s .what))
 
 module _ (p q : List ℕ) (room : ℕ) where
-  -- 21 to 26 of the first
+  -- 21 to 26 for the first
   pub first-refused : (a : Answer) → asked a ≡ outcome (askEdit (textLimits maxNodes) p) → (r : Refusal) → a ≡ Refused r → askJoinEdits p q room ≡ refused (refusalNumber r) (refusalPlace r)
   first-refused a check r e = unfold askJoinEdits askJoined _>>=_ in rw (not-learned _ _ _ (sym (ap asked e) ∙ check))
 
-  -- and of the second
+  -- and for the second
   pub second-refused : Passed p → (b : Answer) → asked b ≡ outcome (askEdit (textLimits maxNodes) q) → (r : Refusal) → b ≡ Refused r → askJoinEdits p q room ≡ refused (refusalNumber r) (refusalPlace r)
   second-refused s b check r e = unfold askJoinEdits askJoined _>>=_ in rw (s .is, not-learned _ _ _ (sym (ap asked e) ∙ check))
 
@@ -62,7 +62,7 @@ module _ {p q : List ℕ} (s : Passed p) (t : Passed q) where
   bytes-are = joined-bytes (s .what) (t .what) ∙ sym (ap₂ (λ (x y : List ℕ). withoutLast x ++ y) (spelled p s) (spelled q t))
 
   module _ (room : ℕ) where
-    -- 21 of the joined edit
+    -- 21 for the joined edit
     pub too-long : longestText < length p - 1 + length q → askJoinEdits p q room ≡ refused 21 0
     too-long h = unfold askJoinEdits askJoined _>>=_ _>>_ is in rw (s .is, t .is, lt-leb (length joined) longestText (omega (arith, h, size-is)))
 

@@ -12,8 +12,8 @@ use Rattle.text.specs.Code.{editCode}
 use Rattle.text.specs.Reading.{longestText, textLimits}
 use Rattle.text.specs.Questions.{askEdit}
 
--- Edits that join: P's questions, then Q's, with n as 60; then 21, place 0, when the joined edit passes 4,096 bytes.
--- Joining puts Q where P's end stood. What is learned are the joined bytes.
+-- Edits that join: P's questions, then Q's, with n as 60; then 21, place 0, when the joined edit has more than 4,096 bytes.
+-- Joining puts Q where P's end stood. The result is the joined bytes.
 unfoldable pub askJoined : (p q : List ℕ) → Asked (List ℕ)
 askJoined p q = do
   P ← askEdit (textLimits maxNodes) p
@@ -27,11 +27,11 @@ askJoinEdits p q room = do
   joined ← askJoined p q
   askRoom joined room
 
--- A text without its last byte: of an edit's, the bytes before its end.
+-- A text without its last byte: for an edit, the bytes before its end.
 abbrev pub withoutLast : List ℕ → List ℕ
 withoutLast t = take (length t - 1) t
 
--- A chain of three edits joins to y: the first two are joined first, or the last two.
+-- A chain of three edits joins to y, whether the first two are joined first or the last two.
 pub record JoinsByFirst (p q r y : List ℕ) : Type 0 where
   pub joined : List ℕ
   pub first : askJoined p q ≡ passed joined

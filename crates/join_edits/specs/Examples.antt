@@ -1,4 +1,4 @@
--- Edits joined, by their bytes; and refusals that tell the questions' order.
+-- Edits joined, by their bytes; and refusals that show the order of the questions.
 use mathlib.Core.List.{List, [], _∷_}
 use Prim.Native.Nat.{ℕ}
 use Rattle.answer.specs.Asked.{Asked, passed, refused}
@@ -12,20 +12,20 @@ branches = 0x35 ∷ 0x23 ∷ 0x00 ∷ 0x03 ∷ 0x01 ∷ 0x31 ∷ 0x00 ∷ 0x04 �
 
 unfoldable pub calls : (List ℕ → List ℕ → ℕ → Asked (List ℕ)) → List (Asked (List ℕ))
 calls join =
-    -- 30 alone, before and behind
+    -- 30 alone, first and second
     join (0x30 ∷ []) (0x30 ∷ []) 1
     ∷ join (0x30 ∷ []) adds 5
     ∷ join adds (0x30 ∷ []) 5
-    -- Q stands behind the branch, not in it
+    -- Q stands after the branch, not in it
     ∷ join branches adds 16
     ∷ join adds branches 16
-    -- a byte of room too few
+    -- one byte too little room
     ∷ join branches adds 15
-    -- P is asked before Q, and both before the room
+    -- P is checked before Q, and both before the room
     ∷ join [] (0xFF ∷ []) 0
     ∷ join (0x30 ∷ []) (0xFF ∷ []) 0
     ∷ join (0x30 ∷ 0x30 ∷ []) (0x30 ∷ []) 0
-    -- node 60 is in range nowhere
+    -- node 60 is never in range
     ∷ join adds (0x31 ∷ 0x01 ∷ 0x04 ∷ 0x3C ∷ 0x30 ∷ []) 9
     ∷ []
 

@@ -8,8 +8,8 @@ use answer::Refusal;
 use answer::Written;
 use text::Text;
 
-// Joins two edits at the output's start: 21 to 26 of the first and of the second, with n as 60, then 21 of the joined one, then 33.
-// Answers its length. The end of an edit that passes is its last byte, so that joining is copying.
+// Joins two edits at the output's start: 21 to 26 of the first and of the second, with n as 60, then 21 of the joined edit, then 33.
+// Answers its length. The end of an edit that passes is its last byte, so joining is copying.
 pub fn join_edits(p: &[u8], q: &[u8], output: &mut [u8]) -> Written
     ensures { λ r. ⌜ writtenAsked r ≡ writtenLength (askJoinEdits (now (p .entry)) (now (q .entry)) (length (now (output .entry)))) ⌝ }
     ensures { λ _. ⌜ now (output .exit) ≡ writtenOutput (askJoinEdits (now (p .entry)) (now (q .entry)) (length (now (output .entry)))) (now (output .entry)) ⌝ }

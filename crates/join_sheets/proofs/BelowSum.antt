@@ -1,4 +1,4 @@
--- Of numbers below n + m: some, all and how many are, from those below n and those from n on.
+-- The numbers below n + m: whether some are in a set, whether all are, and how many, from those below n and those from n on.
 use mathlib.Core.Path.{_≡_, refl, sym, _∙_, ap, ap₂}
 use mathlib.Core.Bool.{Bool, true, false, _&&_, _||_, cond, or-false, or-assoc, and-true, and-assoc}
 use Prim.Native.Nat.{ℕ, zero, suc, _+_, _<_}
@@ -7,7 +7,7 @@ use Rattle.logic.specs.Graph.{Nodes, anyBelow, allBelow, countBelow}
 use Rattle.logic.proofs.Below.{any-cong, all-cong, count-cong, any-none, all-true}
 
 module _ (v u : Nodes) where
-  -- where v goes on as u from n on
+  -- v from n on is u
   pub any-onwards : (n m : ℕ) → ((j : ℕ) → v (n + j) ≡ u j) → anyBelow (n + m) v ≡ (anyBelow n v || anyBelow m u)
   unfolding anyBelow
   any-onwards n zero h = ap (λ k. anyBelow k v) (add-zero n) ∙ sym (or-false (anyBelow n v))
@@ -31,7 +31,7 @@ unfolding countBelow
 count-none zero = refl
 count-none (suc n) = count-none n
 
--- Where nothing counts from n on, and where nothing counts below n.
+-- If none from n on counts; if none below n counts.
 module _ (v u : Nodes) (n m : ℕ) where
   pub any-first : ((j : ℕ) → j < n → v j ≡ u j) → ((j : ℕ) → v (n + j) ≡ false) → anyBelow (n + m) v ≡ anyBelow n u
   any-first h k = any-onwards v (λ j. false) n m k ∙ ap₂ _||_ (any-cong n v u h) (any-none m (λ j. false) (λ j l. refl)) ∙ or-false (anyBelow n u)

@@ -1,4 +1,4 @@
--- What putting the second's words beside the first's makes of the blocks of two stored sheets.
+-- What joining the second's words to the first's does to the blocks of two stored sheets.
 use mathlib.Core.Logic.{_≢_}
 use mathlib.Core.Path.{_≡_, refl, sym, ap, ap₂, _∙_}
 use mathlib.Core.Bool.{Bool, true, false, cond}
@@ -38,7 +38,7 @@ block-word head m f h fits len j l small =
 set-small : (n : ℕ) (v : Nodes) → n ≤ maxNodes → setOf n v < 2 ^ 64
 set-small n v h = let m : n ≤ 64 = omega arith in lt-of-lt-of-le (setOf-lt n v) (pow-mono m)
 
--- The words of a block f when i words e of another, raised by n, are put beside them from word `at` on.
+-- The words of a block f when i words e of another, raised by n, are joined to them from word `at` on.
 module _ (at n : ℕ) (f e : ℕ → ℕ) where
   abbrev mixed : ℕ → ℕ → ℕ
   mixed i j = cond (ltb j at) (f j) (cond (ltb j (at + i)) (beside n (f j) (e (j - at))) (f j))

@@ -1,4 +1,4 @@
--- The first sheet made the joined one, block by block.
+-- Turning the first sheet into the joined one, block by block.
 use mathlib.Core.Path.{_≡_, refl, sym, ap, _∙_, subst}
 use mathlib.Core.List.{List, _++_}
 use Prim.Native.Nat.{ℕ, zero, suc, _+_, _*_, _≤_, _<_}
@@ -18,14 +18,14 @@ use Rattle.join_sheets.specs.Joined.{joinedGraph, nodesTotal}
 use Rattle.join_sheets.specs.BesideWrites.{putBeside}
 use Rattle.join_sheets.proofs.Beside.{lines-joined, rows-joined}
 
--- t is the first sheet with block 0 made, u the sheet to be.
+-- t is the first sheet with block 0 done, u the sheet that results.
 pub record Begun (n m : ℕ) (t second u : List ℕ) : Type 0 where
   pub size : length t ≡ sheetBytes
   pub u-size : length u ≡ sheetBytes
   pub lines : blockOf t 0 ≡ blockOf u 0
   pub rows : (b : ℕ) → 0 < b → b < blockCount → reseal (present .sums) (putBeside n n (blockOf second b) m (blockOf t b)) ≡ blockOf u b
 
--- b blocks are made
+-- b blocks are done
 pub record Inv (n m : ℕ) (t second l : List ℕ) (b : ℕ) : Type 0 where
   pub some : 0 < b
   pub within : b ≤ blockCount
@@ -55,7 +55,7 @@ module _ (n m : ℕ) (t second l : List ℕ) (b : ℕ) (v : Inv n m t second l b
     same zero l = sym (v .begun .lines) ∙ z .lines
     same (suc a) l = sym (v .begun .rows (suc a) (omega arith) l) ∙ z .rows (suc a) (omega arith) l
 
--- Two stored sheets, and block 0 of the first made.
+-- Two stored sheets, with block 0 of the first done.
 module _ (g h : Graph) (v : Within g) (w : Within h) (few : g .n + h .n ≤ maxNodes) (first second : List ℕ) (p : first ≡ store g) (q : second ≡ store h) (n m : ℕ) (n-is : n ≡ g .n) (m-is : m ≡ h .n)
     (k : List ℕ) (made : k ≡ reseal (present .sums) (set (putBeside 0 n (take blockBytes second) (lineCount present) (take blockBytes first)) 2 (n + m))) where
   abbrev t : List ℕ
@@ -71,7 +71,7 @@ module _ (g h : Graph) (v : Within g) (w : Within h) (few : g .n + h .n ≤ maxN
   first-size : length first ≡ sheetBytes
   first-size = ap length p ∙ length-store present g
 
-  -- the other blocks are as they were
+  -- the other blocks are unchanged
   later-same : (a : ℕ) → a < arrowCount → blockOf t (suc a) ≡ arrowBlock present g a
   later-same a l = block-other first k 0 first-size k-length (omega arith) (suc a) (λ z. omega arith) ∙ ap (λ s. blockOf s (suc a)) p ∙ later-block present g a l
 
@@ -89,7 +89,7 @@ module _ (g h : Graph) (v : Within g) (w : Within h) (few : g .n + h .n ≤ maxN
             let c : a < arrowCount = omega arith in
             rw (later-same a c, q, later-block present h a c, n-is, m-is, later-block present (joinedGraph g h) a c) (rows-joined g h few v w a)
 
--- The same of two sound sheets.
+-- The same for two sound sheets.
 pub begun-sound : (first second : List ℕ) → Bytes first → Bytes second → Sound first → Sound second → nodesTotal first second ≤ maxNodes
     → (n m : ℕ) → n ≡ graphOf first .n → m ≡ graphOf second .n → (k : List ℕ) → k ≡ reseal (present .sums) (set (putBeside 0 n (take blockBytes second) (lineCount present) (take blockBytes first)) 2 (n + m))
     → Begun n m (k ++ drop blockBytes first) second (store (joinedGraph (graphOf first) (graphOf second)))

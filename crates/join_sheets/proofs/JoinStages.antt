@@ -1,4 +1,4 @@
--- What joining answers and leaves, by where it stops.
+-- The answer of joining and what it leaves, by where it stops.
 use mathlib.Core.Path.{_≡_}
 use mathlib.Core.List.{List}
 use Prim.Native.Nat.{ℕ, _≤_, _<_}
@@ -14,7 +14,7 @@ use Rattle.sheet.specs.Sheet.{store, graphOf}
 use Rattle.sheet.specs.Questions.{askSheet, Sound}
 use Rattle.join_sheets.specs.Joined.{joinedGraph, nodesTotal, askJoin, joinedSheet}
 
--- Both sheets are sound, and their nodes fit in one.
+-- Both sheets are sound, and their nodes fit into one.
 pub record Joins (first second : List ℕ) : Type 0 where
   pub first-sound : Sound first
   pub second-sound : Sound second
@@ -35,7 +35,7 @@ module _ (first second : List ℕ) where
       pub too-many : maxNodes < nodesTotal first second → askJoin first second ≡ refused 58 (nodesTotal first second)
       too-many h = unfold askJoin _>>_ is in rw (sound, other, lt-leb (nodesTotal first second) maxNodes h)
 
-  -- what is known when all has passed
+  -- what is known when all questions have passed
   pub joins : askJoin first second ≡ passed tt → Joins first second
   unfolding askJoin
   joins e =

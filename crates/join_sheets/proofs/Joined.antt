@@ -1,4 +1,4 @@
--- The value of an expression without 04 and 17 on the joined graph is the two values side by side, and item 8's sentence on rules.
+-- The value of an expression without 04 and 17 on the joined graph is the two values side by side; and item 8's sentence about rules.
 use mathlib.Core.Path.{_≡_, refl, sym, _∙_, ap, ap₂, fun-ext, subst}
 use mathlib.Core.Bool.{Bool, true, false, not, _&&_, _||_}
 use Rattle.logic.proofs.Bools.{both-so, so-both}
@@ -16,7 +16,7 @@ use Rattle.join_sheets.specs.Joined.{sideBySide, pairsBySide, joinedGrap
 use Rattle.join_sheets.specs.Joinable.{Joinable}
 use Rattle.join_sheets.proofs.BelowSum.{any-first, any-second, all-onwards, all-first, all-second, count-first, count-second}
 
--- w is v below n, and u from n on; of pairs, w is z across.
+-- w is v below n and u from n on; for pairs, w is z between the two parts.
 pub record NodesSide (n : ℕ) (v u w : Nodes) : Type 0 where
   pub first : (i : ℕ) → i < n → w i ≡ v i
   pub second : (i : ℕ) → w (n + i) ≡ u i
@@ -53,7 +53,7 @@ pairs-side n v u =
       back = λ i j l. rw (le-ltb (n + i) n (omega arith)) (nodes-side n (λ j. false) (u ((n + i) - n)) .first j l);
     }
 
--- What holds below n and from n on holds of all.
+-- What holds below n and from n on holds everywhere.
 pub side-cases : (n : ℕ) (P : ℕ → Type 0) → ((i : ℕ) → i < n → P i) → ((k : ℕ) → P (n + k)) → (i : ℕ) → P i
 side-cases n P f s i = go (decLt i n) where
   go : Dec (i < n) → P i
@@ -65,7 +65,7 @@ pub pair-cases : (n : ℕ) (P : ℕ → ℕ → Type 0) → ((i j : ℕ) → i <
 pair-cases n P first second across back =
     side-cases n (λ i. (j : ℕ) → P i j) (λ i l. side-cases n (P i) (λ j. first i j l) (λ k. across i k l)) (λ k. side-cases n (P (n + k)) (back k) (second k))
 
--- What is side by side is one set: that which `sideBySide` makes.
+-- Sets side by side are exactly what `sideBySide` makes.
 pub nodes-are : (n : ℕ) (v u w : Nodes) → NodesSide n v u w → w ≡ sideBySide n v u
 nodes-are n v u w s =
     let p = nodes-side n v u in
@@ -77,7 +77,7 @@ pairs-are n v u w s =
     fun-ext (λ i. fun-ext (pair-cases n (λ i j. w i j ≡ pairsBySide n v u i j) (λ i j l k. s .first i j l k ∙ sym (p .first i j l k)) (λ i j. s .second i j ∙ sym (p .second i j))
     (λ i j l. s .across i j l ∙ sym (p .across i j l)) (λ i j l. s .back i j l ∙ sym (p .back i j l)) i))
 
--- An operation on members keeps sets side by side; on pairs, by what it makes of nothing.
+-- An operation on members keeps sets side by side; for pairs, its value at two non-members is that between the parts.
 module _ (f : Bool → Bool → Bool) where
   nodes-both : {n : ℕ} {v u w v′ u′ w′ : Nodes} → NodesSide n v u w → NodesSide n v′ u′ w′ → NodesSide n (λ i. f (v i) (v′ i)) (λ i. f (u i) (u′ i)) (λ i. f (w i) (w′ i))
   nodes-both s t = record { first = λ i l. ap₂ f (s .first i l) (t .first i l); second = λ i. ap₂ f (s .second i) (t .second i) }
@@ -92,7 +92,7 @@ module _ (f : Bool → Bool → Bool) where
           back = λ i j l. ap₂ f (s .back i j l) (t .back i j l) ∙ e;
         }
 
-    -- the pairs, with a set of the nodes that they end in
+    -- the pairs, with a set of the nodes where they end
     pairs-ends : ((b : Bool) → f false b ≡ z) → {v′ u′ w′ : Nodes} → NodesSide n v′ u′ w′ → PairsSideBut z n (λ i j. f (v i j) (v′ j)) (λ i j. f (u i j) (u′ j)) (λ i j. f (w i j) (w′ j))
     pairs-ends e {w′ = w′} t =
         record {

@@ -15,7 +15,7 @@ use Rattle.bitset.proofs.BitLaws.{member-shl}
 use Rattle.join_sheets.specs.Joined.{sideBySide}
 use Rattle.join_sheets.specs.BesideWrites.{raised, beside}
 
--- a word is shifted as a word
+-- a shift of a word raises its set
 pub shifted : (x n : ℕ) → x * 2 ^ n % 2 ^ 64 ≡ raised n x
 shifted x n = is-setOf 64 (x * 2 ^ n % 2 ^ 64) (λ j. leb n j && member x (j - n)) (mod-lt (x * 2 ^ n) (pow-pos 64)) (λ j h. member-shl x n j h)
 
@@ -34,7 +34,7 @@ beside-sets n m v u h = setOf-cong 64 _ (λ i. ltb i (n + m) && cond (ltb i n) (
     go i (yes l) = rw (lt-ltb i n l, lt-leb n i l, lt-ltb i (n + m) (omega arith)) (or-false (v i))
     go i (no l) = rw (le-ltb i n (omega arith), le-leb n i (omega arith), from-n n m i (omega arith))
 
--- the first's alone
+-- the first set alone
 pub first-alone : (n m : ℕ) (v : Nodes) → setOf n v ≡ setOf (n + m) (sideBySide n v (λ j. false))
 unfolding sideBySide
 first-alone n m v = sym (setOf-cong (n + m) _ (λ i. ltb i n && v i) (λ i l. go (ltb i n) (v i)) ∙ setOf-wide n (n + m) v (omega arith)) where
@@ -42,7 +42,7 @@ first-alone n m v = sym (setOf-cong (n + m) _ (λ i. ltb i n && v i) (λ i l. go
   go true c = refl
   go false c = refl
 
--- nothing beside nothing
+-- two empty sets side by side
 pub neither : (n m : ℕ) (v u w : Nodes) → ((i : ℕ) → w i ≡ false) → ((i : ℕ) → v i ≡ false) → ((i : ℕ) → u i ≡ false) → setOf n w ≡ setOf (n + m) (sideBySide n v u)
 unfolding sideBySide
 neither n m v u w z p q = setOf-cong n w (λ i. false) (λ i l. z i) ∙ setOf-none n ∙ sym (setOf-cong (n + m) _ (λ i. false) (λ i l. go (ltb i n) i) ∙ setOf-none (n + m)) where

@@ -1,4 +1,4 @@
--- The joined graph is within the limits where the node counts total at most 60; joining with a third is the same from either side.
+-- The joined graph is within the limits if the node counts total at most 60; joining three graphs gives the same in either grouping.
 use mathlib.Core.Path.{_≡_, sym, _∙_, ap, ap₂}
 use mathlib.Core.Bool.{false}
 use Prim.Native.Nat.{ℕ, _+_, _≤_}
@@ -10,7 +10,7 @@ use Rattle.join_sheets.specs.Joined.{sideBySide, pairsBySide, joinedGrap
 use Rattle.join_sheets.proofs.Joined.{NodesSide, nodes-side, pairs-side, node-side, side-cases, pair-cases, nodes-are, pairs-are}
 
 module _ (g h : Graph) (v : Within g) (w : Within h) where
-  -- a set of the joined graph that is two sets of nodes in use side by side has only nodes in use
+  -- a set of the joined graph that is two sets of nodes in use side by side contains only nodes in use
   outside : NodesSide (g .n) (isNode g) (isNode h) (isNode (joinedGraph g h))
   outside = node-side g h
 
@@ -39,7 +39,7 @@ module _ (g h : Graph) (v : Within g) (w : Within h) where
       let s = pairs-side (g .n) a b in
       pair-cases (g .n) (λ i j. pairsBySide (g .n) a b i j ≡ false) (λ i j l k. s .first i j l k ∙ p i j) (λ i j. s .second i j ∙ q i j) (s .across) (s .back)
 
-  -- "58 when the node counts total more than 60": else the joined graph is one that a sheet can store.
+  -- "58 when the node counts total more than 60": otherwise a sheet can store the joined graph.
   pub join-within : g .n + h .n ≤ maxNodes → Within (joinedGraph g h)
   unfolding joinedGraph
   join-within few =
@@ -53,7 +53,7 @@ module _ (g h : Graph) (v : Within g) (w : Within h) where
         no-more-arrows = λ a i j l. pairs-none (g .joined a) (h .joined a) (λ i j. v .no-more-arrows a i j l) (λ i j. w .no-more-arrows a i j l) i j;
       }
 
--- Joining with a third is the same from either side.
+-- Joining three gives the same in either grouping.
 module _ (n m : ℕ) where
   on : (k : ℕ) → n + (m + k) ≡ (n + m) + k
   on k = omega arith

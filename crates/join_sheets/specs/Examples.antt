@@ -1,5 +1,5 @@
--- Why item 8 leaves out 23, 24, 26, 27 and, in expressions, 04 and 17: for each a rule that does not hold on the joined graph
--- exactly when it holds on both (proofs/Examples computes it). Two graphs of one node: `with` has label 0 and an arrow 0 to itself, `without` has neither.
+-- Why item 8 leaves out 23, 24, 26, 27 and, in expressions, 04 and 17: for each, a rule for which holding on the joined graph is not the same
+-- as holding on both (proofs/Examples computes it). Two graphs of one node: `with` has label 0 and an arrow 0 to itself, `without` has neither.
 use mathlib.Core.Bool.{Bool, true, false, _&&_}
 use mathlib.Core.List.{List, [], _∷_}
 use lib.Dec.{eqb}
@@ -14,7 +14,7 @@ with = record { n = 1; inUse = λ i. eqb i 0; labelled = λ k i. eqb k 0 && eqb 
 abbrev pub without : Graph
 without = record { n = 1; inUse = λ i. eqb i 0; labelled = λ k i. false; joined = λ a i j. false }
 
--- Whether a rule holds on the first, on the second, on the joined one.
+-- Whether a rule holds on the first graph, on the second, and on the joined one.
 pub record Shown : Type 0 where
   pub on-first : Bool
   pub on-second : Bool
@@ -25,9 +25,9 @@ shown g h K = record { on-first = value g K; on-second = value h K; on-joined = 
 
 unfoldable pub left-out : List Shown
 left-out =
-    -- 26: all have label 0, or none has
+    -- 26: all nodes have label 0, or none has it
     shown with without (either (subNodes all (label 0)) (subNodes (label 0) none))
-    -- 27: not all have it
+    -- 27: not all nodes have it
     ∷ shown with without (notRule (subNodes all (label 0)))
     -- 23, and 24
     ∷ shown with without (nodeIn 0 (label 0))

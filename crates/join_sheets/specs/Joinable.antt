@@ -29,7 +29,7 @@ Joinable (both K L) = Joinable K × Joinable L
 Joinable (either K L) = ⊥
 Joinable (notRule K) = ⊥
 
--- Each rule of a book is one.
+-- Each rule of a book is such a rule.
 unfoldable pub JoinableBook : List (Expr rule) → Type 0
 JoinableBook [] = Unit {0}
 JoinableBook (K ∷ book) = Joinable K × JoinableBook book

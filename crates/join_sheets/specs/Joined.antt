@@ -9,11 +9,11 @@ use Rattle.logic.specs.Limits.{maxNodes}
 use Rattle.sheet.specs.Sheet.{store, graphOf}
 use Rattle.sheet.specs.Questions.{askSheet}
 
--- "the second's nodes follow the first's, its numbers raised by the first's n": two sets side by side, the first's of nodes below n.
+-- "the second's nodes follow the first's, its numbers raised by the first's n": two sets side by side, the first with nodes below n.
 unfoldable pub sideBySide : (n : ℕ) → Nodes → Nodes → Nodes
 sideBySide n v u i = cond (ltb i n) (v i) (u (i - n))
 
--- Of pairs, row by row: no arrow goes from one sheet's nodes to the other's.
+-- The same for pairs, row by row: no arrow goes from one sheet's nodes to the other's.
 unfoldable pub pairsBySide : (n : ℕ) → Pairs → Pairs → Pairs
 pairsBySide n v u i = cond (ltb i n) (sideBySide n (v i) (λ j. false)) (sideBySide n (λ j. false) (u (i - n)))
 
@@ -37,6 +37,6 @@ askJoin first second = do
   askSheet second
   is (leb (nodesTotal first second) maxNodes) 58 (nodesTotal first second)
 
--- The first sheet after it: the one that stores both graphs side by side, or as it was.
+-- The first sheet after the call: the one that stores both graphs side by side, or unchanged.
 unfoldable pub joinedSheet : (first second : List ℕ) → List ℕ
 joinedSheet first second = after (askJoin first second) (λ u. store (joinedGraph (graphOf first) (graphOf second))) first

@@ -1,4 +1,4 @@
-// Two sheets become one in the first's buffer (item 8 of document 02).
+// Joins two sheets in the first's buffer (item 8 of document 02).
 ghost use mathlib.Core.Path.{_≡_};
 ghost use Prim.Native.Nat.{_+_, _<_, _≤_};
 ghost use lib.ListN.{length, set};
@@ -17,7 +17,7 @@ use sheet::Sheet;
 // The lines of block 0: the labels, and the nodes in use.
 const LINES: usize = Sheet::LABELS + 1;
 
-// The set x with its numbers raised by n. Inner: n is the number of a bit.
+// The set x with its numbers raised by n. Inner: n is below 64.
 fn raised(x: u64, n: usize) -> u64
     requires { ⌜ n < 64 ⌝ }
     ensures { λ r. ⌜ r ≡ raised n x ⌝ }
@@ -25,7 +25,7 @@ fn raised(x: u64, n: usize) -> u64
     x << n
 }
 
-// Puts the first m words of the other block, raised by n, beside the words from `at` on. Inner: both are blocks and have those words.
+// Joins the first m words of the other block, raised by n, to the words from `at` on. Inner: both are whole blocks and have those words.
 fn put_beside(block: &mut [u8], at: usize, other: &[u8], m: usize, n: usize)
     requires { ⌜ (length (now block) ≡ blockBytes) × (length (now other) ≡ blockBytes) × (at + m ≤ wordCount) × (n < 64) ⌝ }
     ensures { λ _. ⌜ now (block .exit) ≡ putBeside at n (now (other .entry)) m (now (block .entry)) ⌝ }
@@ -40,7 +40,7 @@ fn put_beside(block: &mut [u8], at: usize, other: &[u8], m: usize, n: usize)
     }
 }
 
-// Block 0: each line beside the other's, and the total as the new n. Inner: of sheets with n and m nodes, no more than 60 together.
+// Block 0: joins each line to the other's and writes the total as the new n. Inner: the sheets have n and m nodes, at most 60 together.
 fn join_lines(block: &mut [u8], other: &[u8], n: usize, m: usize)
     requires { ⌜ (length (now block) ≡ blockBytes) × (length (now other) ≡ blockBytes) × (n + m ≤ maxNodes) ⌝ }
     ensures { λ _. ⌜ now (block .exit) ≡ reseal (present .sums) (set (putBeside 0 n (now (other .entry)) (lineCount present) (now (block .entry))) 2 (n + m)) ⌝ }
@@ -50,7 +50,7 @@ fn join_lines(block: &mut [u8], other: &[u8], n: usize, m: usize)
     seal::seal(block);
 }
 
-// An arrow's block: the other's rows follow the rows of n nodes. Inner: the same.
+// An arrow block: the other's rows follow the first n rows. Inner: as for `join_lines`.
 fn join_rows(block: &mut [u8], other: &[u8], n: usize, m: usize)
     requires { ⌜ (length (now block) ≡ blockBytes) × (length (now other) ≡ blockBytes) × (n + m ≤ maxNodes) ⌝ }
     ensures { λ _. ⌜ now (block .exit) ≡ reseal (present .sums) (putBeside n n (now (other .entry)) m (now (block .entry))) ⌝ }
@@ -59,7 +59,7 @@ fn join_rows(block: &mut [u8], other: &[u8], n: usize, m: usize)
     seal::seal(block);
 }
 
-// Puts the second sheet's graph beside the first's, block by block. Inner: both sheets are sound, and their nodes fit in one.
+// Joins the second sheet's graph to the first's, block by block. Inner: both sheets are sound, and their nodes fit into one.
 fn join_blocks(first: &mut [u8], second: &[u8])
     requires { ⌜ Sound (now first) × Sound (now second) × (nodesTotal (now first) (now second) ≤ maxNodes) ⌝ }
     ensures { λ _. ⌜ now (first .exit) ≡ store (joinedGraph (graphOf (now (first .entry))) (graphOf (now (second .entry)))) ⌝ }
@@ -76,7 +76,7 @@ fn join_blocks(first: &mut [u8], second: &[u8])
     }
 }
 
-// 1 to 4 of the first sheet, then of the second, then 58.
+// Questions 1 to 4 of the first sheet, then of the second, then 58.
 fn ask(first: &[u8], second: &[u8]) -> Answer
     ensures { λ r. ⌜ asked r ≡ askJoin (now (first .entry)) (now (second .entry)) ⌝ }
 {
@@ -95,7 +95,7 @@ fn ask(first: &[u8], second: &[u8]) -> Answer
     Answer::Refused(Refusal::NodesTotal { place: total })
 }
 
-// Makes the first sheet both sheets side by side, or leaves it as it is.
+// Puts both sheets side by side into the first, or leaves it unchanged.
 pub fn join_sheets(first: &mut [u8], second: &[u8]) -> Answer
     ensures { λ r. ⌜ asked r ≡ askJoin (now (first .entry)) (now (second .entry)) ⌝ }
     ensures { λ _. ⌜ now (first .exit) ≡ joinedSheet (now (first .entry)) (now (second .entry)) ⌝ }

@@ -1,4 +1,4 @@
--- Judge's answer and part, by what its questions of sheet and book found.
+-- Judge's answer and part, by what its questions about sheet and book found.
 use mathlib.Core.Path.{_≡_, refl}
 use mathlib.Core.List.{List}
 use Prim.Native.Nat.{ℕ}

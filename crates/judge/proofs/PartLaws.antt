@@ -1,4 +1,4 @@
--- The part that judge hands back lies in the book.
+-- The part that judge returns lies in the book.
 use mathlib.Core.Path.{_≡_, refl, ap}
 use mathlib.Core.Bool.{Bool, true, false}
 use mathlib.Core.List.{List, [], _∷_}

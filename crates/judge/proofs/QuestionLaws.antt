@@ -28,7 +28,7 @@ module _ (g : Graph) where
     pub rule-broken : value g K ≡ false → askRules g (K ∷ rules) i ≡ refused 41 i
     rule-broken e = unfold askRules in not-then 41 i _ e
 
-  -- 41 is not answered exactly when each rule holds.
+  -- The answer is not 41 exactly when each rule holds.
   pub hold-asked : (rules : List (Expr rule)) (i : ℕ) → T (holdAll g rules) → askRules g rules i ≡ passed tt
   unfolding askRules holdAll
   hold-asked [] i e = refl
@@ -50,7 +50,7 @@ module _ (g : Graph) (rules : List (Expr rule)) (a : Answer) (judged : asked a �
   pub judged-broken : (r : Refusal) → a ≡ Refused r → false ≡ holdAll g rules
   judged-broken r e = sym (asked-broken g rules 0 _ _ (sym judged ∙ ap asked e))
 
--- Theorem 4.2 along a book: the carried rules are asked of the graph before as the rules are of the graph that the steps leave.
+-- Theorem 4.2 along a book: the carried rules have the same truth on the graph before as the rules on the graph that the steps leave.
 pub ask-carried : (Z : Edit) (rules : List (Expr rule)) (g : Graph) (i : ℕ) → askRules g (carriedBook Z rules) i ≡ askRules (run Z g) rules i
 unfolding askRules
 ask-carried Z [] g i = refl

@@ -1,4 +1,4 @@
--- What rules can be refused with: 41, and the number of a rule.
+-- The refusals of rules: 41, and the number of a rule.
 use mathlib.Core.List.{List, [], _∷_}
 use Prim.Native.Nat.{ℕ, suc, _+_}
 use native.Mathlib.Omega.{arith}

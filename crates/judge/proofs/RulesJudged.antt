@@ -28,7 +28,7 @@ use Rattle.judge.specs.Questions.{askRules}
 use Rattle.judge.specs.Judging.{RulesStand, brokenPart}
 use Rattle.judge.proofs.QuestionLaws.{rule-holds, rule-broken}
 
--- What the evaluators ask of the sheet.
+-- What the evaluators require of the sheet.
 pub opened : (sheet : List ℕ) (n all : ℕ) → Bytes sheet → Sound sheet → n ≡ graphOf sheet .n → n ≤ maxNodes → all ≡ setOf (graphOf sheet .n) (isNode (graphOf sheet)) → Opened sheet n all
 opened sheet n all b s e f a = record { sound = s; count = e; few = f; nodes = a ∙ ap (λ (m : ℕ). setOf m (isNode (graphOf sheet))) (sym e); within = sound-is-stored present sheet b s .within }
 
@@ -81,7 +81,7 @@ pub ends-inside : (n : ℕ) (text : List ℕ) (end : ℕ) (rules : List (Expr ru
 ends-inside n text end rules s = omega (arith, s .ends, within text 0 (bookCode rules) (s .rest) (s .here))
 
 module _ (sheet : List ℕ) (n : ℕ) (text : List ℕ) (end : ℕ) where
-  -- Of the rules, those before `at` hold, i of them; the rest is left.
+  -- Of the rules, those before `at` hold, i of them; the rest are left.
   pub record Reached (at i : ℕ) (rules : List (Expr rule)) : Type 0 where
     pub left : List (Expr rule)
     pub stand : RulesStand (ranges n) text at end left
@@ -96,7 +96,7 @@ module _ (sheet : List ℕ) (n : ℕ) (text : List ℕ) (end : ℕ) where
     first h = first-of n text at end (d .left) (d .stand) h
 
     module _ (b : Bool) (next : ℕ) (said : (e : Expr rule) → Stands (ranges n) text at e → IsTruth sheet at e b next) (h : at < end) where
-      -- what the evaluator said of the first
+      -- what the evaluator found for the first rule
       abbrev judged : IsTruth sheet at (first h .K) b next
       judged = said (first h .K) (first h .stands)
 

@@ -1,4 +1,4 @@
--- Sheet and book are asked first by many calls: what the two checks answer settles `askSheetAndBook`, and what it settles for the rules.
+-- Many calls check sheet and book first: the answers of the two checks settle `askSheetAndBook`, and what that settles for the rules.
 use mathlib.Core.Path.{_≡_, refl, sym, ap, _∙_}
 use mathlib.Core.List.{List}
 use Prim.Native.Nat.{ℕ}
@@ -20,7 +20,7 @@ use Rattle.judge.specs.Questions.{askSheetAndBook}
 use Rattle.judge.specs.Judging.{RulesStand}
 use Rattle.judge.proofs.RulesJudged.{read-book-stands}
 
--- An answer that is done, and one that is a refusal, of some questions.
+-- An answer to some questions that is done, and one that is a refusal.
 module _ {A : Type 0} {q : Asked A} {a : Answer} (h : asked a ≡ outcome q) where
   pub done-learned : a ≡ Done → Learned q
   done-learned d = learned q (sym (ap asked d) ∙ h)

@@ -1,4 +1,4 @@
--- The first broken rule as a part of the book itself; and rules that stand one behind the other in a text.
+-- The first broken rule as a part of the book itself; and rules that stand one after the other in a text.
 use mathlib.Core.Path.{_≡_}
 use mathlib.Core.Bool.{true, false}
 use mathlib.Core.List.{List, [], _∷_, _++_}
@@ -16,7 +16,7 @@ use Rattle.text.specs.Stands.{RulesInRange}
 use Rattle.judge.specs.Questions.{askSheetAndBook}
 use Rattle.judge.specs.declared.Verdict.{Verdict}
 
--- The first broken rule at its own place, where the rules start at a place; no part when all hold.
+-- The first broken rule at its place, where the rules start at a given place; no part when all hold.
 unfoldable pub brokenPart : Graph → List (Expr rule) → ℕ → Part
 brokenPart g [] at = noPart
 brokenPart g (K ∷ book) at = elim (value g K) [ true ↦ brokenPart g book (at + length (code K)) | false ↦ record { start = at; size = length (code K) } ]
@@ -29,7 +29,7 @@ judgedPart sheet book = after (askSheetAndBook sheet book) (λ rules. brokenPart
 abbrev pub partNamed : Verdict → Part
 partNamed v = record { start = v .start; size = v .size }
 
--- Rules that stand from a place to an end. An inner function asks for some and speaks of all such.
+-- Rules that stand from a place to an end. An inner function requires some such rules and promises its result for all of them.
 pub record RulesStand (r : Ranges) (text : List ℕ) (at end : ℕ) (rules : List (Expr rule)) : Type 0 where
   pub rest : List ℕ
   pub here : drop at text ≡ bookCode rules ++ rest

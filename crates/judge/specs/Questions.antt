@@ -1,4 +1,4 @@
--- The questions of judging a book on a sheet ("The questions, in order" of document 01); all but the last serve enter too.
+-- The questions of judging a book on a sheet ("The questions, in order" of document 01); enter asks all of them except the last, too.
 use mathlib.Core.List.{List, [], _∷_}
 use Prim.Native.Nat.{ℕ, suc}
 use Rattle.answer.specs.Asked.{Asked, passed, _>>=_, _>>_, is}
@@ -17,7 +17,7 @@ askRules g (K ∷ book) i = do
   is (value g K) 41 i
   askRules g book (suc i)
 
--- Sheet, then book: what is learned are the rules.
+-- Sheet, then book: the result is the rules.
 unfoldable pub askSheetAndBook : List ℕ → List ℕ → Asked (List (Expr rule))
 askSheetAndBook sheet book = do
   askSheet sheet

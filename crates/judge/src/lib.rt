@@ -17,7 +17,7 @@ use answer::Refusal;
 use sheet::Sheet;
 use text::Text;
 
-// What judging finds, in numbers: the answer, and the broken rule as a part of the text.
+// The verdict in numbers: the answer, and the broken rule as a part of the text.
 pub struct Verdict {
     pub answer: Answer,
     pub start: usize,
@@ -68,7 +68,7 @@ pub fn holds(sheet: &[u8], book: &[u8]) -> bool
     true
 }
 
-// Judges a book: for callers that want no reference inside a struct.
+// Judges a book: for callers that do not want a reference inside a struct.
 pub fn decide(sheet: &[u8], book: &[u8]) -> Verdict
     ensures { λ r. ⌜ (asked (r .answer) ≡ askJudge (now (sheet .entry)) (now (book .entry)))
         × (partNamed r ≡ judgedPart (now (sheet .entry)) (now (book .entry))) ⌝ }
@@ -102,7 +102,7 @@ fn part_of<'b>(book: &'b [u8], v: Verdict) -> &'b [u8]
     &book[start..end]
 }
 
-// What judge answers: the first broken rule as a part of the book itself, empty in every other outcome.
+// The answer of judge: the first broken rule as a part of the book itself; the part is empty in every other outcome.
 pub struct Judged<'b> {
     pub answer: Answer,
     pub rule: &'b [u8],
@@ -118,7 +118,7 @@ fn with_part<'b>(v: Verdict, rule: &'b [u8]) -> Judged<'b>
     }
 }
 
-// Judge: sheet and book are lent apart, the result is a part of the book only.
+// Judge: sheet and book have separate lifetimes, and the result is a part of the book only.
 pub fn judge<'s, 'b>(sheet: &'s [u8], book: &'b [u8]) -> Judged<'b>
     ensures { λ r. ⌜ (asked (r .answer) ≡ askJudge (now (sheet .entry)) (now (book .entry)))
         × PartOf (book .entry) (judgedPart (now (sheet .entry)) (now (book .entry))) (r .rule) ⌝ }

@@ -1,4 +1,4 @@
--- A law of each number below a bound, from a proof for each, or from a test of all.
+-- A law for each number below a bound, from a proof for each, or from one test of all.
 use mathlib.Core.Path.{_≡_}
 use mathlib.Core.Bool.{Bool, true, _&&_}
 use Prim.Native.Nat.{ℕ, zero, suc, _<_}

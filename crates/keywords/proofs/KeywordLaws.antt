@@ -18,7 +18,7 @@ use Rattle.buffers.specs.Slots.{orBound, slotAt}
 use Rattle.keywords.specs.Phrases.{allPhrases, words, wordTable, slotWidth}
 use Rattle.keywords.proofs.WordSlots.{slot-word}
 
--- A word is found below the bound where it is one of the list.
+-- A word is found below the bound exactly when it is in the list.
 found-among : (t : Token) (ws : List Token) → ltb (orBound (length ws) (firstBelow (λ x. same t (getD ws x [])) (length ws))) (length ws) ≡ among t ws
 unfolding among
 found-among t [] = unfold firstBelow in refl
@@ -35,7 +35,7 @@ found-among t (w ∷ ws) =
     go true f h = lt-ltb 0 (suc (length ws)) (omega arith)
     go false f h = up f ∙ h
 
--- Where each word of a list is one of another, so is what is one of the first.
+-- If each word of one list is in another, whatever is in the first is in the other.
 allAmong : (us ws : List Token) → Bool
 allAmong us [] = true
 allAmong us (w ∷ ws) = among w us && allAmong us ws

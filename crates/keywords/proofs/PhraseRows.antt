@@ -1,4 +1,4 @@
--- The goals of a phrase are those of its row; so what begins with a word, or with a code, is told by the number of its phrase.
+-- The goals of a phrase are those of its row; so the number of its phrase determines what a word or a code begins.
 use mathlib.Core.Path.{_≡_, refl, _∙_, ap, subst}
 use mathlib.Core.Bool.{Bool, true, _&&_, cond}
 use mathlib.Core.List.{List, [], _∷_}
@@ -18,7 +18,7 @@ use Rattle.keywords.specs.Rows.{markOf, kindOf, slotOf, levelOf, goalOf,
 use Rattle.keywords.specs.Phrases.{allPhrases, phraseAt, codeAt, phraseCount, firstOf, countOf, InSlot, Picked}
 use Rattle.keywords.proofs.Each.{Each, each-at}
 
--- The goals of phrase p, where an item is wanted.
+-- The goals of phrase p if an item is wanted.
 abbrev Alike : (d item p : ℕ) → Type 0
 Alike d item p = goals (slotOf item) d (phraseAt p .items) ≡ rowGoals (rowOf item p) d
 
@@ -46,7 +46,7 @@ row-goals item p d s =
     let h : AlikeFrom d item = subst (AlikeFrom d) f (each-at 9 (λ k. AlikeFrom d (k + 9)) (all-alike d) (item - 9) (omega (arith, s .a-thing, s .known))) in
     subst (Alike d item) e (each-at (countOf item) (λ j. Alike d item (j + firstOf item)) h (p - firstOf item) (omega (arith, s .from, s .to)))
 
--- The rows are numbers of 64 bits.
+-- The rows fit into 64 bits.
 allBelow : ℕ → List ℕ → Bool
 allBelow b [] = true
 allBelow b (x ∷ xs) = ltb x b && allBelow b xs

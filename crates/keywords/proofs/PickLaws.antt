@@ -1,4 +1,4 @@
--- A phrase that is looked for among those of an item, by its word or its code, is told by its number.
+-- Looking for a phrase among those of an item, by its word or its code, gives its number.
 use mathlib.Core.Path.{_≡_, refl, sym, _∙_, ap, ap₂, subst}
 use mathlib.Core.Bool.{Bool, true, false, cond}
 use mathlib.Core.List.{List, [], _∷_, map}
@@ -21,7 +21,7 @@ use Rattle.keywords.specs.Phrases.{allPhrases, noPhrase, phraseAt, phras
 use Rattle.keywords.proofs.Each.{Each, each-at}
 use Rattle.keywords.proofs.WordSlots.{phrase-word, word-slots}
 
--- The phrase of a number in a list.
+-- The phrase at a number of a list.
 abbrev pub nth : List Phrase → ℕ → Found Phrase
 nth rs i = cond (ltb i (length rs)) (found (getD rs i noPhrase)) absent
 
@@ -62,7 +62,7 @@ by-word t (r ∷ rs) =
     go true h = nth-here r rs
     go false h = h ∙ later (firstBelow (λ x. same t (getD rs x noPhrase .word)) (length rs))
 
--- The phrases of an item: a part of all.
+-- The phrases of an item: a part of all phrases.
 pub record Part (item : ℕ) : Type 0 where
   pub are : phrases (slotOf item) ≡ take (countOf item) (drop (firstOf item) allPhrases)
   pub many : length (phrases (slotOf item)) ≡ countOf item
@@ -137,7 +137,7 @@ module _ (item : ℕ) (h : 9 ≤ item) (k : item < 18) where
       (first-same (λ x. same t (getD (phrases (slotOf item)) x noPhrase .word)) (λ x. same t (slotAt slotWidth wordTable (firstOf item + x))) (countOf item)
       (λ x l. ap (same t) (ap (λ (r : Phrase). r .word) (nth-phrase x l) ∙ sym (phrase-word (firstOf item + x) (omega arith)))))
 
-  -- What the functions answer, by what they found.
+  -- What the functions return, by what they found.
   module _ (c p : ℕ) (e : p ≡ firstOf item + indexOf c (slice (firstOf item) (firstOf item + countOf item) (map (λ r. r .byte) allPhrases))) where
     pub code-picked : p < firstOf item + countOf item → Picked item (phraseOf c (phrases (slotOf item))) p
     code-picked l = subst (Picked item (phraseOf c (phrases (slotOf item)))) (sym e) (picked (phraseOf c (phrases (slotOf item))) _ (found-code c) (omega arith))

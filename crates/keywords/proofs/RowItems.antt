@@ -34,7 +34,7 @@ row-one d (suc x) h c = record {
   items = more (suc x) (omega arith) (omega arith) (λ e. c (omega arith)) (let e : 0 ≡ suc x / 256 = omega arith in subst (Items d) e none);
 }
 
--- The rows of phrases: steps up to the text's end stand only where such steps were wanted.
+-- The rows of phrases: steps up to the text's end occur only where such steps were wanted.
 itemsOk : (most row : ℕ) (closing : Bool) → Bool
 itemsOk zero row c = eqb row 0
 itemsOk (suc n) row c = eqb row 0 || (leb 1 (row % 256) && (ltb (row % 256) 18 && ((not (eqb (row % 256) 16) || c) && itemsOk n (row / 256) c)))

@@ -13,7 +13,7 @@ use borrow.Author.Tests.{eq-eqb, ne-eqb, le-leb, lt-leb}
 use Rattle.notation.specs.Grammar.{Goal}
 use Rattle.keywords.specs.Rows.{goalOf, goalsOf, rowGoals, goalsAbove, wanted}
 
--- A row that has ended; one that goes on; one whose last item is a thing on its own level.
+-- A row that has ended; one that goes on; one whose last item is a thing at its own level.
 goals-zero : (n d : ℕ) → goalsOf n 0 d ≡ []
 unfolding goalsOf
 goals-zero zero d = refl
@@ -27,7 +27,7 @@ goals-last : (n r d : ℕ) → (r ≡ 0 → ⊥) → 14 ≤ r % 256 → goalsOf 
 unfolding goalsOf
 goals-last n r d h k = rw (ne-eqb r 0 h, le-leb 14 (r % 256) k)
 
--- A number of so many bytes has no more items.
+-- A number of n bytes has at most n items.
 goals-enough : (n r d : ℕ) → r < 256 ^ n → goalsOf n r d ≡ goalsOf (suc n) r d
 unfolding goalsOf
 goals-enough zero r d h = rw (eq-eqb r 0 (omega arith))
@@ -44,11 +44,11 @@ row-first row d s h k = goals-first 7 row d h k ∙ ap (goalOf (row % 256) d ∷
 pub row-last : (row d : ℕ) → (row ≡ 0 → ⊥) → 14 ≤ row % 256 → rowGoals row d ≡ goalOf (row % 256) d ∷ []
 row-last row d h k = goals-last 7 row d h k
 
--- What is left of a row is a number of 64 bits too.
+-- What is left of a row fits into 64 bits too.
 pub rest-small : (row : ℕ) → row < 2 ^ 64 → row / 256 < 2 ^ 64
 rest-small row h = omega arith
 
--- A row that is written makes no difference to the levels above it.
+-- Writing a row does not change the levels above it.
 pub above-same : (rows : List ℕ) (level x d : ℕ) → d ≤ level → goalsAbove (set rows level x) d ≡ goalsAbove rows d
 unfolding goalsAbove
 above-same rows level x zero h = refl

@@ -1,4 +1,4 @@
--- The words of the phrases stand in their slots.
+-- The words of the phrases are in their slots.
 use mathlib.Core.Path.{_≡_, refl, _∙_}
 use mathlib.Core.Bool.{Bool, true}
 use mathlib.Core.List.{[], _∷_, map}

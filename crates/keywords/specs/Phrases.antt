@@ -1,4 +1,4 @@
--- The phrases, numbered: those of nodes, of arrows, of rules, of steps.
+-- The phrases, numbered: first those of nodes, then of arrows, of rules, of steps.
 use mathlib.Core.Path.{_≡_}
 use mathlib.Core.Bool.{cond}
 use mathlib.Core.List.{List, [], _∷_, _++_, map}
@@ -12,7 +12,7 @@ use Rattle.notation.specs.Grammar.{textEnd, elseWord, endWord, expr, steps, Phr
 abbrev pub phraseCount : ℕ
 phraseCount = 27
 
--- The phrases of steps are the same, wherever the steps end.
+-- Steps have the same phrases wherever they end.
 unfoldable pub allPhrases : List Phrase
 allPhrases = phrases (expr node) ++ (phrases (expr arrow) ++ (phrases (expr rule) ++ phrases (steps textEnd)))
 
@@ -25,7 +25,7 @@ phraseAt p = getD allPhrases p noPhrase
 abbrev pub codeAt : ℕ → ℕ
 codeAt p = phraseAt p .byte
 
--- The phrases of an item that is a thing: the number of the first, and how many.
+-- The phrases of an item that is a thing: the number of the first, and how many there are.
 unfoldable pub firstOf : ℕ → ℕ
 firstOf item = getD (0 ∷ 9 ∷ 15 ∷ 22 ∷ 22 ∷ 22 ∷ 22 ∷ 22 ∷ 15 ∷ []) (item - 9) 0
 
@@ -38,13 +38,13 @@ pub record InSlot (item p : ℕ) : Type 0 where
   pub from : firstOf item ≤ p
   pub to : p < firstOf item + countOf item
 
--- A phrase that was looked for among those of an item, by its number; the count of all where there is none.
+-- The phrase found among those of an item, by its number; `phraseCount` if there is none.
 pub record Picked (item : ℕ) (f : Found Phrase) (p : ℕ) : Type 0 where
   pub is : f ≡ cond (ltb p phraseCount) (found (phraseAt p)) absent
   pub inside : p < phraseCount → InSlot item p
   pub most : p ≤ phraseCount
 
--- The words of the phrases, and those that end steps; each in a slot, filled up with blanks.
+-- The words of the phrases, and those that end steps; each of them in a slot, padded with blanks.
 unfoldable pub words : List Token
 words = map (λ r. r .word) allPhrases ++ (elseWord ∷ endWord ∷ [])
 

@@ -1,4 +1,4 @@
--- What follows a word, as numbers: an item is a byte, a row of items a number whose lowest byte is the first item.
+-- What follows a word, as numbers: an item is a byte, and a row of items is a number with the first item in its lowest byte.
 use mathlib.Core.Path.{_≡_}
 use mathlib.Core.Bool.{cond}
 use mathlib.Core.List.{List, [], _∷_, _++_}
@@ -10,15 +10,15 @@ use Rattle.logic.specs.Limits.{Kind, labelNumber, arrowNumber, nodeNumber, leas
 use Rattle.names.specs.Token.{Token, ascii}
 use Rattle.notation.specs.Grammar.{atElse, atEnd, textEnd, Slot, expr, steps, Goal, mark, number, thing}
 
--- The marks, 1 to 3.
+-- The marks, items 1 to 3.
 unfoldable pub markOf : ℕ → Token
 markOf item = getD (ascii "(" ∷ ascii "," ∷ ascii ")" ∷ []) (item - 1) []
 
--- The names and counts, 4 to 8.
+-- The names and counts, items 4 to 8.
 unfoldable pub kindOf : ℕ → Kind
 kindOf item = getD (labelNumber ∷ arrowNumber ∷ nodeNumber ∷ leastCount ∷ mostCount ∷ []) (item - 4) labelNumber
 
--- The things, 9 to 17, of which the first five stand one level deeper.
+-- The things, items 9 to 17; the first five are one level deeper.
 abbrev pub things : List Slot
 things =
     expr node ∷ expr arrow ∷ expr rule ∷ steps atElse ∷ steps atEnd
@@ -33,7 +33,7 @@ levelOf item d = cond (leb item 13) (suc d) d
 unfoldable pub goalOf : (item level : ℕ) → Goal
 goalOf item d = cond (leb item 3) (mark (markOf item)) (cond (leb item 8) (number (kindOf item)) (thing (slotOf item) (levelOf item d)))
 
--- The goals of a row of at most so many items, on a level. With a thing on its own level a row ends.
+-- The goals of a row at a level, for at most `most` items. A thing at the row's own level ends the row.
 unfoldable pub goalsOf : (most row level : ℕ) → List Goal
 goalsOf zero row d = []
 goalsOf (suc n) row d = cond (eqb row 0) [] (goalOf (row % 256) d ∷ cond (leb 14 (row % 256)) [] (goalsOf n (row / 256) d))
@@ -41,13 +41,13 @@ goalsOf (suc n) row d = cond (eqb row 0) [] (goalOf (row % 256) d ∷ cond (leb 
 abbrev pub rowGoals : (row level : ℕ) → List Goal
 rowGoals row d = goalsOf 8 row d
 
--- The goals of the rows on the levels above, from level 1 on.
+-- The goals of the rows at the levels above, from level 1 on.
 unfoldable pub goalsAbove : (rows : List ℕ) (level : ℕ) → List Goal
 goalsAbove rows zero = []
 goalsAbove rows (suc zero) = []
 goalsAbove rows (suc (suc d)) = rowGoals (getD rows (suc d) 0) (suc d) ++ goalsAbove rows (suc d)
 
--- All that is wanted: what is left of the row of a level, then what is left of those above it.
+-- All that is wanted: what remains of a level's row, then what remains of those above it.
 abbrev pub wanted : (rows : List ℕ) (row level : ℕ) → List Goal
 wanted rows row d = rowGoals row d ++ goalsAbove rows d
 
@@ -83,7 +83,7 @@ rowTable =
     0x000E0D0C030B01 ∷  -- if ( K ) P Q Z
     []
 
--- What makes the last item of a step's row that of the steps it stands in.
+-- What is added to a step's row so that its last item is that of the steps around it.
 abbrev pub closings : List ℕ
 closings = 0 ∷ 0 ∷ 0 ∷ 0 ∷ 0x010000000000 ∷ 0 ∷ 0x010000000000 ∷ 0x020000000000 ∷ 0 ∷ []
 
@@ -93,7 +93,7 @@ closingOf item = getD closings (item - 9) 0
 unfoldable pub rowOf : (item p : ℕ) → ℕ
 rowOf item p = getD rowTable p 0 + closingOf item
 
--- A row on a level: each byte is an item, and steps up to the text's end are wanted on level 1 alone.
+-- A row at a level: each byte is an item, and steps up to the text's end are wanted at level 1 only.
 pub data Items (d : ℕ) : (row : ℕ) → Type 0 where
   none : Items d 0
   more : (row : ℕ) → 1 ≤ row % 256 → row % 256 < 18 → (row % 256 ≡ 16 → d ≡ 1) → Items d (row / 256) → Items d row

@@ -8,7 +8,7 @@ ghost use Rattle.notation.specs.Spell.{phraseOf};
 ghost use Rattle.keywords.specs.Rows.{slotOf, rowOf};
 ghost use Rattle.keywords.specs.Phrases.{codeAt, InSlot, Picked};
 
-// Slots of a word's length and ten bytes: the words of the phrases, those of nodes, of arrows, of rules, of steps, in the order of their codes; then the ends of steps.
+// Slots of a length byte and ten bytes: the words of the phrases of nodes, of arrows, of rules, of steps, in the order of their codes; then the ends of steps.
 pub const WIDTH: usize = 11;
 
 pub const WORDS: [u8; 319] = *b"\
@@ -42,7 +42,7 @@ pub const WORDS: [u8; 319] = *b"\
     \x04else      \
     \x03end       ";
 
-// How many phrases there are; a word that begins none is given this number.
+// How many phrases there are; also the number for a word that begins none.
 pub const PHRASES: usize = 27;
 
 const CODES: [u8; PHRASES] = *b"\
@@ -51,9 +51,9 @@ const CODES: [u8; PHRASES] = *b"\
     \x21\x22\x23\x24\x25\x26\x27\
     \x31\x32\x33\x34\x35";
 
-// What follows a word, a byte for each item, the first item in the lowest byte. 01 to 03 are the marks ( , and ); 04 to 06 the name of a label, an arrow, a node;
-// 07, 08 the counts of 0A and 0B; 09 nodes, 0A arrows, 0B a rule, 0C steps up to `else`, 0D steps up to `end`, one level deeper; on the word's own level 0E steps
-// up to `else`, 0F up to `end`, 10 up to the text's end, 11 a rule.
+// What follows a word, a byte for each item, the first item in the lowest byte. 01 to 03 are the marks ( , and ); 04 to 06 the name of a label, an arrow,
+// a node; 07, 08 the counts of 0A and 0B; 09 nodes, 0A arrows, 0B a rule, 0C steps up to `else`, 0D steps up to `end`, one level deeper; at the word's
+// own level 0E steps up to `else`, 0F up to `end`, 10 up to the text's end, 11 a rule.
 const ROWS: [u64; PHRASES] = [
     0x00000000000000, // all
     0x00000000000000, // none
@@ -84,8 +84,8 @@ const ROWS: [u64; PHRASES] = [
     0x000E0D0C030B01, // if ( K ) P Q Z
 ];
 
-// For each item that is a thing, from 09 on: the number of its first phrase, and how many it has; and what makes the last item of a step's row that of the steps it
-// stands in.
+// For each item that is a thing, from 09 on: the number of its first phrase, and how many it has; then what is added to a step's row so that its
+// last item is that of the steps around it.
 const FIRST: [usize; 9] = [0, 9, 15, 22, 22, 22, 22, 22, 15];
 
 const COUNT: [usize; 9] = [9, 6, 7, 5, 5, 5, 5, 5, 7];
@@ -96,7 +96,7 @@ const TO_TEXT_END: u64 = 0x020000000000;
 
 const CLOSING: [u64; 9] = [0, 0, 0, 0, TO_END, 0, TO_END, TO_TEXT_END, 0];
 
-// The number of the phrase that a word begins where an item is wanted. Inner: the item is a thing.
+// The number of the phrase that a word begins if an item is wanted. Inner: the item is a thing.
 pub fn phrase_for(item: usize, word: &[u8]) -> usize
     requires { ⌜ (9 ≤ item) × (item < 18) ⌝ }
     ensures { λ r. ⌜ Picked item (phraseFor (now (word .entry)) (phrases (slotOf item))) r ⌝ }
@@ -108,7 +108,7 @@ pub fn phrase_for(item: usize, word: &[u8]) -> usize
     if x < count { first + x } else { PHRASES }
 }
 
-// The number of the phrase of a code where an item is wanted. Inner: the item is a thing.
+// The number of the phrase of a code if an item is wanted. Inner: the item is a thing.
 pub fn phrase_of(item: usize, code: u8) -> usize
     requires { ⌜ (9 ≤ item) × (item < 18) ⌝ }
     ensures { λ r. ⌜ Picked item (phraseOf code (phrases (slotOf item))) r ⌝ }
@@ -120,7 +120,7 @@ pub fn phrase_of(item: usize, code: u8) -> usize
     if p < end { p } else { PHRASES }
 }
 
-// The code of a phrase. Inner: there is one of that number.
+// The code of a phrase. Inner: a phrase has that number.
 pub fn code_at(p: usize) -> u8
     requires { ⌜ p < 27 ⌝ }
     ensures { λ r. ⌜ r ≡ codeAt p ⌝ }
@@ -128,7 +128,7 @@ pub fn code_at(p: usize) -> u8
     CODES[p]
 }
 
-// What follows a phrase where an item is wanted. Inner: the item is a thing, and the phrase is one of its own.
+// What follows a phrase if an item is wanted. Inner: the item is a thing, and the phrase is one of its phrases.
 pub fn row_of(item: usize, p: usize) -> u64
     requires { ⌜ InSlot item p ⌝ }
     ensures { λ r. ⌜ r ≡ rowOf item p ⌝ }
@@ -137,7 +137,7 @@ pub fn row_of(item: usize, p: usize) -> u64
     ROWS[p] + CLOSING[i]
 }
 
-// Is this a word of the notation?
+// Whether this is a word of the notation.
 pub fn is_keyword(word: &[u8]) -> bool
     ensures { λ r. ⌜ r ≡ among (now (word .entry)) notationWords ⌝ }
 {

@@ -16,7 +16,7 @@ use Rattle.buffers.proofs.FilledLaws.{filled-none, filled-more}
 use Rattle.lay_words.specs.Laying.{beforeOf, lead, piece, laidFrom, After}
 use Rattle.lay_words.specs.declared.Laid.{Laid}
 
--- one less than none
+-- taking one from zero leaves zero
 none-less : (x : Bool) → _≡_ {A = ℕ} 0 (cond x (0 - 1) 0)
 none-less true = refl
 none-less false = refl
@@ -82,7 +82,7 @@ module _ (t : Token) where
     unfolding ifs
     ifs-same h k = rw (e, h, k)
 
--- One blank more of those that are written.
+-- One more blank is written.
 pub blank-more : (at i : ℕ) (b : List ℕ) {out out′ : List ℕ} → out ≡ filledFrom at (replicate i 0x20) b → out′ ≡ filledFrom (at + i) (0x20 ∷ []) out → out′ ≡ filledFrom at (replicate (i + 1) 0x20) b
 blank-more at i b h k =
     k ∙ ap (filledFrom (at + i) (0x20 ∷ [])) h
@@ -90,7 +90,7 @@ blank-more at i b h k =
     ∙ filled-more at (replicate i 0x20) (0x20 ∷ []) b
     ∙ ap (λ l. filledFrom at l b) (replicate-append-replicate i 1 0x20)
 
--- In how many `if`s the line of a word stands.
+-- How many `if`s the line of a word is inside.
 module _ (t : Token) (i : ℕ) where
   abbrev pub around : ℕ
   around = cond (same t elseWord || same t endWord) (i - 1) i
@@ -114,7 +114,7 @@ module _ (t : Token) (i : ℕ) where
       go true = omega arith
       go false = omega arith
 
--- What stands before, by its number.
+-- What comes before a token, by its number.
 before-start : (x : ℕ) → x ≡ 0 → beforeOf x ≡ atStart
 unfolding beforeOf
 before-start x e = rw (eq-eqb x 0 e)
@@ -169,7 +169,7 @@ module _ (s : Laid) (t : Token) where
         go zero k = absurd (k refl)
         go (suc b) k = refl
 
--- It has two blanks for each `if`, and one byte, at most.
+-- There are at most two blanks for each `if` and one more byte.
 gap-most : (p : Before) (b i : ℕ) (t : Token) → length (gap p b i t) ≤ 2 * i + 1
 unfolding gap margin
 gap-most atStart b i t = omega arith
@@ -185,7 +185,7 @@ lead-most s t = go (isMark t)
     go true = omega arith
     go false = gap-most (beforeOf (s .before)) (s .brackets) (s .ifs) t
 
--- Each token adds few bytes, at most one bracket and one `if`, and what it adds stands before what is laid after it.
+-- Each token adds few bytes, at most one bracket and one `if`, and what it adds comes before what is laid out after it.
 pub piece-most : (s : Laid) (t : Token) → length (piece s t) ≤ 2 * s .ifs + 1 + length t
 unfolding piece
 piece-most s t = omega (arith, length-append (lead s t) t, lead-most s t)
@@ -230,7 +230,7 @@ module _ (x b i : ℕ) where
   unfolding lay
   end-later h = elim (before-later x h) [ inl p ↦ rw p | inr p ↦ rw p ]
 
--- Bytes put at a place: where they end, and what the buffer holds then.
+-- Bytes put at a place: where they end, and what the buffer then holds.
 abbrev pub Put : (at : ℕ) (bytes b : List ℕ) (r : ℕ) (out : List ℕ) → Type 0
 Put at bytes b r out = (r ≡ at + length bytes) × (out ≡ filledFrom at bytes b)
 

@@ -1,4 +1,4 @@
-// Tokens laid out as text: a rule or step a line.
+// Lays out tokens as text: one line for each rule or step.
 ghost use mathlib.Core.Path.{_≡_};
 ghost use mathlib.Core.Bool.{_||_, cond};
 ghost use mathlib.Core.List.{[]};
@@ -10,8 +10,8 @@ ghost use Rattle.notation.specs.Layout.{isMark, brackets, ifs, afterToken, lay}
 ghost use Rattle.buffers.specs.Filled.{filledFrom};
 ghost use Rattle.lay_words.specs.Laying.{beforeOf, lead, piece, After};
 
-// How far the text has come: its length, what stands before the next token (0 nothing, 1 an opening bracket, 2 another token), and in how many brackets and in how many
-// `if`s the next token stands.
+// How far the text has come: its length, what comes before the next token (0 nothing, 1 an opening bracket, 2 another token), and how many brackets
+// and how many `if`s are open there.
 pub struct Laid {
     pub size: usize,
     pub before: u8,
@@ -37,7 +37,7 @@ fn before_after(token: &[u8]) -> u8
     if buffers::same(token, b"(") { 1 } else { 2 }
 }
 
-// Inner: one bracket more is a number.
+// Inner: one more bracket fits into a usize.
 fn brackets_after(count: usize, token: &[u8]) -> usize
     requires { ⌜ count + 1 < 2 ^ 64 ⌝ }
     ensures { λ r. ⌜ r ≡ brackets count (now (token .entry)) ⌝ }
@@ -54,7 +54,7 @@ fn brackets_after(count: usize, token: &[u8]) -> usize
     count
 }
 
-// Inner: one `if` more is a number.
+// Inner: one more `if` fits into a usize.
 fn ifs_after(count: usize, opened: usize, token: &[u8]) -> usize
     requires { ⌜ count + 1 < 2 ^ 64 ⌝ }
     ensures { λ r. ⌜ r ≡ ifs opened count (now (token .entry)) ⌝ }
@@ -74,7 +74,7 @@ fn ifs_after(count: usize, opened: usize, token: &[u8]) -> usize
     count
 }
 
-// In how many `if`s a word's own line stands: `else` and `end` stand where their `if` does.
+// How many `if`s a word's line is inside: `else` and `end` are aligned with their `if`.
 fn ifs_around(count: usize, token: &[u8]) -> usize
     ensures { λ r. ⌜ r ≡ cond (same (now (token .entry)) elseWord || same (now (token .entry)) endWord) (count - 1) count ⌝ }
 {
@@ -90,7 +90,7 @@ fn ifs_around(count: usize, token: &[u8]) -> usize
     count
 }
 
-// Writes blanks, as far as there is room, and says where they end. Inner: that place is a number.
+// Writes blanks, as far as there is room, and returns where they end. Inner: that place fits into a usize.
 fn put_blanks(output: &mut [u8], at: usize, count: usize) -> usize
     requires { ⌜ at + count < 2 ^ 64 ⌝ }
     ensures { λ r. ⌜ r ≡ at + count ⌝ }
@@ -104,7 +104,7 @@ fn put_blanks(output: &mut [u8], at: usize, count: usize) -> usize
     at + count
 }
 
-// Writes what stands before a token, as far as there is room, and says where it ends. Inner: that place is a number.
+// Writes what comes before a token, as far as there is room, and returns where it ends. Inner: that place fits into a usize.
 fn put_lead(output: &mut [u8], state: Laid, token: &[u8]) -> usize
     requires { ⌜ state .size + 2 * state .ifs + 1 < 2 ^ 64 ⌝ }
     ensures { λ r. ⌜ r ≡ state .size + length (lead state (now (token .entry))) ⌝ }
@@ -126,7 +126,7 @@ fn put_lead(output: &mut [u8], state: Laid, token: &[u8]) -> usize
     buffers::put(output, state.size, b" ")
 }
 
-// Writes a token with the blanks or the line feed before it, as far as there is room. Inner: the lengths are numbers.
+// Writes a token with the blanks or the line feed before it, as far as there is room. Inner: the lengths fit into a usize.
 pub fn put_token(output: &mut [u8], state: Laid, token: &[u8]) -> Laid
     requires { ⌜ (state .size + 2 * state .ifs + 2 + length (now token) < 2 ^ 64) × (state .brackets + 1 < 2 ^ 64) × (state .ifs + 1 < 2 ^ 64) ⌝ }
     ensures { λ r. ⌜ After state (now (token .entry)) r ⌝ }
@@ -141,7 +141,7 @@ pub fn put_token(output: &mut [u8], state: Laid, token: &[u8]) -> Laid
     }
 }
 
-// Writes the line feed after the last token, and says how long the text is. Inner: the length is a number.
+// Writes the line feed after the last token and returns the length of the text. Inner: the length fits into a usize.
 pub fn put_end(output: &mut [u8], state: Laid) -> usize
     requires { ⌜ state .size + 1 < 2 ^ 64 ⌝ }
     ensures { λ r. ⌜ r ≡ state .size + length (lay (beforeOf (state .before)) (state .brackets) (state .ifs) []) ⌝ }

@@ -1,4 +1,4 @@
--- What is kept of an edit is answered as the whole edit is.
+-- What is kept of an edit gets the same answer as the whole edit.
 use mathlib.Core.Path.{_≡_, ap}
 use mathlib.Core.List.{List}
 use Prim.Native.Nat.{ℕ}
@@ -15,7 +15,7 @@ use Rattle.printed.specs.Printed.{scratchBytes, printedLine, printedSheet}
 use Rattle.log.specs.Taken.{kept}
 use Rattle.log.proofs.KeptLaws.{kept-asked}
 
--- the questions, by what the edit's own answer
+-- the questions, by the edit's own answer
 before-41 : (sheet book : List ℕ) (room : ℕ) → Asked Edit → Asked StepsAndCarried
 before-41 sheet book room q = do
   rules ← askSheetAndBook sheet book

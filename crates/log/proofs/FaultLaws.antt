@@ -1,4 +1,4 @@
--- A log that ends badly: the first place whose question is answered with a no, and the edits before it.
+-- A log that ends badly: the first place with a question that is answered no, and the edits before it.
 use mathlib.Core.Path.{_≡_, refl, sym, _∙_, ap}
 use mathlib.Core.Bool.{true, false, not, cond}
 use mathlib.Core.List.{List, [], _∷_, _++_}

@@ -1,4 +1,4 @@
--- The fields of a block, as the code asks them.
+-- The fields of a block, as the code checks them.
 use mathlib.Core.Path.{_≡_, refl, ap}
 use mathlib.Core.Bool.{Bool, true, false, _&&_, _||_, and-eq-true-iff}
 use mathlib.Core.List.{List}
@@ -43,7 +43,7 @@ module _ (k : List ℕ) (h : length k ≡ 512) where
   pub zeros-end : (i : ℕ) → 508 ≤ i → allZero (drop i (take 508 k)) ≡ true
   zeros-end i l = unfold allZero in ap allZero (drop-of-length-le (take 508 k) {i = i} (omega (arith, length-take-le 508 k (omega arith))))
 
--- the questions in turn
+-- the questions one by one
 module _ (begun : Bool) (k : List ℕ) where
   pub not-a-log : (getD k 0 0 ≡ 3 → ⊥) → fieldsRight begun k ≡ false
   not-a-log h = unfold fieldsRight in rw (ne-eqb (getD k 0 0) 3 h)
@@ -59,7 +59,7 @@ module _ (begun : Bool) (k : List ℕ) where
       pub zeros-left : countRight (isLast k) (count k) ≡ true → fieldsRight begun k ≡ allZero (drop (4 + count k) (take 508 k))
       zeros-left m = unfold fieldsRight zerosBehind in cc
 
--- what a right count says
+-- what a right count means
 pub count-says : (last : Bool) (c : ℕ) → countRight last c ≡ true → (1 ≤ c) × (c ≤ 504) × ((eqb c 504 || last) ≡ true)
 unfolding countRight
 count-says last c e =
@@ -67,7 +67,7 @@ count-says last c e =
     let (d, f) = and-eq-true-iff (leb c 504) (eqb c 504 || last) .0 b in
     (leb-true 1 c a, leb-true c 504 d, f)
 
--- what right fields say
+-- what right fields mean
 pub record Right (begun : Bool) (k : List ℕ) : Type 0 where
   pub three : getD k 0 0 ≡ 3
   pub marked : markRight begun (getD k 1 0) ≡ true

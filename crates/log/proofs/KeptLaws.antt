@@ -1,4 +1,4 @@
--- The first 4,097 bytes of an edit answer as the whole does: one with more than 4,096 bytes is 21, whatever they are.
+-- The first 4,097 bytes of an edit get the same answer as the whole: an edit with more than 4,096 bytes is 21, whatever they are.
 use mathlib.Core.Path.{_≡_, refl, sym, _∙_, ap}
 use mathlib.Core.Bool.{Bool}
 use mathlib.Core.List.{List, [], _∷_, _++_}

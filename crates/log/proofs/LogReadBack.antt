@@ -16,11 +16,11 @@ use Rattle.log.proofs.FieldLaws.{counted}
 use Rattle.log.proofs.ReadLaws.{read-last, read-more}
 use Rattle.log.proofs.MakeLaws.{block-passes, last-is, content-is}
 
--- Byte 1 of a block that is not the last, after an edit begun or not begun.
+-- Byte 1 of a block that is not the last, by whether an edit is begun.
 abbrev pub first : Bool → ℕ
 first begun = cond begun 0 1
 
--- it is right there, and no last block's; two more is right, and a last block's
+-- it is right there, and not a last block's; two more is right, and a last block's
 mark-more : (begun : Bool) → (markRight begun (first begun) ≡ true) × ((eqb (first begun) 2 || eqb (first begun) 3) ≡ false)
 mark-more begun = unfold markRight in elim begun [ true ↦ (refl, refl) | false ↦ (refl, refl) ]
 

@@ -1,4 +1,4 @@
--- What a log can be refused with: 52 and 53, and a place of at most 65,535, for no block after block 65,534 passes.
+-- The refusals of a log: 52 and 53, with a place of at most 65,535, since no block after block 65,534 passes.
 use mathlib.Core.Path.{subst}
 use mathlib.Core.Bool.{Bool}
 use mathlib.Core.List.{List, []}

@@ -24,7 +24,7 @@ module _ (number : ℕ) (g : List ℕ) (k : List ℕ) (ks : List (List ℕ)) whe
   pub read-more : askLogBlock (isBegun g) number k ≡ passed tt → isLast k ≡ false → recorded number g (k ∷ ks) ≡ recorded (suc number) (g ++ content k) ks
   read-more e l = unfold recorded unlessBad in cc
 
--- What a block is to the edit gathered so far.
+-- What a block means for the edit gathered so far.
 pub data Block (number : ℕ) (g k : List ℕ) : Type 0 where
   bad : (q p : ℕ) → askLogBlock (isBegun g) number k ≡ refused q p → Block number g k
   last : askLogBlock (isBegun g) number k ≡ passed tt → isLast k ≡ true → Block number g k
@@ -37,7 +37,7 @@ block-is number g k = go (askLogBlock (isBegun g) number k) (isLast k) refl refl
   go (passed u) true e f = last e f
   go (passed u) false e f = more e f
 
--- A statement on what is read of blocks, by what the first of them is.
+-- A statement about what is read from blocks, by what the first of them is.
 pub each-log : (P : ℕ → List ℕ → List (List ℕ) → Type 0)
     → ((number : ℕ) (g : List ℕ) → P number g [])
     → ((number : ℕ) (g k : List ℕ) (ks : List (List ℕ)) (q p : ℕ) → askLogBlock (isBegun g) number k ≡ refused q p → P number g (k ∷ ks))
@@ -76,7 +76,7 @@ each-passed P e b on = each-log P e b
     (λ number g k ks f l i. on number g k ks f (subst (λ x. P (suc number) (cond x [] (g ++ content k)) ks) (sym l) i))
     (λ number g k ks f l i. on number g k ks f (subst (λ x. P (suc number) (cond x [] (g ++ content k)) ks) (sym l) i))
 
--- Whole blocks, numbered from n on, pass no limit; one that is cut short has any number.
+-- Whole blocks, numbered from n on, stay within the limit; one that is cut short may have any number.
 unfoldable pub Few : ℕ → List (List ℕ) → Type 0
 Few n [] = Unit {0}
 Few n (k ∷ ks) = (length k ≡ 512 → n ≤ 65534) × Few (suc n) ks

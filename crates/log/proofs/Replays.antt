@@ -26,7 +26,7 @@ use Rattle.log.proofs.KeptLaws.{kept-begun, kept-append}
 use Rattle.log.proofs.Answering.{kept-line, kept-sheet}
 use Rattle.log.proofs.Logs.{logs}
 
--- the program's scratch has the room that the lines speak of
+-- the program's scratch has the room that the lines assume
 room : length programScratch ≡ scratchBytes
 room = unfold programScratch in length-replicate {A = ℕ} scratchBytes 0
 

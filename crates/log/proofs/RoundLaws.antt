@@ -31,7 +31,7 @@ stopsWith line number part sheet = record { prints = true; line = line; goesOn =
 abbrev answers : (line : List ℕ) (number : ℕ) (sheet : List ℕ) → Round
 answers line number sheet = record { prints = true; line = line; goesOn = true; number = number; part = []; sheet = sheet }
 
--- the line of a no
+-- the line of a refusal
 pub with-line : (a : Answer) (r : Refusal) → a ≡ Refused r → (line : List ℕ) → line ≡ askedLine (asked a) → (number : ℕ) (part sheet : List ℕ)
     → stopsWith line number part sheet ≡ stopped (asked a) number part sheet
 unfolding stopped askedNumber askedPlace
@@ -64,12 +64,12 @@ module _ (number : ℕ) (part sheet book : List ℕ) where
     pub round-more : askLogBlock (isBegun part) number k ≡ passed tt → isLast k ≡ false → replayRound number part sheet book k ≡ gathered (suc number) (keptBehind part k) sheet
     round-more e l = unfold blockRound after in cc (at-block k some)
 
--- what a taken block says of the questions
+-- what a taken block says about the questions
 module _ (before : List ℕ) (number : ℕ) (k : List ℕ) where
   abbrev keptThen : ℕ
   keptThen = length (keptBehind before k)
 
-  -- the questions passed, and the block is its edit's last or not, with so many bytes kept then
+  -- the questions passed, and the block is its edit's last or not, with this many bytes then kept
   abbrev Said : Bool → ℕ → Type 0
   Said l n = (askLogBlock (isBegun before) number k ≡ passed tt) × (isLast k ≡ l) × (keptThen ≡ n)
 
@@ -150,7 +150,7 @@ module _ (edit : List ℕ) (n number : ℕ) (sheet book : List ℕ) where
           ap₂ (λ x y. answers x (number + 1) y) (a ∙ ap (printedLine sheet book) same) (b ∙ ap (printedSheet sheet book) same)
           ∙ ap (λ x. answered x (keptBehind before k) sheet book) (add-one number) ∙ sym (round-last number before sheet book k some (e .0) (e .1))
 
--- A round that goes on counts the block, which has a number that is allowed.
+-- A round that goes on counts the block, whose number is allowed.
 module _ (number : ℕ) (part sheet book : List ℕ) where
   pub counts-on : (k : List ℕ) (s : Round) → s ≡ replayRound number part sheet book k → s .goesOn ≡ true → (s .number ≡ suc number) × (number ≤ 65534)
   unfolding stopped

@@ -1,4 +1,4 @@
--- A block taken after what is kept: the questions in turn, and the bytes kept then.
+-- A block taken after what is kept: the questions one by one, and the bytes then kept.
 use mathlib.Core.Path.{_≡_, sym, _∙_, ap}
 use mathlib.Core.Bool.{Bool, true, false}
 use mathlib.Core.List.{List, _++_}
@@ -16,7 +16,7 @@ use Rattle.seal.specs.Seal.{modulo257, sealRight}
 use Rattle.log.specs.Log.{isLast, count, content, fieldsRight, isBegun, askLogBlock}
 use Rattle.log.specs.Taken.{kept, keptBehind, goesOn, finished, askTaken}
 
--- the questions in turn
+-- the questions one by one
 module _ (begun : Bool) (number : ℕ) (k : List ℕ) where
   pub cut-short : (length k ≡ 512 → ⊥) → askLogBlock begun number k ≡ refused 53 number
   cut-short h = unfold askLogBlock is _>>_ in cc (ne-eqb (length k) 512 h)
@@ -40,7 +40,7 @@ module _ (begun : Bool) (number : ℕ) (k : List ℕ) where
 pub kept-few : (before k : List ℕ) → length (keptBehind before k) ≤ 4097
 kept-few before k = unfold keptBehind kept in omega (arith, length-take 4097 (before ++ content k))
 
--- what is answered and kept then
+-- the answer, and what is then kept
 module _ (edit : List ℕ) (n number : ℕ) (k : List ℕ) where
   abbrev before : List ℕ
   before = take n edit

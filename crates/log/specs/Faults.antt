@@ -5,7 +5,8 @@ use Prim.Native.Nat.{ℕ, zero, suc}
 use Rattle.answer.specs.Asked.{Asked}
 use Rattle.log.specs.Log.{isLast, content, askLogBlock, askLogEnd}
 
--- What is asked at a place of a log: of the block there, whole or cut short, and where there is none, of the log's end. An edit is begun after each block that is not its edit's last.
+-- The questions at a place of a log: about the block there, whole or cut short, or where there is none, about the log's end.
+-- An edit is begun after each block that is not its edit's last.
 unfoldable pub askFrom : (number : ℕ) (begun : Bool) → List (List ℕ) → ℕ → Asked (Unit {0})
 askFrom number begun [] i = askLogEnd begun number
 askFrom number begun (k ∷ ks) zero = askLogBlock begun number k
@@ -14,7 +15,7 @@ askFrom number begun (k ∷ ks) (suc i) = askFrom (suc number) (not (isLast k)) 
 abbrev pub askPlace : List (List ℕ) → ℕ → Asked (Unit {0})
 askPlace ks i = askFrom 0 false ks i
 
--- The edits whose last block is among these blocks, from the bytes in the blocks of each; so much is gathered before the first.
+-- The edits whose last block is among these blocks, from the bytes in the blocks of each; `gathered` is what came before the first.
 unfoldable pub editsFrom : (gathered : List ℕ) → List (List ℕ) → List (List ℕ)
 editsFrom gathered [] = []
 editsFrom gathered (k ∷ ks) = cond (isLast k) ((gathered ++ content k) ∷ editsFrom [] ks) (editsFrom (gathered ++ content k) ks)

@@ -1,4 +1,4 @@
--- A log of edits (document 02, item 4): its blocks of 512, the questions that each is asked, and the edits that they hold.
+-- A log of edits (document 02, item 4): its blocks of 512 bytes, the questions about each, and the edits that they hold.
 use mathlib.Core.Bool.{Bool, true, _&&_, _||_, not, cond}
 use mathlib.Core.List.{List, [], _∷_, _++_}
 use Prim.Native.Nat.{ℕ, zero, suc, _+_, _-_, _*_}
@@ -40,6 +40,7 @@ allZero (b ∷ bs) = eqb b 0 && allZero bs
 unfoldable pub zerosBehind : List ℕ → Bool
 zerosBehind k = allZero (drop (fieldBytes + count k) (take (modulo257 .bodyBytes) k))
 
+-- A block's fields are right: byte 0 is 3, and byte 1, the count and the zeros are right.
 unfoldable pub fieldsRight : (begun : Bool) → List ℕ → Bool
 fieldsRight begun k = eqb (getD k 0 0) 3 && (markRight begun (getD k 1 0) && (countRight (isLast k) (count k) && zerosBehind k))
 
@@ -47,6 +48,7 @@ fieldsRight begun k = eqb (getD k 0 0) 3 && (markRight begun (getD k 1 0) && (co
 abbrev pub lastNumber : ℕ
 lastNumber = 65534
 
+-- A block that is not cut short.
 abbrev pub isWhole : List ℕ → Bool
 isWhole k = eqb (length k) blockBytes
 
@@ -60,7 +62,7 @@ askLogBlock begun number k = do
 unfoldable pub askLogEnd : (begun : Bool) (blocks : ℕ) → Asked (Unit {0})
 askLogEnd begun blocks = is (not begun) 53 blocks
 
--- What is gathered of an edit are the bytes in its blocks so far: none when no edit is begun, as each block holds one at least.
+-- The bytes gathered of an edit are those in its blocks so far: none when no edit is begun, since each block holds at least one.
 abbrev pub isBegun : List ℕ → Bool
 isBegun gathered = ltb 0 (length gathered)
 
@@ -80,14 +82,14 @@ unfoldable pub unlessBad : Asked (Unit {0}) → Recorded → Recorded
 unlessBad (passed u) r = r
 unlessBad (refused q p) r = ends (refused q p)
 
--- Blocks of which the first has this number, after blocks that left so much gathered.
+-- Blocks of which the first has this number, after blocks that left these bytes gathered.
 unfoldable pub recorded : (number : ℕ) (gathered : List ℕ) → List (List ℕ) → Recorded
 recorded number gathered [] = ends (askLogEnd (isBegun gathered) number)
 recorded number gathered (k ∷ ks) =
     unlessBad (askLogBlock (isBegun gathered) number k)
     (cond (isLast k) (follows (gathered ++ content k) (recorded (suc number) [] ks)) (recorded (suc number) (gathered ++ content k) ks))
 
--- The blocks of a log's bytes: the last may be cut short. There are no more blocks than bytes.
+-- The blocks of a log's bytes; the last may be cut short. There are no more blocks than bytes.
 unfoldable pub cut : (most : ℕ) → List ℕ → List (List ℕ)
 cut zero bytes = []
 cut (suc most) [] = []

@@ -17,6 +17,6 @@ pub record Logs : Type 0 where
   pub one-log : (log : List ℕ) → Bytes log → readLog log .ending ≡ passed tt → (log ≡ logOf (readLog log .edits)) × CanHold (readLog log .edits)
   -- After i edits of a log: what was read up to there is those edits, with no fault;
   pub part-read : (log : List ℕ) (i : ℕ) → i ≤ length (readLog log .edits) → readLog (partOf i log) ≡ record { edits = take i (readLog log .edits); ending = passed tt }
-  -- and the rest of a log of at most 65,535 whole blocks, read by itself, is the other edits, and ends as the log does, but for the blocks' numbers.
+  -- and the rest of a log of at most 65,535 whole blocks, read by itself, is the other edits, and ends as the log does, except for the blocks' numbers.
   pub rest-read : (log : List ℕ) (i : ℕ) → i ≤ length (readLog log .edits) → length log / blockBytes ≤ suc lastNumber
       → renumbered (blocksTo i (blocksOf log)) (readLog (restOf i log)) ≡ record { edits = drop i (readLog log .edits); ending = readLog log .ending }

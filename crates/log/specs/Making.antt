@@ -13,7 +13,7 @@ use Rattle.log.specs.Log.{contentBytes}
 unfoldable pub block : (mark : ℕ) → List ℕ → List ℕ
 block mark part = sealed modulo257 (3 ∷ mark ∷ bytes 2 (length part) ++ part ++ replicate (contentBytes - length part) 0)
 
--- The blocks of an edit's bytes, of which 1 in byte 1 marks the first and 2 the last. There are no more blocks than bytes.
+-- The blocks of an edit's bytes; in byte 1, 1 marks the first and 2 the last. There are no more blocks than bytes.
 unfoldable pub editBlocks : (most : ℕ) (first : ℕ) → List ℕ → List (List ℕ)
 editBlocks zero first edit = []
 editBlocks (suc most) first edit =
@@ -29,7 +29,7 @@ unfoldable pub joined : List (List ℕ) → List ℕ
 joined [] = []
 joined (k ∷ ks) = k ++ joined ks
 
--- A log can hold an edit that has a byte at least.
+-- A log can hold an edit that has at least one byte.
 abbrev pub CanHold : List (List ℕ) → Type 0
 CanHold = All (λ edit. 0 < length edit)
 

@@ -51,7 +51,7 @@ bookIn input = take (bookLength input) (drop bookStart input)
 abbrev pub logIn : List ℕ → List ℕ
 logIn input = drop (logStart input) input
 
--- All that is printed: the lines, and last the sheet. Where the input ends before the log, a line that says so.
+-- All that is printed: the lines, and last the sheet. Where the input ends before the log, only a line that says so.
 unfoldable pub replayed : List ℕ → List ℕ
 replayed input =
     cond (leb (logStart input) (length input))

@@ -32,7 +32,8 @@ unfoldable pub lastSheet : List ℕ → List Line → List ℕ
 lastSheet sheet [] = sheet
 lastSheet sheet (l ∷ ls) = lastSheet (l .sheet) ls
 
--- What the program writes when it reads these blocks: a round for each, and one where nothing is left to read. It holds the sheet and what it keeps of one edit, and no more of the log; last it writes the sheet.
+-- What the program writes when it reads these blocks: one round for each, and one where nothing is left to read. It holds the sheet and what it keeps
+-- of one edit, and no more of the log; last it writes the sheet.
 unfoldable pub written : (number : ℕ) (part sheet book : List ℕ) → List (List ℕ) → List ℕ
 written number part sheet book [] = let s : Round = replayRound number part sheet book [] in due s ++ s .sheet
 written number part sheet book (k ∷ ks) =
@@ -43,11 +44,12 @@ pub record Replays : Type 0 where
   -- The lines and the sheet are those of the run of the log's edits,
   pub lines-run : (sheet book bytes : List ℕ) → replayLines sheet book bytes ≡ printedLog (log book sheet (calls (readLog bytes .edits))) ++ stopLine (readLog bytes .ending)
   pub sheet-run : (sheet book bytes : List ℕ) → replaySheet sheet book bytes ≡ lastSheet sheet (log book sheet (calls (readLog bytes .edits)))
-  -- so that demand 3 holds of them: from a sheet that keeps the book,
+  -- so that demand 3 holds for them: from a sheet that keeps the book,
   pub run-right : (sheet book bytes : List ℕ) → Bytes sheet → Keeps book sheet → RunRight sheet book (calls (readLog bytes .edits))
   -- and the sheet last written keeps it.
   pub sheet-keeps : (sheet book bytes : List ℕ) → Bytes sheet → Keeps book sheet → Keeps book (replaySheet sheet book bytes)
-  -- In a log of at most 65,535 blocks (a part of one more may follow them), stopping after any edit it has answered and starting again from the sheet then held, with the rest of the log, ends in the same sheet.
+  -- In a log of at most 65,535 blocks (a part of one more may follow them), stopping after any edit it has answered and starting again from the sheet
+  -- then held, with the rest of the log, ends in the same sheet.
   pub stop-and-go-on : (sheet book bytes : List ℕ) (i : ℕ) → i ≤ length (readLog bytes .edits) → length bytes / blockBytes ≤ suc lastNumber
       → replaySheet (replaySheet sheet book (partOf i bytes)) book (restOf i bytes) ≡ replaySheet sheet book bytes
   -- Kept bytes suffice: what the rounds write is the lines and the sheet.

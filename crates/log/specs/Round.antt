@@ -1,4 +1,4 @@
--- One round of a replay: what the program does with what it read of the log, a block, whole or cut short, or nothing at the log's end.
+-- One round of a replay: what the program does with what it read of the log: a block, whole or cut short, or nothing at the log's end.
 use mathlib.Core.Bool.{Bool, true, false, cond}
 use mathlib.Core.List.{List, [], _∷_}
 use Prim.Native.Nat.{ℕ, suc}
@@ -11,7 +11,8 @@ use Rattle.log.specs.Log.{isLast, isBegun, askLogBlock, askLogEnd}
 use Rattle.log.specs.Taken.{keptBehind}
 use Rattle.log.specs.declared.Told.{Told}
 
--- Whether a line is due, and the line; whether the program goes on; and what it holds then: the number of the next block, the bytes kept of an edit that is begun, the sheet.
+-- Whether a line is due, and the line; whether the program goes on; and what it then holds: the number of the next block, the bytes kept of an edit
+-- that is begun, the sheet.
 pub record Round : Type 0 where
   pub prints : Bool
   pub line : List ℕ
@@ -28,7 +29,7 @@ due s = cond (s .prints) (s .line) []
 abbrev pub noLine : List ℕ
 noLine = replicate 9 0
 
--- It stops: with a line when a question was answered with a no.
+-- It stops: with a line when a question was answered no.
 unfoldable pub stopped : Asked (Unit {0}) → (number : ℕ) (part sheet : List ℕ) → Round
 stopped (passed u) number part sheet = record { prints = false; line = noLine; goesOn = false; number = number; part = part; sheet = sheet }
 stopped (refused q p) number part sheet = record { prints = true; line = answerLine q p; goesOn = false; number = number; part = part; sheet = sheet }
@@ -41,7 +42,7 @@ gathered number part sheet = record { prints = false; line = noLine; goesOn = tr
 abbrev pub answered : (number : ℕ) (part sheet book : List ℕ) → Round
 answered number part sheet book = record { prints = true; line = printedLine sheet book part; goesOn = true; number = number; part = []; sheet = printedSheet sheet book part }
 
--- A block: it stops at a bad one.
+-- A block; the program stops at a bad one.
 unfoldable pub blockRound : (number : ℕ) (part sheet book k : List ℕ) → Round
 blockRound number part sheet book k =
     after (askLogBlock (isBegun part) number k)
@@ -58,6 +59,6 @@ unfoldable pub editThen : (number : ℕ) (part block edit : List ℕ) → List �
 editThen number part [] edit = edit
 editThen number part (b ∷ k) edit = after (askLogBlock (isBegun part) number (b ∷ k)) (λ _. writtenAtStart (keptBehind part (b ∷ k)) edit) edit
 
--- What the code hands back, with what its buffers then hold.
+-- What the code returns, with what its buffers then hold.
 abbrev pub said : Told → (edit sheet : List ℕ) → Round
 said r edit sheet = record { prints = r .prints; line = r .line; goesOn = r .onward; number = r .held .number; part = take (r .held .kept) edit; sheet = sheet }

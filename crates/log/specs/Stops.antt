@@ -7,20 +7,20 @@ use Rattle.answer.specs.Asked.{Asked, passed, refused}
 use Rattle.seal.specs.Seal.{blockBytes}
 use Rattle.log.specs.Log.{isLast, Recorded, blocksOf}
 
--- How many blocks a log has up to the last one of so many edits.
+-- How many blocks a log has up to the last one of that many edits.
 unfoldable pub blocksTo : (edits : ℕ) → List (List ℕ) → ℕ
 blocksTo zero ks = 0
 blocksTo (suc i) [] = 0
 blocksTo (suc i) (k ∷ ks) = suc (cond (isLast k) (blocksTo i ks) (blocksTo (suc i) ks))
 
--- The part of a log's bytes that holds so many edits, and the rest.
+-- The part of a log's bytes that holds that many edits, and the rest.
 abbrev pub partOf : (edits : ℕ) → List ℕ → List ℕ
 partOf i log = take (blockBytes * blocksTo i (blocksOf log)) log
 
 abbrev pub restOf : (edits : ℕ) → List ℕ → List ℕ
 restOf i log = drop (blockBytes * blocksTo i (blocksOf log)) log
 
--- An answer of the rest, with the block numbered in the whole log, m blocks further on.
+-- An answer about the rest, with the block numbered in the whole log, m blocks further on.
 unfoldable pub placed : ℕ → Asked (Unit {0}) → Asked (Unit {0})
 placed m (passed u) = passed u
 placed m (refused q p) = refused q (m + p)

@@ -1,4 +1,4 @@
--- What the code keeps of an edit while it reads the edit's blocks, and what it says of a block.
+-- What the code keeps of an edit while it reads the edit's blocks, and what it finds in a block.
 use mathlib.Core.Bool.{cond}
 use mathlib.Core.List.{List, _++_}
 use Prim.Native.Nat.{ℕ, _+_}
@@ -21,7 +21,7 @@ kept edit = take keptBytes edit
 unfoldable pub keptBehind : (before k : List ℕ) → List ℕ
 keptBehind before k = kept (before ++ content k)
 
--- What a good block says: the edit goes on or has finished, and so many bytes are kept of it.
+-- What a good block says: the edit goes on or has finished, and that many bytes of it are kept.
 pub data Says : Type 0 where
   goesOn : ℕ → Says
   finished : ℕ → Says
@@ -36,7 +36,7 @@ takenAsked (GoesOn n) = passed (goesOn n)
 takenAsked (Finished n) = passed (finished n)
 takenAsked (Refused r) = refused (refusalNumber r) (refusalPlace r)
 
--- How many bytes are kept then.
+-- How many bytes are then kept.
 abbrev pub takenLength : Taken → ℕ
 takenLength (GoesOn n) = n
 takenLength (Finished n) = n

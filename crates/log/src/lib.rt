@@ -1,4 +1,4 @@
-// A log of edits (document 02, item 4), block by block: what a block is to the edit begun before it, and what a replay does with it.
+// A log of edits (document 02, item 4), block by block: what a block means for the edit begun before it, and what a replay does with it.
 ghost use mathlib.Core.Path.{_≡_};
 ghost use mathlib.Core.List.{List};
 ghost use Prim.Native.Nat.{ℕ, _+_, _-_, _*_, _≤_, min};
@@ -18,7 +18,7 @@ use seal::BODY;
 use seal::Modulo;
 use text::Text;
 
-// The bytes of a block's fields, and the most edit bytes that it holds.
+// The length of a block's fields, and the most edit bytes that it holds.
 const FIELDS: usize = 4;
 
 const CONTENT: usize = BODY - FIELDS;
@@ -26,23 +26,23 @@ const CONTENT: usize = BODY - FIELDS;
 // The largest number of a block.
 const LAST: usize = 65534;
 
-// How many bytes of an edit are kept: one more than the longest text has, so that a longer edit is known by its length.
+// How many bytes of an edit are kept: one more than the longest text has, so that a longer edit is recognised by its length.
 pub const KEPT: usize = Text::LONGEST + 1;
 
-// What a block says: the edit goes on or has finished, and so many bytes are kept of it; or why the block is bad.
+// What a block says: the edit goes on or has finished, and that many bytes of it are kept; or why the block is bad.
 enum Taken {
     GoesOn(usize),
     Finished(usize),
     Refused(Refusal),
 }
 
-// What is held between blocks: the number of the next one, and how many bytes are kept of the edit that is begun.
+// What is held between blocks: the number of the next one, and how many bytes of the begun edit are kept.
 pub struct Held {
     pub number: usize,
     pub kept: usize,
 }
 
-// What a round says: whether a line is due, and the line, zeros where none is; whether to go on, and what is held then.
+// The result of a round: whether a line is due, and the line, zeros where none is; whether to go on, and what is then held.
 pub struct Told {
     pub prints: bool,
     pub line: [u8; printed::line::BYTES],
@@ -50,7 +50,7 @@ pub struct Told {
     pub held: Held,
 }
 
-// The number that two bytes say, the low one first.
+// The number in two bytes, the low one first.
 fn number_of(low: u8, high: u8) -> usize
     ensures { λ r. ⌜ (r ≡ low + 256 * high) × (r ≤ 65535) ⌝ }
 {
@@ -66,7 +66,7 @@ fn count(block: &[u8]) -> usize
     number_of(block[2], block[3])
 }
 
-// Whether it is its edit's last. Inner: it is a block.
+// Whether it is its edit's last block. Inner: it is a block.
 fn is_last(block: &[u8]) -> bool
     requires { ⌜ length (now block) ≡ blockBytes ⌝ }
     ensures { λ r. ⌜ r ≡ isLast (now (block .entry)) ⌝ }
@@ -75,7 +75,7 @@ fn is_last(block: &[u8]) -> bool
     mark == 2 || mark == 3
 }
 
-// Whether byte 1 fits an edit begun or not begun.
+// Whether byte 1 is right, given whether an edit is begun.
 fn mark_right(begun: bool, mark: u8) -> bool
     ensures { λ r. ⌜ r ≡ markRight begun mark ⌝ }
 {
@@ -113,7 +113,7 @@ fn zeros_from(block: &[u8], from: usize) -> bool
     true
 }
 
-// Whether a block's fields are right after an edit begun or not begun. Inner: it is a block.
+// Whether a block's fields are right, given whether an edit is begun. Inner: it is a block.
 fn fields_right(block: &[u8], begun: bool) -> bool
     requires { ⌜ length (now block) ≡ blockBytes ⌝ }
     ensures { λ r. ⌜ r ≡ fieldsRight begun (now (block .entry)) ⌝ }
@@ -140,7 +140,7 @@ fn kept_of(c: usize, n: usize) -> usize
     if c < room { c } else { room }
 }
 
-// Puts the edit bytes of a block after the n that are kept, as many as are to be kept, and says how many are kept then.
+// Puts the edit bytes of a block after the n that are kept, as many as are to be kept, and returns how many are then kept.
 // Inner: it is a block, has c edit bytes, and n are kept.
 fn keep(block: &[u8], c: usize, n: usize, edit: &mut [u8]) -> usize
     requires { ⌜ (length (now block) ≡ blockBytes) × (c ≡ count (now block)) × (c ≤ contentBytes) × (length (now edit) ≡ keptBytes) × (n ≤ keptBytes) ⌝ }
@@ -156,7 +156,8 @@ fn keep(block: &[u8], c: usize, n: usize, edit: &mut [u8]) -> usize
     n + m
 }
 
-// Takes the next block of a log, whole or cut short, after n kept bytes of the edit begun before it; n is 0 where none is begun. Inner: the buffer has room for what is kept.
+// Takes the next block of a log, whole or cut short, after n kept bytes of the edit begun before it; n is 0 where none is begun.
+// Inner: the buffer has room for what is kept.
 fn take_block(block: &[u8], number: usize, n: usize, edit: &mut [u8]) -> Taken
     requires { ⌜ (length (now edit) ≡ keptBytes) × (n ≤ keptBytes) ⌝ }
     ensures { λ r. ⌜ (takenAsked r ≡ askTaken (take n (now (edit .entry))) number (now (block .entry))) × (takenLength r ≤ keptBytes) ⌝ }
@@ -181,7 +182,7 @@ fn take_block(block: &[u8], number: usize, n: usize, edit: &mut [u8]) -> Taken
     Taken::GoesOn(m)
 }
 
-// The end of a log of so many blocks.
+// The end of a log of that many blocks.
 fn take_end(blocks: usize, n: usize) -> Answer
     ensures { λ r. ⌜ asked r ≡ askLogEnd (ltb 0 n) blocks ⌝ }
 {
@@ -191,7 +192,7 @@ fn take_end(blocks: usize, n: usize) -> Answer
     Answer::Done
 }
 
-// Stops, with the line of a no, or with none at a good end.
+// Stops, with the line of a refusal, or with none at a good end.
 fn stop(answer: Answer, held: Held) -> Told
     ensures { λ r. ⌜ ((edit sheet : List ℕ) → said r edit sheet ≡ stopped (asked answer) (held .number) (take (held .kept) edit) sheet) × (r .held .kept ≡ held .kept) ⌝ }
 {

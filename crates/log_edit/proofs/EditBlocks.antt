@@ -43,7 +43,7 @@ module _ (edit : List ℕ) where
   pub log-length : 0 < length edit → length (logOf (edit ∷ [])) ≡ 512 * ((length edit + 503) / 504)
   log-length h = let s = blocks-sized (length edit) 1 edit h (omega arith) in ap length log-is ∙ s .size ∙ ap (512 *_) (s .count)
 
--- The bytes of an edit from a place on are still to be put into blocks, of which the next has this byte 1 where it is not the last.
+-- The bytes of an edit from a place on are still to be put into blocks; the next block has this byte 1 where it is not the last.
 pub record Left (edit o : List ℕ) (mark from at : ℕ) (out : List ℕ) : Type 0 where
   pub most : ℕ
   pub done : List ℕ

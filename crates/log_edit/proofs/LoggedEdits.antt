@@ -18,7 +18,7 @@ use Rattle.log_edit.specs.LogEdit.{askLogEdit}
 use Rattle.log_edit.specs.LoggedEdits.{LoggedEdits}
 use Rattle.log_edit.proofs.EditBlocks.{blocks-sized, log-length}
 
--- what passing says
+-- what passing means
 record Passed (edit bytes : List ℕ) : Type 0 where
   some : 0 < length edit
   short : length edit ≤ longestText

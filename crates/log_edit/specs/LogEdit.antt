@@ -8,7 +8,7 @@ use Rattle.answer.specs.Outputs.{askRoom}
 use Rattle.text.specs.Reading.{longestText}
 use Rattle.log.specs.Making.{logOf}
 
--- The edit's bytes are not read: 22 where there are none, 21 where they pass 4,096, then 33. What is learned are the blocks' bytes.
+-- The edit's bytes are not read: 22 where there are none, 21 where there are more than 4,096, then 33. The result is the blocks' bytes.
 unfoldable pub askLogEdit : (edit : List ℕ) (room : ℕ) → Asked (List ℕ)
 askLogEdit edit room = do
   is (ltb 0 (length edit)) 22 0

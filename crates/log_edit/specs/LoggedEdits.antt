@@ -10,9 +10,9 @@ use Rattle.log.specs.Log.{lastNumber, readLog}
 use Rattle.log_edit.specs.LogEdit.{askLogEdit}
 
 pub record LoggedEdits : Type 0 where
-  -- What is read from the blocks is that edit.
+  -- Reading the blocks gives that edit.
   pub read-back : (edit : List ℕ) (room : ℕ) (bytes : List ℕ) → askLogEdit edit room ≡ passed bytes → readLog bytes ≡ record { edits = edit ∷ []; ending = passed tt }
-  -- After a log that is good to its end they are one more edit, while there are at most 65,535 blocks.
+  -- Appended to a log that is good to its end they are one more edit, while there are at most 65,535 blocks.
   pub appended : (edit : List ℕ) (room : ℕ) (bytes : List ℕ) → askLogEdit edit room ≡ passed bytes
       → (log : List ℕ) → Bytes log → readLog log .ending ≡ passed tt → length (log ++ bytes) ≤ blockBytes * suc lastNumber
       → readLog (log ++ bytes) ≡ record { edits = readLog log .edits ++ (edit ∷ []); ending = passed tt }

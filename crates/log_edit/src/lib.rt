@@ -15,7 +15,7 @@ use seal::BLOCK;
 use seal::BODY;
 use text::Text;
 
-// The bytes of a block's fields, and the most edit bytes that it holds.
+// The length of a block's fields, and the most edit bytes that it holds.
 const FIELDS: usize = 4;
 
 const CONTENT: usize = BODY - FIELDS;
@@ -35,7 +35,7 @@ fn make_block(mark: u8, part: &[u8], buf: &mut [u8])
     seal::seal(buf);
 }
 
-// Puts an edit's blocks at the output's start. Inner: the edit has a byte at least and is a text's length at most, and there is room.
+// Puts an edit's blocks at the output's start. Inner: the edit has at least one byte and at most a text's length, and there is room.
 fn put_blocks(edit: &[u8], output: &mut [u8])
     requires { ⌜ (0 < length (now edit)) × (length (now edit) ≤ longestText) × (length (logOf (now edit ∷ [])) ≤ length (now output)) ⌝ }
     ensures { λ _. ⌜ now (output .exit) ≡ writtenAtStart (logOf (now (edit .entry) ∷ [])) (now (output .entry)) ⌝ }
@@ -55,7 +55,7 @@ fn put_blocks(edit: &[u8], output: &mut [u8])
     make_block(mark + 2, &edit[from..edit.len()], &mut output[at..last]);
 }
 
-// The blocks that hold an edit, at the output's start: 22 of an edit without bytes, 21 of one above 4,096, then 33. Answers their length.
+// The blocks that hold an edit, at the output's start: 22 for an edit without bytes, 21 for one above 4,096, then 33. Answers their length.
 pub fn log_edit(edit: &[u8], output: &mut [u8]) -> Written
     ensures { λ r. ⌜ writtenAsked r ≡ writtenLength (askLogEdit (now (edit .entry)) (length (now (output .entry)))) ⌝ }
     ensures { λ _. ⌜ now (output .exit) ≡ writtenOutput (askLogEdit (now (edit .entry)) (length (now (output .entry)))) (now (output .entry)) ⌝ }

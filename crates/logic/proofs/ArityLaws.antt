@@ -13,7 +13,7 @@ use Rattle.logic.specs.Carry.{substitute}
 use Rattle.logic.specs.Limits.{Kind, Ranges, fits, InRange}
 use Rattle.logic.specs.Arity.{Nullary, all·, none·, label·, nominal·, arrowKind·, pair·, Unary, complement·, reversed·, nodeIn·, pairIn·, notRule·, Binary, and·, or·, some·, every·, atLeast·, atMost·, union·, common·, minus·, endingIn·, subNodes·, subArrows·, both·, either·, build0, build1, build2, numbers0, numbers1, numbers2, byArity}
 
--- A code's operands: `byArity` goes over them as its case says, `substitute` under the code.
+-- `byArity` at a code gives the case for its arity, from the results for its operands; `substitute` goes on under the code.
 module _ {ℓ} (P : (s : Sort) → Expr s → Type ℓ) (leaf : (s : Sort) (b : Nullary s) → P s (build0 b)) (one : (u t : Sort) (b : Unary u t) (x : Expr u) → P u x → P t (build1 b x))
     (two : (u v t : Sort) (b : Binary u v t) (x : Expr u) (y : Expr v) → P u x → P v y → P t (build2 b x y)) (f : ℕ → Expr node) (h : ℕ → Expr arrow) where
   alike-1 : {u t : Sort} (b : Unary u t) (x : Expr u)
@@ -66,7 +66,7 @@ module _ (f : ℕ → Expr node) (h : ℕ → Expr arrow) where
   pub substitute-2 : {u v t : Sort} (b : Binary u v t) (x : Expr u) (y : Expr v) → substitute f h (build2 b x y) ≡ build2 b (substitute f h x) (substitute f h y)
   substitute-2 b x y = alike-2 (λ s e. Expr s) (λ s. build0) (λ u t b x y. build1 b y) (λ u v t b x y z w. build2 b z w) f h b x y .1
 
--- A term is in range where its first code's numbers are and its operands are.
+-- A term is in range exactly when the numbers of its first code and its operands are.
 module _ (r : Ranges) where
   abbrev pub Fit : List (Kind × ℕ) → Type 0
   Fit = All (λ n. T (fits r (n .0) (n .1)))
@@ -105,7 +105,7 @@ module _ (r : Ranges) where
   range-2 both· x y = (λ q. (tt, q), λ q. q .1)
   range-2 either· x y = (λ q. (tt, q), λ q. q .1)
 
--- A term's value goes by its operands' values, also on a graph with other labels and arrows.
+-- A term's value depends only on its operands' values, also on a graph with other labels and arrows.
 module _ (g : Graph) (labelled : ℕ → Nodes) (joined : ℕ → Pairs) where
   abbrev other : Graph
   other = record { n = g .n; inUse = g .inUse; labelled = labelled; joined = joined }

@@ -26,7 +26,7 @@ unfolding countBelow
 count-cong zero v u h = refl
 count-cong (suc n) v u h = ap₂ (λ b c. cond b (suc c) c) (h n (omega arith)) (count-cong n v u (λ i l. h i (omega arith)))
 
--- one is
+-- one is in the set
 pub any-found : (n : ℕ) (v : Nodes) → anyBelow n v ≡ true → (i : ℕ) × (i < n) × (v i ≡ true)
 unfolding anyBelow
 any-found zero v h = let z : _≡_ {A = ℕ} 0 1 = cc in absurd (omega arith)
@@ -40,7 +40,7 @@ unfolding anyBelow
 any-and zero v c = refl
 any-and (suc n) v c = ap (_|| (v n && c)) (any-and n v c) ∙ sym (and-or-distrib-right (anyBelow n v) (v n) c)
 
--- all are
+-- all are in the set
 pub all-true : (n : ℕ) (v : Nodes) → ((i : ℕ) → i < n → v i ≡ true) → allBelow n v ≡ true
 unfolding allBelow
 all-true zero v h = refl
@@ -54,7 +54,7 @@ all-each (suc n) v e i l = go (decLt i n) (and-eq-true-iff (allBelow n v) (v n) 
   go (yes k) b r = r (b .0) i k
   go (no k) b r = let q : i ≡ n = omega arith in ap v q ∙ b .1
 
--- all are when none of the others is
+-- if the two sets are complements: all are in the one exactly when none is in the other
 pub all-not-any : (n : ℕ) (v u : Nodes) → ((i : ℕ) → i < n → v i ≡ not (u i)) → allBelow n v ≡ not (anyBelow n u)
 unfolding allBelow anyBelow
 all-not-any zero v u h = refl
@@ -70,7 +70,7 @@ none-outside n v u = sym (all-not-any n (λ i. implies (v i) (u i)) (λ i. v i &
   go true false = refl
   go false y = refl
 
--- so none is when all are in the complement, and one is when not all are
+-- none is in the set if each is outside; one is if not all are outside
 pub any-none : (n : ℕ) (v : Nodes) → ((i : ℕ) → i < n → v i ≡ false) → anyBelow n v ≡ false
 any-none n v h = not-true _ (sym (all-not-any n (λ i. not (v i)) v (λ i l. refl)) ∙ all-true n (λ i. not (v i)) (λ i l. ap not (h i l)))
 
@@ -83,7 +83,7 @@ any-one n v i l e = not-false _ (sym (all-not-any n (λ i. not (v i)) v (λ i l.
 pub any-not : (n : ℕ) (v : Nodes) → anyBelow n v ≡ false → (i : ℕ) → i < n → v i ≡ false
 any-not n v h i l = is-false (v i) (λ t. true-false (any-one n v i l t) h)
 
--- all are, taken one by one
+-- all are in the set, one by one
 module _ (v : Nodes) where
   pub all-none : allBelow 0 v ≡ true
   all-none = unfold allBelow in refl
@@ -94,7 +94,7 @@ module _ (v : Nodes) where
   pub all-end : (n i : ℕ) → i ≤ n → n ≤ i → allBelow i v ≡ true → allBelow n v ≡ true
   all-end n i h l e = let q : n ≡ i = omega arith in ap (λ x. allBelow x v) q ∙ e
 
--- how many are
+-- how many are in the set
 pub one-or-more : (n : ℕ) (v : Nodes) → leb 1 (countBelow n v) ≡ anyBelow n v
 unfolding countBelow anyBelow
 one-or-more zero v = refl
@@ -103,7 +103,7 @@ one-or-more (suc n) v = go (v n) (one-or-more n v) where
   go true h = le-leb 1 (suc (countBelow n v)) (omega arith) ∙ sym (or-true (anyBelow n v))
   go false h = h ∙ sym (or-false (anyBelow n v))
 
--- without one
+-- the set without one of them
 abbrev pub leave : Nodes → ℕ → Nodes
 leave v i k = v k && not (eqb k i)
 

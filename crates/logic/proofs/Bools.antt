@@ -1,4 +1,4 @@
--- Truth values: what a conjunction or a disjunction says of its parts.
+-- Truth values: what a conjunction or a disjunction says about its parts.
 use mathlib.Core.Path.{_≡_, refl, sym, _∙_, ap, subst}
 use mathlib.Core.Bool.{Bool, true, false, not, _&&_, _||_}
 use lib.Dec.{T}
@@ -26,7 +26,7 @@ pub and-true-false : (a b : Bool) → (a && b) ≡ false → a ≡ true → b �
 and-true-false true b h e = h
 and-true-false false b h e = true-false e refl
 
--- what holds only where b does
+-- what holds only if b does
 pub and-only : (b x : Bool) → (b ≡ false → x ≡ false) → (b && x) ≡ x
 and-only true x h = refl
 and-only false x h = sym (h refl)

@@ -1,4 +1,4 @@
--- The sentences of item 6 on closed nodes, and the laws of closing and opening.
+-- The sentences of item 6 about closed nodes, and the laws of closing and opening.
 use mathlib.Core.Path.{_≡_, refl, sym, _∙_, ap, subst}
 use mathlib.Core.Bool.{Bool, true, false, not, _&&_, _||_, cond, and-eq-true-iff, and-false}
 use Prim.Native.Nat.{ℕ, _<_}
@@ -17,11 +17,11 @@ use Rattle.logic.proofs.Tables.{update-all, update-same, update-other, 
 use Rattle.logic.proofs.Below.{any-found, any-not, any-one}
 use Rattle.logic.proofs.Inside.{value-in, no-node, run-nodes}
 
--- "Every node expression has only nodes in use as its value, 01 and 05 included": `value-in` of proofs/Inside, at node expressions.
+-- "Every node expression has only nodes in use as its value, 01 and 05 included": `value-in` of proofs/Inside, for node expressions.
 pub only-in-use : (g : Graph) → Within g → (E : Expr node) → NodesIn g (value g E)
 only-in-use g w E = value-in g w E
 
--- A node that is not in use is no node of the graph.
+-- `isNode` is false for a node that is not in use.
 pub closed-none : (g : Graph) (i : ℕ) → g .inUse i ≡ false → isNode g i ≡ false
 closed-none g i h = unfold isNode in ap (ltb i (g .n) &&_) h ∙ and-false (ltb i (g .n))
 
@@ -57,7 +57,7 @@ module _ (g : Graph) (w : Within g) where
 pub run-inUse : (Z : Edit) (g : Graph) → (run Z g) .inUse ≡ g .inUse
 run-inUse = run-nodes (λ n u. u)
 
--- Closing then opening a node gives the graph back, and opening then closing.
+-- Closing and then opening a node gives the graph back, and so does opening and then closing.
 pub close-open : (g : Graph) (i : ℕ) → g .inUse i ≡ true → openNode (closeNode g i) i ≡ g
 close-open g i h = unfold closeNode openNode in ap (withUse g) (update-back (g .inUse) i false true h)
 
@@ -65,7 +65,7 @@ pub open-close : (g : Graph) (i : ℕ) → g .inUse i ≡ false → closeNode (o
 open-close g i h = unfold closeNode openNode in ap (withUse g) (update-back (g .inUse) i true false h)
 
 module _ (g : Graph) (w : Within g) (i : ℕ) where
-  -- A node without a label has none of any number, and one without an arrow none of any kind.
+  -- A node without a label has no label of any number, and one without an arrow no arrow of any kind.
   no-label : hasLabel g i ≡ false → (k : ℕ) → g .labelled k i ≡ false
   unfolding hasLabel
   no-label h k = go (decLt k labelCount) where
@@ -83,7 +83,7 @@ module _ (g : Graph) (w : Within g) (i : ℕ) where
     go (yes l) (no u) = let b : isNode g j ≡ false = no-node g j (omega arith) in (w .arrows-in a .ends i j b, w .arrows-in a .starts j i b)
     go (no l) d = (w .no-more-arrows a i j (omega arith), w .no-more-arrows a j i (omega arith))
 
-  -- What is no node in use after closing i is i, or was none before.
+  -- What is not a node in use after closing i is i itself, or was not one before.
   closed-or : {A : Type 0} (x : ℕ) → isNode (closeNode g i) x ≡ false → (x ≡ i → A) → (isNode g x ≡ false → A) → A
   unfolding closeNode isNode update
   closed-or {A} x h f k = go (eqb x i) refl h where
@@ -91,7 +91,7 @@ module _ (g : Graph) (w : Within g) (i : ℕ) where
     go true e h = f (eqb-true x i e)
     go false e h = k h
 
-  -- A node that may be closed leaves a graph within the limits.
+  -- Closing a node that may be closed leaves a graph within the limits.
   pub close-within : canClose g i ≡ true → Within (closeNode g i)
   unfolding canClose closeNode isOnly
   close-within c =
@@ -114,7 +114,7 @@ module _ (g : Graph) (w : Within g) (i : ℕ) where
         no-more-arrows = w .no-more-arrows;
       }
 
-  -- Opening a node below n does.
+  -- So does opening a node below n.
   pub open-within : i < g .n → Within (openNode g i)
   unfolding openNode isNode update
   open-within l =

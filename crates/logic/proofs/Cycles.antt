@@ -1,4 +1,4 @@
--- A member of a cycle of calls, with a number for its measure: what it is called with where the measure is t, and where it is below t.
+-- A function in a cycle of calls, with a number as its measure: the arguments with which the measure is t, and those with which it is below t.
 use mathlib.Core.List.{List}
 use Prim.Native.Nat.{ℕ, _<_}
 use borrow.Fn.Kind.{PK}

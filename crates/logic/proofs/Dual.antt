@@ -1,5 +1,5 @@
--- The laws of the quantifiers and the counts, which hold of no other meaning of 09, 0A and 0B: 09 is given by 08, 0B by 0A, and 0A by what
--- it is at 0 and how it goes on from m to m + 1 (`at-least-only`).
+-- The laws of the quantifiers and the counts, which no other meaning of 09, 0A and 0B satisfies: 08 determines 09, 0A determines 0B, and 0A is
+-- determined by its value at 0 and the step from m to m + 1 (`at-least-only`).
 use mathlib.Core.Path.{_≡_, refl, sym, _∙_, ap, fun-ext}
 use mathlib.Core.Bool.{Bool, true, false, not, _&&_, and-true, and-false}
 use Prim.Native.Nat.{ℕ, zero, suc, _<_}
@@ -14,7 +14,7 @@ use Rattle.logic.proofs.Bools.{and-only}
 use Rattle.logic.proofs.Below.{any-cong, all-not-any, any-and, count-cong, one-or-more, leave, count-leave}
 use Rattle.logic.proofs.Inside.{value-in}
 
--- Within the limits 09 R E is 05 08 R 05 E: a node with no arrow of R is in it, and none goes to a closed node.
+-- Within the limits 09 R E is 05 08 R 05 E: it contains nodes without an arrow of R, and no arrow goes to a closed node.
 pub every-is-no-other : (g : Graph) → Within g → (R : Expr arrow) (E : Expr node) → value g (every R E) ≡ value g (complement (some R (complement E)))
 unfolding value
 every-is-no-other g w R E =
@@ -47,7 +47,7 @@ at-least-one-is-some g w R E = fun-ext (λ i. ap (isNode g i &&_) (one-or-more (
 pub at-least-none : (g : Graph) (R : Expr arrow) (E : Expr node) → value g (atLeast 0 R E) ≡ value g all
 at-least-none g R E = unfold value in fun-ext (λ i. ap (isNode g i &&_) (leb·zero (countBelow (g .n) (λ j. value g R i j && value g E j))) ∙ and-true (isNode g i))
 
--- and within the limits 0A m + 1 R E has node i when R has an arrow from i to some node of E, and without that arrow 0A m has i.
+-- and within the limits 0A m + 1 R E contains node i exactly when R has an arrow from i to some node of E, and 0A m contains i without that arrow.
 pub at-least-one-more : (g : Graph) → Within g → (m : ℕ) (R : Expr arrow) (E : Expr node) (i : ℕ)
     → value g (atLeast (suc m) R E) i ≡ anyBelow (g .n) (λ j. (value g R i j && value g E j) && value g (atLeast m (minus R (pair i j)) E) i)
 unfolding value
@@ -58,7 +58,7 @@ at-least-one-more g w m R E i = sym (any-cong (g .n) _ (λ j. v j && enough) (λ
   enough : Bool
   enough = isNode g i && leb (suc m) (countBelow (g .n) v)
 
-  -- without the arrow to j, of the nodes that were counted j is left out
+  -- without the arrow to j, only j is no longer counted
   left-out : (j k : ℕ) → isNode g i ≡ true → ((value g R i k && not ((isNode g i && eqb i i) && (isNode g k && eqb k j))) && value g E k) ≡ leave v j k
   left-out j k n = rw (n, eq-eqb i i refl) (go (value g R i k) (value g E k) (isNode g k) (eqb k j) (value-in g w R .ends i k)) where
     go : (r e b c : Bool) → (b ≡ false → r ≡ false) → ((r && not (b && c)) && e) ≡ ((r && e) && not c)
@@ -83,7 +83,7 @@ at-least-one-more g w m R E i = sym (any-cong (g .n) _ (λ j. v j && enough) (λ
     go true e = ap (_&& (b && true)) (le-leb 1 c (omega (arith, leb-true (suc m) c e)))
     go false e = rw (and-false b, and-false (leb 1 c))
 
--- Nothing else does both: what is 01 at 0 and goes on like this is 0A.
+-- Nothing else satisfies both: what is 01 at 0 and has this step is 0A.
 pub at-least-only : (g : Graph) → Within g → (A : ℕ → Expr arrow → Expr node → Nodes) → ((R : Expr arrow) (E : Expr node) → A 0 R E ≡ value g all)
     → ((m : ℕ) (R : Expr arrow) (E : Expr node) (i : ℕ) → A (suc m) R E i ≡ anyBelow (g .n) (λ j. (value g R i j && value g E j) && A m (minus R (pair i j)) E i))
     → (m : ℕ) (R : Expr arrow) (E : Expr node) → A m R E ≡ value g (atLeast m R E)

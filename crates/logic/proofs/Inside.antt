@@ -1,4 +1,4 @@
--- On a graph within the limits no value reaches beyond the graph's nodes, taking away is the difference of Definition 3.2,
+-- On a graph within the limits no value goes outside the graph's nodes, taking away is the set difference of Definition 3.2,
 -- and an edit leaves a graph within the limits.
 use mathlib.Core.Path.{_≡_, refl, _∙_, ap, fun-ext}
 use mathlib.Core.Bool.{Bool, true, false, not, _&&_, _||_, and-false}
@@ -14,13 +14,13 @@ use Rattle.logic.specs.Limits.{NodesIn, PairsIn, Within, Ranges, EditInR
 use Rattle.logic.proofs.Tables.{cond-both, update-all, update-other}
 use Rattle.logic.proofs.Below.{any-none, any-found}
 
--- what is no node of the graph is in no value of any sort
+-- a value, of any sort, that contains only nodes in use
 abbrev pub Inside : (s : Sort) (g : Graph) → Value s → Type 0
 Inside node g v = NodesIn g v
 Inside arrow g v = PairsIn g v
 Inside rule g v = Unit {0}
 
--- numbers from n on are no nodes
+-- numbers from n on are not nodes
 pub no-node : (g : Graph) (i : ℕ) → g .n ≤ i → isNode g i ≡ false
 no-node g i h = unfold isNode in ap (_&& g .inUse i) (le-ltb i (g .n) h)
 
@@ -61,7 +61,7 @@ module _ (g : Graph) (w : Within g) where
   value-in (either K L) = tt
   value-in (notRule K) = tt
 
-  -- What 32 and 34 take away is the difference.
+  -- What 32 and 34 take away is the set difference.
   pub taken-label : (k : ℕ) (E : Expr node) (Z : Edit) → run (takeLabel k E Z) g ≡ run Z (relabel g k (λ i. g .labelled k i && not (value g E i)))
   unfolding run
   taken-label k E Z = ap (λ v. run Z (relabel g k v)) (fun-ext (λ i. go i (isNode g i) (g .labelled k i) (w .labels-in k i))) where
@@ -98,7 +98,7 @@ module _ (g : Graph) (w : Within g) where
       tables-within (g .labelled) (update (g .joined) a v) (w .labels-in) (λ x. update-all (PairsIn g) (g .joined) a v x (w .arrows-in x) h) (w .no-more-labels)
       (λ x i j l. ap (λ u. u i j) (update-other (g .joined) a v x (λ e. absurd (omega (arith, ltb→lt a arrowCount b)))) ∙ w .no-more-arrows x i j l)
 
--- An edit changes no nodes,
+-- An edit does not change which nodes there are or are in use,
 pub run-nodes : {A : Type 0} (f : ℕ → Nodes → A) (Z : Edit) (g : Graph) → f (run Z g .n) (run Z g .inUse) ≡ f (g .n) (g .inUse)
 unfolding run
 run-nodes f finish g = refl
@@ -111,7 +111,7 @@ run-nodes f (choose K P Q Z) g = run-nodes f Z _ ∙ cond-both (λ h. f (h .n) (
 pub run-n : (Z : Edit) (g : Graph) → (run Z g) .n ≡ g .n
 run-n = run-nodes (λ n u. n)
 
--- and keeps a graph within the limits.
+-- and it keeps a graph within the limits.
 pub run-within : (r : Ranges) (Z : Edit) → EditInRange r Z → (g : Graph) → Within g → Within (run Z g)
 unfolding run EditInRange value
 run-within r finish q g w = w

@@ -1,4 +1,4 @@
--- What is so of each element of a list: what follows from it, what is made of them, and those from a place on.
+-- A property of each element of a list: what follows from it, lists made from others, and the elements from a place on.
 use mathlib.Core.List.{List, [], _∷_, _++_, map}
 use Prim.Native.Nat.{ℕ, zero, suc}
 use lib.ListN.{drop}
@@ -21,7 +21,7 @@ pub all-append : {A : Type 0} (P : A → Type 0) (xs ys : List A) → All P (xs 
 all-append P [] ys h = (tt, h)
 all-append P (x ∷ xs) ys h = let q = all-append P xs ys (h .1) in ((h .0, q .0), q .1)
 
--- Facts one inside the other, the last one outside: what a `match` knows of the keys that it has passed.
+-- Facts nested in one another, the last outermost: what a `match` knows about the keys that it has passed.
 abbrev pub Nested : {A : Type 0} → Type 0 → (A → Type 0) → List A → Type 0
 Nested S P [] = S
 Nested S P (x ∷ xs) = Nested (S × P x) P xs

@@ -1,4 +1,4 @@
--- Theorem 4.2 of document 004, that the carried rule is the weakest condition, and the laws of joined edits.
+-- Theorem 4.2 of document 004; that the carried rule is the weakest condition; and the laws of joined edits.
 use mathlib.Core.Path.{_≡_, refl, sym, _∙_, ap, ap₂, fun-ext, subst}
 use mathlib.Core.Bool.{Bool, true, false, not, _&&_, _||_, cond}
 use mathlib.Core.List.{List, [], _∷_}
@@ -12,7 +12,7 @@ use Rattle.logic.specs.Carry.{substitute, putLabel, putArrow, carry, car
 use Rattle.logic.specs.Arity.{Nullary, all·, none·, label·, nominal·, arrowKind·, pair·, build0, byArity}
 use Rattle.logic.proofs.ArityLaws.{substitute-1, substitute-2, value-1, value-2}
 
--- the graph on which label k is f k and arrow a is h a, as g has them
+-- the graph whose label k is the value of f k on g and whose arrow a is the value of h a
 abbrev pub through : Graph → (ℕ → Expr node) → (ℕ → Expr arrow) → Graph
 through g f h = record { n = g .n; inUse = g .inUse; labelled = λ k. value g (f k); joined = λ a. value g (h a) }
 
@@ -35,11 +35,11 @@ of-cond : {A B : Type 0} (f : A → B) (b : Bool) (x y : A) → f (cond b x y) �
 of-cond f true x y = refl
 of-cond f false x y = refl
 
--- to update a table of expressions is to update the table of their values
+-- updating a table of expressions updates the table of their values
 pub value-update : (g : Graph) {s : Sort} (f : ℕ → Expr s) (k : ℕ) (F : Expr s) → (λ x. value g (update f k F x)) ≡ update (λ x. value g (f x)) k (value g F)
 value-update g f k F = unfold update in fun-ext (λ x. of-cond (value g) (eqb x k) F (f x))
 
--- a rule in which label k is replaced by F says what the rule says where label k is F
+-- a rule with label k replaced by F says what the rule says on the graph whose label k is the value of F
 value-putLabel : (g : Graph) (k : ℕ) (F : Expr node) (K : Expr rule) → value g (putLabel k F K) ≡ value (relabel g k (value g F)) K
 unfolding putLabel value
 value-putLabel g k F K = value-substitute g (update label k F) arrowKind K ∙ ap (λ l. value (record { n = g .n; inUse = g .inUse; labelled = l; joined = g .joined }) K) (value-update g label k F)
@@ -48,13 +48,13 @@ value-putArrow : (g : Graph) (a : ℕ) (S : Expr arrow) (K : Expr rule) → valu
 unfolding putArrow value
 value-putArrow g a S K = value-substitute g label (update arrowKind a S) K ∙ ap (λ l. value (record { n = g .n; inUse = g .inUse; labelled = g .labelled; joined = l }) K) (value-update g arrowKind a S)
 
--- (not x or p) and (x or q) is p where x holds, else q
+-- (not x or p) and (x or q) is p if x holds, else q
 choice : (x p q : Bool) → ((not x || p) && (x || q)) ≡ cond x p q
 choice true true q = refl
 choice true false q = refl
 choice false p q = refl
 
--- Theorem 4.2: the carried rule says of a sheet what the rule says of the sheet that the edit leaves.
+-- Theorem 4.2: the carried rule says about a graph what the rule says about the graph that the edit leaves.
 pub carried : (Z : Edit) (K : Expr rule) (g : Graph) → value g (carry Z K) ≡ value (run Z g) K
 unfolding carry run value
 carried finish K g = refl
@@ -74,7 +74,7 @@ unfolding holdAll
 hold-carried Z [] g = refl
 hold-carried Z (K ∷ book) g = ap₂ _&&_ (carried Z K g) (hold-carried Z book g)
 
--- Doc 01's wording: through P with its end replaced by Z.
+-- Document 01's wording: through P with its end replaced by Z.
 pub carry-followedBy : (P Z : Edit) (K : Expr rule) → carry (followedBy P Z) K ≡ carry P (carry Z K)
 unfolding carry followedBy
 carry-followedBy finish Z K = refl
@@ -96,7 +96,7 @@ run-followedBy (addArrow a R P) Z g = run-followedBy P Z _
 run-followedBy (takeArrow a R P) Z g = run-followedBy P Z _
 run-followedBy (choose K P Q P′) Z g = run-followedBy P′ Z _
 
--- It is the weakest such condition: it ensures the rule after, and whatever ensures the rule after implies it.
+-- It is the weakest such condition: it ensures the rule after the edit, and every condition that does so implies it.
 pub ensures-after : (Z : Edit) (K : Expr rule) (g : Graph) → T (value g (carry Z K)) → T (value (run Z g) K)
 ensures-after Z K g t = subst T (carried Z K g) t
 

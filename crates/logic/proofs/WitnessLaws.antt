@@ -1,4 +1,4 @@
--- What breaks a rule: nothing exactly where it holds; and Theorem 4.2 carried over, what breaks the carried rule is what breaks the rule afterwards.
+-- What breaks a rule: nothing exactly when it holds. And from Theorem 4.2: what breaks the carried rule is what breaks the rule after the edit.
 use mathlib.Core.Path.{_≡_, refl, sym, _∙_, ap, ap₂}
 use mathlib.Core.Bool.{Bool, true, false, not, _&&_, _||_, cond}
 use Prim.Native.Nat.{ℕ, zero, suc, _<_}
@@ -18,7 +18,7 @@ held : (x : Bool) (b : Breaks) → x ≡ true → cond x nothing b ≡ nothing
 held true b h = refl
 held false b h = cc
 
--- A rule that holds is broken by nothing.
+-- Nothing breaks a rule that holds.
 pub holds-nothing : (g : Graph) (K : Expr rule) → value g K ≡ true → breaks g K ≡ nothing
 unfolding breaks value
 holds-nothing g (subNodes E F) h = held (value g (subNodes E F)) _ h
@@ -68,7 +68,7 @@ broken-something g (notRule K) h = go (value g K) h where
   go true h = tt
   go false h = let z : _≡_ {A = ℕ} 0 1 = cc in absurd (omega arith)
 
--- The lowest number in a set is the one before which there is none; and a set that has one has a lowest.
+-- The lowest number in a set is the one with none before it; a set that is not empty has a lowest.
 pub lowest-is : (n : ℕ) (v : Nodes) (i : ℕ) → IsLowest n v i → lowestBelow n v ≡ i
 unfolding lowestBelow
 lowest-is zero v i q = absurd (omega (arith, q .below))
@@ -85,7 +85,7 @@ lowest-found (suc n) v h = go (anyBelow n v) refl h (lowest-found n v) where
   go true e h r = let q = r e in record { below = omega (arith, q .below); is-in = q .is-in; first = q .first }
   go false e h r = record { below = omega arith; is-in = h; first = any-not n v e }
 
--- What breaks a rule after a substitution is what breaks it on the graph that the substitution stands for.
+-- What breaks a rule after a substitution is what breaks it on the graph that the substitution describes.
 module _ (g : Graph) (f : ℕ → Expr node) (h : ℕ → Expr arrow) where
   breaks-substitute : (K : Expr rule) → breaks g (substitute f h K) ≡ breaks (through g f h) K
   unfolding breaks substitute value
@@ -105,7 +105,7 @@ breaks-putArrow : (g : Graph) (a : ℕ) (S : Expr arrow) (K : Expr rule) → bre
 unfolding putArrow value
 breaks-putArrow g a S K = breaks-substitute g label (update arrowKind a S) K ∙ ap (λ l. breaks (record { n = g .n; inUse = g .inUse; labelled = g .labelled; joined = l }) K) (value-update g arrowKind a S)
 
--- 25 26 27 K1 T 26 K1 U names what T names where K1 holds, else what U names
+-- 25 26 27 K1 T 26 K1 U names what T names if K1 holds, else what U names
 choice : (x p : Bool) (t u : Breaks) → (p ≡ true → t ≡ nothing) → cond (not x || p) (cond x nothing u) (cond (not x) nothing t) ≡ cond x t u
 choice true true t u r = sym (r refl)
 choice true false t u r = refl
@@ -115,7 +115,7 @@ cond-run : (x : Bool) (g h : Graph) (K : Expr rule) → cond x (breaks g K) (bre
 cond-run true g h K = refl
 cond-run false g h K = refl
 
--- What breaks the carried rule on a sheet is what breaks the rule on the sheet that the edit leaves.
+-- What breaks the carried rule on a graph is what breaks the rule on the graph that the edit leaves.
 pub carried-breaks : (Z : Edit) (K : Expr rule) (g : Graph) → breaks g (carry Z K) ≡ breaks (run Z g) K
 unfolding carry run breaks value
 carried-breaks finish K g = refl

@@ -1,17 +1,17 @@
--- Terms by how many operands their first code has: none, one or two. What is alike for all codes is said once for each of the three.
+-- Terms grouped by how many operands their first code has: none, one or two. A definition or law that treats all codes alike has three cases instead of 25.
 use mathlib.Core.List.{List, [], _∷_}
 use Prim.Native.Nat.{ℕ}
 use Rattle.logic.specs.Syntax.{Sort, node, arrow, rule, Expr, all, none, label, nominal, complement, and, or, some, every, atLeast, atMost, arrowKind, reversed, union, common, minus, endingIn, pair, subNodes, subArrows, nodeIn, pairIn, both, either, notRule}
 use Rattle.logic.specs.Limits.{Kind, labelNumber, arrowNumber, nodeNumber, leastCount, mostCount}
 
--- The codes without operands, with their numbers: the sort of the whole.
+-- The codes without operands, with their numbers. The index is the sort of the term.
 pub data Nullary : Sort → Type 0 where
   all· none· : Nullary node
   label· nominal· : (k : ℕ) → Nullary node
   arrowKind· : (a : ℕ) → Nullary arrow
   pair· : (i j : ℕ) → Nullary arrow
 
--- The codes with one operand: its sort, then that of the whole.
+-- The codes with one operand. The indices are the operand's sort and the term's.
 pub data Unary : Sort → Sort → Type 0 where
   complement· : Unary node node
   reversed· : Unary arrow arrow
@@ -19,7 +19,7 @@ pub data Unary : Sort → Sort → Type 0 where
   pairIn· : (i j : ℕ) → Unary arrow rule
   notRule· : Unary rule rule
 
--- The codes with two.
+-- The codes with two operands. The indices are the operands' sorts and the term's.
 pub data Binary : Sort → Sort → Sort → Type 0 where
   and· or· : Binary node node node
   some· every· : Binary arrow node node
@@ -30,7 +30,7 @@ pub data Binary : Sort → Sort → Sort → Type 0 where
   subArrows· : Binary arrow arrow rule
   both· either· : Binary rule rule rule
 
--- The term that a code makes of its operands.
+-- The term that a code makes from its operands.
 unfoldable pub build0 : {s : Sort} → Nullary s → Expr s
 build0 all· = all
 build0 none· = none
@@ -62,7 +62,7 @@ build2 subArrows· x y = subArrows x y
 build2 both· x y = both x y
 build2 either· x y = either x y
 
--- The numbers of a code, in order, each with its kind.
+-- The numbers of a code, in their order, each with its kind.
 abbrev pub numbers0 : {s : Sort} → Nullary s → List (Kind × ℕ)
 numbers0 all· = []
 numbers0 none· = []
@@ -94,7 +94,7 @@ numbers2 subArrows· = []
 numbers2 both· = []
 numbers2 either· = []
 
--- What is given for each of the three is given for every term: a definition by recursion, a proof by induction.
+-- Recursion and induction over terms by the three groups.
 module _ {ℓ} (P : (s : Sort) → Expr s → Type ℓ) (leaf : (s : Sort) (b : Nullary s) → P s (build0 b)) (one : (u t : Sort) (b : Unary u t) (x : Expr u) → P u x → P t (build1 b x)) (two : (u v t : Sort) (b : Binary u v t) (x : Expr u) (y : Expr v) → P u x → P v y → P t (build2 b x y)) where
   unfoldable pub byArity : {s : Sort} (e : Expr s) → P s e
   unfolding build0 build1 build2

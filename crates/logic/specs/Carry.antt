@@ -4,7 +4,7 @@ use Prim.Native.Nat.{ℕ}
 use Rattle.logic.specs.Syntax.{Sort, node, arrow, rule, Expr, all, none, label, nominal, complement, and, or, some, every, atLeast, atMost, arrowKind, reversed, union, common, minus, endingIn, pair, subNodes, subArrows, nodeIn, pairIn, both, either, notRule, Edit, finish, addLabel, takeLabel, addArrow, takeArrow, choose}
 use Rattle.logic.specs.Steps.{update}
 
--- Every 03 k replaced by f k and every 11 a by h a, at once: what is put in is not replaced inside.
+-- Replaces every 03 k by f k and every 11 a by h a at the same time; what is put in is not replaced inside.
 unfoldable pub substitute : (f : ℕ → Expr node) (h : ℕ → Expr arrow) {s : Sort} → Expr s → Expr s
 substitute f h all = all
 substitute f h none = none
@@ -32,15 +32,15 @@ substitute f h (both K L) = both (substitute f h K) (substitute f h L)
 substitute f h (either K L) = either (substitute f h K) (substitute f h L)
 substitute f h (notRule K) = notRule (substitute f h K)
 
--- Every 03 k replaced by F; every 11 a replaced by S.
+-- Replaces every 03 k by F; replaces every 11 a by S.
 unfoldable pub putLabel : ℕ → Expr node → Expr rule → Expr rule
 putLabel k F K = substitute (update label k F) arrowKind K
 
 unfoldable pub putArrow : ℕ → Expr arrow → Expr rule → Expr rule
 putArrow a S K = substitute label (update arrowKind a S) K
 
--- The rule carried back through the edit. Of 35, T carries through P the rule that was carried through Z:
--- document 01's own wording, through P with its end replaced by Z, is `carry-choose` in proofs/Theorem.
+-- The carried rule: K carried back through the edit. For 35, T carries through P the rule already carried through Z. Document 01 carries
+-- "through P and through Q, each with its end replaced by Z"; `carry-choose` in proofs/Theorem proves that both give the same.
 unfoldable pub carry : Edit → Expr rule → Expr rule
 carry finish K = K
 carry (addLabel k E Z) K = putLabel k (or (label k) E) (carry Z K)

@@ -9,7 +9,7 @@ use Rattle.logic.specs.Meaning.{value}
 abbrev pub closed1 : Graph
 closed1 = record { n = 3; inUse = λ i. eqb i 0 || eqb i 2; labelled = λ k i. eqb k 0 && eqb i 0; joined = λ a i j. eqb a 0 && (eqb i 0 && eqb j 2) }
 
--- Which of the nodes 0, 1, 2 are in the value.
+-- For each of the nodes 0, 1 and 2, whether it is in the value.
 unfoldable pub on : Expr node → List Bool
 on E = value closed1 E 0 ∷ value closed1 E 1 ∷ value closed1 E 2 ∷ []
 
@@ -51,8 +51,8 @@ truths = value closed1 (nodeIn 1 all) ∷ value closed1 (nodeIn 2 all) ∷ value
 unfoldable pub truths-are : List Bool
 truths-are = false ∷ true ∷ true ∷ false ∷ true ∷ []
 
--- Beyond the limits: 2 nodes, node 1 closed, and yet label 0 on it and arrow 0 from 0 to it. There 09 R E is not 05 08 R 05 E,
--- and 05 05 E, 07 01 E and 06 01 E are not E, 01 and E.
+-- Outside the limits: 2 nodes, node 1 closed but with label 0, and arrow 0 goes to it from node 0. On this graph 09 R E differs from 05 08 R 05 E,
+-- and 05 05 E, 07 01 E and 06 01 E differ from E, 01 and E.
 abbrev pub stray : Graph
 stray = record { n = 2; inUse = λ i. eqb i 0; labelled = λ k i. eqb k 0 && eqb i 1; joined = λ a i j. eqb a 0 && (eqb i 0 && eqb j 1) }
 

@@ -1,4 +1,4 @@
--- Labelled graphs (document 004, Section 3: an interpretation with a finite domain), sets by membership.
+-- Labelled graphs (document 004, Section 3: an interpretation with a finite domain). A set is its membership function.
 use mathlib.Core.Bool.{Bool, true, false, not, _&&_, _||_, cond}
 use Prim.Native.Nat.{ℕ, zero, suc}
 use lib.Dec.{ltb}
@@ -10,18 +10,18 @@ Nodes = ℕ → Bool
 abbrev pub Pairs : Type 0
 Pairs = ℕ → ℕ → Bool
 
--- A graph: how many nodes it has, which of them are in use, which nodes have label k, which pairs arrow a joins.
+-- A graph: its number of nodes, which of them are in use, the nodes with label k, the pairs that arrow kind a joins.
 pub record Graph : Type 0 where
   pub n : ℕ
   pub inUse : Nodes
   pub labelled : ℕ → Nodes
   pub joined : ℕ → Pairs
 
--- Whether i is a node in use (item 6 of document 02): nodes are numbered from 0, and one that is closed is in no value.
+-- Whether i is a node in use (item 6 of document 02). Nodes are numbered from 0; within the limits no value contains a closed node.
 unfoldable pub isNode : Graph → Nodes
 isNode g i = ltb i (g .n) && g .inUse i
 
--- Of the numbers below n: is one in the set, are all, how many are.
+-- Of the numbers below n: whether one is in the set, whether all are, and how many are.
 unfoldable pub anyBelow : ℕ → Nodes → Bool
 anyBelow zero v = false
 anyBelow (suc n) v = anyBelow n v || v n
@@ -34,6 +34,5 @@ unfoldable pub countBelow : ℕ → Nodes → ℕ
 countBelow zero v = zero
 countBelow (suc n) v = cond (v n) (suc (countBelow n v)) (countBelow n v)
 
--- x implies y
 abbrev pub implies : Bool → Bool → Bool
 implies x y = not x || y

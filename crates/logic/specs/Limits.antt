@@ -1,4 +1,4 @@
--- The limits of document 01, "The sheet": n from 1 to 60 nodes, 48 labels, 16 arrow kinds; and the numbers that a term may name.
+-- The limits of document 01, "The sheet": n from 1 to 60 nodes, 48 labels, 16 arrow kinds; and the range of each number in a term.
 use mathlib.Core.Path.{_≡_}
 use mathlib.Core.Bool.{Bool, true, false, _&&_}
 use Prim.Native.Nat.{ℕ, _≤_, _-_}
@@ -15,7 +15,7 @@ labelCount = 48
 abbrev pub arrowCount : ℕ
 arrowCount = 16
 
--- A set of nodes or of pairs that has only nodes in use.
+-- A set of nodes, or of pairs, that contains only nodes in use.
 abbrev pub NodesIn : Graph → Nodes → Type 0
 NodesIn g v = (i : ℕ) → isNode g i ≡ false → v i ≡ false
 
@@ -37,21 +37,22 @@ pub record Within (g : Graph) : Type 0 where
 pub data Kind : Type 0 where
   labelNumber arrowNumber nodeNumber leastCount mostCount : Kind
 
--- The ranges of numbers: nodes are below `nodes`; the count of an 0A is from `leastFrom` to `leastTo`, that of an 0B from 0 to `mostTo`.
+-- The ranges of numbers: a node is below `nodes`; the count of an 0A is from `leastFrom` to `leastTo`, that of an 0B from 0 to `mostTo`.
 pub record Ranges : Type 0 where
   pub nodes : ℕ
   pub leastFrom : ℕ
   pub leastTo : ℕ
   pub mostTo : ℕ
 
--- The ranges for n nodes (document 02, item 3): the count of an 0A is 1 to 60, that of an 0B 0 to 59. Any other says nothing, whatever the sheet.
+-- The ranges for n nodes (item 3 of document 02): the count of an 0A is 1 to 60, of an 0B 0 to 59. With any other the value would be 01 or 02 on every sheet.
 abbrev pub ranges : ℕ → Ranges
 ranges n = record { nodes = n; leastFrom = 1; leastTo = maxNodes; mostTo = maxNodes - 1 }
 
--- Those of document 01, a count 0 to 255. No call but the rewriter of stored books reads by them.
+-- The ranges of document 01, with counts 0 to 255. Only the rewriter of stored books reads with them.
 abbrev pub formerRanges : ℕ → Ranges
 formerRanges n = record { nodes = n; leastFrom = 0; leastTo = 255; mostTo = 255 }
 
+-- Whether a number of a kind is in its range.
 abbrev pub fits : Ranges → Kind → ℕ → Bool
 fits r labelNumber x = ltb x labelCount
 fits r arrowNumber x = ltb x arrowCount
@@ -59,7 +60,7 @@ fits r nodeNumber x = ltb x (r .nodes)
 fits r leastCount x = leb (r .leastFrom) x && leb x (r .leastTo)
 fits r mostCount x = leb x (r .mostTo)
 
--- Each number of a term is in its range.
+-- Each number in a term is within its range.
 unfoldable pub InRange : Ranges → {s : Sort} → Expr s → Type 0
 InRange r all = Unit {0}
 InRange r none = Unit {0}

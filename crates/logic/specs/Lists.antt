@@ -1,4 +1,4 @@
--- What is so of each element of a list.
+-- A property that each element of a list has.
 use mathlib.Core.List.{List, [], _∷_}
 
 abbrev pub All : {A : Type 0} → (A → Type 0) → List A → Type 0

@@ -1,16 +1,18 @@
 -- What an expression means on a graph (document 004, Table II): a set of nodes, a set of pairs, or whether a rule holds.
--- A number that is no node of the graph is in no value.
+-- On a graph within the limits no value contains a number that is not a node in use.
 use mathlib.Core.Bool.{Bool, true, false, not, _&&_, _||_}
 use mathlib.Core.List.{List, [], _∷_}
 use lib.Dec.{leb, eqb}
 use Rattle.logic.specs.Syntax.{Sort, node, arrow, rule, Expr, all, none, label, nominal, complement, and, or, some, every, atLeast, atMost, arrowKind, reversed, union, common, minus, endingIn, pair, subNodes, subArrows, nodeIn, pairIn, both, either, notRule}
 use Rattle.logic.specs.Graph.{Graph, Nodes, Pairs, isNode, anyBelow, allBelow, countBelow, implies}
 
+-- The values of each sort.
 abbrev pub Value : Sort → Type 0
 Value node = Nodes
 Value arrow = Pairs
 Value rule = Bool
 
+-- One equation for each code, in the order of the codes.
 unfoldable pub value : (g : Graph) {s : Sort} → Expr s → Value s
 value g all = λ i. isNode g i
 value g none = λ i. false

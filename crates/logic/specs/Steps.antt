@@ -6,18 +6,18 @@ use Rattle.logic.specs.Syntax.{Edit, finish, addLabel, takeLabel, addArr
 use Rattle.logic.specs.Graph.{Graph, Nodes, Pairs, isNode}
 use Rattle.logic.specs.Meaning.{value}
 
--- The table f with v at k.
+-- The function f, except that it gives v at k.
 unfoldable pub update : {A : Type 0} → (ℕ → A) → ℕ → A → ℕ → A
 update f k v x = cond (eqb x k) v (f x)
 
--- The graph with the nodes v for label k; the graph with the pairs v for arrow a.
+-- The graph with v as the nodes of label k; the graph with v as the pairs of arrow kind a.
 abbrev pub relabel : Graph → ℕ → Nodes → Graph
 relabel g k v = record { n = g .n; inUse = g .inUse; labelled = update (g .labelled) k v; joined = g .joined }
 
 abbrev pub rejoin : Graph → ℕ → Pairs → Graph
 rejoin g a v = record { n = g .n; inUse = g .inUse; labelled = g .labelled; joined = update (g .joined) a v }
 
--- The graph that the steps leave. What 32 takes away is, within the limits, the difference (proofs/Inside, `taken-label`).
+-- The graph that the steps leave. Within the limits, what 32 leaves is the set difference (proofs/Inside, `taken-label`).
 unfoldable pub run : Edit → Graph → Graph
 run finish g = g
 run (addLabel k E Z) g = run Z (relabel g k (λ i. g .labelled k i || value g E i))

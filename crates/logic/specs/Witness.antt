@@ -1,4 +1,4 @@
--- What breaks a rule on a graph: the nodes or the pairs that are where they must not be, or nothing that has a name.
+-- What breaks a rule on a graph: the nodes or pairs that violate it, or nothing that can be named.
 use mathlib.Core.Path.{_≡_}
 use mathlib.Core.Bool.{Bool, true, false, not, _&&_, cond}
 use Prim.Native.Nat.{ℕ, zero, suc, _<_}
@@ -7,15 +7,15 @@ use Rattle.logic.specs.Syntax.{Expr, rule, subNodes, subArrows, nodeIn, 
 use Rattle.logic.specs.Graph.{Graph, Nodes, Pairs, anyBelow}
 use Rattle.logic.specs.Meaning.{value}
 
--- The rule holds; nodes break it; pairs break it; it is broken, and nothing is named.
+-- The rule holds; these nodes break it; these pairs break it; it is broken, but nothing can be named.
 pub data Breaks : Type 0 where
   nothing : Breaks
   nodes : Nodes → Breaks
   pairs : Pairs → Breaks
   unnamed : Breaks
 
--- 21: the nodes of E that are not in F. 22: the pairs of R that are not in S. 23, 24: that node, that pair. 25: what breaks its first rule,
--- or, where that holds, its second. 26: what breaks its second rule, so that a carried 35 names what breaks the way that is taken. 27: no name.
+-- 21: the nodes of E that are not in F. 22: the pairs of R that are not in S. 23, 24: that node, that pair. 25: what breaks the first rule,
+-- or, if that holds, the second. 26: what breaks the second rule, so that a carried 35 names what breaks the branch taken. 27: nothing named.
 unfoldable pub breaks : Graph → Expr rule → Breaks
 unfolding value
 breaks g (subNodes E F) = cond (value g (subNodes E F)) nothing (nodes (λ i. value g E i && not (value g F i)))
@@ -31,6 +31,7 @@ unfoldable pub lowestBelow : ℕ → Nodes → ℕ
 lowestBelow zero v = zero
 lowestBelow (suc n) v = cond (anyBelow n v) (lowestBelow n v) n
 
+-- i is the lowest number below n in the set v.
 pub record IsLowest (n : ℕ) (v : Nodes) (i : ℕ) : Type 0 where
   pub below : i < n
   pub is-in : v i ≡ true

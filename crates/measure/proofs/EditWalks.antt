@@ -80,7 +80,7 @@ going-more {text} {at} {stack₀} {stack} {top} {p} {n} l m g f =
 pub going-end : {text : List ℕ} {at : ℕ} {stack₀ stack : List ℕ} {top p n : ℕ} → getD text p 0 ≡ 0x30 → Going text at stack₀ stack top p n → (Z : Edit) → EditAt text at Z → Pushed text at Z stack top n
 going-end {text} {p = p} e g Z h = record { steps = g .steps; ends = g .is; each = g .each Z h; last = as-finish text p (behindSteps (g .steps) Z) (g .reached Z h) e }
 
--- Steps of an edit still on the stack; behind `start` stands the text of what follows them, without its idle steps.
+-- Steps of an edit still on the stack; from `start` on stands the text of what follows them, without its idle steps.
 -- The numbers, bytes and place with ₀ are those from before the first of them.
 pub record Backing (text : List ℕ) (at rules top : ℕ) (stack₀ stack state₀ state out₀ out : List ℕ) (start₀ n start : ℕ) : Type 0 where
   pub left : ℕ

@@ -37,7 +37,7 @@ holds-same e h = record {
 pub holds-is : {l : List ℕ} {M N : Measure} → M ≡ N → Holds l M → Holds l N
 holds-is {l} e h = subst (Holds l) e h
 
--- One number written over those of a measure: the count of a name, or its deepest level. A says what each name's is then, by whether it is that name.
+-- One number written over those of a measure: the count of a name, or its deepest level. A says what each name then has, by whether it is that name.
 module _ {l : List ℕ} (long : length l ≡ 130) {M : Measure} (h : Holds l M) {c k : ℕ} (x : ℕ) (n : Named c k) (A : ℕ → ℕ → Bool → ℕ) (e : x ≡ capped (A c k true)) where
   holds-count : ((c′ k′ : ℕ) → capped (M .counts c′ k′) ≡ capped (A c′ k′ false)) → Holds (set l (cell c k) x) (record { len = M .len; tall = M .tall; counts = λ c′ k′. A c′ k′ (same c′ k′ c k); deeps = M .deeps })
   holds-count f = record {
@@ -72,14 +72,14 @@ risen v M = record { len = M .len; tall = max (M .tall) v; counts = M .counts; d
 pub holds-rise : (l : List ℕ) (M : Measure) (v : ℕ) → length l ≡ 130 → v ≤ beyond → Holds l M → Holds (set l 129 (max (getD l 129 0) v)) (risen v M)
 holds-rise l M v e b h = holds-top e h 129 _ (omega arith) (elsewhere l 129 128 _ (λ q. omega arith) ∙ h .len-at) (getD-set-same l 129 _ 0 (omega arith) ∙ omega (arith, h .tall-at))
 
--- x bytes more
+-- x more bytes
 abbrev pub longer : ℕ → Measure → Measure
 longer x M = record { len = M .len + x; tall = M .tall; counts = M .counts; deeps = M .deeps }
 
 pub holds-longer : (l : List ℕ) (M : Measure) (x y : ℕ) → length l ≡ 130 → y ≡ capped (getD l 128 0 + x) → Holds l M → Holds (set l 128 y) (longer x M)
 holds-longer l M x y e f h = holds-top e h 128 y (omega arith) (getD-set-same l 128 y 0 (omega arith) ∙ omega (arith, f, h .len-at)) (elsewhere l 128 129 y (λ q. omega arith) ∙ h .tall-at)
 
--- a name's deepest level one lower
+-- a name's deepest level one deeper
 abbrev pub lowered : (c k : ℕ) → Measure → Measure
 lowered c k M = record { len = M .len; tall = M .tall; counts = M .counts; deeps = λ c′ k′. cond (same c′ k′ c k) (under (M .deeps c k) 2) (M .deeps c′ k′) }
 
@@ -112,7 +112,7 @@ pub added-leaf : (w v : ℕ) (h : List ℕ) (M : Measure) → risen v M ≡ adde
 unfolding added measure height count deep
 added-leaf w v h M = same-measure refl (ap (max (M .tall)) (sym (under-1 v))) (λ c k. omega arith) (λ c k. omega (arith, under-nothing v))
 
--- one level on; what is lower down stands deepest
+-- one level on; what is lower down is deepest
 on : (v x : ℕ) → 0 < x → under (under v 2) x ≡ under v (suc x)
 on v x p = under-under v 2 x ∙ ap (under v) (under-more 1 x p ∙ omega arith)
 
@@ -128,7 +128,7 @@ added-two w v h x y M =
       both : (m p q : ℕ) → max (max m (under (under v 2) p)) (under (under v 2) q) ≡ max m (under (under v 2) (max p q))
       both m p q = omega (arith, under-max (under v 2) p q)
 
--- a level cut beforehand
+-- a level capped beforehand
 capped-tip : (m d e : ℕ) → capped (max m (under (capped d) e)) ≡ capped (max m (under d e))
 capped-tip m d e = rw (capped-max m (under (capped d) e), capped-under, ← capped-max)
 

@@ -24,7 +24,7 @@ use Rattle.tree.proofs.BookMeasures.{together-nothing, together-comm, together-
 use Rattle.measure.specs.Pruned.{pruned}
 use Rattle.measure.specs.Book.{BookKept}
 
--- what replaces only a name that stands nowhere changes nothing
+-- a replacement of only a name that stands nowhere changes nothing
 module _ (c k : ℕ) (f : ℕ → Expr node) (h : ℕ → Expr arrow) (f-is : (j : ℕ) → same 0x03 j c k ≡ false → f j ≡ label j) (h-is : (a : ℕ) → same 0x11 a c k ≡ false → h a ≡ arrowKind a) where
   substitute-idle : {s : Sort} (e : Expr s) → count (tree e) c k ≡ 0 → substitute f h e ≡ e
   unfolding count bare substitute build0
@@ -50,11 +50,11 @@ label-idle k F K = unfold putLabel update in substitute-idle 0x03 k (update labe
 arrow-idle : (a : ℕ) (S : Expr arrow) (K : Expr rule) → count (tree K) 0x11 a ≡ 0 → putArrow a S K ≡ K
 arrow-idle a S K = unfold putArrow update in substitute-idle 0x11 a label (update arrowKind a S) (λ j e. refl) (λ j e. rw e) K
 
--- a book with K in it, carried, has K carried in it
+-- a book with K in it, once carried, has the carried K in it
 with-rule : (s : ℕ) (Z : Edit) (K : Expr rule) (N : Measure) → back (1 + s) Z (together (measure (tree K)) N) ≡ together (measure (tree (carry Z K))) (back s Z N)
 with-rule s Z K N = back-together 1 s Z (measure (tree K)) N ∙ ap (λ (M : Measure). together M (back s Z N)) (sym (measured Z K))
 
--- one step, `put` being what it does to a rule and Y the edit that follows without its idle steps
+-- one step, where `put` is what it does to a rule and Y is the edit that follows without its idle steps
 step-same : (s : ℕ) (Z : Edit) (K : Expr rule) (N : Measure) (c k : ℕ) (put : Expr rule → Expr rule) → ((L : Expr rule) → count (tree L) c k ≡ 0 → put L ≡ L) → (Y step : Edit) → carry step K ≡ put (carry Y K) → carry Y K ≡ carry Z K
     → carry (cond (eqb (back (1 + s) Z (together (measure (tree K)) N) .counts c k) 0) Y step) K ≡ put (carry Z K)
 unfolding together measure

@@ -75,7 +75,7 @@ merging-end t l₀ l i n d long m h e f = record {
   tall = getD-set-same (set l 128 n) 129 d 0 (omega (arith, length-set l 128 n)) ∙ f;
 }
 
--- both ways, two levels lower
+-- both ways, two levels deeper
 abbrev lows : Measure → Measure → Measure
 lows T U = record { len = T .len + U .len; tall = max (T .tall) (U .tall) + 2; counts = λ c k. T .counts c k + U .counts c k; deeps = λ c k. max (under 3 (T .deeps c k)) (under 3 (U .deeps c k)) }
 

@@ -1,4 +1,4 @@
--- Bytes put in front of those that stand at a place, last byte first.
+-- Bytes put before those that stand at a place, last byte first.
 use mathlib.Core.Path.{_≡_, refl, sym, ap, _∙_}
 use mathlib.Core.List.{List, [], _∷_, _++_}
 use Prim.Native.Nat.{ℕ, suc, _+_, _-_, _≤_, _<_}

@@ -1,4 +1,4 @@
--- The rules of a book, measured, and the sizes of what they are carried to.
+-- The rules of a book, measured, and the sizes of the rules they are carried to.
 use mathlib.Core.Path.{_≡_, refl, sym, ap, _∙_, subst}
 use mathlib.Core.List.{List, [], _∷_, _++_, append-nil}
 use Prim.Native.Nat.{ℕ, zero, suc, _+_, _*_, _-_, max, _≤_, _<_}
@@ -32,7 +32,7 @@ zeros = record {
   deep-at = λ c k n. getD-replicate 130 (64 + cell c k) 0 0 (omega (arith, named-lt c k n));
 }
 
--- a text put once at level 1, with its length, is taken together with the rest
+-- a text put once at level 1, with its length, is added to the rest
 put-once : (t : Tree) (x : ℕ) (M : Measure) → x ≡ size t → longer x (added 1 1 (measure t) M) ≡ together M (measure t)
 unfolding added measure together
 put-once t x M e = same-measure (ap (M .len +_) e) (ap (max (M .tall)) (under-one (height t))) (λ c k. omega arith) (λ c k. ap (max (M .deeps c k)) (under-one (measure t .deeps c k)))
@@ -74,7 +74,7 @@ adding-first book state s e = record {
   };
 }
 
--- one rule more
+-- one more rule
 module _ {book : List ℕ} {rules : List (Expr rule)} {at n : ℕ} {state : List ℕ} (h : Left book rules at n state) (f : FirstLeft book at (h .left)) where
   left-more : {next : ℕ} {state′ : List ℕ} → RuleAdded at (f .K) next state state′ → Left book rules next (n + 1) state′
   unfolding measures

@@ -36,7 +36,7 @@ module _ (text : List ℕ) (at w v : ℕ) where
       state = λ M h. holds-is (added-leaf w v (q .h) M) (risen-held M h);
     })
 
--- the level below, cut
+-- the level below, capped
 lower : (w v below : ℕ) → below ≡ capped (under v 2) → {l : List ℕ} (E M : Measure) → Holds l (added w below E M) → Holds l (added w (under v 2) E M)
 lower w v below e E M h = holds-same (ap (λ (x : ℕ). cappedMeasure (added w x E M)) e ∙ added-capped w (under v 2) E M) h
 
@@ -60,7 +60,7 @@ module _ (text : List ℕ) (at w v : ℕ) (l₀ : List ℕ) where
   pub scanning-end : {p level next : ℕ} {l l′ : List ℕ} → Scanning p level l → ((u : Tree) → At text p u → Scanned p w level u next l l′) → (t : Tree) → At text at t → Scanned at w v t next l₀ l′
   scanning-end r f t h = let q = r .part t h in q .whole _ _ (f (q .what) (q .stands))
 
--- a code with operands is no name
+-- a code with operands is not a name
 operands : (text : List ℕ) (at : ℕ) (t : Tree) → At text at t → 4 ≤ shapeOf (getD text at 0) % 16 → shapeOf (getD text at 0) < 16
 unfolding Formed
 operands text at (name c k) h s = absurd (omega (arith, tag-at text at (name c k) h))

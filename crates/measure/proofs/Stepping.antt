@@ -83,7 +83,7 @@ module _ (text : List ℕ) (at : ℕ) (Z : Edit) (q : IsStep text at Z) where
   counted : (l : List ℕ) (i : ℕ) → i ≡ cell c k → (N : Measure) → Holds l N → getD l i 0 ≡ capped (N .counts c k)
   counted l i j N h = ap (λ (u : ℕ). getD l u 0) j ∙ h .count-at c k (q .named)
 
-  -- the text without idle steps, of one that is idle or not
+  -- the text without idle steps, whether this step is idle or not
   text-is : (rules : ℕ) (M : Measure) (b : Bool) → eqb (back rules (behindStep Z) M .counts c k) 0 ≡ b → editCode (pruned rules Z M) ≡ cond b (editCode (pruned rules (behindStep Z) M)) (stepCode Z ++ editCode (pruned rules (behindStep Z) M))
   text-is rules M b e = pruned-step Z (q .no-end) (q .no-choice) rules M ∙ rw e
 

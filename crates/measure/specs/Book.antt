@@ -11,17 +11,17 @@ use Rattle.tree.specs.Sizes.{Measure, measure, together, measures, capped}
 use Rattle.measure.specs.State.{Holds}
 use Rattle.measure.specs.Pruned.{pruned}
 
--- a rule's measure together with that of the rules before it; `next` is the place behind the rule
+-- a rule's measure together with that of the rules before it; `next` is the place after the rule
 pub record RuleAdded (at : ℕ) (K : Expr rule) (next : ℕ) (l l′ : List ℕ) : Type 0 where
   pub ends : next ≡ at + length (code K)
   pub holds : (M : Measure) → Holds l M → Holds l′ (together M (measure (tree K)))
 
--- the number of a book's rules and its measure
+-- the number of a book's rules, and its measure
 pub record BookAdded (rules : List (Expr rule)) (number : ℕ) (l : List ℕ) : Type 0 where
   pub number-is : number ≡ length rules
   pub holds : Holds l (measures rules)
 
--- the length and the levels of a carried book, cut as all numbers here are
+-- the length and the levels of a carried book, capped as all numbers here are
 pub record BookSized (Z : Edit) (rules : List (Expr rule)) (len tall : ℕ) : Type 0 where
   pub len-is : len ≡ capped (length (bookCode (carriedBook Z rules)))
   pub tall-is : tall ≡ capped (bookLevels (carriedBook Z rules))

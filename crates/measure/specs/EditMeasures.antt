@@ -11,7 +11,7 @@ use Rattle.ends.specs.Edits.{behindStep, behindSteps, EditAt}
 use Rattle.measure.specs.State.{Holds, names, lengthCell, levelsCell, numbers}
 use Rattle.measure.specs.Pruned.{pruned}
 
--- some edit stands there, and its end, or its first step's end, is not past `pos`
+-- some edit stands there, and its end, or its first step's end, is not after `pos`
 pub record EditRoom (text : List ℕ) (at pos : ℕ) : Type 0 where
   pub what : Edit
   pub stands : EditAt text at what
@@ -46,7 +46,7 @@ pub record Pushed (text : List ℕ) (at : ℕ) (Z : Edit) (stack : List ℕ) (to
 pub record StepMeasured (rules : ℕ) (Z : Edit) (l l′ : List ℕ) : Type 0 where
   pub holds : (M : Measure) → Holds l (back rules (behindStep Z) M) → Holds l′ (back rules Z M)
 
--- .. which puts the first step in front of what stands at `pos`, unless it is idle
+-- .. which puts the first step before what stands at `pos`, unless it is idle
 pub record Prefixed (rules : ℕ) (Z : Edit) (l out : List ℕ) (pos : ℕ) (out′ : List ℕ) (pos′ : ℕ) : Type 0 where
   pub text : (M : Measure) → Holds l (back rules (behindStep Z) M) → (tail : List ℕ) → drop pos out ≡ editCode (pruned rules (behindStep Z) M) ++ tail → drop pos′ out′ ≡ editCode (pruned rules Z M) ++ tail
   pub room : pos + length (editCode (behindStep Z)) ≤ pos′ + length (editCode Z)
@@ -59,7 +59,7 @@ pub record Backed (rules : ℕ) (Z : Edit) (l out : List ℕ) (pos : ℕ) (l′ 
   pub room : pos ≤ pos′ + length (editCode Z)
   pub low : pos′ ≤ pos
 
--- the bytes from `at` to `end` put in front of what stands at `pos`
+-- the bytes from `at` to `end` put before what stands at `pos`
 pub record PutBefore (text : List ℕ) (at end : ℕ) (out : List ℕ) (pos : ℕ) (out′ : List ℕ) (pos′ : ℕ) : Type 0 where
   pub start : pos′ + (end - at) ≡ pos
   pub put-is : drop pos′ out′ ≡ take (end - at) (drop at text) ++ drop pos out
@@ -69,7 +69,7 @@ pub record EndBefore (out : List ℕ) (pos : ℕ) (out′ : List ℕ) (pos′ : 
   pub start : pos′ + 1 ≡ pos
   pub put-is : drop pos′ out′ ≡ 0x30 ∷ drop pos out
 
--- the numbers t and l of a choice's two ways, two levels lower together
+-- the numbers t and l of a choice's two ways, merged two levels deeper
 pub record Merged (t l l′ : List ℕ) : Type 0 where
   pub count : (i : ℕ) → i < names → getD l′ i 0 ≡ capped (getD t i 0 + getD l i 0)
   pub deep : (i : ℕ) → i < names → getD l′ (names + i) 0 ≡ capped (under (capped (under (max (getD t (names + i) 0) (getD l (names + i) 0)) 2)) 2)

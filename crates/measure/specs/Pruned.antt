@@ -1,4 +1,4 @@
--- An edit without its idle steps: a step whose name stands nowhere in the book carried through what follows changes nothing.
+-- An edit without its idle steps: a step changes nothing if its name stands nowhere in the book carried through what follows.
 -- M is the measure of a book of r rules.
 use mathlib.Core.Bool.{cond}
 use Prim.Native.Nat.{ℕ}

@@ -17,7 +17,7 @@ use super::keep;
 use super::numbers;
 use super::scan;
 
-// Where a walk back stands: at an edit, above what its stack holds already, in front of what is written.
+// Where a walk back stands: at an edit, above what its stack already holds, before what is written.
 pub struct Spot {
     pub at: usize,
     pub top: usize,
@@ -31,7 +31,7 @@ fn extra(op: u8) -> usize
     if op == 0x32 { 2 } else { 1 }
 }
 
-// The level of a step's expression, `d` being one below the name's.
+// The level of a step's expression, where `d` is one level below the name.
 fn lower(op: u8, d: usize) -> usize
     ensures { λ r. ⌜ r ≡ cond (eqb op 0x32) (capped (under d 2)) d ⌝ }
 {
@@ -56,7 +56,7 @@ fn step_back(text: &[u8], at: usize, state: &mut [usize])
     );
 }
 
-// The places of an edit's steps, put on a stack; answers its new top. A step takes a byte at least, so a stack as long as the text suffices.
+// Puts the places of an edit's steps on a stack and returns its new top. A step takes at least a byte, so a stack as long as the text suffices.
 // Inner: the text was read before.
 fn push(text: &[u8], at: usize, stack: &mut [u16], top: usize) -> usize
     requires { ⌜ SomeEdit (now text) at × (top ≤ at) × (length (now text) ≤ length (now stack)) × (length (now text) ≤ longestText) ⌝ }
@@ -72,7 +72,7 @@ fn push(text: &[u8], at: usize, stack: &mut [u16], top: usize) -> usize
     n
 }
 
-// The two ways of a 35 together, with its rule at `at`, which stands twice for each rule of the book: 25 26 27 K T 26 K U.
+// Merges the two ways of a 35 with its rule at `at`, which stands twice for each rule of the book: 25 26 27 K T 26 K U.
 // Inner: the text was read before.
 fn choose_ways(text: &[u8], at: usize, rules: usize, t: &[usize], state: &mut [usize])
     requires { ⌜ Some (now text) at × (length (now text) ≤ longestText) × (rules ≤ mostRules) × (length (now t) ≡ numbers) × (length (now state) ≡ numbers) ⌝ }
@@ -83,8 +83,8 @@ fn choose_ways(text: &[u8], at: usize, rules: usize, t: &[usize], state: &mut [u
     state[numbers::LENGTH] = numbers::sum(state[numbers::LENGTH], rules * (4 + 2 * (next - at)));
 }
 
-// Back over one step: the numbers in `state`, and the step in front of what stands at `pos` unless it is idle.
-// Inner: the edit was read before. The two ways of a 35 are written last way first.
+// Back over one step: updates the numbers in `state`, and puts the step before what stands at `pos` unless it is idle.
+// Inner: the edit was read before. Of the two ways of a 35, the second is written first.
 fn one_back(
     text: &[u8],
     rules: usize,
@@ -116,7 +116,7 @@ fn one_back(
     keep::put_before(text, at, first, out, p)
 }
 
-// Back over an edit: the numbers in `state`, and the edit without its idle steps in front of what stands at `pos`.
+// Back over an edit: updates the numbers in `state`, and puts the edit without its idle steps before what stands at `pos`.
 // Inner: the edit was read before.
 pub fn back(
     text: &[u8],

@@ -9,7 +9,7 @@ ghost use Rattle.measure.specs.Book.{RuleAdded, BookAdded};
 use super::numbers;
 use super::scan;
 
-// The measure of the rule at `at`, together with that in `state`; answers the place behind the rule.
+// Adds the measure of the rule at `at` to `state`; returns the place after the rule.
 // Inner: the text was read before.
 fn add_rule(book: &[u8], at: usize, state: &mut [usize]) -> usize
     requires { ⌜ SomeRule (now book) at × (length (now state) ≡ numbers) ⌝ }
@@ -20,7 +20,7 @@ fn add_rule(book: &[u8], at: usize, state: &mut [usize]) -> usize
     next
 }
 
-// The measure of a book, into numbers that are 0; answers how many rules it has.
+// The measure of a book, into numbers that are 0; returns how many rules it has.
 // Inner: the book was read before.
 pub fn add_book(book: &[u8], state: &mut [usize]) -> usize
     requires { ⌜ SomeBook (now book) × (now state ≡ replicate numbers 0) ⌝ }

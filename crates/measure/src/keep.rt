@@ -7,7 +7,7 @@ ghost use Rattle.logic.specs.Syntax.{Edit};
 ghost use Rattle.ends.specs.Edits.{EditAt};
 ghost use Rattle.measure.specs.EditMeasures.{StepRoom, Held, Prefixed, PutBefore, EndBefore};
 
-// The bytes of `text` from `at` to `end`, put in front of what stands at `pos`; answers where they start.
+// Puts the bytes of `text` from `at` to `end` before what stands at `pos`; returns where they start.
 // Inner: the caller knows that there is room.
 pub fn put_before(text: &[u8], at: usize, end: usize, out: &mut [u8], pos: usize) -> usize
     requires { ⌜ (at ≤ end) × (end ≤ length (now text)) × (end ≤ at + pos) × (pos ≤ length (now out)) ⌝ }
@@ -23,7 +23,7 @@ pub fn put_before(text: &[u8], at: usize, end: usize, out: &mut [u8], pos: usize
     to
 }
 
-// An edit's end, put in front of what stands at `pos`.
+// Puts an edit's end before what stands at `pos`.
 // Inner: the caller knows that there is room.
 pub fn end_before(out: &mut [u8], pos: usize) -> usize
     requires { ⌜ (0 < pos) × (pos ≤ length (now out)) ⌝ }
@@ -33,7 +33,7 @@ pub fn end_before(out: &mut [u8], pos: usize) -> usize
     pos - 1
 }
 
-// One step 31 to 34, put in front of what stands at `pos`, unless its name stands nowhere in what follows.
+// Puts one step 31 to 34 before what stands at `pos`, unless its name stands nowhere in what follows.
 // Inner: the edit was read before.
 pub fn keep_step(text: &[u8], at: usize, state: &[usize], out: &mut [u8], pos: usize) -> usize
     requires { ⌜ StepRoom (now text) at pos × (getD (now text) at 0 ≡ 0x30 → ⊥) × (getD (now text) at 0 ≡ 0x35 → ⊥) × Held (now state) × (length (now text) ≤ longestText) × (pos ≤ length (now out)) ⌝ }

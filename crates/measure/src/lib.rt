@@ -1,4 +1,4 @@
-// Measuring a carried book without writing it: one walk back over the edit. On the way the edit is written again without its idle steps.
+// Measuring a carried book without writing it: one walk back over the edit, which also writes the edit again without its idle steps.
 //
 // Stack: 1 kB of numbers and about 1.4 kB for each 35 inside a 35, of which there are at most 30: under 60 kB.
 ghost use mathlib.Core.Path.{_≡_};
@@ -19,7 +19,8 @@ mod keep;
 mod numbers;
 mod scan;
 
-// The length in bytes and the levels of a carried book, each cut where it is more than a carried book may have bytes, and where the edit without its idle steps starts.
+// The length in bytes and the levels of a carried book, each capped at one more than the most bytes of a carried book,
+// and where the edit without its idle steps starts.
 pub struct BookSize {
     pub len: usize,
     pub levels: usize,
@@ -27,9 +28,9 @@ pub struct BookSize {
 }
 
 // The size of a book carried through an edit, in one walk over the edit. Where the book is not empty, `kept` holds from
-// `start` to its end the edit without its idle steps: it carries each rule of the book to the same text.
-// Inner: both texts were read before. What `kept` holds in front of that, or for an empty book, is of no use. `stack` is scratch: what it
-// holds before and after is free.
+// `start` to its end the edit without its idle steps, which carries each rule of the book to the same text.
+// Inner: both texts were read before. The bytes of `kept` before that, and all of them for an empty book, mean nothing. `stack` is scratch: it may hold
+// anything before and after.
 pub fn size_of_book(book: &[u8], edit: &[u8], stack: &mut [u16], kept: &mut [u8]) -> BookSize
     requires { ⌜ SomeBook (now book) × SomeEdit (now edit) 0 × (length (now edit) ≤ longestText) × (length (now edit) ≤ length (now stack)) × (length (now kept) ≡ longestText) ⌝ }
     ensures { λ r. ⌜ ((rules : List (Expr rule)) (Z : Edit) → BookIs (now (book .entry)) rules → EditAt (now (edit .entry)) 0 Z → BookSized Z rules (r .len) (r .levels) × BookKept Z rules (r .start) (now (kept .exit))) ⌝ }

@@ -1,4 +1,4 @@
-// The numbers that are kept of the carried text, each cut at one more than a carried book may have bytes.
+// The numbers kept for the carried text, each capped at one more than a carried book may have bytes.
 ghost use mathlib.Core.Path.{_≡_};
 ghost use Prim.Native.Nat.{_+_, _<_, max};
 ghost use lib.ListN.{length, getD, set};
@@ -9,7 +9,7 @@ ghost use Rattle.measure.specs.State.{names, levelsCell, numbers};
 ghost use Rattle.measure.specs.EditMeasures.{Merged};
 use text::Text;
 
-// The parts: how often each of the 64 names stands there, by its cell of `ends::cell_of`, of labels and arrows alike; from here on the deepest
+// The parts: how often each of the 64 names (labels and arrows) stands there, by its cell of `ends::cell_of`; from here on the deepest
 // level of each, 0 where it stands nowhere; then the length and the levels.
 pub const DEEPEST: usize = 64;
 
@@ -29,7 +29,7 @@ fn larger(a: usize, b: usize) -> usize
     if a < b { b } else { a }
 }
 
-// A sum, cut; no operand can make it wrap.
+// A sum, capped; no operand can make it wrap.
 pub fn sum(a: usize, b: usize) -> usize
     ensures { λ r. ⌜ r ≡ capped (a + b) ⌝ }
 {
@@ -42,7 +42,7 @@ pub fn sum(a: usize, b: usize) -> usize
     if a + b < BEYOND { a + b } else { BEYOND }
 }
 
-// One level below `v`, cut; 0 is nowhere and stays so.
+// One level below `v`, capped; 0 means nowhere and stays 0.
 pub fn deeper(v: usize) -> usize
     ensures { λ r. ⌜ r ≡ capped (under v 2) ⌝ }
 {
@@ -52,7 +52,7 @@ pub fn deeper(v: usize) -> usize
     if v < BEYOND { v + 1 } else { BEYOND }
 }
 
-// A code on level `v`.
+// Records a code on level `v`.
 // Inner: over all the numbers.
 pub fn rise(state: &mut [usize], v: usize)
     requires { ⌜ length (now state) ≡ numbers ⌝ }
@@ -61,7 +61,7 @@ pub fn rise(state: &mut [usize], v: usize)
     state[LEVELS] = larger(state[LEVELS], v);
 }
 
-// The name of cell `i`, `w` times more, on level `v` at the deepest.
+// Counts the name of cell `i` `w` times more, on level `v` at the deepest.
 // Inner: over all the numbers.
 pub fn touch(state: &mut [usize], i: usize, w: usize, v: usize)
     requires { ⌜ (length (now state) ≡ numbers) × (i < names) ⌝ }
@@ -73,7 +73,7 @@ pub fn touch(state: &mut [usize], i: usize, w: usize, v: usize)
     state[DEEPEST + i] = d;
 }
 
-// The numbers of `src`.
+// Copies the numbers of `src`.
 // Inner: over all the numbers.
 pub fn copy(src: &[usize], out: &mut [usize])
     requires { ⌜ (length (now src) ≡ numbers) × (length (now out) ≡ numbers) ⌝ }
@@ -86,7 +86,7 @@ pub fn copy(src: &[usize], out: &mut [usize])
     }
 }
 
-// The numbers of one name in both ways of a 35, whose codes 25 26 27 and 25 26 put it two levels deeper.
+// Merges the numbers of one name in both ways of a 35, whose codes 25 26 27 and 25 26 put it two levels deeper.
 // Inner: over all the numbers.
 fn merge_one(t: &[usize], state: &mut [usize], i: usize)
     requires { ⌜ (length (now t) ≡ numbers) × (length (now state) ≡ numbers) × (i < names) ⌝ }
@@ -98,7 +98,7 @@ fn merge_one(t: &[usize], state: &mut [usize], i: usize)
     state[DEEPEST + i] = d;
 }
 
-// The numbers of both ways of a 35.
+// Merges the numbers of both ways of a 35.
 // Inner: over all the numbers.
 pub fn merge(t: &[usize], state: &mut [usize])
     requires { ⌜ (length (now t) ≡ numbers) × (length (now state) ≡ numbers) ⌝ }

@@ -1,4 +1,4 @@
-// An expression of a text, put into the numbers.
+// Adds an expression of a text to the numbers.
 ghost use mathlib.Core.Path.{_≡_};
 ghost use Prim.Native.Nat.{_≤_};
 ghost use lib.ListN.{length};
@@ -8,8 +8,8 @@ ghost use Rattle.ends.specs.Shapes.{At, Some};
 ghost use Rattle.measure.specs.State.{Scanned, numbers};
 use super::numbers;
 
-// Puts `w` copies of the expression at `at`, their first codes on level `v`, into the numbers, without their length; answers the place behind it.
-// The last operand is reached in a loop: only the first of two is a call. A code above others adds no level to the deepest, so `rise` is for the last.
+// Adds `w` copies of the expression at `at`, their first codes on level `v`, to the numbers, without their length; returns the place after it.
+// The last operand is reached in a loop: only the first of two is a call. A code above others does not raise the deepest level, so `rise` is for the last.
 // One body serves every code. Inner: the text was read before.
 pub fn scan(text: &[u8], at: usize, w: usize, v: usize, state: &mut [usize]) -> usize
     requires { ⌜ Some (now text) at × (v ≤ beyond) × (length (now state) ≡ numbers) ⌝ }
@@ -18,7 +18,7 @@ pub fn scan(text: &[u8], at: usize, w: usize, v: usize, state: &mut [usize]) -> 
     let mut p = at;
     let mut level = v;
     let mut s = ends::shape(text[p]);
-    // as long as there are operands; a name's 18 has none
+    // while there are operands; a name's 18 has none
     while s % 16 >= 4 {
         p += s % 4;
         level = numbers::deeper(level);

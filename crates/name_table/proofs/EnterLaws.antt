@@ -1,4 +1,4 @@
--- An entry that passes: its name stands in its slot, and all else is as it was.
+-- An entry that passes: its name is in its slot, and everything else is unchanged.
 use mathlib.Core.Path.{_≡_, refl, sym, _∙_, ap, ap₂, subst}
 use mathlib.Core.Bool.{Bool, true, false, _||_, cond, and-eq-true-iff}
 use mathlib.Core.List.{List, [], _∷_}
@@ -19,7 +19,7 @@ use Rattle.name_table.specs.Entries.{namedSlots, orNothing, givenNames, 
 use Rattle.buffers.proofs.SlotLaws.{put-length, put-there, put-elsewhere, put-slots}
 use Rattle.name_table.proofs.PartlyLaws.{given-names, slot-inside, spelled-some, spelled-short}
 
--- A slot of a name is that of one kind and number.
+-- A slot of a name belongs to one kind and number.
 abbrev kindAt : ℕ → ℕ
 kindAt j = cond (ltb j 48) 0 (cond (ltb j 64) 1 2)
 

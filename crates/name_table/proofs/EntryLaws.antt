@@ -1,4 +1,4 @@
--- The word that says of which kind an entry is; and the questions to an entry, one by one.
+-- The word that gives the kind of an entry; and the questions about an entry, one by one.
 use mathlib.Core.Path.{_≡_, refl, sym, _∙_, ap}
 use mathlib.Core.Bool.{Bool, true, false, cond}
 use mathlib.Core.List.{List, [], _∷_}
@@ -32,7 +32,7 @@ module _ (t : Token) where
   pub item-none : same t (ascii "label") ≡ false → same t (ascii "arrow") ≡ false → same t (ascii "node") ≡ false → 0 ≡ itemFor (kindOf t)
   item-none e f g = sym (ap itemFor (chosen-is e f g))
 
--- The item, where there is one.
+-- The item, if there is one.
 pub record ItemWord (t : Token) (item : ℕ) : Type 0 where
   pub kind : kindOf t ≡ found (rows.kindOf item)
   pub low : 4 ≤ item

@@ -1,4 +1,4 @@
--- The slots while a table is read: which number is free, which name, and what an entry changes.
+-- The slots while a table is read: which numbers and names are free, and what an entry changes.
 use mathlib.Core.Path.{_≡_, refl, sym, _∙_, ap, ap₂, subst}
 use mathlib.Core.Bool.{Bool, true, false, not, _&&_, _||_, and-eq-true-iff}
 use mathlib.Core.List.{List, [], _∷_}
@@ -77,11 +77,11 @@ unfolding nameIn
 decimals-differ x y a b e = names-one [] tt mostCount x y a b e
 
 module _ {es : List Entry} {table : List ℕ} (p : Partly es table) where
-  -- A name that is given has a byte.
+  -- A name that is given has at least one byte.
   pub given-some : (k : Kind) (x : ℕ) {t : Token} → given es k x ≡ found t → 0 < length t
   given-some k x e = p .names _ (given-taken es k x e) .some-byte
 
-  -- A slot's first byte is 0 where its number has no name.
+  -- A slot's first byte is 0 exactly when its number has no name.
   module _ (k : Kind) (n : HasNames k) (x : ℕ) (l : x < slotCount k) where
     head-is : getD table (nameWidth * (slotBase k + x)) 0 ≡ length (orNothing (given es k x))
     head-is =
@@ -108,7 +108,7 @@ module _ {es : List Entry} {table : List ℕ} (p : Partly es table) where
   unfolding givenNames
   count-slot y h = p .holds .each mostCount y h
 
-  -- The number that a word is, and whether it is free.
+  -- The number that a word says, and whether it is free.
   module _ (k : Kind) (n : HasNames k) (t : Token) where
     searched : firstBelow (λ x. same t (slotAt nameWidth table (namedSlots + x))) (countOf k) ≡ firstBelow (λ x. same t (decimal x)) (countOf k)
     searched = first-same _ _ (countOf k) (λ x l. ap (same t) (count-slot x (let s = count-small k n in omega arith)))
@@ -194,7 +194,7 @@ module _ {es : List Entry} {table : List ℕ} (p : Partly es table) where
       go true e = sym (ap not (is-false (taken es t) (none (none-at _ namedSlots f (eqb-true x namedSlots e)))))
       go false e = sym (ap not (some (found-hit _ namedSlots x (found-at _ namedSlots f (eqb-false x namedSlots e)))))
 
--- What is asked of a name, in the code's order.
+-- What a name must be, in the code's order.
 grouped : (a b c d : Bool) → (a && (b && (c && d))) ≡ ((a && (b && c)) && d)
 grouped true true c d = refl
 grouped true false c d = refl

@@ -1,4 +1,4 @@
--- A plain name, made of its beginning and its number; and slots that are filled with plain names.
+-- A plain name, made from its beginning and its number; and filling slots with plain names.
 use mathlib.Core.Path.{_≡_, refl, sym, _∙_, ap, ap₂, subst}
 use mathlib.Core.Bool.{Bool, true, false, cond}
 use mathlib.Core.List.{List, [], _∷_, _++_, append-assoc}
@@ -115,7 +115,7 @@ module _ {base x : ℕ} {start : Token} {before table : List ℕ} (f : Filled ba
                 (same-yet ∙ sym (or-else-some _ _ (let z = ap length same-yet in omega (arith, head-length))))
           ]
 
-  -- One that holds none is given its plain name.
+  -- One that holds none gets its plain name.
   pub filled-more : {after : List ℕ} → getD table (nameWidth * (base + x)) 0 ≡ 0 → length (start ++ decimal x) < nameWidth → after ≡ putSlot nameWidth table (base + x) (start ++ decimal x)
       → Filled base (x + 1) start before after
   filled-more {after} z short e = subst (Filled base (x + 1) start before) (sym e) put

@@ -1,4 +1,4 @@
--- The bytes of a name, and what it may not begin with.
+-- The bytes of a name, and how it may not begin.
 use mathlib.Core.Path.{_≡_, refl, sym, _∙_, ap, ap₂}
 use mathlib.Core.Bool.{Bool, true, false, not, _&&_, _||_, cond}
 use mathlib.Core.List.{[], _∷_}
@@ -15,7 +15,7 @@ use Rattle.names.specs.Scan.{blank, hash, mark, letter, classOf, isLetter, lett
 use Rattle.names.specs.Names.{nameBytes, longestName, beginsWith}
 use Rattle.name_table.specs.Entries.{nameByte, wellSpelled}
 
--- A byte from 21 on that is no mark and not 23 is a letter.
+-- A byte from 21 on that is neither a mark nor 23 is a letter.
 none-so : {a b : Bool} → a ≡ false → b ≡ false → (a || b) ≡ false
 none-so {a} {b} e f = ap₂ _||_ e f
 
@@ -35,7 +35,7 @@ letter-from b l h o c =
     (none-so (ne-eqb b 0x20 (λ e. omega arith)) (none-so (ne-eqb b 0x09 (λ e. omega arith)) (none-so (ne-eqb b 0x0A (λ e. omega arith)) (ne-eqb b 0x0D (λ e. omega arith)))))
     (ne-eqb b 0x23 h) (ne-eqb b 0x28 o) (ne-eqb b 0x29 c)
 
--- Where a byte is of a name, and where not.
+-- When a byte may be in a name, and when not.
 pub byte-low : (b : ℕ) → b < 0x21 → nameByte b ≡ false
 unfolding nameByte
 byte-low b l = ap (λ z. isLetter b && (z && not (eqb b 0x7F))) (lt-leb 0x21 b l) ∙ and-false (isLetter b)
@@ -119,7 +119,7 @@ well-by (b ∷ t) n l = ap (λ z. isWord (b ∷ t) && (nameBytes (b ∷ t) && z)
     and-true true = refl
     and-true false = refl
 
--- A word begins with bytes where its part of their length is the same.
+-- A word begins with given bytes exactly when its first bytes, as many, are the same.
 pub begins-short : (p t : Token) → length t < length p → beginsWith p t ≡ false
 unfolding beginsWith
 begins-short [] t h = absurd (omega arith)

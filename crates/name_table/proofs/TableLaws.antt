@@ -1,4 +1,4 @@
--- A table's slots before its first entry, and after its plain names.
+-- A table's slots before its first entry, and once its plain names are in.
 use mathlib.Core.Path.{_≡_, refl, _∙_, ap}
 use mathlib.Core.List.{List, []}
 use Prim.Native.Nat.{ℕ, _+_, _*_, _≤_, _<_}
@@ -16,7 +16,7 @@ use Rattle.name_table.specs.Entries.{namedSlots, orNothing, givenNames, 
 use Rattle.name_table.proofs.PlainLaws.{or-else-some}
 use Rattle.name_table.proofs.PartlyLaws.{given-some, given-names}
 
--- Slots of zeros hold nothing.
+-- Slots of zeros are empty.
 module _ (n : ℕ) {table : List ℕ} (e : table ≡ replicate n 0) (room : nameWidth * nameCount ≤ n) where
   zero-head : (i : ℕ) → i < nameCount → getD table (nameWidth * i) 0 ≡ 0
   zero-head i l = ap (λ t. getD t (nameWidth * i) 0) e ∙ getD-replicate n (nameWidth * i) 0 0 (omega arith)
@@ -28,7 +28,7 @@ module _ (n : ℕ) {table : List ℕ} (e : table ≡ replicate n 0) (room : name
   unfolding slotAt
   zero-word i l = ap (λ m. take m (drop (nameWidth * i + 1) table)) (zero-head i l)
 
-  -- The counts filled in, no name is given yet.
+  -- With the counts filled in, no name is given yet.
   module _ {after : List ℕ} (f : Filled namedSlots 61 [] table after) where
     counted : (x : ℕ) → x < 61 → slotAt nameWidth after (namedSlots + x) ≡ decimal x
     unfolding orElse
@@ -49,7 +49,7 @@ module _ (n : ℕ) {table : List ℕ} (e : table ≡ replicate n 0) (room : name
     unfolding taken
     begun s = record { size = f .size ∙ ap length e ∙ length-replicate n 0 ∙ s; holds = record { slots = f .slots; each = none-given }; names = λ t h. true-false h refl }
 
--- The plain names filled in, the slots hold the table's naming.
+-- With the plain names filled in, the slots hold the table's naming.
 module _ {es : List Entry} {t u v w : List ℕ} (p : Partly es t) (labels : Filled 0 48 (ascii "label:") t u) (arrows : Filled 48 16 (ascii "arrow:") u v)
     (nodes : Filled 64 60 (ascii "node:") v w) where
   or-plain : (k : Kind) (x : ℕ) → orElse (orNothing (given es k x)) (plain k x) ≡ givenOrPlain es k x
@@ -60,7 +60,7 @@ module _ {es : List Entry} {t u v w : List ℕ} (p : Partly es t) (labels : Fill
       go (found t) q = or-else-some t (plain k x) (given-some p k x q)
       go absent q = refl
 
-  -- A slot that was filled, as it was before.
+  -- A slot that was filled, compared with what it was before.
   named : (k : Kind) → HasNames k → (x : ℕ) → x < slotCount k → {word : Token} → word ≡ slotAt nameWidth t (slotBase k + x) → orElse word (plain k x) ≡ givenOrPlain es k x
   named k n x l e = ap (λ z. orElse z (plain k x)) (e ∙ p .holds .each k x l ∙ given-names es k x n) ∙ or-plain k x
 

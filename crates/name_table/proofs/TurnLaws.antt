@@ -1,4 +1,4 @@
--- One entry of a table, read in the text: three tokens, or the first that is wrong.
+-- One entry of a table, read from the text: three tokens, or the first that is wrong.
 use mathlib.Core.Path.{_≡_, refl, sym, _∙_, ap, subst}
 use mathlib.Core.Bool.{true, false, _&&_}
 use mathlib.Core.List.{List, [], _∷_}
@@ -34,7 +34,7 @@ at-place text from to = record { place = from; token = slice text from to }
 no-byte : (text : List ℕ) (from to : ℕ) → length text ≤ from → slice text from to ≡ []
 no-byte text from to h = ap (take (to - from)) (drop-of-length-le text h) ∙ take-nil (to - from)
 
--- The tokens from a place on, where one begins, and at the text's end.
+-- The tokens from a place on, if one begins there, and at the text's end.
 module _ {text : List ℕ} {at from to : ℕ} (n : Next text at from to) where
   token-there : {ts : List Placed} → tokensFrom text to ≡ ts → from < length text → tokensFrom text at ≡ at-place text from to ∷ ts
   token-there e h = n .there h ∙ ap (at-place text from to ∷_) e
@@ -79,7 +79,7 @@ module _ (es : List Entry) (k : Kind) (n : HasNames k) (t : Token) {slot : ℕ} 
     pub slot-named : slot < namedSlots
     slot-named = subst (λ j. j < namedSlots) (sym (f .at)) (named-slot k (f .number) n below)
 
-    -- A number is no empty word.
+    -- A number is not an empty word.
     some-byte : t ≡ [] → ⊥
     some-byte z =
         let s = width-small (f .number) (let c = count-small k n in let b = hit .below in omega arith) in

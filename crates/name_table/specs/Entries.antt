@@ -1,4 +1,4 @@
--- The slots while a table is read: each name that was given so far, no byte where none was, and the counts.
+-- The slots while a table is read: each name given so far, nothing for numbers without one, and the counts.
 use mathlib.Core.Path.{_≡_}
 use mathlib.Core.Bool.{Bool, true, not, _&&_}
 use mathlib.Core.List.{List, [], _∷_, _++_}
@@ -16,7 +16,7 @@ use Rattle.name_table.specs.NameSlots.{nameWidth, nameCount, tableBytes,
 use Rattle.name_table.specs.declared.Turn.{Turn}
 use Rattle.name_table.specs.declared.Turn.the-variants.{End, Next, Wrong}
 
--- The slots of names, before those of counts.
+-- The slots of names, which come before those of counts.
 abbrev pub namedSlots : ℕ
 namedSlots = 124
 
@@ -31,7 +31,7 @@ givenNames es nodeNumber x = orNothing (given es nodeNumber x)
 givenNames es leastCount x = decimal x
 givenNames es mostCount x = decimal x
 
--- A name in one of their slots.
+-- A name that is in one of those slots.
 pub record Stands (table : List ℕ) (t : Token) : Type 0 where
   pub slot : ℕ
   pub named : slot < namedSlots
@@ -47,7 +47,7 @@ pub record Begun (table : List ℕ) : Type 0 where
   pub entries : List Entry
   pub partly : Partly entries table
 
--- The number of a kind that a token may be: one that has no name yet; and its slot.
+-- The number of a kind that a token may stand for, one without a name so far; its slot.
 abbrev pub freeNumber : List Entry → Kind → Token → Found ℕ
 freeNumber es k t = firstBelow (λ x. same t (decimal x) && unnamed es k x) (countOf k)
 
@@ -55,7 +55,7 @@ abbrev pub slotFound : Kind → Found ℕ → ℕ
 slotFound k (found x) = slotBase k + x
 slotFound k absent = namedSlots
 
--- The item of the kind that a word of the table stands for; 0 where it is none.
+-- The item of the kind that a word of the table stands for; 0 if it stands for none.
 abbrev pub itemFor : Found Kind → ℕ
 itemFor (found labelNumber) = 4
 itemFor (found arrowNumber) = 5
@@ -67,7 +67,7 @@ itemFor absent = 0
 abbrev pub itemOf : Token → ℕ
 itemOf t = itemFor (kindOf t)
 
--- What is asked of a name's bytes.
+-- What a name's bytes must be.
 unfoldable pub nameByte : ℕ → Bool
 nameByte b = isLetter b && (leb 0x21 b && not (eqb b 0x7F))
 
@@ -91,7 +91,7 @@ abbrev pub Read : Asked (List Entry) → List ℕ → Type 0
 Read (passed es) table = Partly es table
 Read (refused q p) table = Unit {0}
 
--- Slots from number `base` on, of which each that held nothing was given a beginning and its number.
+-- Slots from number `base` on; each that was empty now holds `start` and its number.
 unfoldable pub orElse : Token → Token → Token
 orElse [] u = u
 orElse (b ∷ t) u = b ∷ t

@@ -1,4 +1,4 @@
-// Tables of names: checked, and put into slots for looking up.
+// Tables of names: checks them and puts the names into slots, where they are looked up.
 ghost use mathlib.Core.Path.{_≡_};
 ghost use mathlib.Core.List.{List, [], _++_};
 ghost use Prim.Native.Nat.{_+_, _*_, _<_, _≤_};
@@ -17,23 +17,23 @@ ghost use Rattle.name_table.specs.Entries.{Partly, Begun, Filled, Turned
 use answer::Answer;
 use answer::Refusal;
 
-// The bytes of a table in slots.
+// The length of all slots together.
 pub const BYTES: usize = 12025;
 
-// A slot is a length and 64 bytes.
+// A slot is a length byte and 64 bytes.
 const WIDTH: usize = 65;
 
-// The slots of labels, of arrows and of nodes; then those of counts.
+// How many slots labels, arrows and nodes have; those of counts follow.
 const NAMES: usize = 124;
 
-// By item, less 4: the slot of number 0, the least number and how many there are.
+// By item, from item 4 on: the slot of number 0, the least number, and how many numbers there are.
 const BASE: [usize; 5] = [0, 48, 64, 124, 124];
 
 const LEAST: [usize; 5] = [0, 0, 0, 1, 0];
 
 const COUNT: [usize; 5] = [48, 16, 60, 60, 60];
 
-// What a turn of reading comes to.
+// What a turn of reading gives.
 enum Turn {
     End,
     Next(usize),
@@ -53,7 +53,7 @@ fn width(x: usize) -> usize
     3
 }
 
-// Puts a plain name into a slot: a beginning and a number. Inner: the slot is there, and the name is short.
+// Puts a plain name into a slot: a beginning and a number. Inner: the table has the slot, and the name fits into 8 bytes.
 fn put_plain(table: &mut [u8], i: usize, start: &[u8], x: usize)
     requires { ⌜ (nameWidth * i + nameWidth ≤ length (now table)) × (length (now start) ≤ 6) × (x < 100) ⌝ }
     ensures { λ _. ⌜ now (table .exit) ≡ putSlot nameWidth (now (table .entry)) i (now (start .entry) ++ decimal x) ⌝ }
@@ -66,7 +66,8 @@ fn put_plain(table: &mut [u8], i: usize, start: &[u8], x: usize)
     buffers::put_slot(table, WIDTH, i, &name[..to]);
 }
 
-// Gives each of `count` slots from number `base` on that holds nothing its plain name: a beginning, and its number from 0 on. Inner: they are slots of the table, and the names are short.
+// Puts a plain name, a beginning and the number from 0 on, into each empty one of `count` slots from number `base` on.
+// Inner: the table has those slots, and the names fit into them.
 fn fill(table: &mut [u8], base: usize, count: usize, start: &[u8])
     requires { ⌜ Slots nameWidth nameCount (now table) × (base + count ≤ nameCount) × (count ≤ 100) × (length (now start) ≤ 6) ⌝ }
     ensures { λ _. ⌜ Filled base count (now (start .entry)) (now (table .entry)) (now (table .exit)) ⌝ }
@@ -82,7 +83,7 @@ fn fill(table: &mut [u8], base: usize, count: usize, start: &[u8])
     }
 }
 
-// May a name have this byte?
+// Whether a name may have this byte.
 fn is_name_byte(b: u8) -> bool
     ensures { λ r. ⌜ r ≡ nameByte b ⌝ }
 {
@@ -104,7 +105,7 @@ fn is_name_byte(b: u8) -> bool
     b != b','
 }
 
-// Is this a word that has the bytes and the length of a name?
+// Whether this is a word with the bytes and the length of a name.
 fn is_spelled(word: &[u8]) -> bool
     ensures { λ r. ⌜ r ≡ wellSpelled (now (word .entry)) ⌝ }
 {
@@ -124,7 +125,7 @@ fn is_spelled(word: &[u8]) -> bool
     true
 }
 
-// Does a word begin so?
+// Whether a word begins with these bytes.
 fn begins(word: &[u8], start: &[u8]) -> bool
     ensures { λ r. ⌜ r ≡ beginsWith (now (start .entry)) (now (word .entry)) ⌝ }
 {
@@ -135,7 +136,7 @@ fn begins(word: &[u8], start: &[u8]) -> bool
     buffers::same(&word[..n], start)
 }
 
-// As plain names do?
+// Whether a word begins as plain names do.
 fn begins_plain(word: &[u8]) -> bool
     ensures { λ r. ⌜ r ≡ beginsPlain (now (word .entry)) ⌝ }
 {
@@ -148,7 +149,7 @@ fn begins_plain(word: &[u8]) -> bool
     begins(word, b"node:")
 }
 
-// May an entry give this name, after those that the slots hold?
+// Whether a further entry may give this name, the slots holding the earlier ones.
 fn free_name(table: &[u8], word: &[u8]) -> bool
     requires { ⌜ Slots nameWidth nameCount (now table) ⌝ }
     ensures { λ r. ⌜ ((es : List Entry) → Partly es (now (table .entry)) → r ≡ freeName es (now (word .entry))) ⌝ }
@@ -166,7 +167,7 @@ fn free_name(table: &[u8], word: &[u8]) -> bool
     slot == NAMES
 }
 
-// The item that a word of the table stands for, 0 where it is none.
+// The item that a word of the table stands for, 0 if it stands for none.
 fn item_of(word: &[u8]) -> usize
     ensures { λ r. ⌜ r ≡ itemOf (now (word .entry)) ⌝ }
 {
@@ -182,7 +183,7 @@ fn item_of(word: &[u8]) -> usize
     0
 }
 
-// The slot of the number that a word is, where it has no name yet; NAMES else. Inner: the item is a name.
+// The slot of the number that a word says, if it has no name yet; else NAMES. Inner: the item is a name.
 fn free_slot(table: &[u8], item: usize, word: &[u8]) -> usize
     requires { ⌜ Slots nameWidth nameCount (now table) × (4 ≤ item) × (item < 7) ⌝ }
     ensures { λ r. ⌜ ((es : List Entry) → Partly es (now (table .entry)) → r ≡ slotFound (kindOf item) (freeNumber es (kindOf item) (now (word .entry)))) ⌝ }
@@ -201,7 +202,8 @@ fn free_slot(table: &[u8], item: usize, word: &[u8]) -> usize
     slot
 }
 
-// Reads the entry at a place into its slot. A missing token is an empty word, which is no number and no name. Inner: the place is in the text, and the slots hold what entries gave.
+// Reads the entry at a place into its slot. A missing token is an empty word, neither a number nor a name.
+// Inner: the place is within the text, and the slots hold the entries so far.
 fn read_entry(text: &[u8], at: usize, table: &mut [u8]) -> Turn
     requires { ⌜ (at ≤ length (now text)) × Begun (now table) ⌝ }
     ensures { λ r. ⌜ ((es : List Entry) → Partly es (now (table .entry)) → Turned (now (text .entry)) at es (now (table .exit)) r) ⌝ }
@@ -233,7 +235,7 @@ fn read_entry(text: &[u8], at: usize, table: &mut [u8]) -> Turn
     Turn::Next(name_end)
 }
 
-// Reads a table's entries. Inner: the slots hold the counts and no name.
+// Reads a table's entries. Inner: the slots hold the counts and no names.
 fn read_entries(text: &[u8], table: &mut [u8]) -> Answer
     requires { ⌜ Partly [] (now table) ⌝ }
     ensures { λ r. ⌜ asked r ≡ outcome (askNames (now (text .entry))) ⌝ }
@@ -250,7 +252,7 @@ fn read_entries(text: &[u8], table: &mut [u8]) -> Answer
     }
 }
 
-// Checks a table of names and puts the names into slots. Inner: the slots have their length and hold zeros.
+// Checks a table of names and puts the names into slots. Inner: the slots have their full length and are all zero.
 pub fn read_names(text: &[u8], table: &mut [u8]) -> Answer
     requires { ⌜ now table ≡ replicate tableBytes 0 ⌝ }
     ensures { λ r. ⌜ asked r ≡ outcome (askNames (now (text .entry))) ⌝ }
@@ -267,7 +269,7 @@ pub fn read_names(text: &[u8], table: &mut [u8]) -> Answer
     Answer::Done
 }
 
-// The number in range that a word is the name of, or as which it counts, where an item is wanted; 256 where there is none. Inner: the item is a name or a count.
+// The number in range that a word names or counts if an item is wanted; 256 if there is none. Inner: the item is a name or a count.
 pub fn number_of(table: &[u8], item: usize, word: &[u8]) -> usize
     requires { ⌜ Slots nameWidth nameCount (now table) × (4 ≤ item) × (item < 9) ⌝ }
     ensures { λ r. ⌜ ((name : Naming) → Holds (now (table .entry)) name → r ≡ orBound 256 (numberOf name wordLimits (kindOf item) (now (word .entry)))) ⌝ }

@@ -1,4 +1,4 @@
--- The first number below a bound of which a test says yes.
+-- The first number below a bound that passes a test.
 use mathlib.Core.Path.{_≡_, refl, sym, _∙_, ap, ap₂}
 use mathlib.Core.Bool.{Bool, true, false, cond}
 use Prim.Native.Nat.{ℕ, zero, suc, _+_, _<_, _≤_}
@@ -12,7 +12,7 @@ use Rattle.names.proofs.TokenLaws.{found-none}
 abbrev onward : Found ℕ → Bool → ℕ → Found ℕ
 onward f b n = elim f as (λ z. Found ℕ) [ found x ↦ found x | absent ↦ cond b (found n) absent ]
 
--- Looked for one by one: none so far, and here it is, or is not.
+-- Searching one by one: none so far, and here it is, or is not.
 pub first-here : (p : ℕ → Bool) (n x : ℕ) → x < n → firstBelow p x ≡ absent → p x ≡ true → firstBelow p n ≡ found x
 unfolding firstBelow
 first-here p zero x h a e = absurd (omega arith)
@@ -48,12 +48,12 @@ unfolding firstBelow
 first-same p q zero h = refl
 first-same p q (suc n) h = ap₂ (λ (f : Found ℕ) (b : Bool). onward f b n) (first-same p q n (λ x l. h x (omega arith))) (h n (omega arith))
 
--- A test that says no outside a range finds what is found there.
+-- A test that fails outside a range finds what is found in the range.
 no-further : (f : Found ℕ) (b : Bool) (n : ℕ) → b ≡ false → onward f b n ≡ f
 no-further (found x) b n e = refl
 no-further absent b n e = ap (λ b. cond b (found n) absent) e
 
--- Found so many numbers further on.
+-- Found, but m numbers further on.
 abbrev pub further : ℕ → Found ℕ → Found ℕ
 further m (found x) = found (m + x)
 further m absent = absent
@@ -71,7 +71,7 @@ module _ (p q : ℕ → Bool) (m : ℕ) (none : (x : ℕ) → x < m → p x ≡ 
       rw (add-suc m n)
       (ap₂ (λ f b. onward f b (m + n)) (found-further n (λ x l. h x (omega arith))) (h n (omega arith)) ∙ further-on m (firstBelow q n) (q n) n)
 
-  -- The test says yes from m on alone, and below m + n.
+  -- The test passes only from m on and below m + n.
   pub search-range : (n bound : ℕ) → m + n ≤ bound → ((x : ℕ) → x < n → p (m + x) ≡ q x) → ((x : ℕ) → m + n ≤ x → p x ≡ false) → firstBelow p bound ≡ further m (firstBelow q n)
   unfolding firstBelow
   search-range n zero h a b = let e : 0 ≡ m + n = omega arith in ap (firstBelow p) e ∙ found-further n a

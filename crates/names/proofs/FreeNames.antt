@@ -1,4 +1,4 @@
--- There is always a name left: a table has at most 124 entries.
+-- There is always a free name: a table has at most 124 entries.
 use mathlib.Core.Path.{_≡_, refl, sym, _∙_, ap, subst}
 use mathlib.Core.Bool.{Bool, true, false, not, _&&_, _||_, cond, and-eq-true-iff}
 use mathlib.Core.List.{List, [], _∷_, _++_}
@@ -19,7 +19,7 @@ use Rattle.names.specs.Names.{width, decimal, Entry, kindNumber, isFor, 
 use Rattle.names.proofs.TokenLaws.{same-true, found-hit, none-hit}
 use Rattle.names.proofs.NameLaws.{decimal-one, digits-letters}
 
--- How many numbers of a set there are, where it is part of another.
+-- A set that is part of another has no more numbers.
 count-mono : (n : ℕ) (v u : Nodes) → ((i : ℕ) → i < n → v i ≡ true → u i ≡ true) → countBelow n v ≤ countBelow n u
 unfolding countBelow
 count-mono zero v u h = omega arith
@@ -31,7 +31,7 @@ count-mono (suc n) v u h = go (v n) refl (u n) refl (count-mono n v u (λ i l. h
     go false e true f r = omega arith
     go false e false f r = r
 
--- Entries as a table has them: each of a number in range that had no name before.
+-- Entries as a table has them: each for a number in range that had no name before.
 abbrev pub Numbered : List Entry → Type 0
 Numbered [] = Unit {0}
 Numbered (e ∷ es) = (unnamed es (e .kind) (e .number) ≡ true) × (e .number < countOf (e .kind)) × Numbered es
@@ -109,7 +109,7 @@ all-below v n = omega (arith, count-mono n v (λ i. true) (λ i l h. refl), coun
 few-entries : (es : List Entry) → Numbered es → length es ≤ 124
 few-entries es h = omega (arith, by-sorts es h, all-below (named es labelNumber) 48, all-below (named es arrowNumber) 16, all-below (named es nodeNumber) 60)
 
--- Names that no word of the notation is, and no plain name: an x and a number.
+-- Names that are neither words of the notation nor plain names: an x and a number.
 abbrev spare : ℕ → Token
 spare x = 0x78 ∷ decimal x
 

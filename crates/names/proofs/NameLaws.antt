@@ -1,4 +1,4 @@
--- What the names of a table that passes are: words, none of the notation's, all different.
+-- What the names of a table that passes are: words, none of them the notation's, all different.
 use mathlib.Core.Path.{_≡_, refl, sym, _∙_, ap, subst}
 use mathlib.Core.Bool.{Bool, true, false, not, _&&_, _||_, cond, and-eq-true-iff}
 use mathlib.Core.List.{List, [], _∷_, _++_}
@@ -21,7 +21,7 @@ not-so : (b : Bool) → not b ≡ true → b ≡ false
 not-so true h = true-false h refl
 not-so false h = refl
 
--- A decimal says its number, so it is that of one number.
+-- A decimal says its number, so no two numbers have the same.
 no-more : (x : ℕ) → x < 1000 → Left (width x) x ≡ 0
 unfolding width Left
 no-more x h = go (ltb x 10) (ltb-true x 10) (ltb x 100) (ltb-true x 100)
@@ -88,7 +88,7 @@ abbrev pub Free : List Entry → Type 0
 Free [] = Unit {0}
 Free (e ∷ es) = (freeName es (e .name) ≡ true) × Free es
 
--- What is asked of a name.
+-- What a name must be.
 pub record Name (t : Token) : Type 0 where
   pub is-word : isWord t ≡ true
   pub not-of-notation : among t notationWords ≡ false
@@ -108,7 +108,7 @@ fresh es t h =
     let e = and-eq-true-iff (not (beginsPlain t)) (not (taken es t)) .0 (d .1) in
     record { a-name = record { is-word = a .0; not-of-notation = not-so _ (d .0) }; not-plain = not-so _ (e .0); not-taken = not-so _ (e .1) }
 
--- A name that is given: it is a name, not a plain one, and taken; and it is given once.
+-- A name that is given: it is a name, not a plain one, it is taken, and it is given once.
 pub record Given (es : List Entry) (t : Token) : Type 0 where
   pub a-name : Name t
   pub not-plain : beginsPlain t ≡ false
@@ -174,7 +174,7 @@ HasNames nodeNumber = Unit {0}
 HasNames leastCount = ⊥
 HasNames mostCount = ⊥
 
--- Plain names begin as no given name does.
+-- Plain names begin in a way that no given name does.
 begins-plain : (k : Kind) (x : ℕ) → HasNames k → beginsPlain (plain k x) ≡ true
 unfolding plain ascii beginsPlain beginsWith
 begins-plain labelNumber x h = refl
@@ -232,7 +232,7 @@ module _ (es : List Entry) (h : Free es) where
       go (found t) p = given-is es h k x p .a-name
       go absent p = plain-name k x n
 
-  -- Names are words, and none of the notation's; different numbers have different names, and so have labels and nodes.
+  -- Names are words and not the notation's; different numbers have different names, and no label shares a name with a node.
   pub names-are : (k : Kind) (x : ℕ) → HasNames k → Name (nameIn es k x)
   unfolding nameIn
   names-are labelNumber x n = is-name labelNumber x tt
@@ -261,7 +261,7 @@ module _ (es : List Entry) (h : Free es) where
   unfolding nameIn
   no-label-is-node x y a b e = let z = names-differ labelNumber x nodeNumber y tt tt a b e .kinds in omega arith
 
--- A table that passes has such entries; any other is refused by 63.
+-- A table that passes has such entries; any other is refused with 63.
 abbrev By63 : {A : Type 0} → (A → Type 0) → Asked A → Type 0
 By63 P (passed a) = P a
 By63 P (refused q p) = q ≡ 63

@@ -1,4 +1,4 @@
--- The places of tokens, and a text cut before one of them.
+-- The places of tokens, and cutting a text before one of them.
 use mathlib.Core.Path.{_≡_, refl, sym, _∙_, ap, subst}
 use mathlib.Core.Bool.{Bool, true, false}
 use mathlib.Core.List.{List, [], _∷_, _++_, append-assoc}
@@ -49,7 +49,7 @@ module _ (end : ℕ) where
 pub tokens-inside : (text : List ℕ) → Inside (length text) (tokens text)
 tokens-inside text = inside (length text) text between 0 (omega arith) tt
 
--- Tokens, the first of them at a place, after others.
+-- Tokens after others, the first of them at a place.
 pub record Placing (before : List Placed) (p : ℕ) (ts : List Placed) : Type 0 where
   pub token : Token
   pub rest : List Placed
@@ -66,7 +66,7 @@ word-placed (b ∷ bs) q w at = go (classOf b) (λ w. word-placed bs q w (suc at
     go mark r = record { token = w; rest = _; is = refl }
     go letter r = r (w ++ b ∷ [])
 
--- A text cut before a token: the tokens before it are those of the bytes before it, and it begins those of the others. One byte of it keeps its place, whatever follows.
+-- A text cut before a token: the tokens before it are those of the bytes before it, and it begins the rest. Its first byte alone fixes its place.
 module _ (t : Placed) (rest : List Placed) where
   pub record Cut (bs : List ℕ) (m : Mode) (at : ℕ) (before : List Placed) : Type 0 where
     pub k : ℕ
@@ -177,7 +177,7 @@ module _ (t : Placed) (rest : List Placed) where
   cut (b ∷ bs) (inWord p w) at [] h q = absurd h
   cut (b ∷ bs) (inWord p w) at (u ∷ before) h q = cut-word b bs at p w u before (classOf b) refl (λ m before h q. cut bs m (suc at) before h q) q
 
--- The tokens are the same, wherever the bytes stand.
+-- The tokens do not depend on where the bytes are.
 abbrev moved : Mode → ℕ → Mode
 moved between p = between
 moved comment p = comment

@@ -1,4 +1,4 @@
--- The scanner's steps, for the proofs of its functions.
+-- The scanner's steps, for the proofs about its functions.
 use mathlib.Core.Path.{_≡_, refl, sym, _∙_, ap, ap₂}
 use mathlib.Core.Bool.{Bool, true, false, not, cond}
 use mathlib.Core.List.{List, [], _∷_, _++_}

@@ -17,7 +17,7 @@ use Rattle.names.proofs.ScanLaws.{Scans, blanks-scanned, word-scanned}
 use Rattle.names.proofs.NameLaws.{decimal-one, decimal-word, fresh}
 use Rattle.names.proofs.FreeNames.{Numbered, some-name}
 
--- What tokens are as a table, after these entries.
+-- What tokens say as a table, after these entries.
 abbrev next : {A B : Type 0} → Found A → (A → Found B) → Found B
 next (found a) f = f a
 next absent f = absent
@@ -41,7 +41,7 @@ kindAsked s f = elim f as (λ z. Asked Kind) [ found k ↦ passed k | absent ↦
 abbrev numberAsked : Placed → Found ℕ → Asked ℕ
 numberAsked x f = elim f as (λ z. Asked ℕ) [ found n ↦ passed n | absent ↦ refused 63 (x .place) ]
 
--- The questions learn what the tokens are, wherever they stand.
+-- The questions find what the tokens say, wherever they are.
 pub entries-are : (end : ℕ) (ps : List Placed) (es : List Entry) → told (askEntries end ps es) ≡ entries (tokensOf ps) es
 unfolding askEntries entries askKind askNumber _>>=_ _>>_ is
 entries-are end [] es = refl
@@ -83,7 +83,7 @@ entries-are end (s ∷ x ∷ t ∷ ts) es = go (kindOf (s .token)) (λ e. entrie
     go (found k) r = numbered k (numberFor es k (x .token)) r
     go absent r = refl
 
--- One entry; and what is none, whatever follows.
+-- One entry; and what is not an entry, whatever follows.
 module _ (es : List Entry) (s x : Token) {k : Kind} (a : kindOf s ≡ found k) where
   entries-on : (t : Token) {n : ℕ} → numberFor es k x ≡ found n → freeName es t ≡ true → (ts : List Token) → entries (s ∷ x ∷ t ∷ ts) es ≡ entries ts (record { kind = k; number = n; name = t } ∷ es)
   unfolding entries
@@ -104,7 +104,7 @@ no-kind es s a [] = refl
 no-kind es s a (x ∷ []) = refl
 no-kind es s a (x ∷ t ∷ ts) = rw (a, entries)
 
--- Tokens that begin a table; and those that end with a sort all of whose numbers have names.
+-- Tokens that begin a table; and those that end with a sort of which all numbers have names.
 pub record NoneLeft (ts : List Token) (es : List Entry) : Type 0 where
   pub whole : List Token
   pub sort : Token
@@ -156,7 +156,7 @@ module _ (es : List Entry) where
             inl (record { more = decimal x ∷ b .more; names = b .names; passes = b .passes })
         go absent e = inr (record { whole = []; sort = s; is = refl; names = es; passes = refl; kind = k; is-sort = a; all-named = none-hit (unnamed es k) (countOf k) e })
 
--- The place of a fault: a token up to which the tokens begin no table, or the end, where they are none.
+-- The place of a fault: a token with which the tokens so far begin no table, or the end, if they are not a table.
 abbrev pub NoTableAt : (end : ℕ) (before rest : List Placed) → List Entry → (p : ℕ) → Type 0
 NoTableAt end before [] es p = (p ≡ end) × (entries (tokensOf before) es ≡ absent)
 NoTableAt end before (t ∷ rest) es p = (p ≡ t .place) × ((more : List Token) → entries (tokensOf before ++ t .token ∷ more) es ≡ absent)
@@ -227,7 +227,7 @@ module _ (end : ℕ) (es : List Entry) (right : Numbered es) where
   name-wrong s x t rest a b c =
       record { before = s ∷ x ∷ []; rest = t ∷ rest; is = refl; begun = inl (from-number es right (s .token) a (x .token) b); wrong = (refl, no-name es (s .token) (x .token) a (t .token) b c) }
 
--- EVERY FAULT OF A TABLE IS SO PLACED.
+-- EVERY FAULT OF A TABLE IS AT SUCH A PLACE.
 pub faulty : (end : ℕ) (ts : List Placed) (es : List Entry) → Numbered es → Faulty end ts es (askEntries end ts es)
 unfolding askEntries entries askKind askNumber _>>=_ _>>_ is
 faulty end [] es h = tt
@@ -274,7 +274,7 @@ pub table-fault : (table : List ℕ) {q p : ℕ} → askNames table ≡ refused 
 unfolding askNames
 table-fault table e = subst (Faulty (length table) (tokens table) []) e (faulty (length table) (tokens table) [] tt)
 
--- What a table's tokens are, by its bytes; and tokens that are a table have a text.
+-- What a table's tokens say, from its bytes; and tokens that are a table have a text.
 told-passed : {A : Type 0} (r : Asked A) {a : A} → told r ≡ found a → r ≡ passed a
 told-passed (passed b) e = cc
 told-passed (refused q p) e = let z : _≡_ {A = ℕ} 0 1 = cc in absurd (omega arith)

@@ -1,4 +1,4 @@
--- Tokens compared; the first number of which a test says yes.
+-- Comparing tokens; the first number that passes a test.
 use mathlib.Core.Path.{_≡_, refl, sym, _∙_, ap, ap₂, subst}
 use mathlib.Core.Bool.{Bool, true, false, cond, and-eq-true-iff}
 use mathlib.Core.List.{[], _∷_}
@@ -22,7 +22,7 @@ unfolding same
 same-refl [] = refl
 same-refl (a ∷ x) = and-eq-true-iff (eqb a a) (same x x) .1 (eq-eqb a a refl, same-refl x)
 
--- What is found is below the bound, and the test says yes of it.
+-- What is found is below the bound and passes the test.
 pub record Hit (p : ℕ → Bool) (n x : ℕ) : Type 0 where
   pub below : x < n
   pub yes-of : p x ≡ true
@@ -50,7 +50,7 @@ found-hit p n x e = subst (Hits p n) e (hits p n)
 pub none-hit : (p : ℕ → Bool) (n : ℕ) → firstBelow p n ≡ absent → (y : ℕ) → y < n → p y ≡ false
 none-hit p n e = subst (Hits p n) e (hits p n)
 
--- Where the test says yes of one number alone, that is found; where of none, none.
+-- If only one number passes the test, it is found; if none does, none is found.
 pub found-only : (p : ℕ → Bool) (n x : ℕ) → x < n → p x ≡ true → ((y : ℕ) → y < n → p y ≡ true → y ≡ x) → firstBelow p n ≡ found x
 found-only p n x h e u = go (firstBelow p n) (hits p n)
   where

@@ -1,4 +1,4 @@
--- A table of names: a text of the same tokens, `label 0 train`, `arrow 0 stands-at`, `node 34 T34`. What has no name in it is written `label:3`, `arrow:2`, `node:7`, and only so.
+-- A table of names: a text of tokens, `label 0 train`, `arrow 0 stands-at`, `node 34 T34`. What has no name in it is written `label:3`, `arrow:2`, `node:7`.
 use mathlib.Core.Bool.{Bool, true, false, not, _&&_, _||_, cond}
 use mathlib.Core.List.{List, [], _∷_, _++_}
 use Prim.Native.Nat.{ℕ}
@@ -22,7 +22,7 @@ width x = cond (ltb x 10) 1 (cond (ltb x 100) 2 3)
 abbrev pub decimal : ℕ → Token
 decimal x = digits (width x) x
 
--- What a plain name begins with.
+-- How a plain name begins.
 abbrev pub sortPrefix : Kind → String
 sortPrefix labelNumber = "label:"
 sortPrefix arrowNumber = "arrow:"
@@ -30,10 +30,11 @@ sortPrefix nodeNumber = "node:"
 sortPrefix leastCount = ""
 sortPrefix mostCount = ""
 
--- How what has no name is written.
+-- How a number without a name is written.
 unfoldable pub plain : Naming
 plain k x = ascii (sortPrefix k) ++ decimal x
 
+-- An entry of the table: a number of a kind, and its name.
 pub record Entry : Type 0 where
   pub kind : Kind
   pub number : ℕ
@@ -46,11 +47,11 @@ kindNumber nodeNumber = 2
 kindNumber leastCount = 3
 kindNumber mostCount = 4
 
--- Is this the entry of that number?
+-- Whether this is the entry for that number.
 abbrev pub isFor : Entry → Kind → ℕ → Bool
 isFor e k x = eqb (kindNumber (e .kind)) (kindNumber k) && eqb (e .number) x
 
--- The name that entries give; and how a number is written by them.
+-- The name that entries give, if they do; how they write a number.
 unfoldable pub given : List Entry → Kind → ℕ → Found Token
 given [] k x = absent
 given (e ∷ es) k x = elim (isFor e k x) [ true ↦ found (e .name) | false ↦ given es k x ]
@@ -65,7 +66,7 @@ nameIn es nodeNumber x = givenOrPlain es nodeNumber x
 nameIn es leastCount x = decimal x
 nameIn es mostCount x = decimal x
 
--- The words of the notation, which no name may be.
+-- The words of the notation, which cannot be names.
 unfoldable pub notationWords : List Token
 notationWords =
     ascii "all" ∷ ascii "none" ∷ ascii "not" ∷ ascii "and" ∷ ascii "or" ∷ ascii "some" ∷ ascii "every" ∷ ascii "at-least" ∷ ascii "at-most"
@@ -76,17 +77,17 @@ unfoldable pub among : Token → List Token → Bool
 among t [] = false
 among t (u ∷ us) = same t u || among t us
 
--- Does a token begin with these bytes?
+-- Whether a token begins with these bytes.
 unfoldable pub beginsWith : Token → Token → Bool
 beginsWith [] t = true
 beginsWith (b ∷ p) [] = false
 beginsWith (b ∷ p) (c ∷ t) = eqb b c && beginsWith p t
 
--- As a plain name does.
+-- Whether a token begins as a plain name does.
 unfoldable pub beginsPlain : Token → Bool
 beginsPlain t = beginsWith (ascii "label:") t || (beginsWith (ascii "arrow:") t || beginsWith (ascii "node:") t)
 
--- The bytes of names: from 21 (hexadecimal) on but 7F.
+-- The bytes of names: from 21 (hexadecimal) on, except 7F.
 unfoldable pub nameBytes : Token → Bool
 nameBytes [] = true
 nameBytes (b ∷ t) = (leb 0x21 b && not (eqb b 0x7F)) && nameBytes t
@@ -94,14 +95,16 @@ nameBytes (b ∷ t) = (leb 0x21 b && not (eqb b 0x7F)) && nameBytes t
 abbrev pub longestName : ℕ
 longestName = 64
 
+-- Whether an entry has given this name.
 unfoldable pub taken : List Entry → Token → Bool
 taken [] t = false
 taken (e ∷ es) t = same t (e .name) || taken es t
 
--- A name that an entry may give, after these.
+-- Whether a further entry may give this name.
 unfoldable pub freeName : List Entry → Token → Bool
 freeName es t = isWord t && (nameBytes t && (leb (length t) longestName && (not (among t notationWords) && (not (beginsPlain t) && not (taken es t)))))
 
+-- Whether no entry names this number.
 unfoldable pub unnamed : List Entry → Kind → ℕ → Bool
 unnamed es k x = elim (given es k x) [ found t ↦ false | absent ↦ true ]
 
@@ -118,7 +121,7 @@ kindOf t =
     (cond (same t (ascii "arrow")) (found arrowNumber)
     (cond (same t (ascii "node")) (found nodeNumber) absent))
 
--- The table: entries of a sort, a number and a name. 63: the first token that is none, or names again; the text's length where one is missing.
+-- The table: entries of a sort, a number and a name. 63 for the first token that is wrong or names again; its place, or the text's end if a token is missing.
 unfoldable pub askKind : Placed → Asked Kind
 askKind p = elim (kindOf (p .token)) [ found k ↦ passed k | absent ↦ refused 63 (p .place) ]
 

@@ -1,5 +1,5 @@
--- The tokens of a text in words: `(`, `)`, `,`, and words, which are the longest runs of other bytes. Blanks, tabs, line feeds and carriage returns stand between tokens;
--- # begins a comment up to the line feed, also directly after a word.
+-- The tokens of a text in words: `(`, `)`, `,`, and words, which are the longest runs of other bytes. Blanks, tabs, line feeds and carriage returns
+-- separate tokens; # begins a comment up to the line feed, also directly after a word.
 use mathlib.Core.Bool.{Bool, true, false, _&&_, _||_, cond}
 use mathlib.Core.List.{List, [], _∷_, _++_, map}
 use Prim.Native.Nat.{ℕ, suc}
@@ -54,7 +54,7 @@ scan (b ∷ bs) (inWord p w) at =
 abbrev pub tokens : List ℕ → List Placed
 tokens text = scan text between 0
 
--- A word: one byte or more, each a letter in this sense.
+-- A word: one or more bytes, each of them a letter in this sense.
 unfoldable pub isLetter : ℕ → Bool
 isLetter b = elim (classOf b) [ blank ↦ false | hash ↦ false | mark ↦ false | letter ↦ true ]
 

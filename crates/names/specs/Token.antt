@@ -1,4 +1,4 @@
--- A token of a text in words: its bytes. Words and marks are written as quoted texts here, whose characters are ASCII.
+-- A token of a text in words: its bytes. Here words and marks are quoted texts of ASCII characters.
 use mathlib.Core.Bool.{Bool, true, false, _&&_, cond}
 use mathlib.Core.List.{List, [], _∷_}
 use Prim.Native.Nat.{ℕ, zero, suc}
@@ -20,12 +20,12 @@ same [] (y ∷ ys) = false
 same (x ∷ xs) [] = false
 same (x ∷ xs) (y ∷ ys) = eqb x y && same xs ys
 
--- What is looked for, or that there is none.
+-- What was looked for, or that there is none.
 pub data Found (A : Type 0) : Type 0 where
   found : A → Found A
   absent : Found A
 
--- The first number below a bound of which a test says yes.
+-- The first number below a bound that passes a test.
 unfoldable pub firstBelow : (ℕ → Bool) → (bound : ℕ) → Found ℕ
 firstBelow p zero = absent
 firstBelow p (suc n) = elim (firstBelow p n) [ found x ↦ found x | absent ↦ cond (p n) (found n) absent ]

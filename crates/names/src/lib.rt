@@ -6,7 +6,7 @@ ghost use lib.ListN.{length, getD};
 ghost use Rattle.names.specs.Scan.{isBlank, isMarkByte, isLetter};
 ghost use Rattle.names.specs.Scanned.{LineEnded, Skipped, WordEnded, Next};
 
-// Where a token stands.
+// Where a token starts and ends.
 pub struct Span {
     pub from: usize,
     pub to: usize,
@@ -51,7 +51,7 @@ fn is_letter(b: u8) -> bool
     !is_mark(b)
 }
 
-// Where the comment at a place ends: at its line feed, or with the text. Inner: the place is in the text.
+// Where the comment at a place ends: at its line feed or with the text. Inner: the place is within the text.
 fn line_end(text: &[u8], at: usize) -> usize
     requires { ⌜ at ≤ length (now text) ⌝ }
     ensures { λ r. ⌜ LineEnded (now (text .entry)) at r ⌝ }
@@ -66,7 +66,7 @@ fn line_end(text: &[u8], at: usize) -> usize
     p
 }
 
-// Where the next token begins; the text's length where there is none. Inner: the place is in the text.
+// Where the next token begins; the text's length if there is none. Inner: the place is within the text.
 fn skip(text: &[u8], at: usize) -> usize
     requires { ⌜ at ≤ length (now text) ⌝ }
     ensures { λ r. ⌜ Skipped (now (text .entry)) at r ⌝ }
@@ -86,7 +86,7 @@ fn skip(text: &[u8], at: usize) -> usize
     p
 }
 
-// Where the word that begins at a place ends. Inner: one does.
+// Where the word that begins at a place ends. Inner: a word begins there.
 fn word_end(text: &[u8], from: usize) -> usize
     requires { ⌜ (from < length (now text)) × (isLetter (getD (now text) from 0) ≡ true) ⌝ }
     ensures { λ r. ⌜ WordEnded (now (text .entry)) from r ⌝ }
@@ -101,7 +101,7 @@ fn word_end(text: &[u8], from: usize) -> usize
     p
 }
 
-// The next token. Inner: the place is in the text.
+// The next token. Inner: the place is within the text.
 pub fn next(text: &[u8], at: usize) -> Span
     requires { ⌜ at ≤ length (now text) ⌝ }
     ensures { λ r. ⌜ Next (now (text .entry)) at (r .from) (r .to) ⌝ }

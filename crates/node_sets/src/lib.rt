@@ -1,4 +1,4 @@
-// Sets of a sheet's nodes, a word each: all that are in use, those with a label, those that an arrow reaches from a node.
+// Sets of a sheet's nodes, a word each: those in use, those with a label, those that an arrow reaches from a node.
 ghost use mathlib.Core.Path.{_≡_};
 ghost use Prim.Native.Nat.{ℕ, _≤_};
 ghost use Rattle.logic.specs.Graph.{Nodes};
@@ -17,7 +17,7 @@ pub struct NodeSet {
     pub set: u64,
 }
 
-// The set that was asked for, or why it was not read.
+// The set, or why it was not read.
 pub enum NodesRead {
     Nodes(NodeSet),
     Refused(Refusal),
@@ -47,7 +47,7 @@ pub fn nodes(sheet: &[u8]) -> NodesRead
     })
 }
 
-// The nodes with label k, and how many they are: questions 1 to 4 of the sheet, then 7.
+// The nodes with label k and how many they are: questions 1 to 4 of the sheet, then 7.
 pub fn label_set(sheet: &[u8], k: Label) -> NodesRead
     ensures { λ r. ⌜ nodesAsked r ≡ askLabelSet (now (sheet .entry)) (k .0) ⌝ }
 {
@@ -61,7 +61,7 @@ pub fn label_set(sheet: &[u8], k: Label) -> NodesRead
     NodesRead::Refused(Refusal::BitRange { place: 0 })
 }
 
-// The nodes to which arrow a goes from node i, and how many they are: questions 1 to 4 of the sheet, then 7.
+// The nodes to which arrow a goes from node i and how many they are: questions 1 to 4 of the sheet, then 7.
 pub fn row_set(sheet: &[u8], a: Arrow, i: Node) -> NodesRead
     ensures { λ r. ⌜ nodesAsked r ≡ askRowSet (now (sheet .entry)) (a .0) (i .0) ⌝ }
 {

@@ -1,4 +1,4 @@
--- What the calls that print and read words have asked, by their answers.
+-- What the calls that print and read words have checked, by their answers.
 use mathlib.Core.Path.{_≡_, refl, sym, _∙_, ap, subst}
 use mathlib.Core.List.{List}
 use mathlib.Core.Logic.{_⊎_, inl, inr}
@@ -25,7 +25,7 @@ room-passed bytes room e =
 pub room-given : (bytes : List ℕ) (room : ℕ) → length bytes ≤ room → askRoom bytes room ≡ passed bytes
 room-given bytes room h = room-enough bytes room (length bytes) refl h
 
--- What a call that prints has asked; and one that reads.
+-- What a call that prints has checked; and one that reads.
 pub record Printed (table : List ℕ) {A : Type 0} (ask : Asked A) (print : Naming → List ℕ) (words : List ℕ) : Type 0 where
   pub names : List Entry
   pub table-passes : askNames table ≡ passed names
@@ -65,7 +65,7 @@ module _ (table : List ℕ) (read : Naming → Asked (List ℕ)) (room : ℕ) wh
   pub reads-so : {es : List Entry} {codes : List ℕ} → askNames table ≡ passed es → read (nameIn es) ≡ passed codes → length codes ≤ room → fromWords ≡ passed codes
   reads-so {codes = codes} t p h = bind-on t (λ es. read (nameIn es) >>= (λ bytes. askRoom bytes room)) ∙ bind-on p (λ bytes. askRoom bytes room) ∙ room-given codes room h
 
--- What a call that reads has refused by: the words, where it is 64 to 70.
+-- Why a call that reads has refused: the words, if it is 64 to 70.
 pub room-refused : (bytes : List ℕ) (room : ℕ) {q p : ℕ} → askRoom bytes room ≡ refused q p → (room < length bytes) × (33 ≡ q) × (length bytes ≡ p)
 unfolding askRoom
 room-refused bytes room e = let (f, n, o) = question-refused (leb (length bytes) room) 33 (length bytes) bytes e in (leb-false (length bytes) room f, n, o)

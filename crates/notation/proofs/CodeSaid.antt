@@ -42,7 +42,7 @@ module _ (name : Naming) (l : Limits) where
   grouped₄ : (a b c e z : List ℕ) {g : List Goal} {m : ℕ} → Said (a ++ (b ++ (c ++ (e ++ z)))) g m → Said ((((a ++ b) ++ c) ++ e) ++ z) g m
   grouped₄ a b c e z x = simp append-assoc x
 
-  -- bytes that say a thing, whatever follows; and those of two operands
+  -- bytes that say a thing, whatever follows; those of two operands
   abbrev SaysThing : List ℕ → Slot → ℕ → Type 0
   SaysThing a s d = (bytes : List ℕ) (g : List Goal) (m : ℕ) → Said bytes g m → Said (a ++ bytes) (thing s d ∷ g) m
 
@@ -95,7 +95,7 @@ module _ (name : Naming) (l : Limits) where
       phrase-said (later (later (later (later (later first))))) (omega arith) (a-mark-said (two (code E) (code F) (says-expr E (suc d) (omega arith) (r .0)) (says-expr F (suc d) (omega arith) (r .1)) x₀))
   says-expr (notRule E) d h r bytes g m x₀ = phrase-said (later (later (later (later (later (later first)))))) (omega arith) (a-mark-said (says-expr E (suc d) (omega arith) (r) _ _ _ (a-mark-said x₀)))
 
-  -- what may stand after steps: where they end with the text, no token
+  -- what may follow steps: no token, if they end with the text
   abbrev Ended : Closing → List ℕ → List Goal → ℕ → Type 0
   Ended atElse bytes g m = Said bytes g m
   Ended atEnd bytes g m = Said bytes g m

@@ -1,4 +1,4 @@
--- The words of an edit are never refused with 69: what stands where no step can is 65.
+-- The words of an edit are never refused with 69: a token where no step can begin is 65.
 use mathlib.Core.Path.{_≡_, refl, subst}
 use mathlib.Core.Bool.{Bool, true, false}
 use mathlib.Core.List.{List, [], _∷_, _++_}
@@ -45,7 +45,7 @@ prefixed-not c (passed b) h = tt
 prefixed-not c (refused q p) h = h
 
 module _ (name : Naming) (l : Limits) where
-  -- a step is followed by the steps after it
+  -- a step is followed by further steps
   step-on : (d : ℕ) (g : List Goal) {t : Token} {c : List ℕ} {then : List Goal} → Begins name l (steps textEnd) d t c then → EndsText (then ++ g)
   unfolding phrases goals bracketed afterComma
   step-on d g (by-word r i) = all-at (λ r. EndsText (goals (steps textEnd) d (r .items) ++ g)) i (tt, (tt, (tt, (tt, (tt, tt)))))

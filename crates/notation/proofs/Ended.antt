@@ -1,4 +1,4 @@
--- Whatever was begun can be ended, with two levels more.
+-- Anything begun can be completed, given two levels more.
 use mathlib.Core.Path.{_≡_, sym, subst}
 use mathlib.Core.List.{List, [], _∷_, _++_}
 use Prim.Native.Nat.{ℕ, suc, _+_, _≤_}
@@ -14,7 +14,7 @@ use Rattle.notation.proofs.Says.{_∈_, first, Begins, by-word, label, 
 use Rattle.notation.proofs.PhraseLaws.{all-at}
 use Rattle.notation.proofs.CodeSaid.{Said, a-mark-said, number-said, begin-said, phrase-said}
 
--- Two levels more, in which whatever was begun can be ended: a rule on the last level has no room for its operands.
+-- Two levels more, so that anything begun can be completed: a rule at the last level has no room for its operands.
 abbrev pub twoDeeper : Limits → Limits
 twoDeeper l = record { longest = l .longest; deepest = l .deepest + 2; numbers = l .numbers }
 
@@ -23,7 +23,7 @@ pub record SomeNumber (l : Limits) (k : Kind) : Type 0 where
   pub x : ℕ
   pub in-range : T (fits (l .numbers) k x)
 
--- Goals that come up: no level too deep by more than one, and steps that end with the text are the last.
+-- Goals that arise: no level is too deep by more than one, and steps that end with the text come last.
 abbrev pub Good : Limits → List Goal → Type 0
 Good l [] = Unit {0}
 Good l (mark t ∷ g) = Good l g
@@ -62,7 +62,7 @@ module _ (name : Naming) (l : Limits) (some : (k : Kind) → SomeNumber l k) whe
   good-then closing-else g h q = q .1
   good-then closing-end g h q = q .1
 
-  -- The tokens that begin a thing begin it with more levels too.
+  -- The tokens that begin a thing also begin it if more levels are allowed.
   pub begins-wider : {s : Slot} {d : ℕ} {t : Token} {c : List ℕ} {then : List Goal} → Begins name l s d t c then → Begins name (twoDeeper l) s d t c then
   begins-wider (by-word r i) = by-word r i
   begins-wider (label x f) = label x f

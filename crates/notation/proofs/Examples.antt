@@ -29,7 +29,7 @@ book = 0x21 ∷ 0x03 ∷ 0 ∷ 0x08 ∷ 0x11 ∷ 0 ∷ 0x03 ∷ 1 ∷ 0x24 ∷ 3
 edit : List ℕ
 edit = 0x35 ∷ 0x23 ∷ 34 ∷ 0x0A ∷ 2 ∷ 0x11 ∷ 0 ∷ 0x01 ∷ 0x33 ∷ 0 ∷ 0x17 ∷ 34 ∷ 7 ∷ 0x30 ∷ 0x32 ∷ 3 ∷ 0x01 ∷ 0x30 ∷ 0x31 ∷ 1 ∷ 0x04 ∷ 2 ∷ 0x30 ∷ []
 
--- A text as often as said.
+-- A text repeated a number of times.
 unfoldable times : ℕ → List ℕ → List ℕ
 times zero text = []
 times (suc n) text = text ++ times n text
@@ -66,12 +66,12 @@ Reads =
     -- any layout, and comments
     (readBook (nameIn names) (ascii "# a\n each ( train ,some(stands-at,track) ) joined(4711,08:15,without(stands-at,arrow:2))# b") ≡ passed book)
     × (readEdit (nameIn names) (ascii "if(is(4711,at-least(2,stands-at,all)))add(stands-at,pair(4711,node:7))else unmark(label:3,all)end mark(track,08:15)") ≡ passed edit)
-    -- an `end` is missing; a name of another sort; what has a name has no other; an `end` too many
+    -- an `end` is missing; a name of another sort; a number with a name cannot be written otherwise; an `end` too many
     × (readEdit (nameIn names) (ascii "if(is(4711, all)) else mark(track, all)") ≡ refused 64 39)
     × (readBook (nameIn names) (ascii "each(train, some(track, all))") ≡ refused 65 17)
     × (readBook (nameIn names) (ascii "each(label:0, all)") ≡ refused 65 5)
     × (readEdit (nameIn names) (ascii "mark(train, all) end") ≡ refused 65 17)
-    -- no comma; a count out of its range; a label where an arrow is wanted
+    -- no comma; a count out of range; a label where an arrow is wanted
     × (readBook (nameIn names) (ascii "joined(4711 08:15") ≡ refused 66 12)
     × (readBook (nameIn names) (ascii "each(at-least(0, stands-at, all), all)") ≡ refused 67 14)
     × (readEdit (nameIn names) (ascii "add(train, stands-at)") ≡ refused 67 4)

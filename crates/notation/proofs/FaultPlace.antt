@@ -1,4 +1,4 @@
--- The place of a fault: the first token up to which the tokens begin no words.
+-- The place of a fault: the first token with which the tokens so far begin no words.
 use mathlib.Core.Path.{_≡_, refl, sym, _∙_, ap, subst}
 use mathlib.Core.Bool.{Bool, true, false}
 use mathlib.Core.List.{List, [], _∷_, _++_}
@@ -28,7 +28,7 @@ pub record BegunWords (name : Naming) (l : Limits) (ts : List Token) (g : List G
   pub bytes : List ℕ
   pub says : Says name l bytes (ts ++ more) g m
 
--- The tokens up to a place begin no words; at the text's end, they are none.
+-- The tokens up to a place begin no words; at the text's end, they are not words.
 abbrev pub NoWordsAt : Naming → Limits → (end : ℕ) → (before rest : List Placed) → List Goal → (m p : ℕ) → Type 0
 NoWordsAt name l end before [] g m p = (p ≡ end) × ((bytes : List ℕ) → Says name l bytes (tokensOf before) g m → ⊥)
 NoWordsAt name l end before (t ∷ rest) g m p = (p ≡ t .place) × ((bytes : List ℕ) (more : List Token) → Says name l bytes (tokensOf before ++ t .token ∷ more) g m → ⊥)
@@ -45,7 +45,7 @@ module _ (name : Naming) (l : Limits) (law : Lawful name l) (some : (k : Kind) �
   Located ts g m (passed bytes) = Unit {0}
   Located ts g m (refused q p) = FirstFault name l end ts g m p
 
-  -- what can be begun from nothing
+  -- what can be begun with no tokens
   from-nothing : (g : List Goal) (m : ℕ) → Good l g → BegunWords name (twoDeeper l) [] g m
   from-nothing g m q = let e = ends name l some g m q in record { more = e .1 .tokens; bytes = e .0; says = e .1 .says }
 
@@ -57,14 +57,14 @@ module _ (name : Naming) (l : Limits) (law : Lawful name l) (some : (k : Kind) �
       → FirstFault name l end (t ∷ ts) g m (t .place)
   at-first t ts g m q n = record { before = []; rest = t ∷ ts; is = refl; begun = from-nothing g m q; wrong = (refl, n) }
 
-  -- one token more in front: what follows it is known
+  -- one more token at the front: what follows it is known
   abbrev Onward : Token → List Goal → List Goal → ℕ → ℕ → Type 0
   Onward t g g′ m m′ = (bytes : List ℕ) (ts : List Token) → Says name (twoDeeper l) bytes ts g m → (c : List ℕ) × Says name (twoDeeper l) c (t ∷ ts) g′ m′
 
   abbrev Back : Token → List Token → List Goal → List Goal → ℕ → ℕ → Type 0
   Back t X g g′ m m′ = (bytes : List ℕ) → Says name l bytes (t ∷ X) g′ m′ → (c : List ℕ) × Says name l c X g m
 
-  -- a token and the goals it leads to, whatever follows
+  -- a token and the goals that it leads to, whatever follows
   push-wrong : (t : Placed) (before rest : List Placed) (g g′ : List Goal) (m m′ p : ℕ) → ((X : List Token) → Back (t .token) X g g′ m m′) → NoWordsAt name l end before rest g m p
       → NoWordsAt name l end (t ∷ before) rest g′ m′ p
   push-wrong t before [] g g′ m m′ p k w = (w .0, λ bytes s. let q = k (tokensOf before) bytes s in w .1 (q .0) (q .1))
@@ -125,7 +125,7 @@ module _ (name : Naming) (l : Limits) (law : Lawful name l) (some : (k : Kind) �
       let y : b .then ≡ then = cc in
       (b .bytes, subst (λ x. Says name l (b .bytes) X (x ++ g) m) y (b .says))
 
-  -- what is written in front moves no fault
+  -- bytes at the front do not move a fault
   prefixed-located : (c : List ℕ) (ts ts′ : List Placed) (g g′ : List Goal) (m m′ : ℕ) (r : Asked (List ℕ)) → ((p : ℕ) → FirstFault name l end ts g m p → FirstFault name l end ts′ g′ m′ p)
       → Located ts g m r → Located ts′ g′ m′ (prefixed c r)
   unfolding prefixed
@@ -176,7 +176,7 @@ module _ (name : Naming) (l : Limits) (law : Lawful name l) (some : (k : Kind) �
   rule-located t ts m (passed bytes) h = tt
   rule-located t ts m (refused q p) h = rule-onward t ts m p h
 
-  -- where no token is left, or no goal
+  -- if no token is left, or no goal
   abbrev Possible : List Token → List Goal → ℕ → Type 0
   Possible [] [] m = Unit {0}
   Possible [] (mark t ∷ g) m = ⊥
@@ -197,7 +197,7 @@ module _ (name : Naming) (l : Limits) (law : Lawful name l) (some : (k : Kind) �
   possible (begin i b h) = tt
   possible (last i h) = i
 
-  -- Every fault is so placed.
+  -- Every fault is at such a place.
   pub located : (ts : List Placed) (g : List Goal) (m : ℕ) → Good l g → Located ts g m (parse name l end ts g m)
   unfolding parse prefixed
   located [] [] m q = tt

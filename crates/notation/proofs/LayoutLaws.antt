@@ -1,4 +1,4 @@
--- The tokens of a laid text are the tokens laid.
+-- The tokens of a laid-out text are the tokens that were laid out.
 use mathlib.Core.Path.{_≡_, refl, sym, subst}
 use mathlib.Core.Bool.{Bool, true, false, _||_, cond}
 use mathlib.Core.List.{List, [], _∷_, _++_}
@@ -21,7 +21,7 @@ Proper t = (isMark t ≡ true) ⊎ ((isMark t ≡ false) × (isWord t ≡ true))
 abbrev pub EachProper : List Token → Type 0
 EachProper ts = All Proper ts
 
--- one of the three
+-- one of the three marks
 abbrev Three : Token → Type 0
 Three t = (t ≡ ascii "(") ⊎ ((t ≡ ascii ",") ⊎ (t ≡ ascii ")"))
 
@@ -64,7 +64,7 @@ gap-blank opened (suc b) i t = tt
 gap-blank other zero i t = (refl, margin-blank i t)
 gap-blank other (suc b) i t = (refl, tt)
 
--- after a word, which is no `(`
+-- after a word, which is not `(`
 word-prefixed : (t : Token) → isMark t ≡ false → afterToken t ≡ other
 unfolding afterToken isMark
 word-prefixed t h = go (same t (ascii "(")) h
@@ -83,7 +83,7 @@ other-stops b i (t ∷ ts) h = go b (h .0)
     go zero (inr w) = rw (w .0, lay) refl
     go (suc b) (inr w) = rw (w .0, lay) refl
 
--- THE TOKENS ARE THOSE LAID.
+-- THE TOKENS ARE THOSE LAID OUT.
 pub laid-scanned : (p : Before) (b i : ℕ) (ts : List Token) → EachProper ts → Scans (lay p b i ts) ts
 unfolding lay scan classOf
 laid-scanned atStart b i [] h = λ at. refl

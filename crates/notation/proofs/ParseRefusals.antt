@@ -1,4 +1,4 @@
--- What reading words can be refused with: 64 to 69, at a token's place or at the words' end.
+-- How reading words can be refused: with 64 to 69, at a token's place or at the words' end.
 use mathlib.Core.Bool.{Bool, true, false}
 use mathlib.Core.List.{List, [], _∷_, _++_}
 use Prim.Native.Nat.{ℕ, zero, suc, _<_, _≤_}

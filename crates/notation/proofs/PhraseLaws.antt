@@ -1,4 +1,4 @@
--- Laws of the table of the notation, each proved for all phrases at once.
+-- Laws of the notation's table, each proved for all phrases at once.
 use mathlib.Core.Path.{_≡_, refl}
 use mathlib.Core.List.{List, []}
 use Rattle.logic.specs.Lists.{All}
@@ -13,7 +13,7 @@ pub all-at : (P : Phrase → Type 0) {r : Phrase} {rs : List Phrase} → r ∈ r
 all-at P first h = h .0
 all-at P (later i) h = all-at P i (h .1)
 
--- Each byte has one phrase in a slot, and so has each word.
+-- In a slot, each byte has one phrase, and so has each word.
 abbrev OnePhrase : List Phrase → Phrase → Type 0
 OnePhrase rs r = (phraseOf (r .byte) rs ≡ found r) × (phraseFor (r .word) rs ≡ found r)
 

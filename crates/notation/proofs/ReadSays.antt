@@ -18,7 +18,7 @@ use Rattle.notation.specs.Parse.{prefixed, askStart, Start, starts, star
 use Rattle.notation.proofs.Says.{_∈_, first, later, Begins, by-word, label, nominal, arrowKind, closing-else, closing-end, Says, nothing, a-mark, a-number, begin, last, one-rule}
 
 module _ (name : Naming) (l : Limits) where
-  -- a number found is in range, and the token is its name
+  -- a number that is found is in range, and the token is its name
   pub record Number (k : Kind) (t : Token) (x : ℕ) : Type 0 where
     pub in-range : T (fits (l .numbers) k x)
     pub is-name : t ≡ name k x

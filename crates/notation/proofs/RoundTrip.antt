@@ -1,4 +1,5 @@
--- What is printed is read back; what is read is a book or an edit, and its tokens are those of its spelling. For one naming; `promises/proofs/Words.antt` says it of the calls.
+-- What is printed is read back; what is read is a book or an edit, and the tokens are its spelling.
+-- For one naming; `promises/proofs/Words.antt` says it for the calls.
 use mathlib.Core.Path.{_≡_, refl, sym, _∙_, ap, subst}
 use mathlib.Core.Bool.{Bool, true, false, _&&_, and-eq-true-iff}
 use mathlib.Core.List.{List, [], _∷_, _++_}
@@ -46,7 +47,7 @@ small nodeNumber x f = omega (arith, ltb→lt x 60 f)
 small leastCount x f = omega (arith, leb-true x 60 (and-eq-true-iff (leb 1 x) (leb x 60) .0 (is-true (leb 1 x && leb x 60) f) .1))
 small mostCount x f = omega (arith, leb→le x 59 f)
 
--- What is read, with its length asked last.
+-- What is read, with its length checked last.
 module _ (l : Limits) (name : Naming) (text : List ℕ) (g : List Goal) (m : ℕ) {bytes : List ℕ} where
   pub words-pass : parseText l name text g m ≡ passed bytes → length bytes ≤ l .longest → askWords l name text g m ≡ passed bytes
   unfolding askWords
@@ -59,7 +60,7 @@ module _ (l : Limits) (name : Naming) (text : List ℕ) (g : List Goal) (m : ℕ
       let (short, same) = is-then (leb (length b) (l .longest)) 70 (length b) (passed b) asked in
       (parsed ∙ same, subst (λ z. length z ≤ l .longest) (passed-same same) (leb-true (length b) (l .longest) short))
 
--- What passes the questions says the same as the tokens of its spelling; and what says so, with two levels more, passes with as many.
+-- What passes the questions says the same as its spelling; and what says so, given two levels more, passes with as many.
 module _ (name : Naming) {bytes : List ℕ} {ts : List Token} where
   pub book-says : SpelledBook name wordLimits bytes ts → Says name wordLimits bytes ts bookGoals mostRules
   book-says s =
@@ -126,7 +127,7 @@ module _ (name : Naming) (text : List ℕ) {bytes : List ℕ} where
       let h = read-says name wordLimits (length text) (tokens text) editGoals 0 parsed in
       (says-edit name wordLimits h .what, edit-passes name wordLimits short h, sym (says-spelled name wordLimits h))
 
--- A fault is placed at the first wrong token.
+-- A fault is at the first wrong token.
 some : (k : Kind) → SomeNumber wordLimits k
 some labelNumber = record { x = 0; in-range = tt }
 some arrowNumber = record { x = 0; in-range = tt }
@@ -152,7 +153,7 @@ module _ (es : List Entry) (free : Free es) (text : List ℕ) (g : List Goal) (m
       go (inl f) = subst (Located (nameIn es) wordLimits law some (length text) (tokens text) g m) f (located (nameIn es) wordLimits law some (length text) (tokens text) g m good)
       go (inr (b, parsed, asked)) = let z = question-refused (leb (length b) (wordLimits .longest)) 70 (length b) b asked .1 in absurd (omega arith)
 
--- Such a fault, said of codes that pass and of their spelling.
+-- The same, stated for codes that pass and their spelling.
 module _ (name : Naming) (S : Spelled) (g : List Goal) (m : ℕ) where
   abbrev IsSaid : Type 0
   IsSaid = (bytes : List ℕ) (ts : List Token) → S wordLimits bytes ts → Says name wordLimits bytes ts g m

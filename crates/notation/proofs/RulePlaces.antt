@@ -1,4 +1,4 @@
--- The rules of words: where one begins, the words before it say exactly those before it.
+-- The rules of words: where one begins, the words before it say exactly the rules before it.
 use mathlib.Core.Path.{_≡_, refl, sym, _∙_, ap, subst}
 use mathlib.Core.Bool.{Bool, true, false, cond}
 use mathlib.Core.List.{List, [], _∷_, _++_}
@@ -35,7 +35,7 @@ use Rattle.notation.proofs.ParseRefusals.{parse-refuses}
 use Rattle.notation.proofs.RuleWords.{RuleCut, Stopped, stopped}
 
 module _ (name : Naming) (l : Limits) where
-  -- What says the same with so many rules, says it where more may follow.
+  -- What says the same with m rules also says it when more may follow.
   pub says-more : {bytes : List ℕ} {ts : List Token} {g : List Goal} {m : ℕ} → Says name l bytes ts g m → (n : ℕ) → m ≤ n → Says name l bytes ts g n
   says-more nothing n h = nothing
   says-more (one-rule s) zero h = absurd (omega arith)
@@ -46,7 +46,7 @@ module _ (name : Naming) (l : Limits) where
   says-more (last d s) n h = last d (says-more s n h)
 
   module _ (law : Lawful name l) where
-    -- What is read with so many rules is read with more, wherever the tokens stand.
+    -- What is read with m rules is read with more, wherever the tokens are.
     pub read-more : (end end′ : ℕ) (ps ps′ : List Placed) (g : List Goal) (m n : ℕ) {bytes : List ℕ} → m ≤ n → tokensOf ps′ ≡ tokensOf ps → parse name l end ps g m ≡ passed bytes
         → parse name l end′ ps′ g n ≡ passed bytes
     read-more end end′ ps ps′ g m n h e r = says-read name l law end′ (says-more (read-says name l end ps g m r) n h) ps′ e
@@ -81,7 +81,7 @@ module _ (name : Naming) (l : Limits) where
         go k few f (yes h) = absurd (r .no-fewer 0 k (r .bytes) h f)
         go k few f (no h) = omega arith
 
--- Where rule i begins, by a table that passes.
+-- Where rule i begins, with a table that passes.
 pub record RuleFound (table words : List ℕ) (i p : ℕ) : Type 0 where
   pub names : List Entry
   pub table-passes : askNames table ≡ passed names

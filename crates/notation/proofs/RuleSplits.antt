@@ -1,4 +1,4 @@
--- Words of a book, cut where one of its rules begins.
+-- The words of a book, cut where one of its rules begins.
 use mathlib.Core.Path.{_≡_, refl, sym, _∙_, ap, ap₂, subst}
 use mathlib.Core.List.{List, [], _∷_, _++_, append-assoc}
 use mathlib.Core.Logic.{_⊎_, inl, inr}
@@ -57,7 +57,7 @@ module _ (es : List Entry) (free : Free es) where
   pub law : Lawful (nameIn es) wordLimits
   law = lawful es free wordLimits small
 
-  -- Tokens of a book, cut before rule i.
+  -- The tokens of a book, cut before rule i.
   pub record CutBefore (end : ℕ) (ps : List Placed) (rules : List (Expr rule)) (i : ℕ) : Type 0 where
     pub p : ℕ
     pub cut : RuleCut (nameIn es) wordLimits ps [] i p
@@ -70,7 +70,7 @@ module _ (es : List Entry) (free : Free es) where
     all : i + (mostRules - i) ≡ mostRules
     all = omega arith
 
-    -- the rules from i on are some
+    -- some rules from i on are left
     some-left : (t : Placed) (rest : List Placed) (n : ℕ) (second : List (Expr rule)) → parse (nameIn es) wordLimits end (t ∷ rest) [] n ≡ passed (bookCode second) → 0 < length second
     unfolding bookCode spell
     some-left t rest n [] e = absurd (omega (arith, ap length (says-spelled (nameIn es) wordLimits (read-says (nameIn es) wordLimits end (t ∷ rest) [] n e))))
@@ -114,12 +114,12 @@ module _ (es : List Entry) (free : Free es) where
         go (refused q p) e (inl (n, r)) = inr (cut-before r)
         go (refused q p) e (inr (n, s)) = refused-not-passed (sym (s (mostRules - i)) ∙ ap (parse (nameIn es) wordLimits end ps []) all ∙ read)
 
--- A place of words, before which stand the first i rules and from which on the others.
+-- A place in words with the first i rules before it and the others from there on.
 pub record SplitAt (es : List Entry) (words : List ℕ) (rules : List (Expr rule)) (i p : ℕ) : Type 0 where
   pub before-read : parseText wordLimits (nameIn es) (take p words) [] mostRules ≡ passed (bookCode (take i rules))
   pub from-read : parseText wordLimits (nameIn es) (drop p words) [] mostRules ≡ passed (bookCode (drop i rules))
 
--- It is a token's, where there is such a rule; else the words' end.
+-- It is a token's place if there is such a rule; else the words' end.
 pub record HasToken (words : List ℕ) (p : ℕ) : Type 0 where
   pub before : List Placed
   pub t : Placed
@@ -170,7 +170,7 @@ module _ (es : List Entry) (free : Free es) (words book : List ℕ) (rules : Lis
         not-there = λ h. absurd (omega arith);
       }
 
-  -- THE PLACE OF RULE i SPLITS THE WORDS AS THE BOOK.
+  -- THE PLACE OF RULE i SPLITS THE WORDS AS IT SPLITS THE BOOK.
   module _ (table : List ℕ) (t : askNames table ≡ passed es) (i : ℕ) where
     pub rule-splits : RuleSplit es words rules i (ruleInWords table words i)
     rule-splits = go (decLt i mostRules)

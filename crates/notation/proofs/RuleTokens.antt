@@ -27,7 +27,7 @@ use Rattle.notation.proofs.CodeSaid.{Said, book-said}
 use Rattle.notation.proofs.RuleWords.{RuleCut}
 use Rattle.notation.proofs.RuleSplits.{law, all-both, CutBefore, cut-or-not}
 
--- tokens that stand nowhere in particular
+-- tokens without particular places
 abbrev bare : List Token → List Placed
 bare ts = map (λ t. record { place = 0; token = t }) ts
 
@@ -38,7 +38,7 @@ bare-tokens (t ∷ ts) = ap (t ∷_) (bare-tokens ts)
 same-front : (a x b y : List Placed) → length a ≡ length b → a ++ x ≡ b ++ y → a ≡ b
 same-front a x b y h e = sym (take-append-seam a x) ∙ ap₂ (λ n z. take n z) h e ∙ take-append-seam b y
 
--- one rule more
+-- one more rule
 abbrev more : List (Expr rule)
 more = subNodes all all ∷ []
 

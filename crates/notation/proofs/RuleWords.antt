@@ -1,4 +1,4 @@
--- Words of which only so many rules are read: where the next one begins.
+-- Words of which only some rules are read: where the next one begins.
 use mathlib.Core.Path.{_≡_, refl, sym, _∙_, ap, subst}
 use mathlib.Core.Bool.{Bool, true, false}
 use mathlib.Core.List.{List, [], _∷_, _++_, append-assoc}
@@ -17,7 +17,7 @@ use Rattle.names.specs.Names.{Naming}
 use Rattle.notation.specs.Grammar.{atElse, atEnd, textEnd, Slot, expr, steps, Goal, mark, number, thing}
 use Rattle.notation.specs.Parse.{prefixed, askStart, Start, starts, starts-nothing, numberOf, start, parse}
 
--- Bytes in front.
+-- Bytes at the front.
 pub prefixed-passed : (c : List ℕ) (r : Asked (List ℕ)) {b : List ℕ} → prefixed c r ≡ passed b → (a : List ℕ) × (r ≡ passed a) × (b ≡ c ++ a)
 unfolding prefixed
 prefixed-passed c (passed a) e = (a, refl, cc)
@@ -33,7 +33,7 @@ unfolding prefixed
 prefixed-twice c d (passed a) = ap passed (sym (append-assoc c d a))
 prefixed-twice c d (refused q p) = refl
 
--- What a token leads to, at a level that is in reach or not; the mark that is wanted or not; a number or none.
+-- What a token leads to: at a level within the limit or not; for the mark wanted or another; for a number or none.
 abbrev atLevel : (place : ℕ) → List ℕ → Bool → Asked (List ℕ) → Asked (List ℕ)
 atLevel p c b r = elim b as (λ z. Asked (List ℕ)) [ true ↦ prefixed c r | false ↦ refused 68 p ]
 
@@ -44,7 +44,7 @@ abbrev ifNumber : (place : ℕ) → Found ℕ → Asked (List ℕ) → Asked (Li
 ifNumber p f r = elim f as (λ z. Asked (List ℕ)) [ found x ↦ prefixed (x ∷ []) r | absent ↦ refused 67 p ]
 
 module _ (name : Naming) (l : Limits) where
-  -- The first j rules end before a token: they are read, with fewer they are not, and with more the rest is read as the others.
+  -- The first j rules end before a token: they are read, with fewer allowed they are not, and with more the rest is read as the others.
   pub record RuleCut (ts : List Placed) (g : List Goal) (j p : ℕ) : Type 0 where
     pub before : List Placed
     pub t : Placed
@@ -56,12 +56,12 @@ module _ (name : Naming) (l : Limits) where
     pub no-fewer : (end k : ℕ) (b : List ℕ) → k < j → parse name l end before g k ≡ passed b → ⊥
     pub onward : (end m : ℕ) (u : Placed) (us : List Placed) → parse name l end (before ++ u ∷ us) g (j + m) ≡ prefixed bytes (parse name l end (u ∷ us) [] m)
 
-  -- What is refused is refused with more rules too, but for 69.
+  -- What is refused is refused with more rules too, except for 69.
   abbrev pub Stopped : (end : ℕ) → List Placed → List Goal → ℕ → Asked (List ℕ) → Type 0
   Stopped end ts g j (passed bytes) = Unit {0}
   Stopped end ts g j (refused q p) = ((q ≡ 69) × RuleCut ts g j p) ⊎ ((q < 69) × ((m : ℕ) → parse name l end ts g (j + m) ≡ refused q p))
 
-  -- One token in front: `up` counts the rule that it begins, if it begins one.
+  -- One token at the front: `up` counts the rule that it begins, if it begins one.
   module _ (up : ℕ → ℕ) (more : (j m : ℕ) → up j + m ≡ up (j + m)) (t : Placed) (g′ : List Goal) where
     -- fewer than a number of rules, the first of them counted
     abbrev Down : Type 0
@@ -118,7 +118,7 @@ module _ (name : Naming) (l : Limits) where
   within : (t : Placed) (g : List Goal) → Down (λ n. n) (λ j m. refl) t g
   within t g end j k us b h e = (k, refl, h)
 
-  -- EVERY READING STOPS SO.
+  -- EVERY READING STOPS THUS.
   pub stopped : (end : ℕ) (ts : List Placed) (g : List Goal) (j : ℕ) → Stopped end ts g j (parse name l end ts g j)
   unfolding parse prefixed
   stopped end [] [] j = tt

@@ -31,7 +31,7 @@ pub record Makes (l : Limits) (s : Slot) (d : ℕ) (bytes : List ℕ) : Type 0 w
   pub same-bytes : spelling (wantOf s) what ≡ bytes
   pub allowed : Allowed l (wantOf s) d what
 
--- the items of a phrase make a thing of its slot, with the bytes before them
+-- the items of a phrase make a thing of its slot, together with the bytes before them
 abbrev Made : Limits → Slot → ℕ → List Item → List ℕ → Type 0
 Made l s d [] pre = Makes l s d pre
 Made l s d (mark t ∷ is) pre = Made l s d is pre
@@ -82,7 +82,7 @@ module _ (l : Limits) (d : ℕ) (h : d ≤ l .deepest) where
       & (λ K aK P aP Q aQ Z aZ. makes (choose K P Q Z) refl (aK .numbers-fit, aP .numbers-fit, aQ .numbers-fit, aZ .numbers-fit) (omega arith))
       & tt
 
--- P holds of the bytes before, with those that meet the goals, and those of at most m rules
+-- P holds for the bytes before, together with those that meet the goals and those of at most m rules
 abbrev Fine : Limits → (List ℕ → Type 0) → List Goal → ℕ → List ℕ → Type 0
 Fine l P [] m pre = (book : List (Expr rule)) → length book ≤ m → EachAllowed l book → P (pre ++ bookCode book)
 Fine l P (mark t ∷ g) m pre = Fine l P g m pre

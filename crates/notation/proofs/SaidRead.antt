@@ -18,8 +18,8 @@ use Rattle.notation.specs.Parse.{prefixed, askStart, Start, starts, numb
 use Rattle.notation.proofs.Says.{Begins, by-word, label, nominal, arrowKind, closing-else, closing-end, Says, nothing, a-mark, a-number, begin, last, one-rule}
 use Rattle.notation.proofs.PhraseLaws.{phrase-of-word}
 
--- What is asked of a naming: each number in range is found by its name; no node's name is a label's; no label's or node's name is a word that begins a node expression,
--- no arrow's one that begins an arrow expression.
+-- What a naming must satisfy: its name finds each number in range; no node has a label's name; no label's or node's name is a word that begins a node
+-- expression, no arrow's name one that begins an arrow expression.
 module _ (name : Naming) (l : Limits) where
   pub record Lawful : Type 0 where
     pub back : (k : Kind) (x : ℕ) → T (fits (l .numbers) k x) → numberOf name l k (name k x) ≡ found x

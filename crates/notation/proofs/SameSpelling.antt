@@ -1,4 +1,4 @@
--- Namings that agree in what codes use spell them by the same tokens.
+-- Namings that agree on what codes use spell them with the same tokens.
 use mathlib.Core.Path.{_≡_, refl, ap, ap₂}
 use mathlib.Core.List.{List, [], _∷_, _++_}
 use Prim.Native.Nat.{ℕ, zero, suc}

@@ -1,4 +1,4 @@
--- The notation as a relation between bytes and tokens, by which the proofs of printing and reading meet.
+-- The notation as a relation between bytes and tokens, which the proofs about printing and reading share.
 use mathlib.Core.List.{List, [], _∷_, _++_}
 use Prim.Native.Nat.{ℕ, suc, _≤_}
 use lib.Dec.{T}
@@ -9,7 +9,7 @@ use Rattle.names.specs.Token.{Token}
 use Rattle.names.specs.Names.{Naming}
 use Rattle.notation.specs.Grammar.{atElse, atEnd, textEnd, Slot, expr, steps, Phrase, elseWord, endWord, phrases, Goal, mark, number, thing, goals}
 
--- A phrase of a list.
+-- A phrase in a list.
 infix 40 _∈_
 pub data _∈_ (r : Phrase) : List Phrase → Type 0 where
   first : {rs : List Phrase} → r ∈ (r ∷ rs)

@@ -1,4 +1,4 @@
--- The names of a table that passes are such that words can be read back, and all tokens are proper.
+-- With the names of a table that passes, words can be read back, and all tokens are proper.
 use mathlib.Core.Path.{_≡_, refl, sym, _∙_, ap}
 use mathlib.Core.Bool.{Bool, true, false, _&&_, _||_, and-eq-true-iff}
 use mathlib.Core.List.{List, [], _∷_, _++_}
@@ -29,7 +29,7 @@ use Rattle.notation.proofs.LayoutLaws.{Proper, EachProper}
 abbrev pub Small : Ranges → Type 0
 Small r = (k : Kind) (x : ℕ) → T (fits r k x) → x < 256
 
--- The word of each phrase is one of the notation's, is a word and no mark.
+-- The word of each phrase is one of the notation's; it is a word and not a mark.
 pub record PhraseWord (r : Phrase) : Type 0 where
   pub of-notation : among (r .word) notationWords ≡ true
   pub is-word : isWord (r .word) ≡ true
@@ -78,7 +78,7 @@ module _ (es : List Entry) (free : Free es) (l : Limits) (small : Small (l .numb
         arrow-word = no-word arrowNumber tt (expr arrow);
       }
 
--- A word is no mark.
+-- A word is not a mark.
 word-no-mark : (t : Token) → isWord t ≡ true → isMark t ≡ false
 unfolding isMark ascii isWord letters isLetter classOf
 word-no-mark t h = go (same t (ascii "(")) refl (same t (ascii ",")) refl (same t (ascii ")")) refl

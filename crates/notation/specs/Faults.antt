@@ -1,4 +1,4 @@
--- The first wrong token of words.
+-- The first wrong token in words.
 use mathlib.Core.Path.{_≡_}
 use mathlib.Core.List.{List, [], _∷_, _++_}
 use Prim.Native.Nat.{ℕ, _+_}
@@ -27,7 +27,7 @@ pub record SpelledEdit (name : Naming) (l : Limits) (bytes : List ℕ) (ts : Lis
   pub passes : askEdit l bytes ≡ passed what
   pub tokens-are : spell name bytes editGoals 0 ≡ ts
 
--- Two levels more, in which whatever was begun can be ended (a rule on the last level has no room for its operands), and as many bytes as there are.
+-- Limits with two levels more, so that anything begun can be completed (a rule at the last level has no room for its operands), and no limit on bytes.
 abbrev pub roomier : (size : ℕ) → Limits
 roomier size = record { longest = size; deepest = wordLimits .deepest + 2; numbers = wordLimits .numbers }
 
@@ -37,12 +37,12 @@ pub record Begun (S : Spelled) (ts : List Token) : Type 0 where
   pub bytes : List ℕ
   pub spelled : S (roomier (length bytes)) bytes (ts ++ more)
 
--- The place is that of a token up to which the tokens begin no words; or the text's end, where all of them are no words.
+-- The place is that of a token with which the tokens so far begin no words; or the text's end, if all tokens together are not words.
 abbrev pub WrongAt : Spelled → (end : ℕ) → (before rest : List Placed) → (p : ℕ) → Type 0
 WrongAt S end before [] p = (p ≡ end) × ((bytes : List ℕ) → S wordLimits bytes (tokensOf before) → ⊥)
 WrongAt S end before (t ∷ rest) p = (p ≡ t .place) × ((bytes : List ℕ) (more : List Token) → S wordLimits bytes (tokensOf before ++ t .token ∷ more) → ⊥)
 
--- It is the first such place: the tokens before it begin some words, with two levels more.
+-- It is the first such place: the tokens before it begin some words, given two levels more.
 pub record FirstWrong (S : Spelled) (words : List ℕ) (p : ℕ) : Type 0 where
   pub before : List Placed
   pub rest : List Placed

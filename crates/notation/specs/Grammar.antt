@@ -1,4 +1,4 @@
--- The notation: which words stand for which codes. Sorts are known from the position, so words are shared between sorts. Operands stand in the order of the codes.
+-- The notation: which words stand for which codes. The position tells the sort, so sorts share words. Operands are in the order of the codes.
 use mathlib.Core.List.{List, [], _∷_, _++_}
 use Prim.Native.Nat.{ℕ, suc}
 use Prim.Native.String.{String}
@@ -6,7 +6,7 @@ use Rattle.logic.specs.Syntax.{Sort, node, arrow, rule}
 use Rattle.logic.specs.Limits.{Kind, labelNumber, arrowNumber, nodeNumber, leastCount, mostCount}
 use Rattle.names.specs.Token.{Token, ascii}
 
--- Where the steps of an edit end: at `else`, at `end`, or with the text. Each such end is a 30.
+-- Where the steps of an edit end: at `else`, at `end`, or with the text. Each of these ends is a 30.
 pub data Closing : Type 0 where
   atElse atEnd textEnd : Closing
 
@@ -15,19 +15,20 @@ pub data Slot : Type 0 where
   expr : Sort → Slot
   steps : Closing → Slot
 
--- What follows a word: a mark; a number, written as a name or a count; a thing one level deeper; the steps after a step, on its level.
+-- What follows a word: a mark; a number, written as a name or a count; a thing one level deeper; the steps after a step, at its level.
 pub data Item : Type 0 where
   mark : Token → Item
   number : Kind → Item
   deeper : Slot → Item
   more : Item
 
+-- A phrase: its code, its word, and what follows the word.
 pub record Phrase : Type 0 where
   pub byte : ℕ
   pub word : Token
   pub items : List Item
 
--- Operands in brackets, with commas between them.
+-- Operands in brackets, separated by commas.
 unfoldable pub afterComma : List Item → List Item
 afterComma [] = mark (ascii ")") ∷ []
 afterComma (x ∷ xs) = mark (ascii ",") ∷ x ∷ afterComma xs
@@ -67,7 +68,7 @@ elseWord = ascii "else"
 abbrev pub endWord : Token
 endWord = ascii "end"
 
--- THE NOTATION. 03, 04 and 11 are a name alone; 30 is the end of steps.
+-- THE NOTATION. 03, 04 and 11 are just a name; 30 is the end of steps.
 unfoldable pub phrases : Slot → List Phrase
 phrases (expr node) =
     phrase 0x01 "all" []
@@ -105,13 +106,13 @@ phrases (steps c) =
     ∷ step 0x35 "if" (K ∷ []) (deeper (steps atElse) ∷ deeper (steps atEnd) ∷ [])
     ∷ []
 
--- What the tokens to come must be: a mark, a number, a thing at a level.
+-- What the next tokens must be: a mark, a number, a thing at a level.
 pub data Goal : Type 0 where
   mark : Token → Goal
   number : Kind → Goal
   thing : Slot → (level : ℕ) → Goal
 
--- The items of a phrase that stands in a slot, at a level.
+-- The goals of a phrase's items, for a phrase in a slot at a level.
 unfoldable pub goals : Slot → ℕ → List Item → List Goal
 goals s d [] = []
 goals s d (mark t ∷ is) = mark t ∷ goals s d is

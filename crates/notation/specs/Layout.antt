@@ -1,5 +1,5 @@
--- One layout of tokens: a word outside brackets begins a line, two blanks further in inside an `if`; in brackets a word has a blank before it, but not after `(`.
--- The last line ends too.
+-- The layout of tokens: a word outside brackets begins a line, indented by two blanks for each `if` around it; inside brackets a word has a blank before it,
+-- except after `(`. The last line ends with a line feed too.
 use mathlib.Core.Bool.{Bool, _||_, cond}
 use mathlib.Core.List.{List, [], _∷_, _++_}
 use Prim.Native.Nat.{ℕ, zero, suc, _+_, _*_, _-_}
@@ -7,14 +7,14 @@ use lib.ListN.{replicate}
 use Rattle.names.specs.Token.{Token, ascii, same}
 use Rattle.notation.specs.Grammar.{elseWord, endWord}
 
--- What stands before a token: nothing, `(`, another token.
+-- What comes before a token: nothing, `(`, or another token.
 pub data Before : Type 0 where
   atStart opened other : Before
 
 unfoldable pub isMark : Token → Bool
 isMark t = same t (ascii "(") || (same t (ascii ",") || same t (ascii ")"))
 
--- In how many brackets, and in how many `if`s, what follows a token stands.
+-- After a token: how many brackets, and how many `if`s, are open.
 unfoldable pub brackets : ℕ → Token → ℕ
 brackets b t = cond (same t (ascii "(")) (b + 1) (cond (same t (ascii ")")) (b - 1) b)
 
@@ -22,6 +22,7 @@ unfoldable pub ifs : (b i : ℕ) → Token → ℕ
 ifs zero i t = cond (same t (ascii "if")) (i + 1) (cond (same t endWord) (i - 1) i)
 ifs (suc b) i t = i
 
+-- The blanks at the start of a word's line: `else` and `end` are aligned with their `if`.
 unfoldable pub margin : ℕ → Token → List ℕ
 margin i t = replicate (2 * cond (same t elseWord || same t endWord) (i - 1) i) 0x20
 

@@ -1,5 +1,5 @@
--- Reading words: the codes that tokens stand for, or the first fault and its place. 64: a token is missing. 65: this token begins no such thing as is wanted here. 66: this is not the mark
--- that is wanted. 67: no name or count of the sort that is wanted, in its range. 68: what this token begins would stand below the last level. 69: a rule too many.
+-- Reading words: the codes that tokens stand for, or the first fault and its place. 64: a token is missing. 65: the token begins nothing of the sort wanted.
+-- 66: not the mark wanted. 67: not a name or count of the sort wanted, or out of range. 68: the token begins something too deep. 69: a rule too many.
 use mathlib.Core.Bool.{true, false, _&&_, cond}
 use mathlib.Core.List.{List, [], _∷_, _++_}
 use Prim.Native.Nat.{ℕ, zero, suc}
@@ -13,17 +13,17 @@ use Rattle.names.specs.Scan.{Placed}
 use Rattle.names.specs.Names.{Naming}
 use Rattle.notation.specs.Grammar.{atElse, atEnd, textEnd, elseWord, endWord, Slot, expr, steps, Phrase, phrases, Goal, mark, number, thing, goals}
 
--- Bytes before those that are read.
+-- The bytes c, then those that are read.
 unfoldable pub prefixed : List ℕ → Asked (List ℕ) → Asked (List ℕ)
 prefixed c (passed bytes) = passed (c ++ bytes)
 prefixed c (refused q p) = refused q p
 
--- What begins with a token: its bytes and what must follow.
+-- What a token begins: its bytes, and what must follow.
 pub data Start : Type 0 where
   starts : (bytes : List ℕ) (then : List Goal) → Start
   starts-nothing : Start
 
--- What begins at a level: 65, then 68; else its bytes, before those of the rest.
+-- What begins at a level: 65, then 68; else its bytes, then those of the rest.
 abbrev pub askStart : Limits → (level place : ℕ) → Start → (rest : List Goal → Asked (List ℕ)) → Asked (List ℕ)
 askStart l d p (starts c then) rest = elim (leb d (l .deepest)) [ true ↦ prefixed c (rest then) | false ↦ refused 68 p ]
 askStart l d p starts-nothing rest = refused 65 p
@@ -33,7 +33,7 @@ phraseFor t [] = absent
 phraseFor t (r ∷ rs) = elim (same t (r .word)) [ true ↦ found r | false ↦ phraseFor t rs ]
 
 module _ (name : Naming) (l : Limits) where
-  -- The number in range that is written so.
+  -- The number in range that is written so, if there is one.
   unfoldable pub numberOf : Kind → Token → Found ℕ
   numberOf k t = firstBelow (λ x. fits (l .numbers) k x && same t (name k x)) 256
 
@@ -51,7 +51,7 @@ module _ (name : Naming) (l : Limits) where
   unfoldable pub start : Slot → (level : ℕ) → Token → Start
   start s d t = elim (phraseFor t (phrases s)) [ found r ↦ starts (r .byte ∷ []) (goals s d (r .items)) | absent ↦ bareStart s t ]
 
-  -- The goals followed along the tokens, with at most m rules after them; `end` is the place after the last byte of the text.
+  -- Follows the goals along the tokens, with at most m rules after them; `end` is the place after the last byte of the text.
   module _ (end : ℕ) where
     unfoldable pub parse : List Placed → List Goal → (m : ℕ) → Asked (List ℕ)
     parse [] [] m = passed []

@@ -1,4 +1,4 @@
--- The tokens of a text of codes: its spelling.
+-- The spelling of codes: their tokens.
 use mathlib.Core.Bool.{true, false}
 use mathlib.Core.List.{List, [], _∷_, _++_}
 use Prim.Native.Nat.{ℕ, zero, suc}
@@ -18,7 +18,7 @@ unfoldable pub phraseOf : ℕ → List Phrase → Found Phrase
 phraseOf c [] = absent
 phraseOf c (r ∷ rs) = elim (eqb c (r .byte)) [ true ↦ found r | false ↦ phraseOf c rs ]
 
--- 03, 04, 11 and 30, which have no word of their own; what stands for no code writes nothing.
+-- 03, 04, 11 and 30, which do not have a phrase. In texts that pass their questions no other byte comes here.
 unfoldable pub bare : Slot → ℕ → Opens
 bare (expr node) c = elim (eqb c 0x03) [ true ↦ record { tokens = []; then = number labelNumber ∷ [] } | false ↦ record { tokens = []; then = number nodeNumber ∷ [] } ]
 bare (expr arrow) c = record { tokens = []; then = number arrowNumber ∷ [] }
@@ -43,7 +43,7 @@ module _ (name : Naming) where
   spell (x ∷ bytes) (number k ∷ g) m = name k x ∷ spell bytes g m
   spell (x ∷ bytes) (thing s d ∷ g) m = opens s d x .tokens ++ spell bytes (opens s d x .then ++ g) m
 
--- The numbers that a text of codes names.
+-- The numbers in a text of codes, each with its kind.
 pub record Used : Type 0 where
   pub kind : Kind
   pub number : ℕ

@@ -1,4 +1,4 @@
--- Books, edits and rules in words: printing and reading. The ranges are those of texts for 60 nodes.
+-- Books, edits and rules in words: printing and reading. The ranges are those for 60 nodes.
 use mathlib.Core.Bool.{cond}
 use mathlib.Core.List.{List, [], _∷_}
 use Prim.Native.Nat.{ℕ}
@@ -18,14 +18,14 @@ use Rattle.notation.specs.Spell.{spell}
 use Rattle.notation.specs.Parse.{parse}
 use Rattle.notation.specs.Layout.{laid}
 
--- The limits of a book or an edit; and of a carried rule.
+-- The limits of a book or an edit; of a carried rule.
 abbrev pub wordLimits : Limits
 wordLimits = textLimits maxNodes
 
 abbrev pub ruleLimits : Limits
 ruleLimits = carriedLimits maxNodes
 
--- What the words of a book, of an edit and of one rule must be. At most 32 rules may follow those of a book, which are none; no rule the others.
+-- What the words of a book, of an edit and of one rule must begin with. For a book that is nothing, and up to 32 rules follow; for the others none do.
 abbrev pub bookGoals : List Goal
 bookGoals = []
 
@@ -35,7 +35,7 @@ editGoals = thing (steps textEnd) 1 ∷ []
 abbrev pub ruleGoals : List Goal
 ruleGoals = thing (expr rule) 1 ∷ []
 
--- The words of a text of codes.
+-- The words for the codes of a book, an edit, a rule.
 abbrev pub bookWords : Naming → List ℕ → List ℕ
 bookWords name book = laid (spell name book bookGoals mostRules)
 
@@ -45,7 +45,7 @@ editWords name edit = laid (spell name edit editGoals 0)
 abbrev pub ruleWords : Naming → List ℕ → List ℕ
 ruleWords name K = laid (spell name K ruleGoals 0)
 
--- Printing: 63 of the table, 11 to 16 of the book or 21 to 26 of the edit, 33.
+-- Printing: 63 for the table, 11 to 16 for the book or 21 to 26 for the edit, 33.
 unfoldable pub askBookToWords : (table book : List ℕ) (room : ℕ) → Asked (List ℕ)
 askBookToWords table book room = do
   es ← askNames table
@@ -58,14 +58,14 @@ askEditToWords table edit room = do
   askEdit wordLimits edit
   askRoom (editWords (nameIn es) edit) room
 
--- The first rule of a text, by the limits of a carried rule, of as many bytes as such a rule may have: 63, 12 to 15, 33.
+-- Printing the first rule of a text, by the limits of a carried rule; no more bytes are read than such a rule may have: 63, 12 to 15, 33.
 unfoldable pub askRuleToWords : (table text : List ℕ) (room : ℕ) → Asked (List ℕ)
 askRuleToWords table text room = do
   es ← askNames table
   K ← askFirst ruleLimits (take (ruleLimits .longest) text)
   askRoom (ruleWords (nameIn es) (code K)) room
 
--- Reading words: 64 to 69; then 70 when the codes are too long, place how long they are.
+-- Reading words: 64 to 69; then 70 if the codes are too long, with their length as the place.
 module _ (l : Limits) (name : Naming) (text : List ℕ) (g : List Goal) (m : ℕ) where
   abbrev pub parseText : Asked (List ℕ)
   parseText = parse name l (length text) (tokens text) g m
@@ -86,7 +86,7 @@ readEdit name text = askWords wordLimits name text editGoals 0
 abbrev pub readRule : Naming → List ℕ → Asked (List ℕ)
 readRule name text = askWords ruleLimits name text ruleGoals 0
 
--- 63, 64 to 70, 33.
+-- Reading: 63, 64 to 70, 33.
 unfoldable pub askBookFromWords : (table text : List ℕ) (room : ℕ) → Asked (List ℕ)
 askBookFromWords table text room = do
   es ← askNames table
@@ -99,8 +99,8 @@ askEditFromWords table text room = do
   bytes ← readEdit (nameIn es) text
   askRoom bytes room
 
--- Where a rule's first word stands in the words of a book, the rules counted from 0: where it would be the one too many, were its number the most that a book may have.
--- The words' length where there is none, where a rule before it cannot be read, or the table is wrong; later faults do not matter.
+-- The place of a rule's first word in the words of a book, with rules counted from 0: the place of 69 if a book could have only the rules before it.
+-- The words' length if there is no such rule, an earlier rule cannot be read, or the table is wrong; later faults do not matter.
 unfoldable pub tooMany : (end : ℕ) → Asked (List ℕ) → ℕ
 tooMany end (passed bytes) = end
 tooMany end (refused q p) = cond (eqb q 69) p end

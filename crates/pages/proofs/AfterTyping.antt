@@ -1,4 +1,4 @@
--- After typing, the sheet stores the graph with just that relation or those labels changed, is sound, and prints the page that was typed.
+-- After typing, the sheet stores the graph with only those arrows or labels changed, is sound, and prints the page that was typed.
 use mathlib.Core.Logic.{_≢_}
 use mathlib.Core.Path.{_≡_, refl, sym, _∙_, ap}
 use mathlib.Core.List.{List, [], _∷_}
@@ -29,7 +29,7 @@ abbrev pub blockNumber : Block → ℕ
 blockNumber (arrows a) = suc a
 blockNumber labels = 0
 
--- its other blocks are those of the graph as it was
+-- its other blocks are those of the original graph
 other-labels : (g : Graph) (page : List ℕ) (a : ℕ) → labelBlock present (typed g page (arrows a)) ≡ labelBlock present g
 other-labels g page a = unfold labelBlock typed in refl
 
@@ -64,15 +64,15 @@ module _ (sheet page : List ℕ) (are-bytes : Bytes sheet) (b : Block) (done : a
   pub graph-after : graphOf (typedSheet sheet page) ≡ typed g page b
   graph-after = ap graphOf sheet-after ∙ read-back (typed g page b) whole
 
-  -- The nodes in use are as they were.
+  -- The nodes in use are unchanged.
   pub used-after : graphOf (typedSheet sheet page) .inUse ≡ g .inUse
   used-after = ap (λ (h : Graph). h .inUse) graph-after ∙ typed-alike g page b .in-use
 
-  -- The block has become the page.
+  -- The block's page is now the page that was typed.
   pub page-after : pageOf (graphOf (typedSheet sheet page)) b ≡ page
   page-after = ap (λ h. pageOf h b) graph-after ∙ sym (accepted-page g page b right)
 
-  -- Every other block is as it was.
+  -- Every other block is unchanged.
   pub others-after : (c : ℕ) → c < blockCount → c ≢ blockNumber b → blockOf (typedSheet sheet page) c ≡ blockOf sheet c
   others-after c l d = ap (λ t. blockOf t c) sheet-after ∙ same c b l d ∙ ap (λ t. blockOf t c) (sym (sound-is-stored present sheet are-bytes (asked .0) .stored)) where
     same : (c : ℕ) (b : Block) → c < blockCount → c ≢ blockNumber b → blockOf (store (typed g page b)) c ≡ blockOf (store g) c

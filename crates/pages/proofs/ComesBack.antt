@@ -1,4 +1,4 @@
--- Every page printed is accepted, and gives back the sheet it came from, byte for byte.
+-- Every printed page is accepted and gives back the sheet it came from, byte for byte.
 use mathlib.Core.Path.{_≡_, refl, sym, _∙_, ap, fun-ext}
 use mathlib.Core.Bool.{Bool, true, false, cond}
 use mathlib.Core.List.{List}
@@ -29,7 +29,7 @@ use Rattle.pages.proofs.PageAccepted.{printed-right, right-accepted}
 itself : (g : Graph) → Alike g g
 itself g = record { nodes = refl; in-use = refl }
 
--- a page of a graph has what the graph has, also in a graph alike
+-- a graph's page shows what the graph has, also in a graph like it
 module _ (g : Graph) (w : Within g) where
   module _ (h : Graph) (e : Alike h g) where
     pub arrows-into : (a : ℕ) → typed h (arrowPage g a) (arrows a) ≡ rejoin h a (g .joined a)
@@ -46,7 +46,7 @@ module _ (g : Graph) (w : Within g) where
       | no l ↦ rw (le-ltb k labelCount (omega arith)) (sym (w .no-more-labels k i (omega arith)))
     ])))
 
-  -- and the graph itself is as it was
+  -- and the graph itself is unchanged
   pub same-graph : (b : Block) → typed g (pageOf g b) b ≡ g
   unfolding update
   same-graph (arrows a) = arrows-into g (itself g) a ∙ (λ t. record { n = g .n; inUse = g .inUse; labelled = g .labelled; joined = fun-ext (λ c. go c (eqb c a) refl) t }) where
@@ -55,7 +55,7 @@ module _ (g : Graph) (w : Within g) where
     go c false e = refl
   same-graph labels = labels-into g (itself g)
 
--- The page of a block of a sound sheet, typed into a sound sheet alike.
+-- The page of a block of a sound sheet, typed into a sound sheet like it.
 module _ (first second : List ℕ) (first-bytes : Bytes first) (first-sound : Sound first) (second-sound : Sound second) (e : Alike (graphOf second) (graphOf first)) where
   pub page-accepted : (b : Block) → HasBlock b → askType second (pageOf (graphOf first) b) ≡ passed b
   unfolding askType _>>_
@@ -63,7 +63,7 @@ module _ (first second : List ℕ) (first-bytes : Bytes first) (first-sound : So
       ap (λ x. x >> askPage (graphOf second) (pageOf (graphOf first) b)) second-sound
       ∙ right-accepted (graphOf second) (pageOf (graphOf first) b) b (printed-right (graphOf second) (graphOf first) (sound-is-stored present first first-bytes first-sound .within) e b h)
 
--- What printing asks: the sheet is sound, has the block, and the page is that block's.
+-- What printing requires: the sheet is sound and has the block, and the page is that block's.
 pub record Printed (sheet page : List ℕ) (b : Block) : Type 0 where
   pub sound : Sound sheet
   pub block : HasBlock b
@@ -86,7 +86,7 @@ module _ (sheet : List ℕ) (room : ℕ) (page : List ℕ) where
       let r = then-passed (askSheet sheet) (askRoom (labelPage (graphOf sheet)) room) page e in
       record { sound = r .1; block = tt; is-page = room-page (labelPage (graphOf sheet)) (r .2) }
 
--- EVERY PAGE PRINTED: what either call writes is typed back as the block it came from, and the sheet is as it was.
+-- EVERY PAGE PRINTED: what either call writes, typed back, becomes the block it came from, and the sheet is unchanged.
 module _ (sheet : List ℕ) (are-bytes : Bytes sheet) (room : ℕ) (page : List ℕ) where
   abbrev Back : Block → Type 0
   Back b = (askType sheet page ≡ passed b) × (typedSheet sheet page ≡ sheet)

@@ -1,4 +1,4 @@
--- A page printed from one sheet and typed into another with the same n and nodes in use makes that block of the second the block of the first.
+-- A page printed from one sheet and typed into another with the same n and nodes in use gives the second sheet that block of the first.
 use mathlib.Core.Path.{_≡_, refl, sym, _∙_, ap, ap₂}
 use mathlib.Core.Bool.{Bool, cond}
 use mathlib.Core.List.{List, [], _∷_}
@@ -19,7 +19,7 @@ use Rattle.pages.specs.Prints.{pageOf, HasBlock, Alike}
 use Rattle.pages.proofs.ComesBack.{arrows-into, labels-into, page-accepted, Printed}
 use Rattle.pages.proofs.AfterTyping.{blockNumber, sheet-after}
 
--- the blocks of graphs alike that have the same arrows of a kind, or the same labels
+-- the blocks of two graphs that are alike and have the same arrows of a kind, or the same labels
 module _ (g h : Graph) (e : Alike h g) where
   same-arrows : (a : ℕ) → arrowBlock present (rejoin h a (g .joined a)) a ≡ arrowBlock present g a
   unfolding arrowBlock update

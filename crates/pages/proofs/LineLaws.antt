@@ -1,4 +1,4 @@
--- Lines written byte by byte, compared, and their marks.
+-- Lines written byte by byte; comparing lines; their marks.
 use mathlib.Core.Path.{_≡_, sym, _∙_, ap, ap₂}
 use mathlib.Core.Bool.{true, _&&_}
 use mathlib.Core.List.{List, [], _∷_, _++_, append-assoc, append-nil}
@@ -21,7 +21,7 @@ use Rattle.sheet.specs.Sheet.{chunks}
 use Rattle.sheet.proofs.ChunkLaws.{chunks-more}
 use Rattle.pages.specs.Page.{headLine, square, squares, setLine}
 
--- comparing: one byte more
+-- comparing: one more byte
 pub same-step : (a b : List ℕ) (i : ℕ) → i < length a → i < length b
     → sameBytes (drop i a) (drop i b) ≡ (eqb (getD a i 0) (getD b i 0) && sameBytes (drop (i + 1) a) (drop (i + 1) b))
 same-step a b i h k = unfold sameBytes in rw add-one (ap₂ sameBytes (drop-cons a i 0 h) (drop-cons b i 0 k))
@@ -30,7 +30,7 @@ same-step a b i h k = unfold sameBytes in rw add-one (ap₂ sameBytes (drop-cons
 pub same-end : (a b : List ℕ) (i : ℕ) → length a ≤ i → length b ≤ i → sameBytes (drop i a) (drop i b) ≡ true
 same-end a b i h k = unfold sameBytes in ap₂ sameBytes (drop-of-length-le a h) (drop-of-length-le b k)
 
--- a line shows only what a set has below n
+-- a line shows only the set's members below n
 square-cong : (n : ℕ) (v w : Nodes) (j : ℕ) → ((i : ℕ) → i < n → v i ≡ w i) → square n v j ≡ square n w j
 square-cong n v w j h = unfold square in elim (decLt j n) [ yes l ↦ rw (h j l) | no l ↦ rw (le-ltb j n (omega arith)) ]
 
@@ -40,7 +40,7 @@ setLine-cong n x v w h = unfold setLine squares in simp (square-cong n v w)
 pub setLine-word : (n x : ℕ) (v : Nodes) (row : ℕ) → row ≡ setOf n v → setLine n x (member row) ≡ setLine n x v
 setLine-word n x v row e = setLine-cong n x (member row) v (λ i l. ap (λ r. member r i) e ∙ member-setOf n v i l)
 
--- of the numbers below n the nodes in use are the nodes
+-- below n, the nodes in use are the nodes
 pub nodes-used : (g : Graph) → setOf (g .n) (isNode g) ≡ setOf (g .n) (g .inUse)
 nodes-used g = unfold isNode in setOf-cong (g .n) (isNode g) (g .inUse) (λ i l. ap (_&& g .inUse i) (lt-ltb i (g .n) l))
 
@@ -97,7 +97,7 @@ module _ {d : List ℕ} (x : ℕ) where
       let r : length (postOf 1 2 (a ∷ line)) ≡ 61 = ap length (post-is 1 3 (a ∷ line) (omega arith)) ∙ length-drop 2 line ∙ omega arith in
       record { whole = ap suc (length-append d (postOf 1 2 (a ∷ line))) ∙ omega arith; front = ap (a ∷_) (take-at d (postOf 1 2 (a ∷ line)) 2 k ∙ w) }
 
--- With the squares, the line is the set's; with those of no columns, it is the head.
+-- With its squares, the line is that of the set; with the squares of no columns, it is the head.
 pub line-written : {line : List ℕ} (n x row : ℕ) → Started (digits 2 x ++ (0x20 ∷ [])) line → take 3 line ++ squares n (member row) ≡ setLine n x (member row)
 line-written n x row s = unfold setLine in ap (_++ squares n (member row)) (s .front) ∙ append-assoc (digits 2 x) _ _
 

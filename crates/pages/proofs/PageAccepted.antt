@@ -1,4 +1,4 @@
--- A page is accepted exactly when some graph within the limits, of as many nodes and with the same nodes in use, prints it.
+-- A page is accepted exactly when some graph within the limits, with as many nodes and the same ones in use, prints it.
 use mathlib.Core.Path.{_≡_, refl, sym, _∙_, ap, ap₂, subst}
 use mathlib.Core.Bool.{true, false, and-false}
 use mathlib.Core.Logic.{⊎-elim}
@@ -38,7 +38,7 @@ module _ (g : Graph) (b : Block) (page : List ℕ) where
       let (r, s) = is-then (lineRight g b x (pageLine page (suc x))) 51 (suc x) (askLines g b page m (suc x)) e in
       ⊎-elim (λ z. subst (λ y. lineRight g b y (pageLine page (suc y)) ≡ true) z r) (λ k. right-all m (suc x) s y k (omega arith)) (eq-or-lt-of-le l)
 
--- a page that is accepted: its head, and its lines
+-- an accepted page: its head and its lines
 pub record Right (g : Graph) (page : List ℕ) (b : Block) : Type 0 where
   pub head : askHead (g .n) page ≡ passed b
   pub lines : askLines g b page (linesOf (g .n) b) 0 ≡ passed tt
@@ -75,7 +75,7 @@ module _ (h : Graph) where
       sym (names-arrows (h .n) (arrowPage h a) (not-labels a) (omega arith) (ap (λ x. headIs (h .n) (arrowPage h a) (arrows x)) k ∙ own-head (arrows a))) ∙ ap (λ x. passed (arrows x)) k
   printed-head labels l = sym (names-labels (h .n) (labelPage h) (own-head labels))
 
--- what a graph alike prints is accepted
+-- what a graph like this one prints is accepted
 pub printed-right : (g h : Graph) → Within h → Alike g h → (b : Block) → HasBlock b → Right g (pageOf h b) b
 printed-right g h w e b l =
     record {
@@ -94,8 +94,8 @@ accepted-page g page b r =
     (chunks-same (linesOf (g .n) b) 0 _ _ (λ x l u. typed-line g page b x (right-all g b page (linesOf (g .n) b) 0 (r .lines) x l u)))
     ∙ ap (λ m. headOf m b ++ chunks (linesOf m b) 0 (λ x. setLine m x (setAt (typed g page b) b x))) (sym n) ∙ sym (page-is (typed g page b) b)
 
--- EXACTLY WHEN. For a graph within the limits: a page is accepted for a block exactly when some graph within the limits, of as many nodes and with the
--- same nodes in use, prints it for that block.
+-- EXACTLY WHEN. For a graph within the limits: a page is accepted for a block exactly when some graph within the limits, with as many nodes and the
+-- same ones in use, prints it for that block.
 module _ (g : Graph) (page : List ℕ) (b : Block) where
   pub accepted-printed : Within g → askPage g page ≡ passed b → Prints g page b
   accepted-printed w e =

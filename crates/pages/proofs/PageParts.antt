@@ -36,7 +36,7 @@ module _ (h : Graph) (b : Block) where
       let z : 0 + x ≡ x = omega arith in
       rw (page-is h b, e, drop-append-add) (take-chunk 64 _ set-lines (linesOf (h .n) b) 0 x l ∙ ap (λ y. setLine (h .n) y (setAt h b y)) z)
 
--- a page is its lines put together
+-- a page is the lines it is cut into, joined
 module _ (page : List ℕ) where
   rest : (m i : ℕ) → length page ≡ 64 * (i + m) + 64 → drop (64 * suc i) page ≡ chunks m i (λ x. pageLine page (suc x))
   unfolding chunks

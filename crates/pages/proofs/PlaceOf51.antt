@@ -22,7 +22,7 @@ use Rattle.pages.proofs.TypeLaws.{head-named}
 use Rattle.pages.proofs.RightLines.{line-right, right-line}
 use Rattle.pages.proofs.PageAccepted.{printed-right}
 
--- the head is asked of the length and the first line alone
+-- the question about the head depends only on the length and the first line
 head-asked : (n : ℕ) (page other : List ℕ) → length page ≡ length other → pageLine page 0 ≡ pageLine other 0 → askHead n page ≡ askHead n other
 unfolding askHead headIs
 head-asked n page other l e = λ t. by (l t) (e t) (number t) where

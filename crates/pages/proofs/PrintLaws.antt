@@ -1,4 +1,4 @@
--- Printing, by its questions.
+-- Printing, in terms of its questions.
 use mathlib.Core.Path.{_≡_, sym, _∙_, ap, ap₂}
 use mathlib.Core.List.{List, _++_, append-assoc, append-nil}
 use Prim.Native.Nat.{ℕ, _+_, _-_, _≤_, _<_}
@@ -18,7 +18,7 @@ use Rattle.sheet.specs.Questions.{askSheet}
 use Rattle.pages.specs.Page.{arrowPage, labelPage}
 use Rattle.pages.specs.Print.{askPrintArrow, askPrintLabels}
 
--- A sheet that is refused or sound, as printing asks it.
+-- A sheet that is refused or sound, as printing checks it.
 module _ (sheet : List ℕ) (a : Answer) (check : asked a ≡ askSheet sheet) (room : ℕ) where
   pub arrow-refused : (arrow : ℕ) (r : Refusal) → a ≡ Refused r → askPrintArrow sheet arrow room ≡ refused (refusalNumber r) (refusalPlace r)
   arrow-refused arrow r e = unfold askPrintArrow _>>_ in rw (sym check ∙ ap asked e)
@@ -36,7 +36,7 @@ module _ (sheet : List ℕ) (a : Answer) (check : asked a ≡ askSheet sheet) (r
     pub labels-room : askRoom (labelPage (graphOf sheet)) room ≡ askPrintLabels sheet room
     labels-room = unfold askPrintLabels _>>_ in rw (sym check ∙ ap asked sound)
 
--- the head written, and then the lines after it
+-- the head is written, and then the lines after it
 module _ (output head : List ℕ) (whole : length head ≡ 64) (room : 64 ≤ length output) where
   abbrev headed : List ℕ
   headed = head ++ postOf 0 64 output

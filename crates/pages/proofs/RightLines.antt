@@ -44,7 +44,7 @@ module _ (n x : ℕ) where
       ∙ List·getD-append sq (0x0A ∷ []) 0 j (omega (arith, length-chunks 1 (λ k. square n v k ∷ []) (λ k. refl) maxNodes 0))
       ∙ singles (square n v) maxNodes 0 j h ∙ ap (square n v) z
 
-  -- shows whether the set has it
+  -- it shows whether the set has that member
   pub marks-of-line : n ≤ maxNodes → (v : Nodes) (j : ℕ) → j < n → marks (setLine n x v) j ≡ v j
   unfolding square
   marks-of-line few v j h =
@@ -61,11 +61,11 @@ nodes-kept g v h i = go (isNode g i) (v i) (h i) where
 pub pairs-kept : (g : Graph) (v : Pairs) → PairsIn g v → (i j : ℕ) → (isNode g i && (isNode g j && v i j)) ≡ v i j
 pairs-kept g v h i j = ap (isNode g i &&_) (nodes-kept g (v i) (λ k e. h .ends i k e) j) ∙ nodes-kept g (λ k. v k j) (λ k e. h .starts k j e) i
 
--- the nodes of graphs alike
+-- the nodes of graphs that are alike
 pub same-node : (g h : Graph) → Alike g h → (i : ℕ) → isNode g i ≡ isNode h i
 same-node g h e i = unfold isNode in sym (ap₂ (λ m (u : Nodes). ltb i m && u i) (e .nodes) (e .in-use))
 
--- the set that a line has by its marks: a graph's own, the same for graphs alike
+-- the set that a line's marks show: in the graph itself, and the same in graphs like it
 module _ (g : Graph) (x : ℕ) where
   shown-own : Within g → (b : Block) (j : ℕ) → setShown g b x (setAt g b x) j ≡ setAt g b x j
   shown-own w (arrows a) j = pairs-kept g (g .joined a) (w .arrows-in a) x j
@@ -73,7 +73,7 @@ module _ (g : Graph) (x : ℕ) where
       elim (ltb x labelCount) as (λ c. cond c (isNode g j && cond c (g .labelled x) (g .inUse) j) (g .inUse j) ≡ cond c (g .labelled x) (g .inUse) j)
       [ true ↦ nodes-kept g (g .labelled x) (w .labels-in x) j | false ↦ refl ]
 
-  -- by the nodes that are marked
+  -- it depends only on the nodes that are marked
   of-nodes : (v w : Nodes) (j : ℕ) → (j < g .n → v j ≡ w j) → (isNode g j && v j) ≡ (isNode g j && w j)
   of-nodes v w j h = elim (decLt j (g .n)) [ yes l ↦ ap (isNode g j &&_) (h l) | no l ↦ rw (no-node g j (omega arith)) ]
 
@@ -86,17 +86,17 @@ module _ (g : Graph) (x : ℕ) where
     shown-alike (arrows k) v j = ap₂ (λ a b. a && (b && v j)) (same-node g h e x) (same-node g h e j)
     shown-alike labels v j = ap₂ (λ a b. cond (ltb x labelCount) (a && v j) b) (same-node g h e j) (sym (ap (λ (u : Nodes). u j) (e .in-use)))
 
-    -- the line of a graph alike
+    -- the line of a graph like this one
     pub alike-line : (b : Block) → x < linesOf (g .n) b → pageLine (pageOf h b) (suc x) ≡ setLine (g .n) x (setAt h b x)
     alike-line b l = page-line h b x (subst (λ m. x < linesOf m b) (sym (e .nodes)) l) ∙ ap (λ m. setLine m x (setAt h b x)) (e .nodes)
 
--- What a line of a graph alike shows by its marks is the set that the graph has there.
+-- What the marks on a line of a graph like this one show is the set that the graph has there.
 pub shown-printed : (g h : Graph) → Alike g h → Within h → (b : Block) (x : ℕ) → x < linesOf (g .n) b → (j : ℕ) → setShown g b x (marks (pageLine (pageOf h b) (suc x))) j ≡ setAt h b x j
 shown-printed g h e w b x l j =
     shown-cong g x b _ (setAt h b x) j (λ k. ap (λ t. marks t j) (alike-line g x h e b l) ∙ marks-of-line (g .n) x (omega (arith, e .nodes, w .few-nodes)) (setAt h b x) j k)
     ∙ shown-alike g x h e b (setAt h b x) j ∙ shown-own h x w b j
 
--- A LINE OF A GRAPH ALIKE IS RIGHT.
+-- A LINE OF A GRAPH LIKE THIS ONE IS RIGHT.
 pub line-right : (g : Graph) (b : Block) (x : ℕ) → x < linesOf (g .n) b → (line : List ℕ) → IsLine g b x line → lineRight g b x line ≡ true
 unfolding lineRight
 line-right g b x l line s =
@@ -139,11 +139,11 @@ module _ (g : Graph) (page : List ℕ) where
   typed-set labels x j =
       elim (ltb x labelCount) as (λ c. cond c (λ i. c && marked g page x i) (g .inUse) j ≡ cond c (marked g page x j) (g .inUse j)) [ true ↦ refl | false ↦ refl ]
 
-  -- a line that is right is its line
+  -- a right line is its line
   pub typed-line : (b : Block) (x : ℕ) → lineRight g b x (pageLine page (suc x)) ≡ true → pageLine page (suc x) ≡ setLine (g .n) x (setAt (typed g page b) b x)
   typed-line b x e = unfold lineRight in same-is (pageLine page (suc x)) _ e ∙ setLine-cong (g .n) x _ _ (λ j l. sym (typed-set b x j))
 
-  -- A RIGHT LINE IS ONE OF A GRAPH ALIKE.
+  -- A RIGHT LINE IS ONE OF A GRAPH LIKE THIS ONE.
   pub right-line : Within g → (b : Block) → HasBlock b → (x : ℕ) → x < linesOf (g .n) b → lineRight g b x (pageLine page (suc x)) ≡ true → IsLine g b x (pageLine page (suc x))
   right-line w b h x l e =
       record {

@@ -1,4 +1,4 @@
--- Typing, by its questions: the head, then the lines one by one.
+-- Typing, in terms of its questions: the head, then the lines one by one.
 use mathlib.Core.Logic.{_≢_}
 use mathlib.Core.Path.{_≡_, refl, sym, _∙_, ap, ap₂, subst}
 use mathlib.Core.Bool.{Bool, true, false, _&&_, cond, and-self-left, and-eq-true-iff}
@@ -66,7 +66,7 @@ module _ (n : ℕ) (page : List ℕ) where
     pub no-whole-head : length page < 64 → refused 51 0 ≡ askHead n page
     no-whole-head l = elim (decLt kind arrowCount) [ yes k ↦ names-none k (head-other n page (arrows kind) (λ e. omega arith)) | no k ↦ no-such-kind (omega arith) ]
 
-  -- a head that names a block is that block's, and there is such a block
+  -- a head that names a block is that block's, and a sheet has that block
   pub head-named : (b : Block) → askHead n page ≡ passed b → HasBlock b × (headIs n page b ≡ true)
   unfolding askHead
   head-named b e = go _ _ refl refl e where
@@ -79,7 +79,7 @@ module _ (n : ℕ) (page : List ℕ) where
         subst (λ c. HasBlock c × (headIs n page c ≡ true)) z (ltb-true kind arrowCount (r .0), r .1)
     go false false p q e = refused-not-passed e
 
--- the line after x others and the head, as the code takes it
+-- the line after x others and the head, as the code cuts it
 module _ (page : List ℕ) (x : ℕ) where
   pub part-is : take (64 * (x + 1) + 64 - 64 * (x + 1)) (drop (64 * (x + 1)) page) ≡ pageLine page (suc x)
   part-is =
@@ -140,14 +140,14 @@ module _ (g : Graph) (b : Block) (page : List ℕ) (m : ℕ) where
       let z : m - x ≡ 0 = omega (arith, r .few) in
       sym (r .right ∙ ap (λ k. askLines g b page k x) z)
 
--- the sets of the lines make the graph with the page's marks
+-- the sets of the lines give the graph with the page's marks
 pub marked-labels : (g : Graph) (page sets : List ℕ) → SetsRead g labels page sets labelPageLines
     → (k : ℕ) → k < labelCount → getD sets k 0 ≡ setOf (g .n) (λ i. ltb k labelCount && marked g page k i)
 marked-labels g page sets read k l =
     let t : ltb k labelCount ≡ true = lt-ltb k labelCount l in
     read k (omega arith) ∙ ap (λ c. setOf (g .n) (λ i. cond c (marked g page k i) (g .inUse i))) t ∙ sym (ap (λ c. setOf (g .n) (λ i. c && marked g page k i)) t)
 
--- one line read: its set, by the words of the nodes in use and of its marks, and whether it is right
+-- one line read: its set, from the words of the nodes in use and of its marks, and whether it is right
 module _ (g : Graph) (b : Block) (page : List ℕ) (n : ℕ) (same : n ≡ g .n) (x set : ℕ) where
   abbrev line : List ℕ
   line = pageLine page (suc x)
@@ -167,7 +167,7 @@ module _ (g : Graph) (b : Block) (page : List ℕ) (n : ℕ) (same : n ≡ g .n)
       q ∙ ap (λ p. sameBytes p (setLine n x (member set))) (part-is page x)
       ∙ ap (sameBytes line) (ap (λ k. setLine k x (member set)) same ∙ setLine-word (g .n) x (setShown g b x (marks line)) set e)
 
--- the set of a line, by the words of the nodes in use and of its marks
+-- the set of a line, from the words of the nodes in use and of its marks
 module _ (g : Graph) (x : ℕ) (v : Nodes) (few : g .n ≤ maxNodes) (used marked : ℕ) (u : used ≡ setOf (g .n) (isNode g)) (m : marked ≡ setOf (g .n) v) where
   in-use : member used x ≡ isNode g x
   in-use = unfold isNode in ap (λ w. member w x) u ∙ member-of (g .n) (isNode g) x ∙ and-self-left (ltb x (g .n)) (g .inUse x)
@@ -187,7 +187,7 @@ module _ (g : Graph) (x : ℕ) (v : Nodes) (few : g .n ≤ maxNodes) (used marke
   pub used-set : labelCount ≤ x → used ≡ setOf (g .n) (setShown g labels x v)
   used-set l = u ∙ nodes-used g ∙ sym (ap (λ b. setOf (g .n) (λ i. cond b (isNode g i && v i) (g .inUse i))) (le-ltb x labelCount l))
 
--- the whole call, by what its questions come to
+-- the whole call, in terms of its questions
 module _ (sheet page : List ℕ) where
   comes-to : (x : Asked Block) → askType sheet page ≡ x → (outcome x ≡ outcome (askType sheet page)) × (after x (λ b. store (typed (graphOf sheet) page b)) sheet ≡ typedSheet sheet page)
   comes-to x e = unfold typedSheet in (sym (ap outcome e), sym (ap (λ y. after y (λ b. store (typed (graphOf sheet) page b)) sheet) e))

@@ -1,4 +1,4 @@
--- The squared sheet on paper (document 02, items 1 and 6): pages of lines of 64 bytes, the line feed included. Bytes are ASCII: 20 blank, 0A line feed,
+-- The squared sheet on paper (items 1 and 6 of document 02): pages of lines of 64 bytes, line feed included. Bytes are ASCII: 20 blank, 0A line feed,
 -- 23 #, 2E ., 41 A, 4C L.
 use mathlib.Core.Bool.{cond}
 use mathlib.Core.List.{List, [], _∷_, _++_}
@@ -17,7 +17,7 @@ lineBytes = 64
 unfoldable pub headLine : (letter x : ℕ) → List ℕ
 headLine letter x = letter ∷ digits 2 x ++ replicate maxNodes 0x20 ++ (0x0A ∷ [])
 
--- A square of a sheet of n: # where the set has the column's node, . where not, blank for columns n and above.
+-- A square on a sheet of n: # if the set contains the column's node, . if not, blank for columns n and above.
 unfoldable pub square : (n : ℕ) → Nodes → ℕ → ℕ
 square n v j = cond (ltb j n) (cond (v j) 0x23 0x2E) 0x20
 
@@ -36,7 +36,7 @@ rowLines g a = chunks (g .n) 0 (λ i. setLine (g .n) i (g .joined a i))
 unfoldable pub arrowPage : Graph → ℕ → List ℕ
 arrowPage g a = headLine 0x41 a ++ rowLines g a
 
--- The label page: L, two digits of n; then 48 such lines, one per label, and a last, 48, for the nodes in use.
+-- The label page: L, two digits of n; then 48 lines, one for each label, and a last line, 48, for the nodes in use.
 abbrev pub labelPageLines : ℕ
 labelPageLines = labelCount + 1
 

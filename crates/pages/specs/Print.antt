@@ -1,4 +1,4 @@
--- Printing a page into an output: 1 to 4 of the sheet, 7 for a kind above 15, 33 for a short output. What is learned is the page.
+-- Printing a page into an output: 1 to 4 of the sheet, 7 for a kind above 15, 33 for a short output. The result is the page.
 use mathlib.Core.List.{List}
 use Prim.Native.Nat.{ℕ}
 use lib.Dec.{ltb}

@@ -8,7 +8,7 @@ use Rattle.sheet.specs.Sheet.{chunks, lineOf}
 use Rattle.pages.specs.Page.{setLine, arrowPage, labelPage}
 use Rattle.pages.specs.Typed.{pageLine, Block, arrows, labels, linesOf}
 
--- The set that a line of a block shows, and its lines.
+-- The set that line x of a block's page shows; the lines of that page.
 abbrev pub setAt : Graph → Block → ℕ → Nodes
 setAt g (arrows a) i = g .joined a i
 setAt g labels k = lineOf g k
@@ -26,12 +26,12 @@ abbrev pub HasBlock : Block → Type 0
 HasBlock (arrows a) = a < arrowCount
 HasBlock labels = Unit {0}
 
--- A graph of as many nodes, the same of them in use.
+-- h has as many nodes as g, and the same of them are in use.
 pub record Alike (g h : Graph) : Type 0 where
   pub nodes : h .n ≡ g .n
   pub in-use : h .inUse ≡ g .inUse
 
--- Some graph like this one, within the limits, prints this page for this block.
+-- Some graph within the limits that is like this one prints this page for this block.
 pub record Prints (g : Graph) (page : List ℕ) (b : Block) : Type 0 where
   pub graph : Graph
   pub within : Within graph
@@ -39,7 +39,7 @@ pub record Prints (g : Graph) (page : List ℕ) (b : Block) : Type 0 where
   pub block : HasBlock b
   pub is-page : page ≡ pageOf graph b
 
--- Some such graph has this line as that of number x on the page of this block.
+-- On the page of this block, some such graph has this line as that of number x.
 pub record IsLine (g : Graph) (b : Block) (x : ℕ) (line : List ℕ) : Type 0 where
   pub graph : Graph
   pub within : Within graph

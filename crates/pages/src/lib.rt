@@ -1,4 +1,4 @@
-// The squared sheet on paper (document 02, item 1).
+// The squared sheet on paper (item 1 of document 02).
 mod lines;
 pub mod print;
 pub mod typed;

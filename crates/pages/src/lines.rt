@@ -1,4 +1,4 @@
-// One line of a page: written, and read back. Inner: each function is lent a whole line of 64 bytes.
+// One line of a page: writing it and reading it back. Inner: callers pass a whole line of 64 bytes to every function here.
 ghost use mathlib.Core.Path.{_≡_};
 ghost use Prim.Native.Nat.{_<_, _≤_};
 ghost use mathlib.Core.List.{_++_};
@@ -10,13 +10,13 @@ ghost use Rattle.pages.specs.Page.{lineBytes, headLine, square, squares,
 ghost use Rattle.pages.specs.Typed.{blockShown, headOf, linesOf, marks};
 use sheet::Sheet;
 
-// The bytes of a line, its line feed included.
+// The length of a line, line feed included.
 pub const LINE: usize = 64;
 
 // The lines after the label page's head: one per label, and one for the nodes in use.
 const LABEL_LINES: usize = Sheet::LABELS + 1;
 
-// The square of column j in the row of a set. Inner: j is the number of a bit.
+// The square of column j in the row of a set. Inner: j is below 64.
 fn square(n: usize, row: u64, j: usize) -> u8
     requires { ⌜ j < 64 ⌝ }
     ensures { λ r. ⌜ r ≡ square n (member row) j ⌝ }
@@ -27,7 +27,7 @@ fn square(n: usize, row: u64, j: usize) -> u8
     if bitset::member(row, j) { b'#' } else { b'.' }
 }
 
-// Makes what stands after a line's first three bytes the squares of a set, and a line feed.
+// Fills a line after its first three bytes with the squares of a set and a line feed.
 fn put_squares(line: &mut [u8], n: usize, row: u64)
     requires { ⌜ length (now line) ≡ lineBytes ⌝ }
     ensures { λ _. ⌜ now (line .exit) ≡ take 3 (now (line .entry)) ++ squares n (member row) ⌝ }
@@ -40,7 +40,7 @@ fn put_squares(line: &mut [u8], n: usize, row: u64)
     line[63] = b'\n';
 }
 
-// Makes the line that of number x of a set.
+// Makes the line that of number x, for a set.
 pub fn put_line(line: &mut [u8], n: usize, x: usize, row: u64)
     requires { ⌜ length (now line) ≡ lineBytes ⌝ }
     ensures { λ _. ⌜ now (line .exit) ≡ setLine n x (member row) ⌝ }
@@ -50,7 +50,7 @@ pub fn put_line(line: &mut [u8], n: usize, x: usize, row: u64)
     put_squares(line, n, row);
 }
 
-// Makes the line a head: it has the squares of no columns.
+// Makes the line a head, which has the squares of no columns.
 fn put_head(line: &mut [u8], letter: u8, x: usize)
     requires { ⌜ length (now line) ≡ lineBytes ⌝ }
     ensures { λ _. ⌜ now (line .exit) ≡ headLine letter x ⌝ }
@@ -66,7 +66,7 @@ pub enum Shown {
     Labels,
 }
 
-// Makes the line the head of a page that shows this, of a sheet of n.
+// Makes the line the head of this page, for a sheet of n.
 pub fn put_head_of(line: &mut [u8], n: usize, shown: Shown)
     requires { ⌜ length (now line) ≡ lineBytes ⌝ }
     ensures { λ _. ⌜ now (line .exit) ≡ headOf n (blockShown shown) ⌝ }
@@ -77,7 +77,7 @@ pub fn put_head_of(line: &mut [u8], n: usize, shown: Shown)
     }
 }
 
-// How many lines follow that head. Inner: n is a sheet's.
+// How many lines follow that head. Inner: n is a sheet's node count.
 pub fn lines_of(n: usize, shown: Shown) -> usize
     requires { ⌜ n ≤ maxNodes ⌝ }
     ensures { λ r. ⌜ (r ≡ linesOf n (blockShown shown)) × (r ≤ maxNodes) ⌝ }
@@ -88,7 +88,7 @@ pub fn lines_of(n: usize, shown: Shown) -> usize
     }
 }
 
-// The set of a line's marks. Inner: n is a sheet's.
+// The set of a line's marks. Inner: n is a sheet's node count.
 pub fn marks_of(line: &[u8], n: usize) -> u64
     requires { ⌜ (length (now line) ≡ lineBytes) × (n ≤ maxNodes) ⌝ }
     ensures { λ r. ⌜ r ≡ setOf n (marks (now (line .entry))) ⌝ }
@@ -119,7 +119,7 @@ pub fn same(a: &[u8], b: &[u8]) -> bool
     true
 }
 
-// Whether the line is that of number x of a set.
+// Whether the line is that of number x, for a set.
 pub fn line_is(line: &[u8], n: usize, x: usize, set: u64) -> bool
     requires { ⌜ length (now line) ≡ lineBytes ⌝ }
     ensures { λ r. ⌜ r ≡ sameBytes (now (line .entry)) (setLine n x (member set)) ⌝ }

@@ -1,4 +1,4 @@
-// Pages printed into an output, line by line.
+// Prints pages into an output, line by line.
 ghost use mathlib.Core.Path.{_≡_};
 ghost use Prim.Native.Nat.{_*_, _<_, _≤_};
 ghost use lib.ListN.{length};
@@ -40,7 +40,7 @@ fn line_word(sheet: &[u8], shown: Shown, x: usize) -> u64
     }
 }
 
-// Writes the m lines of a page at the output's start. Inner: the sheet is sound with these n nodes, m is the number of lines, and there is room.
+// Writes the m lines of a page at the output's start. Inner: the sheet is sound with n nodes, m is the number of lines, and there is room for them.
 fn put_lines(sheet: &[u8], n: usize, shown: Shown, m: usize, out: &mut [u8])
     requires { ⌜ Sound (now sheet) × (n ≡ graphOf (now sheet) .n) × HasBlock (blockShown shown) × (m ≡ linesOf n (blockShown shown)) × (m ≤ maxNodes) × (lineBytes * m ≤ length (now out)) ⌝ }
     ensures { λ _. ⌜ now (out .exit) ≡ writtenAtStart (pageLines (graphOf (now (sheet .entry))) (blockShown shown)) (now (out .entry)) ⌝ }
@@ -54,7 +54,7 @@ fn put_lines(sheet: &[u8], n: usize, shown: Shown, m: usize, out: &mut [u8])
     }
 }
 
-// Prints a page at the output's start, 33 when it is short. Answers the page's length. Inner: the sheet is sound.
+// Prints a page at the output's start; 33 if the output is too short. The answer is the page's length. Inner: the sheet is sound.
 fn put_page(sheet: &[u8], shown: Shown, out: &mut [u8]) -> Written
     requires { ⌜ Sound (now sheet) × HasBlock (blockShown shown) ⌝ }
     ensures { λ r. ⌜ writtenAsked r ≡ writtenLength (askRoom (pageOf (graphOf (now (sheet .entry))) (blockShown shown)) (length (now (out .entry)))) ⌝ }
@@ -71,7 +71,7 @@ fn put_page(sheet: &[u8], shown: Shown, out: &mut [u8]) -> Written
     Written::Length(size)
 }
 
-// Prints the page of an arrow kind at the output's start: 1 to 4 of the sheet, 7, 33. Answers its length.
+// Prints the page of an arrow kind at the output's start: 1 to 4 of the sheet, 7, 33. The answer is its length.
 pub fn print_arrow(sheet: &[u8], arrow: usize, out: &mut [u8]) -> Written
     ensures { λ r. ⌜ writtenAsked r ≡ writtenLength (askPrintArrow (now (sheet .entry)) arrow (length (now (out .entry)))) ⌝ }
     ensures { λ _. ⌜ now (out .exit) ≡ writtenOutput (askPrintArrow (now (sheet .entry)) arrow (length (now (out .entry)))) (now (out .entry)) ⌝ }
@@ -86,7 +86,7 @@ pub fn print_arrow(sheet: &[u8], arrow: usize, out: &mut [u8]) -> Written
     put_page(sheet, Shown::Arrows(arrow), out)
 }
 
-// Prints the label page likewise: 1 to 4 of the sheet, 33.
+// Prints the label page in the same way: 1 to 4 of the sheet, 33.
 pub fn print_labels(sheet: &[u8], out: &mut [u8]) -> Written
     ensures { λ r. ⌜ writtenAsked r ≡ writtenLength (askPrintLabels (now (sheet .entry)) (length (now (out .entry)))) ⌝ }
     ensures { λ _. ⌜ now (out .exit) ≡ writtenOutput (askPrintLabels (now (sheet .entry)) (length (now (out .entry)))) (now (out .entry)) ⌝ }

@@ -1,4 +1,4 @@
-// A page typed back into a sheet.
+// Types a page back into a sheet.
 ghost use mathlib.Core.Path.{_≡_};
 ghost use mathlib.Core.List.{List};
 ghost use Prim.Native.Nat.{ℕ, _+_, _*_, _<_, _≤_};
@@ -26,13 +26,13 @@ use logic::Arrow;
 use sheet::Sheet;
 use store::Store;
 
-// What the head of a page names, or nothing.
+// What the head of a page names, if anything.
 pub enum Head {
     Page(Shown),
     Wrong,
 }
 
-// Whether the page has the head of what it should show, and so many lines after it. Inner: n is a sheet's.
+// Whether the page has the head of what it should show and the right number of lines. Inner: n is a sheet's node count.
 fn head_is(page: &[u8], n: usize, shown: Shown) -> bool
     requires { ⌜ n ≤ maxNodes ⌝ }
     ensures { λ r. ⌜ r ≡ headIs n (now (page .entry)) (blockShown shown) ⌝ }
@@ -45,7 +45,7 @@ fn head_is(page: &[u8], n: usize, shown: Shown) -> bool
     same(&page[0..LINE], &wanted)
 }
 
-// What the head names, 51 at 0 when it is none of a sheet of this n. Inner: n is a sheet's.
+// What the head names; 51 with place 0 if it is not a head of a sheet of n. Inner: n is a sheet's node count.
 fn head_of(page: &[u8], n: usize) -> Head
     requires { ⌜ n ≤ maxNodes ⌝ }
     ensures { λ r. ⌜ headAsked r ≡ askHead n (now (page .entry)) ⌝ }
@@ -65,7 +65,7 @@ fn head_of(page: &[u8], n: usize) -> Head
     Head::Wrong
 }
 
-// The set that line x has, with these marks and nodes in use. Inner: x is the number of a bit, the words are of a graph with at most 60 nodes.
+// The set that line x shows, from its marks and the nodes in use. Inner: x is below 64, and the words are of a graph with at most 60 nodes.
 fn set_shown(used: u64, shown: Shown, x: usize, marked: u64) -> u64
     requires { ⌜ x < 64 ⌝ }
     ensures { λ r. ⌜ ((g : Graph) (v : Nodes) → g .n ≤ maxNodes → used ≡ setOf (g .n) (isNode g) → marked ≡ setOf (g .n) v → r ≡ setOf (g .n) (setShown g (blockShown shown) x v)) ⌝ }
@@ -77,7 +77,7 @@ fn set_shown(used: u64, shown: Shown, x: usize, marked: u64) -> u64
     }
 }
 
-// Reads the sets of the page's m lines, and answers 51 at the first that printing could not give. Inner: the sheet is sound, the page has these lines, and each has its word.
+// Reads the sets of the page's m lines; 51 at the first that printing could not give. Inner: the sheet is sound, the page has m lines, and each has a word.
 fn read_lines(sheet: &[u8], page: &[u8], shown: Shown, m: usize, sets: &mut [u64]) -> Answer
     requires { ⌜ Sound (now sheet) × (m ≤ maxNodes) × (length (now page) ≡ lineBytes * m + lineBytes) × (length (now sets) ≡ 64) ⌝ }
     ensures { λ r. ⌜ asked r ≡ askLines (graphOf (now (sheet .entry))) (blockShown shown) (now (page .entry)) m 0 ⌝ }
@@ -99,7 +99,7 @@ fn read_lines(sheet: &[u8], page: &[u8], shown: Shown, m: usize, sets: &mut [u64
     Answer::Done
 }
 
-// Gives an arrow the pairs, or each label the nodes, that these sets are of. Inner: the sheet is sound.
+// Gives the arrow these rows, or each label its set. Inner: the sheet is sound.
 fn put_sets(sheet: &mut [u8], shown: Shown, sets: [u64; 64])
     requires { ⌜ Sound (now sheet) × HasBlock (blockShown shown) ⌝ }
     ensures { λ _. ⌜ ((page : List ℕ) → SetsRead (graphOf (now (sheet .entry))) (blockShown shown) page sets (linesOf (graphOf (now (sheet .entry)) .n) (blockShown shown)) → now (sheet .exit) ≡ store (typed (graphOf (now (sheet .entry))) page (blockShown shown))) ⌝ }
@@ -110,7 +110,7 @@ fn put_sets(sheet: &mut [u8], shown: Shown, sets: [u64; 64])
     }
 }
 
-// Types the page back into the sheet, in place of the block that its head names: 1 to 4 of the sheet, then 51.
+// Replaces the block that the page's head names by what the page shows: 1 to 4 of the sheet, then 51.
 pub fn type_page(sheet: &mut [u8], page: &[u8]) -> Answer
     ensures { λ r. ⌜ asked r ≡ outcome (askType (now (sheet .entry)) (now (page .entry))) ⌝ }
     ensures { λ _. ⌜ now (sheet .exit) ≡ typedSheet (now (sheet .entry)) (now (page .entry)) ⌝ }

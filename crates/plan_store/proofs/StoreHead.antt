@@ -1,4 +1,4 @@
--- The head block: what is right of it, and its bytes.
+-- The head block: when it is right, and its bytes.
 use mathlib.Core.Path.{_≡_, sym, ap, ap₂, _∙_}
 use mathlib.Core.Bool.{true, false, _&&_, and-true, and-false, and-eq-true-iff}
 use mathlib.Core.List.{List, _∷_}
@@ -35,7 +35,7 @@ module _ (k : List ℕ) where
   pub head-holds : HeadIs k → headRight k ≡ true
   head-holds h = unfold headRight in ap₂ _&&_ (h .sums) (ap₂ _&&_ (eq-eqb _ _ (h .four)) (ap₂ _&&_ (lt-ltb _ _ (h .low)) (zeros-are k 2 506 (h .zeros))))
 
-  -- by the first that is not so
+  -- by the first that fails
   pub not-four : (getD k 0 0 ≡ 4 → ⊥) → false ≡ headRight k
   not-four h = unfold headRight in rw (ne-eqb (getD k 0 0) 4 h, and-false)
 
@@ -48,7 +48,7 @@ module _ (k : List ℕ) where
   pub not-zero : (j : ℕ) → j < 506 → (getD k (2 + j) 0 ≡ 0 → ⊥) → false ≡ headRight k
   not-zero j l h = unzeroed (zeros-not k 2 506 j l h)
 
-  -- the bytes that are no words, then the words
+  -- the bytes outside the words, then the words
   module _ (x : getD k 506 0 ≡ 0) (y : getD k 507 0 ≡ 0) where
     words-zeros : zerosAt k 2 504 ≡ zerosAt k 2 506
     words-zeros =

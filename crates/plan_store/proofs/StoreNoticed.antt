@@ -1,4 +1,4 @@
--- In a sound store every single byte that is changed is noticed: 55, by each call that is lent the store.
+-- In a sound store every change of a single byte is noticed: 55, by each call that takes the store.
 use mathlib.Core.Path.{_≡_, refl, sym, ap, _∙_}
 use mathlib.Core.Bool.{Bool, true, false, cond}
 use mathlib.Core.List.{List}
@@ -67,7 +67,7 @@ module _ (t : List ℕ) (small : Bytes t) (sound : SoundStore t) (x : ℕ) (byte
         ap (λ r. askStore (set t r x)) (sym e)
         ∙ sym (store-place (set t (placeStart i + q) x) i h (in-place i q h (omega arith) (λ d. other (d ∙ ap (λ r. getD t r 0) e))))
 
-  -- so each call notices it, once the sheet that it is lent has passed
+  -- so each call notices it, once the sheet passed to it has passed
   module _ (p : ℕ) (l : p < storeBytes) (other : x ≡ getD t p 0 → ⊥) (name : ℕ) where
     pub drop-notices : askDrop (set t p x) name ≡ refused 55 0
     drop-notices = unfold askFilled askName _>>_ in rw (every-change p l other)

@@ -1,4 +1,4 @@
--- The places of a store: a list of its length is its first block and its places, one behind the other.
+-- The places of a store: a list of its length is its first block and its places, one after the other.
 use mathlib.Core.Path.{_≡_, refl, sym, ap, ap₂, _∙_}
 use mathlib.Core.List.{List, _++_}
 use Prim.Native.Nat.{ℕ, zero, suc, _+_, _-_, _*_, _<_}

@@ -19,6 +19,6 @@ module _ (x : Asked (Unit {0})) (made before : List ℕ) where
   pub goes : {t : List ℕ} → x ≡ passed tt → t ≡ made → (passed tt ≡ x) × (t ≡ after x (λ u. made) before)
   goes e d = unfold after in (sym e, rw e d)
 
--- the book read with the kept sheet's n and judged on it is judge, of a sound sheet
+-- for a sound kept sheet, reading the book with its n and judging it there is judge
 pub kept-judged : (kept book : List ℕ) → Sound kept → askJudge kept book ≡ askKept kept book
 kept-judged kept book sound = unfold askJudge askKept askSheetAndBook _>>_ in rw sound

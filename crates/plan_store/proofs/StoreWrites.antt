@@ -62,7 +62,7 @@ module _ (p : Plans) (i : ℕ) (l : i < planCount) (x : Plan) where
   abbrev bytesOf : Plans → ℕ → List ℕ
   bytesOf r j = planBytes (r j)
 
-  -- the places before it, its own, and those behind it
+  -- the places before it, the place itself, and those after it
   parts : (r : Plans) → headBlock (names p) ++ chunks planCount 0 (bytesOf r) ≡ (headBlock (names p) ++ chunks i 0 (bytesOf r)) ++ (planBytes (r i) ++ chunks (planCount - suc i) (suc i) (bytesOf r))
   parts r = ap (headBlock (names p) ++_) (chunks-at planCount i (bytesOf r) l) ∙ sym (append-assoc (headBlock (names p)) (chunks i 0 (bytesOf r)) _)
 
@@ -106,7 +106,7 @@ place-written t small sound i l x b s =
     let d : placeStart i + sheetBytes - placeStart i ≡ sheetBytes = omega arith in
     rw (d, written (plansOf t) i l x b t s (opening t small sound .stored)) (now-replaced (plansOf t) i l x)
 
--- The blank store: all zero, but for the head.
+-- The blank store: all zero, except the head.
 module _ (t : List ℕ) (n : length t ≡ storeBytes) (z : t ≡ replicate storeBytes 0) where
   abbrev first : List ℕ
   first = set t 0 4

@@ -1,4 +1,4 @@
--- What the calls leave: after done what the call makes, else as it was.
+-- What the calls leave: after done the new store or sheet, else everything as it was.
 use mathlib.Core.List.{List}
 use Prim.Native.Nat.{ℕ, _-_}
 use lib.ListN.{length}
@@ -20,6 +20,6 @@ keptStore sheet store name = after (askKeep sheet store name) (λ u. storeOf (up
 unfoldable pub droppedStore : (store : List ℕ) (name : ℕ) → List ℕ
 droppedStore store name = after (askDrop store name) (λ u. storeOf (update (plansOf store) (name - 1) unfilled)) store
 
--- The sheet is the kept one, byte for byte; the store is lent and stays.
+-- The sheet is the kept one, byte for byte; the store is only read.
 unfoldable pub returnedSheet : (sheet store : List ℕ) (name : ℕ) (book : List ℕ) → List ℕ
 returnedSheet sheet store name book = after (askReturn sheet store name book) (λ u. placeIn store (name - 1)) sheet

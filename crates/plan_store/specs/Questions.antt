@@ -1,4 +1,4 @@
--- What the calls ask (item 7 of document 02): "55 when the store's length, head, a filled sheet or an unfilled place is unsound, 56 when the name
+-- The questions of the calls (item 7 of document 02): "55 when the store's length, head, a filled sheet or an unfilled place is unsound, 56 when the name
 -- isn't 1 to 7, 57 when it is unfilled for return or drop, in that order after the sheet's questions, place 0."
 use mathlib.Core.Path.{_≡_}
 use mathlib.Core.Bool.{Bool, true, false, _&&_, cond}
@@ -30,6 +30,7 @@ headRight k = sealRight modulo257 k && (eqb (getD k 0 0) 4 && (ltb (getD k 1 0) 
 unfoldable pub placeRight : List ℕ → ℕ → Bool
 placeRight t i = cond (member (getD t 1 0) i) (isPassed (askSheet (placeIn t i))) (zerosAt t (placeStart i) sheetBytes)
 
+-- The store's length, its head, and all seven places are right.
 unfoldable pub storeRight : List ℕ → Bool
 storeRight t = eqb (length t) storeBytes && (headRight (take blockBytes t) && allBelow planCount (placeRight t))
 
@@ -37,6 +38,7 @@ storeRight t = eqb (length t) storeBytes && (headRight (take blockBytes t) && al
 unfoldable pub askStore : List ℕ → Asked (Unit {0})
 askStore t = is (storeRight t) 55 0
 
+-- A sound store is one that passes 55.
 abbrev pub SoundStore : List ℕ → Type 0
 SoundStore t = askStore t ≡ passed tt
 
@@ -44,12 +46,13 @@ SoundStore t = askStore t ≡ passed tt
 abbrev pub nameRight : ℕ → Bool
 nameRight name = leb 1 name && leb name planCount
 
--- 55, 56; then 57.
+-- 55 and 56.
 unfoldable pub askName : List ℕ → (name : ℕ) → Asked (Unit {0})
 askName store name = do
   askStore store
   is (nameRight name) 56 0
 
+-- Then 57: the name is filled.
 unfoldable pub askFilled : List ℕ → (name : ℕ) → Asked (Unit {0})
 askFilled store name = do
   askName store name
@@ -61,7 +64,7 @@ askKept kept book = do
   rules ← askBook (textLimits (graphOf kept .n)) book
   askRules (graphOf kept) rules 0
 
--- The calls.
+-- The questions of blank, keep, return and drop.
 unfoldable pub askBlankStore : (length : ℕ) → Asked (Unit {0})
 askBlankStore len = is (eqb len storeBytes) 55 0
 

@@ -1,4 +1,4 @@
--- Plans to come back to (item 7 of document 02): what the names 1 to 7 hold, and the store of 61,440 bytes that holds it: a head block and seven sheets.
+-- Plans to come back to (item 7 of document 02): what the names 1 to 7 hold, and the store of 61,440 bytes for them: a head block and seven sheets.
 use mathlib.Core.Path.{_≡_}
 use mathlib.Core.Bool.{Bool, true, false, _&&_, cond}
 use mathlib.Core.List.{List, _∷_, _++_}
@@ -11,6 +11,7 @@ use Rattle.bitset.specs.Words.{setOf, member}
 use Rattle.seal.specs.Seal.{blockBytes, modulo257, sealed}
 use Rattle.sheet.specs.Sheet.{sheetBytes, chunks, store, graphOf}
 
+-- "names 1 to 7", and "A store of 61,440 bytes"
 abbrev pub planCount : ℕ
 planCount = 7
 

@@ -21,17 +21,17 @@ use text::Text;
 // How many names there are.
 pub const NAMES: usize = 7;
 
-// A store's bytes.
+// The length of a store in bytes.
 pub const BYTES: usize = Sheet::BLOCK + NAMES * Sheet::BYTES;
 
-// A byte as a word. Inner: says beside its value that it is below 256.
+// A byte as a word. Inner: also says that it is below 256.
 fn wide(x: u8) -> u64
     ensures { λ r. ⌜ (r ≡ x) × (r < 256) ⌝ }
 {
     x as u64
 }
 
-// Whether so many words from `at` on are all zero: all together, one test at the end. Inner: they are there.
+// Whether that many words from `at` on are all zero: combined, with one test at the end. Inner: they are there.
 fn zeros(s: &[u8], at: usize, count: usize) -> bool
     requires { ⌜ at + 8 * count ≤ length (now s) ⌝ }
     ensures { λ r. ⌜ r ≡ zerosAt (now (s .entry)) at (8 * count) ⌝ }
@@ -45,7 +45,7 @@ fn zeros(s: &[u8], at: usize, count: usize) -> bool
     all == 0
 }
 
-// Makes a part of as many bytes the same as another. Inner: they are as many.
+// Copies one part over another. Inner: they have the same length.
 fn copy(to: &mut [u8], from: &[u8])
     requires { ⌜ length (now to) ≡ length (now from) ⌝ }
     ensures { λ _. ⌜ now (to .exit) ≡ now (from .entry) ⌝ }
@@ -53,7 +53,7 @@ fn copy(to: &mut [u8], from: &[u8])
     bytes::copy(from, to);
 }
 
-// Is the head block right? Inner: it is a block.
+// Whether the head block is right. Inner: it is a block.
 fn head_right(head: &[u8]) -> bool
     requires { ⌜ length (now head) ≡ blockBytes ⌝ }
     ensures { λ r. ⌜ r ≡ headRight (now (head .entry)) ⌝ }
@@ -76,7 +76,7 @@ fn head_right(head: &[u8]) -> bool
     seal::seal_right(Modulo::M257, head)
 }
 
-// Is the place a sound sheet, or all zero? Inner: the store is whole, and has that place.
+// Whether the place is a sound sheet, or all zero. Inner: the store is whole, and has that place.
 fn place_right(store: &[u8], place: usize) -> bool
     requires { ⌜ (length (now store) ≡ storeBytes) × (place < planCount) ⌝ }
     ensures { λ r. ⌜ r ≡ placeRight (now (store .entry)) place ⌝ }
@@ -93,7 +93,7 @@ fn place_right(store: &[u8], place: usize) -> bool
     }
 }
 
-// 55 of a store, of any bytes.
+// 55 for a store, of any bytes.
 pub fn check(store: &[u8]) -> Answer
     ensures { λ r. ⌜ asked r ≡ askStore (now (store .entry)) ⌝ }
 {
@@ -144,7 +144,7 @@ fn ask_filled(store: &[u8], name: usize) -> Answer
     Answer::Refused(Refusal::PlanUnfilled { place: 0 })
 }
 
-// The names with that of a place, or without it. Inner: they are names, and the place is one.
+// The names with that of a place, or without it. Inner: they are names, and the place is one of theirs.
 fn with_name(names: u64, place: usize, used: bool) -> u64
     requires { ⌜ (names < 128) × (place < planCount) ⌝ }
     ensures { λ r. ⌜ (r ≡ setOf planCount (update (member names) place used)) × (r < 256) ⌝ }
@@ -157,7 +157,7 @@ fn with_name(names: u64, place: usize, used: bool) -> u64
     }
 }
 
-// Puts a name into the head block, or takes it out of it. Inner: the head is right.
+// Puts a name into the head block, or takes it out. Inner: the head is right.
 fn put_name(head: &mut [u8], place: usize, used: bool)
     requires { ⌜ (length (now head) ≡ blockBytes) × (headRight (now head) ≡ true) × (place < planCount) ⌝ }
     ensures { λ _. ⌜ now (head .exit) ≡ headBlock (setOf planCount (update (member (getD (now (head .entry)) 1 0)) place used)) ⌝ }
@@ -218,7 +218,7 @@ pub fn drop_plan(store: &mut [u8], name: usize) -> Answer
     Answer::Done
 }
 
-// The present book read with a kept sheet's n and judged on it. Inner: the kept sheet is sound.
+// Reads the present book with a kept sheet's n and judges it on that sheet. Inner: the kept sheet is sound.
 fn judge_kept(kept: &[u8], book: &[u8]) -> Answer
     requires { ⌜ Sound (now kept) ⌝ }
     ensures { λ r. ⌜ asked r ≡ askKept (now (kept .entry)) (now (book .entry)) ⌝ }
@@ -231,7 +231,7 @@ fn judge_kept(kept: &[u8], book: &[u8]) -> Answer
     verdict.answer
 }
 
-// Makes the sheet the one kept under a name, or leaves it as it is: the kept sheet is judged where it stands in the store.
+// Makes the sheet the one kept under a name, or leaves it as it is. The kept sheet is judged where it stands in the store.
 pub fn return_to(sheet: &mut [u8], store: &[u8], name: usize, book: &[u8]) -> Answer
     ensures { λ r. ⌜ asked r ≡ askReturn (now (sheet .entry)) (now (store .entry)) name (now (book .entry)) ⌝ }
     ensures { λ _. ⌜ now (sheet .exit) ≡ returnedSheet (now (sheet .entry)) (now (store .entry)) name (now (book .entry)) ⌝ }

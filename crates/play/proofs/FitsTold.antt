@@ -1,4 +1,4 @@
--- 31 and 32, told by carrying back into an output without room.
+-- 31 and 32, found by carrying back into an output without room.
 use mathlib.Core.Path.{_≡_, refl, sym, subst}
 use mathlib.Core.Bool.{Bool, true, false}
 use mathlib.Core.List.{List}
@@ -18,7 +18,7 @@ use Rattle.text.specs.Reading.{longestCarried, deepestCarried}
 use Rattle.carry.specs.Carrying.{askSize, askCarried}
 use Rattle.carry.specs.Into.{Into}
 
--- what an answer to 31, 32 and 33 says of the first two
+-- what an answer to 31, 32 and 33 says about the first two
 abbrev Tells : Asked ℕ → Asked (Unit {0}) → Type 0
 Tells (passed k) y = passed tt ≡ y
 Tells (refused q p) y = (q ≡ 33 → passed tt ≡ y) × ((q ≡ 33 → ⊥) → refused q p ≡ y)

@@ -1,4 +1,4 @@
--- The edits' texts: cut out of what is lent, read in turn, standing one behind the other.
+-- The edits' texts: cut out of the bytes passed, read one by one, standing one after the other.
 use mathlib.Core.Path.{_≡_, refl, sym, ap, _∙_}
 use mathlib.Core.Bool.{false}
 use mathlib.Core.List.{List, [], _∷_, _++_, append-nil}
@@ -31,7 +31,7 @@ use Rattle.carry.specs.Carrying.{askCarried}
 use Rattle.play.specs.Questions.{total, cut, askEdits, askFits, firstRefused}
 use Rattle.play.specs.Standing.{EditsStand}
 
--- A list asked in turn: the questions from `rest` on are left, i were passed.
+-- A list checked one by one: the questions from `rest` on are left, i have passed.
 pub record Walk {A B : Type 0} (ask : A → Asked B) (all : List A → Asked (Unit {0})) (list : List A) (i : ℕ) (rest : List A) : Type 0 where
   pub questions : all list ≡ all rest
   pub first : firstRefused ask list ≡ i + firstRefused ask rest
@@ -86,7 +86,7 @@ module _ {lengths : List ℕ} {size left i : ℕ} (so-far : LeftOf lengths size 
     go zero e = eq-eqb left 0 e ∙ sym (eq-eqb (total lengths) size (omega (arith, so-far .sum, total-past lengths i h)))
     go (suc k) e = ne-eqb left 0 (λ z. omega arith) ∙ sym (ne-eqb (total lengths) size (λ z. omega (arith, so-far .sum, total-past lengths i h)))
 
--- The texts read in turn.
+-- The texts read one by one.
 module _ (n : ℕ) where
   abbrev readAll : List (List ℕ) → Asked (Unit {0})
   readAll ts = outcome (askEdits (textLimits n) ts)
@@ -99,7 +99,7 @@ module _ (n : ℕ) where
     go (passed Z) (refused q p) = refl
     go (passed Z) (passed Zs) = refl
 
-  -- What is left to be asked is from the place `at` and the length i on.
+  -- What is left to check starts at the place `at` and the length i.
   pub record Left (edits lengths : List ℕ) (at i : ℕ) : Type 0 where
     pub filled : at + total (drop i lengths) ≡ length edits
     pub walk : Walk (askEdit (textLimits n)) readAll (cut edits lengths) i (cut (drop at edits) (drop i lengths))
@@ -131,7 +131,7 @@ module _ (n : ℕ) where
   unfolding cut askEdits outcome
   texts-end {edits} {lengths} {at} {i} left h = walk-ends (left .walk) refl (ap (cut (drop at edits)) (drop-of-length-le lengths {i = i} h))
 
--- Texts that have passed stand one behind the other.
+-- Texts that have passed stand one after the other.
 module _ (n : ℕ) (text : List ℕ) where
   pub record AllStand (at : ℕ) (lengths : List ℕ) (Zs : List Edit) : Type 0 where
     pub stand : EditsStand (ranges n) text at Zs
@@ -191,7 +191,7 @@ module _ {r : Ranges} {text : List ℕ} {Zs : List Edit} {i at : ℕ} (s : FromH
     pub part-short : length (take (end - at) (drop at text)) ≤ longestText
     part-short = omega (arith, next-short, ap length part-is)
 
--- 31 and 32 of so many of them.
+-- 31 and 32 for `count` of them.
 module _ (rules : List (Expr rule)) (Zs : List Edit) (count : ℕ) where
   abbrev fitting : Edit → Asked (Unit {0})
   fitting Z = askCarried (carriedBook Z rules)

@@ -50,7 +50,7 @@ module _ (sheet : List ℕ) (small : Bytes sheet) (sound : Sound sheet) where
   on-copy edits at Z next copy s m =
       record { graph = ap graphOf (m .sheet-is) ∙ read-back (run Z (graphOf sheet)) (run-within (ranges (graphOf sheet .n)) Z (s .range) (graphOf sheet) (sound-is-stored present sheet small sound .within)); ends = m .ends }
 
--- After the last move, by the goal; before it, when the other side has no move.
+-- After the last move, by the goal; before it, when no move serves the other side.
 module _ (G : Game) (g : Graph) (ours : Bool) (moves : ℕ) where
   module _ (over : moves ≡ 0) {reached : Bool} (aim : reached ≡ holdAll g (G .goal ∷ [])) where
     pub over-ours : ours ≡ true → reached ≡ goesWell G moves ours g

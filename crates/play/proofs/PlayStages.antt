@@ -60,7 +60,7 @@ module _ (sheet book goal : List ℕ) where
   pub goal-last : {n : ℕ} → n ≡ graphOf sheet .n → Learned (askSheetAndBook sheet book) → (a : Answer) → asked a ≡ outcome (askRule (textLimits n) goal) → asked a ≡ outcome (askAims sheet book goal)
   goal-last count B a s = unfold askAims _>>=_ in rw (B .is) (rw count at s ∙ sym (outcome-bind (askRule limits goal) (λ aim. (B .what, aim))))
 
-  -- What is known of them once they have passed.
+  -- What is known about them once they have passed.
   pub record AimsRead (aims : List (Expr rule) × Expr rule) : Type 0 where
     pub sound : Sound sheet
     pub book-is : askBook limits book ≡ passed (aims .0)
@@ -83,7 +83,7 @@ module _ (sheet book goal edits lengths : List ℕ) (d moves : ℕ) where
   abbrev All : Asked Game
   All = askGame sheet book goal edits lengths d moves
 
-  -- What is answered, and the edit with it.
+  -- The answer, and the edit with it.
   abbrev Asks : Asked (Unit {0}) → ℕ → Type 0
   Asks a edit = (a ≡ outcome All) × (edit ≡ faultyEdit sheet book goal edits lengths d moves)
 
@@ -107,7 +107,7 @@ module _ (sheet book goal edits lengths : List ℕ) (d moves : ℕ) where
           last (passed u) = refl
           last (refused q p) = refl
 
-    -- What carrying back asks of book and edits.
+    -- What carrying back requires of book and edits.
     module _ (E : Learned (askEdits reads (cut edits lengths))) where
       abbrev pub edits-at : EditsAt edits d (E .what)
       edits-at = let s = edits-stand (graphOf sheet .n) edits lengths (E .what) (E .is) in record { limits = ranges (graphOf sheet .n); stand = s .stand; enough = omega (arith, s .many, enough edits lengths d moves ok) }

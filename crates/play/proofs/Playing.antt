@@ -1,4 +1,4 @@
--- The call, once its questions are answered: the game that the search is asked for, and its outcome in numbers.
+-- The call, once its questions are answered: the game that is searched, and its outcome in numbers.
 use mathlib.Core.Path.{_≡_, sym, ap, _∙_, subst}
 use mathlib.Core.Bool.{Bool, true, false}
 use mathlib.Core.List.{List, [], _∷_}
@@ -41,7 +41,7 @@ module _ (sheet book goal edits lengths : List ℕ) (d moves : ℕ) where
   abbrev Played : Asked Outcome
   Played = askPlay sheet book goal edits lengths d moves
 
-  -- What is answered: the outcome of the questions, and the game's outcome in numbers.
+  -- The answer: the outcome of the questions, and the game's outcome in numbers.
   abbrev Says : Asked (Unit {0}) → (number edit : ℕ) → Type 0
   Says a number edit = (a ≡ outcome Played) × ((number ≡ after Played outcomeNumber noOutcome) × (edit ≡ after Played outcomeEdit (faultyEdit sheet book goal edits lengths d moves)))
 

@@ -25,7 +25,7 @@ use Rattle.play.specs.Questions.{askFits, askGame, askPlay}
 use Rattle.play.specs.Right.{Answered, PlayRight}
 use Rattle.play.proofs.PlayStages.{some-moves, all-passed, all-fit}
 
--- What passes of all edits passes of each.
+-- What passes for all edits passes for each.
 pub each-fits : (rules : List (Expr rule)) (Zs : List Edit) → askFits rules Zs ≡ passed tt → (i : ℕ) → i < length Zs → askCarried (carriedBook (getD Zs i finish) rules) ≡ passed tt
 unfolding askFits
 each-fits rules [] e i l = absurd (omega arith)

@@ -1,4 +1,4 @@
--- The edits of a side tried in turn, each on a copy of the sheet.
+-- The edits of a side tried one by one, each on a copy of the sheet.
 use mathlib.Core.Path.{_≡_, refl, sym, ap, ap₂, _∙_, subst}
 use mathlib.Core.Bool.{Bool, true, false, _&&_, _||_, or-true, or-false}
 use mathlib.Core.List.{List}

@@ -1,4 +1,4 @@
--- The questions of a game, in item 13's order, and what is answered when all have passed.
+-- The questions of a game, in item 13's order, and the answer when all have passed.
 use mathlib.Core.Bool.{Bool, _&&_}
 use mathlib.Core.List.{List, [], _∷_}
 use Prim.Native.Nat.{ℕ, suc, _+_, _-_}
@@ -25,28 +25,28 @@ unfoldable pub inRange : (count dispatchers moves : ℕ) → Bool
 inRange count dispatchers moves =
     leb 1 dispatchers && (leb dispatchers mostEdits && (leb dispatchers count && (leb (count - dispatchers) mostEdits && (leb 1 moves && leb moves mostMoves))))
 
--- The sum of the lengths, as a whole number: no word that it would have to fit in.
+-- The sum of the lengths, as a whole number: it does not have to fit a word.
 unfoldable pub total : (lengths : List ℕ) → ℕ
 total [] = 0
 total (l ∷ ls) = l + total ls
 
--- 62 asks for the ranges, and that the lengths together are that of the bytes lent as edits.
+-- 62 requires the ranges, and that the lengths together are the length of the bytes passed as edits.
 unfoldable pub listsRight : (edits lengths : List ℕ) (dispatchers moves : ℕ) → Bool
 listsRight edits lengths dispatchers moves = inRange (length lengths) dispatchers moves && eqb (total lengths) (length edits)
 
--- Sheet and book, then the goal: "empty it is 12, and bytes after its one rule are 16". What is learned is the rules of the book, and the goal.
+-- Sheet and book, then the goal: "empty it is 12, and bytes after its one rule are 16". The result is the rules of the book, and the goal.
 unfoldable pub askAims : (sheet book goal : List ℕ) → Asked (List (Expr rule) × Expr rule)
 askAims sheet book goal = do
   rules ← askSheetAndBook sheet book
   aim ← askRule (textLimits (graphOf sheet .n)) goal
   passed (rules, aim)
 
--- The edits, each a text of its own: they stand one behind the other, and fill what is lent once 62 has passed.
+-- The edits, each a text of its own: they stand one after the other, and once 62 has passed they fill the given bytes.
 unfoldable pub cut : (edits lengths : List ℕ) → List (List ℕ)
 cut edits [] = []
 cut edits (l ∷ ls) = take l edits ∷ cut (drop l edits) ls
 
--- 21 to 26 of each, with the place in its own text.
+-- 21 to 26 for each, with the place in its own text.
 unfoldable pub askEdits : Limits → List (List ℕ) → Asked (List Edit)
 askEdits l [] = passed []
 askEdits l (t ∷ ts) = do
@@ -61,7 +61,7 @@ askFits rules (Z ∷ Zs) = do
   askCarried (carriedBook Z rules)
   askFits rules Zs
 
--- All questions: 62, "asked before the sheet", sheet, book, goal, edits, 31 and 32. What is learned is the game.
+-- All questions: 62, "asked before the sheet", sheet, book, goal, edits, 31 and 32. The result is the game.
 unfoldable pub askGame : (sheet book goal edits lengths : List ℕ) (dispatchers moves : ℕ) → Asked Game
 askGame sheet book goal edits lengths dispatchers moves = do
   is (listsRight edits lengths dispatchers moves) 62 0
@@ -70,13 +70,13 @@ askGame sheet book goal edits lengths dispatchers moves = do
   askFits (aims .0) (take dispatchers Zs)
   passed (record { book = aims .0; goal = aims .1; dispatchers = take dispatchers Zs; disruptions = drop dispatchers Zs })
 
--- Of a list, asked in turn: the place of the first that is refused, from 0. The list's length where none is.
+-- The place, from 0, of the first in a list that is refused; the list's length where none is.
 unfoldable pub firstRefused : {A B : Type 0} → (A → Asked B) → List A → ℕ
 firstRefused ask [] = 0
 firstRefused ask (x ∷ xs) = after (ask x) (λ b. suc (firstRefused ask xs)) 0
 
--- The edit that a refusal is about, by its place in the list of edits: after 21 to 26 the first whose text is refused, after 31 and 32 the first of the
--- dispatcher's through which the carried book doesn't fit. 0 after the refusals that come before: 62, sheet, book and goal.
+-- The edit that a refusal is about, by its place in the list of edits: after 21 to 26 the first whose text is refused, after 31 and 32 the first
+-- dispatcher edit through which the carried book doesn't fit. 0 after the earlier refusals: 62, sheet, book and goal.
 unfoldable pub faultyEdit : (sheet book goal edits lengths : List ℕ) (dispatchers moves : ℕ) → ℕ
 faultyEdit sheet book goal edits lengths dispatchers moves =
     let limits = textLimits (graphOf sheet .n) in

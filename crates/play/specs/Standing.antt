@@ -1,4 +1,4 @@
--- Of the inner functions: edits that stand one behind the other in a text, a game whose texts have been read, and what a search has found.
+-- For the inner functions: edits that stand one after the other in a text, a game whose texts have been read, and what a search has found.
 use mathlib.Core.Path.{_≡_}
 use mathlib.Core.Bool.{Bool, cond}
 use mathlib.Core.List.{List, [], _∷_}
@@ -41,7 +41,7 @@ pub record SomeGame (n : ℕ) (book goal edits : List ℕ) (lists : Lists) : Typ
   pub what : Game
   pub stands : GameStands n book goal edits lists what
 
--- An edit was made on a copy of a sheet; `next` is behind it.
+-- An edit was made on a copy of a sheet; `next` is the place after it.
 pub record OnCopy (at : ℕ) (Z : Edit) (next : ℕ) (sheet copy : List ℕ) : Type 0 where
   pub graph : graphOf copy ≡ run Z (graphOf sheet)
   pub ends : next ≡ at + length (editCode Z)
@@ -52,7 +52,7 @@ outcomeOf Cannot = cannot
 outcomeOf (EditFound i) = first (edit i)
 outcomeOf Pass = first pass
 
--- So many edits stand at the start of a text, whatever the ranges of their numbers.
+-- Some edits, `count` of them, stand at the start of a text, whatever the ranges of their numbers.
 pub record EditsAt (text : List ℕ) (count : ℕ) (Zs : List Edit) : Type 0 where
   pub limits : Ranges
   pub stand : EditsStand limits text 0 Zs

@@ -1,4 +1,4 @@
-// Dispatcher against disruption (item 13 of document 02): may the dispatcher force the goal, and by which first move?
+// Dispatcher against disruption (item 13 of document 02): can the dispatcher force the goal, and by which first move?
 ghost use mathlib.Core.Path.{_≡_};
 ghost use Rattle.answer.specs.Answers.{asked};
 ghost use Rattle.answer.specs.Asked.{outcome, after};
@@ -14,14 +14,14 @@ use search::Lists;
 // The outcome after a refusal.
 const REFUSED: usize = 3;
 
-// The answer, the outcome (0 can't, 1 an edit, 2 a pass, 3 after a refusal) and an edit, by its place in the list: the first move, or the edit that was refused.
+// The answer, the outcome (0 can't, 1 an edit, 2 a pass, 3 after a refusal) and an edit, by its place in the list: the first move, or the refused edit.
 pub struct Played {
     pub answer: Answer,
     pub outcome: usize,
     pub edit: usize,
 }
 
-// Plays: the edits' texts stand one behind the other in `edits`, `lengths` has the length of each, and the first `dispatchers` are the dispatcher's.
+// Plays: the edits' texts stand one after the other in `edits`, `lengths` has the length of each, and the first `dispatchers` are the dispatcher's.
 pub fn play(
     sheet: &[u8],
     book: &[u8],

@@ -21,7 +21,7 @@ use answer::Written;
 use sheet::Sheet;
 use text::Text;
 
-// Edits of a side, and moves.
+// The most edits of a side, and the most moves.
 const MOST_EDITS: usize = 4;
 
 const MOST_MOVES: usize = 6;
@@ -32,7 +32,7 @@ pub struct AtEdit {
     pub edit: usize,
 }
 
-// Are both lists and the number of moves in their ranges?
+// Whether both lists and the number of moves are in their ranges.
 fn in_range(count: usize, dispatchers: usize, moves: usize) -> bool
     ensures { λ r. ⌜ r ≡ inRange count dispatchers moves ⌝ }
 {
@@ -54,7 +54,7 @@ fn in_range(count: usize, dispatchers: usize, moves: usize) -> bool
     moves <= MOST_MOVES
 }
 
-// Are these the lengths of texts that fill so many bytes? What is left is counted down: a sum could wrap.
+// Whether these are the lengths of texts that fill `size` bytes. What is left is counted down: a sum could wrap.
 fn fill(lengths: &[usize], size: usize) -> bool
     ensures { λ r. ⌜ r ≡ eqb (total (now (lengths .entry))) size ⌝ }
 {
@@ -96,7 +96,7 @@ fn check_aims(sheet: &[u8], book: &[u8], goal: &[u8]) -> Answer
     Text::check_rule(goal, n)
 }
 
-// Are the texts of the edits edits? 21 to 26 of each in turn. Inner: their lengths fill `edits`.
+// Whether the texts are well-formed edits: 21 to 26 for each, one by one. Inner: their lengths fill `edits`.
 fn check_edits(edits: &[u8], lengths: &[usize], n: usize) -> AtEdit
     requires { ⌜ total (now lengths) ≡ length (now edits) ⌝ }
     ensures { λ r. ⌜ asked (r .answer) ≡ outcome (askEdits (textLimits n) (cut (now (edits .entry)) (now (lengths .entry)))) ⌝ }
@@ -119,7 +119,7 @@ fn check_edits(edits: &[u8], lengths: &[usize], n: usize) -> AtEdit
     }
 }
 
-// Does the book carried back through an edit fit? 31 and 32. An output without room tells it: 33 comes after them. Inner: both were read before.
+// Whether the book carried back through an edit fits: 31 and 32. An output without room suffices: 33 comes after them. Inner: both were read before.
 fn fits(book: &[u8], edit: &[u8]) -> Answer
     requires { ⌜ SomeBook (now book) × SomeEdit (now edit) 0 × (length (now edit) ≤ longestText) ⌝ }
     ensures { λ r. ⌜ ((rules : List (Expr rule)) (Z : Edit) → BookIs (now (book .entry)) rules → EditAt (now (edit .entry)) 0 Z → asked r ≡ askCarried (carriedBook Z rules)) ⌝ }
@@ -136,7 +136,7 @@ fn fits(book: &[u8], edit: &[u8]) -> Answer
     }
 }
 
-// Does it through each of so many edits? Inner: they stand at the start of the text, one behind the other.
+// The same through each of `count` edits. Inner: they stand at the start of the text, one after the other.
 fn check_fits(book: &[u8], edits: &[u8], count: usize) -> AtEdit
     requires { ⌜ SomeBook (now book) × SomeEdits (now edits) count ⌝ }
     ensures { λ r. ⌜ ((rules : List (Expr rule)) (Zs : List Edit) → BookIs (now (book .entry)) rules → EditsAt (now (edits .entry)) count Zs → asked (r .answer) ≡ askFits rules (take count Zs)) ⌝ }
@@ -159,7 +159,7 @@ fn check_fits(book: &[u8], edits: &[u8], count: usize) -> AtEdit
     }
 }
 
-// The place behind so many edits. Inner: as above.
+// The place after `count` edits. Inner: as above.
 pub fn behind(edits: &[u8], count: usize) -> usize
     requires { ⌜ SomeEdits (now edits) count ⌝ }
     ensures { λ r. ⌜ ((Zs : List Edit) (e : EditsAt (now (edits .entry)) count Zs) → EditsStand (e .limits) (now (edits .entry)) r (drop count Zs)) ⌝ }
@@ -173,7 +173,7 @@ pub fn behind(edits: &[u8], count: usize) -> usize
     at
 }
 
-// All questions of a game: 62, 1 to 4, 11 to 16 of the book and of the goal, 21 to 26 of each edit, 31 and 32.
+// All questions of a game: 62, 1 to 4, 11 to 16 for the book and for the goal, 21 to 26 for each edit, 31 and 32.
 pub fn ask(
     sheet: &[u8],
     book: &[u8],

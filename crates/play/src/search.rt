@@ -1,4 +1,4 @@
-// The search of a game: the side to move tries its edits in turn, each on a copy of the sheet, and the other side goes on from there.
+// The search of a game: the side to move tries its edits one by one, each on a copy of the sheet, and the other side goes on from there.
 ghost use mathlib.Core.Path.{_≡_};
 ghost use Prim.Native.Nat.{_-_, _<_};
 ghost use lib.ListN.{length};
@@ -13,7 +13,7 @@ ghost use Rattle.game.specs.Search.{sideOf, goesWell, chosen};
 ghost use Rattle.play.specs.Standing.{countOf, startOf, GameStands, SomeGame, OnCopy, outcomeOf};
 use sheet::Sheet;
 
-// The edits of both sides stand one behind the other: how many the dispatcher has, where the disruption's start, and how many those are.
+// The edits of both sides stand one after the other: how many the dispatcher has, where the disruption's start, and how many those are.
 pub struct Lists {
     pub ours: usize,
     pub second: usize,
@@ -27,7 +27,7 @@ pub enum Found {
     Pass,
 }
 
-// How many edits a side has, the dispatcher's being ours; and where they start.
+// How many edits a side has (ours are the dispatcher's), and where they start.
 fn count_of(lists: Lists, ours: bool) -> usize
     ensures { λ r. ⌜ r ≡ countOf lists ours ⌝ }
 {
@@ -47,7 +47,7 @@ fn start_of(lists: Lists, ours: bool) -> usize
 }
 
 // Whether a side may leave this sheet. Inner, as all below: the sheet is sound, and the texts were read for its n. Enter would answer done exactly when
-// the book holds on the sheet that the steps leave (Theorem 4.2), once 31 and 32 have been asked: so the dispatcher's edit is made on the copy first,
+// the book holds on the sheet that the steps leave (Theorem 4.2), once 31 and 32 have passed: so the dispatcher's edit is made on the copy first,
 // and nothing is carried back.
 fn may_leave(sheet: &[u8], book: &[u8], ours: bool) -> bool
     requires { ⌜ Sound (now sheet) × SomeRulesStand (ranges (graphOf (now sheet) .n)) (now book) 0 (length (now book)) ⌝ }
@@ -60,7 +60,7 @@ fn may_leave(sheet: &[u8], book: &[u8], ours: bool) -> bool
     true
 }
 
-// Makes the edit that stands at `at` on a copy of the sheet; answers the place behind it.
+// Makes the edit that stands at `at` on a copy of the sheet; returns the place after it.
 fn make(sheet: &[u8], edits: &[u8], at: usize, copy: &mut [u8]) -> usize
     requires { ⌜ Sound (now sheet) × SomeEditStands (ranges (graphOf (now sheet) .n)) (now edits) at × (length (now copy) ≡ sheetBytes) ⌝ }
     ensures { λ r. ⌜ Sound (now (copy .exit)) × ((Z : Edit) → EditStands (ranges (graphOf (now (sheet .entry)) .n)) (now (edits .entry)) at Z → OnCopy at Z r (now (sheet .entry)) (now (copy .exit))) ⌝ }
@@ -69,7 +69,7 @@ fn make(sheet: &[u8], edits: &[u8], at: usize, copy: &mut [u8]) -> usize
     apply::run_edit(copy, edits, at)
 }
 
-// The side's move, with so many moves left. An edit that serves ends the search; one sheet for each move is on the stack.
+// The side's move, with that many moves left. An edit that serves ends the search; one sheet for each move is on the stack.
 pub fn search(
     sheet: &[u8],
     book: &[u8],
@@ -107,7 +107,7 @@ pub fn search(
     Found::Cannot
 }
 
-// Whether it goes well with the side that has just moved, with so many moves left: at the end by the goal, before it when the other side has no move.
+// Whether things go well for the side that has just moved, with that many moves left: at the end by the goal, before it when no move serves the other side.
 fn goes_well(
     sheet: &[u8],
     book: &[u8],

@@ -1,4 +1,4 @@
--- Tokens of at most 64 bytes, added to a text.
+-- Adding tokens of at most 64 bytes to a text.
 use mathlib.Core.Path.{_≡_, refl, sym, _∙_, ap, subst}
 use mathlib.Core.Bool.{cond}
 use mathlib.Core.List.{List, [], _∷_, _++_}
@@ -60,12 +60,12 @@ mark-at (suc (suc (suc (suc x)))) l h = absurd (omega arith)
 pub mark-short : (item : ℕ) (marks : List ℕ) → length (take (item - (item - 1)) marks) ≤ longestName
 mark-short item marks = omega (arith, length-take (item - (item - 1)) marks)
 
--- Names, and words of the notation, stand in slots.
+-- Names, and words of the notation, are in slots.
 slot-short : (width : ℕ) (table : List ℕ) (i : ℕ) → getD table (width * i) 0 < width → length (slotAt width table i) < width
 unfolding slotAt
 slot-short width table i h = omega (arith, length-take (getD table (width * i) 0) (drop (width * i + 1) table))
 
--- A table of names holds the naming that it is read as.
+-- The naming that a table of names holds, read from its slots.
 unfoldable pub own : List ℕ → Naming
 own table k x = slotAt nameWidth table (slotBase k + x)
 

@@ -1,4 +1,4 @@
--- Codes that can be printed, from a place on: what the next goal is met by, and what it spells.
+-- Codes that can be printed, from a place on: what meets the next goal, and what it spells.
 use mathlib.Core.Path.{_≡_, refl, sym, _∙_, ap, subst}
 use mathlib.Core.List.{List, [], _∷_, _++_}
 use Prim.Native.Nat.{ℕ, zero, suc, _+_, _-_, _≤_, _<_}
@@ -41,7 +41,7 @@ module _ (l : Limits) (g : List Goal) (m : ℕ) where
   thing-byte s d [] h = absurd h
   thing-byte s d (x ∷ bytes) h = omega arith
 
--- Of codes from a place on.
+-- The codes from a place on.
 module _ (l : Limits) (codes : List ℕ) (at : ℕ) where
   left-inside : 0 < length (drop at codes) → at < length codes
   left-inside h = omega (arith, length-drop at codes)
@@ -76,7 +76,7 @@ module _ (l : Limits) (codes : List ℕ) (at : ℕ) where
         let p = subst (λ bytes. Printable l bytes (thing s d ∷ g) m) (drop-here codes at i) h in
         record { inside = i; within = p .0; on = p .1; spells = λ name. ap (λ bytes. spell name bytes (thing s d ∷ g) m) (drop-here codes at i) }
 
-  -- A rule after the goals is a thing on level 1.
+  -- A rule after the goals is a thing at level 1.
   module _ (inside : at < length codes) where
     pub rule-printable : (m : ℕ) → 0 < m → 1 ≤ l .deepest → Printable l (drop at codes) [] m → Printable l (drop at codes) (thing (expr rule) 1 ∷ []) (m - 1)
     unfolding Printable
@@ -94,7 +94,7 @@ module _ (l : Limits) (codes : List ℕ) (at : ℕ) where
         ∙ ap (λ n. spell name (getD codes at 0 ∷ drop (at + 1) codes) (thing (expr rule) 1 ∷ []) n) (let e : m ≡ suc m - 1 = omega arith in e)
         ∙ ap (λ bytes. spell name bytes (thing (expr rule) 1 ∷ []) (suc m - 1)) (sym (drop-here codes at inside))
 
-  -- Nothing is left to spell: at the end, or where no rule may follow.
+  -- Nothing is left to spell: at the end, or if no rule may follow.
   pub end-spells : (name : Naming) (m : ℕ) → length codes ≤ at → spell name (drop at codes) [] m ≡ []
   unfolding spell
   end-spells name m h = ap (λ bytes. spell name bytes [] m) (drop-of-length-le codes h)

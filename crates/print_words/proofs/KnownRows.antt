@@ -1,4 +1,4 @@
--- The rows of the levels, of marks, numbers and things alone.
+-- The rows of the levels, which have only marks, numbers and things.
 use mathlib.Core.Path.{_≡_, refl, _∙_}
 use mathlib.Core.List.{List, [], _∷_}
 use Prim.Native.Nat.{ℕ, zero, suc, _<_}

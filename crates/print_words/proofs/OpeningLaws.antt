@@ -1,4 +1,4 @@
--- What codes open where an item is wanted.
+-- What codes write first if an item is wanted.
 use mathlib.Core.Path.{_≡_, refl, sym, _∙_, ap, ap₂, subst}
 use mathlib.Core.Bool.{Bool, true, false, cond}
 use mathlib.Core.List.{[], _∷_}
@@ -26,7 +26,7 @@ Bare item c word row = Opening (λ d. bare (slotOf item) c) (record { word = wor
 bare-at : (i item c word row : ℕ) → item ≡ i → Bare i c word row → Bare item c word row
 bare-at i item c word row e h = subst (λ i. Bare i c word row) (sym e) h
 
--- a name alone
+-- just a name
 module _ (item c : ℕ) where
   pub bare-label : item ≡ 9 → c ≡ 3 → Bare item c 29 4
   unfolding bare slotOf wordsAt goalsOf goalOf kindOf

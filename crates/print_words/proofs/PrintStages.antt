@@ -1,4 +1,4 @@
--- The calls that print words, by where their questions stop.
+-- The calls that print words, by the question at which they stop.
 use mathlib.Core.Path.{_≡_, refl, sym, _∙_, ap, subst}
 use mathlib.Core.List.{List}
 use Prim.Native.Nat.{ℕ, _≤_}
@@ -30,7 +30,7 @@ edit-row = unfold goalsOf goalOf slotOf levelOf in refl
 pub rule-row : rowGoals 17 1 ≡ ruleGoals
 rule-row = unfold goalsOf goalOf slotOf levelOf in refl
 
--- What a call answers and writes, by the same questions put in another way.
+-- What a call answers and writes, with the same questions in another form.
 pub answered-as : {q q′ : Asked (List ℕ)} → q ≡ q′ → (output : List ℕ) {r : Asked ℕ} {last : List ℕ}
     → (r ≡ writtenLength q) × (last ≡ writtenOutput q output) → (r ≡ writtenLength q′) × (last ≡ writtenOutput q′ output)
 answered-as e output a = (a .0 ∙ ap writtenLength e, a .1 ∙ ap (λ q. writtenOutput q output) e)
@@ -51,7 +51,7 @@ module _ (names : List ℕ) (text : Asked (Unit {0})) (codes : List ℕ) (start 
     pub to-room : text ≡ passed tt → askRoom (printed (nameIn es) codes start rules) room ≡ askToWords names text codes start rules room
     to-room f = unfold askToWords in sym (bind-on e _ ∙ then-on f _)
 
--- Questions of which the outcome alone is asked.
+-- Questions of which only the outcome matters.
 bind-same : {A B : Type 0} (x : Asked A) (f g : A → Asked B) → ((a : A) → f a ≡ g a) → (x >>= f) ≡ (x >>= g)
 unfolding _>>=_
 bind-same (passed a) f g e = e a
@@ -67,7 +67,7 @@ unfolding outcome _>>_ _>>=_
 outcome-on (passed a) y f e = e a refl
 outcome-on (refused q p) y f e = refl
 
--- The text's own questions are those of a book, an edit or a first rule: what passes them can be printed.
+-- The text's own questions are those about a book, an edit or a first rule: what passes them can be printed.
 abbrev Prints : (text : Asked (Unit {0})) (codes : List ℕ) (start rules : ℕ) → Type 0
 Prints text codes start rules = text ≡ passed tt → Printable ruleLimits codes (rowGoals start 1) rules × (length codes ≤ longestCarried)
 

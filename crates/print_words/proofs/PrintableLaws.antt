@@ -1,4 +1,4 @@
--- What says the same as tokens can be printed, also by wider limits; and what stands after printable codes is not printed.
+-- What says the same as tokens can be printed, also under wider limits; and what follows printable codes is not printed.
 use mathlib.Core.Path.{_≡_, refl, _∙_, ap, subst}
 use mathlib.Core.List.{List, [], _∷_, _++_}
 use Prim.Native.Nat.{ℕ, suc, _≤_}
@@ -15,13 +15,13 @@ use Rattle.notation.proofs.Says.{Begins, by-word, label, nominal, arrowKind, cl
 use Rattle.notation.proofs.PhraseLaws.{phrase-of-byte}
 use Rattle.print_words.specs.Printable.{Printable}
 
--- A mark asks for no byte.
+-- A mark takes no byte.
 mark-printable : (l : Limits) (bytes : List ℕ) (t : Token) (g : List Goal) (m : ℕ) → Printable l bytes g m → Printable l bytes (mark t ∷ g) m
 unfolding Printable
 mark-printable l [] t g m h = h
 mark-printable l (x ∷ bytes) t g m h = h
 
--- The limits may be wider in levels.
+-- The limits may allow more levels.
 module _ (name : Naming) (l l′ : Limits) (same : l .numbers ≡ l′ .numbers) (deep : l .deepest ≤ l′ .deepest) where
   in-range : (k : Kind) (x : ℕ) → T (fits (l .numbers) k x) → T (fits (l′ .numbers) k x)
   in-range k x f = subst (λ r. T (fits r k x)) same f
@@ -51,7 +51,7 @@ module _ (name : Naming) (l l′ : Limits) (same : l .numbers ≡ l′ .numbers)
   says-printable (begin {bytes} {ts} {g} {m} d b h) = begins-printable b (omega arith) bytes g m (says-printable h)
   says-printable (last d h) = (omega arith, says-printable h)
 
--- Printable codes are printed to their end, whatever stands after them.
+-- Printable codes are printed to their end, whatever follows them.
 module _ (l : Limits) (rest : List ℕ) where
   pub printable-more : (bytes : List ℕ) (g : List Goal) → Printable l bytes g 0 → Printable l (bytes ++ rest) g 0
   unfolding Printable

@@ -21,11 +21,11 @@ use Rattle.print_words.specs.Printed.{printed}
 use Rattle.print_words.proofs.AddedLaws.{own, own-held}
 use Rattle.buffers.proofs.FilledLaws.{filled-more}
 
--- At most so many tokens are ahead: each goal is a token, and a code makes way for at most a word and eight goals.
+-- How many tokens are ahead at most: each goal is a token, and a code becomes at most a word and eight goals.
 unfoldable pub ahead : (codes at goals left : ℕ) → ℕ
 ahead codes at goals left = 10 * (codes - at) + (goals + 2 * left)
 
--- With so many tokens ahead, the text so far is short: 164,000 tokens in all, with at most 400,000 bytes each.
+-- With n tokens ahead, the text so far is short: 164,000 tokens in all, with at most 400,000 bytes each.
 pub record Short (s : Laid) (n : ℕ) : Type 0 where
   pub size : s .size + 400000 * n ≤ 400000 * 164000
   pub brackets : s .brackets + n ≤ 164000

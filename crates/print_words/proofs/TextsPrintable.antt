@@ -1,4 +1,4 @@
--- Books, edits and first rules that pass the questions can be printed by the limits of a carried rule.
+-- Books, edits and first rules that pass the questions can be printed under the limits of a carried rule.
 use mathlib.Core.Path.{_≡_, refl, sym, _∙_, ap, subst}
 use mathlib.Core.List.{List}
 use Prim.Native.Nat.{ℕ}
@@ -23,7 +23,7 @@ book-printable book {rules} e = says-printable plain wordLimits ruleLimits refl 
 pub edit-printable : (edit : List ℕ) {Z : Edit} → askEdit wordLimits edit ≡ passed Z → Printable ruleLimits edit editGoals 0
 edit-printable edit {Z} e = says-printable plain wordLimits ruleLimits refl (omega arith) (edit-says plain (record { what = Z; passes = e; tokens-are = refl }))
 
--- A rule is printed where it stands, with what stands after it.
+-- A rule is printed where it is, with whatever follows it.
 module _ (text : List ℕ) {K : Expr rule} (e : askFirst ruleLimits text ≡ passed K) where
   begins : BeginsWith ruleLimits text K
   begins = first-is-spelled ruleLimits text K e

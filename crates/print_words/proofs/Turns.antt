@@ -1,4 +1,4 @@
--- The turns of printing: what the loop keeps holds after each, and less is ahead.
+-- The turns of printing: what the loop keeps holds after each turn, and less is ahead.
 use mathlib.Core.Path.{_≡_, refl, sym, _∙_, ap, ap₂, subst, subst₂}
 use mathlib.Core.Bool.{Bool, true, false, cond}
 use mathlib.Core.List.{List, [], _∷_, _++_, append-nil}
@@ -117,7 +117,7 @@ module _ (table codes : List ℕ) (start rules : ℕ) (o₀ : List ℕ) where
       pub turn : Turn at′ rows′ row′ level′ left′ r o′
       pub less : toDo (length codes) at′ rows′ row′ level′ left′ < toDo (length codes) at rows row level left
 
-    -- The row has ended: on with the row above it.
+    -- The row has ended: the row above it goes on.
     pub up : row ≡ 0 → 1 < level → Next at rows (getD rows (level - 1) 0) (level - 1) left s o
     up e l =
         let w : wanted rows row level ≡ wanted rows (getD rows (level - 1) 0) (level - 1) = ap (λ r. wanted rows r level) e ∙ popped rows level l in
@@ -242,7 +242,7 @@ module _ (table codes : List ℕ) (start rules : ℕ) (o₀ : List ℕ) where
           less = omega (arith, number-ahead);
         }
 
-      -- a thing, on whatever level: d is its level, g what is wanted after it, and g′ after its code
+      -- a thing at any level: d is its level, g what is wanted after it, and g′ what is wanted after its code
       abbrev Opens-so : Opened → Type 0
       Opens-so q = Opening (λ d. opens (slotOf item) d (getD codes at 0)) q
 
@@ -292,7 +292,7 @@ module _ (table codes : List ℕ) (start rules : ℕ) (o₀ : List ℕ) where
               less = omega (arith, thing-ahead (level + 1) rest deeper-wanted opening g′ w′);
             }
 
-      -- on the row's own level
+      -- at the row's own level
       module _ (h : 14 ≤ item) where
         here-wanted : wanted rows row level ≡ thing (slotOf item) level ∷ goalsAbove rows level
         here-wanted = last-wanted h ∙ ap (_∷ goalsAbove rows level) (goal-here item level h)
@@ -316,7 +316,7 @@ module _ (table codes : List ℕ) (start rules : ℕ) (o₀ : List ℕ) where
         | no k ↦ (let l : 14 ≤ item = omega arith in a-thing level (goalsAbove rows level) (here-wanted l) .inside)
       ]
 
-    -- A turn with the same rows and level, known otherwise.
+    -- A turn with the same rows and level, described differently.
     pub next-as : {at′ : ℕ} {rows₁ : List ℕ} (rows₂ : List ℕ) {row′ level₁ : ℕ} (level₂ : ℕ) {left′ : ℕ} {r : Laid} {o′ : List ℕ} → rows₂ ≡ rows₁ → level₂ ≡ level₁
         → Next at′ rows₁ row′ level₁ left′ r o′ → Next at′ rows₂ row′ level₂ left′ r o′
     next-as {at′} rows₂ {row′} level₂ {left′} {r} {o′} e f n = subst₂ (λ (x : List ℕ) (y : ℕ). Next at′ x row′ y left′ r o′) (sym e) (sym f) n

@@ -9,13 +9,13 @@ use Rattle.buffers.specs.Filled.{filledFrom}
 use Rattle.lay_words.specs.Laying.{laidFrom}
 use Rattle.lay_words.specs.declared.Laid.{Laid}
 
--- There is room for one more token in the numbers.
+-- One more token does not overflow the state's numbers.
 pub record Room (s : Laid) : Type 0 where
   pub sizes : s .size + 2 * s .ifs + 2 + longestName < 2 ^ 64
   pub brackets : s .brackets + 1 < 2 ^ 64
   pub ifs : s .ifs + 1 < 2 ^ 64
 
--- A token, or none, has been added to the text, and its bytes to the buffer that the text stands in.
+-- At most one token is added to the text, and its bytes to the buffer that holds the text.
 pub record Added (s : Laid) (ts : List Token) (r : Laid) (buffer after : List ℕ) : Type 0 where
   pub bytes : List ℕ
   pub lays : (us : List Token) → laidFrom s (ts ++ us) ≡ bytes ++ laidFrom r us

@@ -1,4 +1,4 @@
--- Codes that meet goals within limits, so that they can be printed: no byte is missing, each number is in its range, no level too deep. What stands after them does not matter.
+-- Codes that meet goals within limits and so can be printed: no byte is missing, each number is in range, no level is too deep. Bytes after them do not matter.
 use mathlib.Core.List.{List, [], _∷_, _++_}
 use Prim.Native.Nat.{ℕ, zero, suc, _≤_}
 use lib.Dec.{T}

@@ -1,4 +1,4 @@
--- The words of codes that begin with a row of items, on level 1.
+-- The words of codes that begin with a row of items at level 1.
 use mathlib.Core.List.{List}
 use Prim.Native.Nat.{ℕ}
 use Rattle.answer.specs.Asked.{Asked, _>>=_, _>>_}
@@ -11,11 +11,11 @@ use Rattle.keywords.specs.Rows.{rowGoals}
 abbrev pub printed : Naming → (codes : List ℕ) (start rules : ℕ) → List ℕ
 printed name codes start rules = laid (spell name codes (rowGoals start 1) rules)
 
--- By a naming: 33.
+-- Printing with a naming: 33.
 abbrev pub askPrinted : Naming → (codes : List ℕ) (start rules room : ℕ) → Asked (List ℕ)
 askPrinted name codes start rules room = askRoom (printed name codes start rules) room
 
--- By a table of names: 63, the text's own questions, 33.
+-- Printing with a table of names: 63, the text's own questions, 33.
 unfoldable pub askToWords : (table : List ℕ) (text : Asked (Unit {0})) (codes : List ℕ) (start rules room : ℕ) → Asked (List ℕ)
 askToWords table text codes start rules room = do
   es ← askNames table

@@ -1,4 +1,4 @@
-// Books, edits and rules printed in words.
+// Prints books, edits and rules in words.
 mod print;
 
 ghost use mathlib.Core.Path.{_≡_};
@@ -27,7 +27,7 @@ const EDIT: u64 = 0x10;
 
 const RULE: u64 = 0x11;
 
-// Prints codes at the output's start: 33. Answers the length, which a first pass without room tells.
+// Prints codes at the output's start: 33. The answer is the length, which a first pass into an empty output finds.
 // Inner: the codes can be printed, and the table holds names.
 fn print_into(table: &[u8], codes: &[u8], start: u64, rules: usize, output: &mut [u8]) -> Written
     requires { ⌜ Slots nameWidth nameCount (now table) × Printable ruleLimits (now codes) (rowGoals start 1) rules × (length (now codes) ≤ longestCarried) × (start < 18) × (rules ≤ mostRules) ⌝ }
@@ -43,8 +43,8 @@ fn print_into(table: &[u8], codes: &[u8], start: u64, rules: usize, output: &mut
     Written::Length(size)
 }
 
-// Codes printed by a table of names: 63, then the refusal of the text's own questions if there is one, then 33. Answers the length.
-// Inner: where the text has passed, its codes can be printed.
+// Prints codes with a table of names: 63, then `second`, the answer to the text's own questions, then 33. The answer is the length.
+// Inner: if the text has passed, its codes can be printed.
 fn to_words(
     names: &[u8],
     codes: &[u8],
@@ -68,7 +68,7 @@ fn to_words(
     print_into(&table, codes, start, rules, output)
 }
 
-// The words of a book at the output's start: 63 of the table, 11 to 16 of the book with n as 60, 33. Answers their length.
+// Prints the words of a book at the output's start: 63 for the table, 11 to 16 for the book with n as 60, 33. The answer is their length.
 pub fn book_to_words(names: &[u8], book: &[u8], output: &mut [u8]) -> Written
     ensures { λ r. ⌜ writtenAsked r ≡ writtenLength (askBookToWords (now (names .entry)) (now (book .entry)) (length (now (output .entry)))) ⌝ }
     ensures { λ _. ⌜ now (output .exit) ≡ writtenOutput (askBookToWords (now (names .entry)) (now (book .entry)) (length (now (output .entry)))) (now (output .entry)) ⌝ }
@@ -77,7 +77,7 @@ pub fn book_to_words(names: &[u8], book: &[u8], output: &mut [u8]) -> Written
     to_words(names, book, second, BOOK, Text::RULES, output)
 }
 
-// Those of an edit: 63, 21 to 26 with n as 60, 33.
+// The same for an edit: 63, 21 to 26 with n as 60, 33.
 pub fn edit_to_words(names: &[u8], edit: &[u8], output: &mut [u8]) -> Written
     ensures { λ r. ⌜ writtenAsked r ≡ writtenLength (askEditToWords (now (names .entry)) (now (edit .entry)) (length (now (output .entry)))) ⌝ }
     ensures { λ _. ⌜ now (output .exit) ≡ writtenOutput (askEditToWords (now (names .entry)) (now (edit .entry)) (length (now (output .entry)))) (now (output .entry)) ⌝ }
@@ -86,7 +86,7 @@ pub fn edit_to_words(names: &[u8], edit: &[u8], output: &mut [u8]) -> Written
     to_words(names, edit, second, EDIT, 0, output)
 }
 
-// Those of the first rule of a text, a carried one or not, printed where it stands: 63, 12 to 15 with n as 60, 33.
+// The same for the first rule of a text, carried or not, without copying it: 63, 12 to 15 with n as 60, 33.
 pub fn rule_to_words(names: &[u8], text: &[u8], output: &mut [u8]) -> Written
     ensures { λ r. ⌜ writtenAsked r ≡ writtenLength (askRuleToWords (now (names .entry)) (now (text .entry)) (length (now (output .entry)))) ⌝ }
     ensures { λ _. ⌜ now (output .exit) ≡ writtenOutput (askRuleToWords (now (names .entry)) (now (text .entry)) (length (now (output .entry)))) (now (output .entry)) ⌝ }

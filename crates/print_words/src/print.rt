@@ -1,4 +1,4 @@
-// Codes printed as words, along the rows of what follows each.
+// Prints codes as words, along the rows of what follows each.
 ghost use mathlib.Core.Path.{_≡_};
 ghost use mathlib.Core.List.{[], _∷_};
 ghost use Prim.Native.Nat.{_<_, _≤_};
@@ -20,7 +20,7 @@ ghost use Rattle.print_words.specs.Added.{Room, Added};
 use crate::RULE;
 use lay_words::Laid;
 
-// What a code writes, and the row of what follows it: `word` is the slot of its word among those of the notation, NO_WORD where it has none.
+// What a code writes first, and the row of what follows it: `word` is the slot of its word among those of the notation, NO_WORD if it has none.
 struct Opened {
     word: usize,
     row: u64,
@@ -42,7 +42,7 @@ const NODE: u64 = 0x06;
 // The marks, in the order of their items.
 const MARKS: [u8; 3] = *b"(,)";
 
-// What a code without a phrase writes. Inner: the item is a thing.
+// What a code without a phrase writes first. Inner: the item is a thing.
 fn bare(item: usize, code: u8) -> Opened
     requires { ⌜ (9 ≤ item) × (item < 18) ⌝ }
     ensures { λ r. ⌜ Opening (λ d. bare (slotOf item) code) r ⌝ }
@@ -74,7 +74,7 @@ fn bare(item: usize, code: u8) -> Opened
     }
 }
 
-// What a code writes where an item is wanted. Inner: the item is a thing.
+// What a code writes first if an item is wanted. Inner: the item is a thing.
 fn opens(item: usize, code: u8) -> Opened
     requires { ⌜ (9 ≤ item) × (item < 18) ⌝ }
     ensures { λ r. ⌜ Opening (λ d. opens (slotOf item) d code) r ⌝ }
@@ -89,7 +89,7 @@ fn opens(item: usize, code: u8) -> Opened
     bare(item, code)
 }
 
-// Inner: the item is a mark, and there is room in the numbers.
+// Inner: the item is a mark, and one more token does not overflow.
 fn put_mark(output: &mut [u8], state: Laid, item: usize) -> Laid
     requires { ⌜ Room state × (1 ≤ item) × (item < 4) ⌝ }
     ensures { λ r. ⌜ Added state (markOf item ∷ []) r (now (output .entry)) (now (output .exit)) ⌝ }
@@ -98,7 +98,7 @@ fn put_mark(output: &mut [u8], state: Laid, item: usize) -> Laid
     lay_words::put_token(output, state, &MARKS[at..item])
 }
 
-// Inner: the item is a name or a count, the number is in its range, and there is room in the numbers.
+// Inner: the item is a name or a count, the number is in its range, and one more token does not overflow.
 fn put_number(table: &[u8], item: usize, x: u8, output: &mut [u8], state: Laid) -> Laid
     requires { ⌜ Slots nameWidth nameCount (now table) × (4 ≤ item) × (item < 9) × T (fits (ranges maxNodes) (kindOf item) x) × Room state ⌝ }
     ensures { λ r. ⌜ ((name : Naming) → Holds (now (table .entry)) name → Added state (name (kindOf item) x ∷ []) r (now (output .entry)) (now (output .exit))) ⌝ }
@@ -107,7 +107,7 @@ fn put_number(table: &[u8], item: usize, x: u8, output: &mut [u8], state: Laid) 
     lay_words::put_token(output, state, name)
 }
 
-// Inner: a word has that number, or it is NO_WORD, and there is room in the numbers.
+// Inner: a word has that number, or it is NO_WORD, and one more token does not overflow.
 fn put_word(output: &mut [u8], state: Laid, word: usize) -> Laid
     requires { ⌜ Room state × (word ≤ 29) ⌝ }
     ensures { λ r. ⌜ Added state (wordsAt word) r (now (output .entry)) (now (output .exit)) ⌝ }
@@ -119,7 +119,7 @@ fn put_word(output: &mut [u8], state: Laid, word: usize) -> Laid
     lay_words::put_token(output, state, token)
 }
 
-// Prints codes, as far as there is room, and says how long their text is: `row` is what is left of the row of `level`, `rows` what is left of those above it.
+// Prints codes, as far as there is room, and returns the length of their text: `row` is what remains of the row of `level`, `rows` of those above it.
 // Inner: the codes can be printed, and the table holds names.
 pub fn print(table: &[u8], codes: &[u8], start: u64, rules: usize, output: &mut [u8]) -> usize
     requires { ⌜ Slots nameWidth nameCount (now table) × Printable ruleLimits (now codes) (rowGoals start 1) rules × (length (now codes) ≤ longestCarried) × (start < 18) × (rules ≤ mostRules) ⌝ }

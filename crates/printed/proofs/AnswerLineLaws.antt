@@ -30,7 +30,7 @@ early = unfold answerLine digits in refl
 largest : answerLine 53 65535 ≡ 53 ∷ 51 ∷ 32 ∷ 54 ∷ 53 ∷ 53 ∷ 51 ∷ 53 ∷ 10 ∷ []
 largest = unfold answerLine digits in refl
 
--- A line says its number and its place, where they have no more digits than it has.
+-- A line gives its number and its place, where they have no more digits than it has.
 module _ (number place : ℕ) (h : Fits number place) where
   pub number-said : numberOn (answerLine number place) ≡ number
   number-said = unfold answerLine digits Left in said-digits 2 number (omega (arith, h .0))
@@ -38,7 +38,7 @@ module _ (number place : ℕ) (h : Fits number place) where
   pub place-said : placeOn (answerLine number place) ≡ place
   place-said = unfold answerLine digits Left in said-digits 5 place (omega (arith, h .1))
 
--- Answers that have no more digits: a line says its answer.
+-- Answers that have no more digits: a line gives its answer.
 module _ {A : Type 0} {x : Asked A} (r : Refuses 1 98 99999 x) where
   fits : Fits (askedNumber x) (askedPlace x)
   fits = (omega (arith, number-by r), omega (arith, place-by r))
@@ -49,7 +49,7 @@ module _ {A : Type 0} {x : Asked A} (r : Refuses 1 98 99999 x) where
   pub says-place : placeOn (askedLine x) ≡ askedPlace x
   says-place = place-said (askedNumber x) (askedPlace x) fits
 
--- Equal lines are equal answers: done is 00 00000, and no refusal is. And none is the line of an input that ends early.
+-- Equal lines mean equal answers: done is 00 00000, and no refusal is. And none is the line of an input that ends early.
 same-answer : {x y : Asked (Unit {0})} → Refuses 1 98 99999 x → Refuses 1 98 99999 y → askedNumber x ≡ askedNumber y → askedPlace x ≡ askedPlace y → x ≡ y
 unfolding askedNumber askedPlace
 same-answer passes passes e f = refl

@@ -9,11 +9,11 @@ use Rattle.decimal.specs.Digits.{digits, said}
 unfoldable pub answerLine : (number place : ℕ) → List ℕ
 answerLine number place = digits 2 number ++ (32 ∷ digits 5 place ++ (10 ∷ []))
 
--- The line of what the questions answer.
+-- The line for the outcome of questions.
 abbrev pub askedLine : {A : Type 0} → Asked A → List ℕ
 askedLine q = answerLine (askedNumber q) (askedPlace q)
 
--- Numbers and places that have no more digits. All that the programs answer are such: crate promises, `Lines`.
+-- Numbers and places that have no more digits. All answers of the programs are such: crate promises, `Lines`.
 abbrev pub Fits : (number place : ℕ) → Type 0
 Fits number place = (number < 100) × (place < 100000)
 

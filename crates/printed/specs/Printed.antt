@@ -5,7 +5,7 @@ use Rattle.text.specs.Reading.{longestCarried}
 use Rattle.runs.specs.Enter.{enterAnswer, enterSheet}
 use Rattle.printed.specs.AnswerLine.{askedLine}
 
--- The bytes of its scratch: as many as a carried book may have.
+-- The length of its scratch: the most bytes of a carried book.
 abbrev pub scratchBytes : ℕ
 scratchBytes = longestCarried
 

@@ -4,7 +4,7 @@ ghost use Rattle.answer.specs.Answers.{asked};
 ghost use Rattle.printed.specs.AnswerLine.{answerLine, askedLine, earlyLine};
 use answer::Answer;
 
-// The bytes of a line.
+// The length of a line in bytes.
 pub const BYTES: usize = 9;
 
 // The line of a number and a place.

@@ -27,7 +27,7 @@ book-followedBy : (P Q : Edit) (rules : List (Expr rule)) → carriedBook (follo
 book-followedBy P Q [] = refl
 book-followedBy P Q (K ∷ Ks) = ap₂ _∷_ (carry-followedBy P Q K) (book-followedBy P Q Ks)
 
--- what carry back asks once book and edit are read
+-- the questions of carry back once book and edit are read
 asked-so : (book edit : List ℕ) (room : ℕ) (rules : List (Expr rule)) (Z : Edit) → askBook (textLimits maxNodes) book ≡ passed rules → askEdit (textLimits maxNodes) edit ≡ passed Z
     → askCarry book edit room ≡ (askSize (carriedBook Z rules) room >> passed (bookCode (carriedBook Z rules)))
 asked-so book edit room rules Z e f = unfold askCarry _>>=_ in rw (e, f)

@@ -1,4 +1,4 @@
--- What holds of edits that join.
+-- What holds for edits that join.
 use mathlib.Core.Path.{_≡_, _∙_, ap}
 use mathlib.Core.List.{List}
 use Prim.Native.Nat.{ℕ}
@@ -30,6 +30,6 @@ chained p q joined h =
       one-by-one = λ sheet book room₁ room₂ room b e f asked. one-by-one j sheet book room b asked room₁ room₂ e f;
     }
 
--- So of what a call of joining writes.
+-- So for what a call of joining writes.
 pub chained-call : (p q : List ℕ) (room : ℕ) (joined : List ℕ) → askJoinEdits p q room ≡ passed joined → Chained p q joined
 chained-call p q room joined h = chained p q joined (call-joins p q room joined h)

@@ -37,7 +37,7 @@ use Rattle.promises.specs.Played.{Held, Made, ByCalls}
 use Rattle.promises.specs.Course.{Lent, Makes, Moves, Calls, Follows, WinsByCalls, BrokenByCalls, OverBytes, BeginsByCalls, StatedByCalls}
 use Rattle.promises.proofs.Played.{played-by-calls, lists-split}
 
--- A game whose moves are calls, on each sheet that it may come to.
+-- A game whose moves are calls, on each sheet that it may reach.
 module _ (nodes : ℕ) (book : List ℕ) (texts : List (List ℕ)) (G : Game) (split : length texts ≡ length (G .dispatchers) + length (G .disruptions))
     (by-calls : (sheet : List ℕ) → Held nodes sheet → ByCalls nodes book texts G sheet) where
   abbrev lent : Lent
@@ -70,7 +70,7 @@ module _ (nodes : ℕ) (book : List ℕ) (texts : List (List ℕ)) (G : Game) (s
         let l = edit-below G disruption g i c in
         (appliedSheet sheet (getD texts (length (G .dispatchers) + i) []), (omega (arith, split), b .applies i l, refl))
 
-    -- So is a move one of the game, and leaves its graph.
+    -- So a move is one of the game, and leaves its graph.
     pub record OfGame (s : Side) (x : Move) (next : List ℕ) : Type 0 where
       pub may : legal G s g x ≡ true
       pub held : Held nodes next
@@ -109,7 +109,7 @@ module _ (nodes : ℕ) (book : List ℕ) (texts : List (List ℕ)) (G : Game) (s
       let r = as-game m dispatcher next (o .held) (continued p x) q last rest in
       record { held = r .held; ends = disruption-moves G m (graphOf sheet) p x q (o .may) ∙ ap (λ h. course G m dispatcher h (continued p x) q) (sym (o .graph)) ∙ r .ends }
 
-  -- and each of the game that ends is one by calls: a move, and what follows it.
+  -- and each course of the game that ends is one by calls: a move, and what follows it.
   module _ (sheet : List ℕ) (k : Held nodes sheet) (s : Side) (x : Move) (rest : Graph → Course) (h : Graph) (then : List ℕ → List ℕ → Type 0)
       (others : (next : List ℕ) → Held nodes next → rest (graphOf next) ≡ ended h → (last : List ℕ) × then next last) where
     one-more : (b : Bool) → legal G s (graphOf sheet) x ≡ b → (elim b as (λ c. Course) [ true ↦ rest (leaves G s (graphOf sheet) x) | false ↦ wrong s ]) ≡ ended h
@@ -132,7 +132,7 @@ module _ (nodes : ℕ) (book : List ℕ) (texts : List (List ℕ)) (G : Game) (s
       one-more sheet k disruption x (λ f. course G m dispatcher f (continued p x) q) h (λ next last. Calls lent m dispatcher next (continued p x) q last)
       (λ next held c. as-calls m dispatcher next held (continued p x) q h c) (legal G disruption (graphOf sheet) x) refl e
 
-  -- A strategy that can be followed by calls says no move that cannot be made, and the other way round.
+  -- A strategy that can be followed by calls names no move that cannot be made, and the other way round.
   module _ (sheet : List ℕ) (k : Held nodes sheet) (x : Move) (rest : Graph → Course) (others : (next : List ℕ) → Held nodes next → Moves lent disruption sheet x next → Legal (rest (graphOf next))) where
     legal-move : (b : Bool) → legal G disruption (graphOf sheet) x ≡ b → Legal (elim b as (λ c. Course) [ true ↦ rest (leaves G disruption (graphOf sheet) x) | false ↦ wrong disruption ])
     legal-move false a = tt
@@ -166,7 +166,7 @@ module _ (nodes : ℕ) (book : List ℕ) (texts : List (List ℕ)) (G : Game) (s
       let o = of-game sheet k disruption x next move in
       legal-follow m dispatcher next (o .held) (continued p x) (λ q. subst Legal (disruption-moves G m (graphOf sheet) p x q (o .may) ∙ ap (λ h. course G m dispatcher h (continued p x) q) (sym (o .graph))) (f (x ∷ q)))
 
-  -- Judge, of the goal.
+  -- Judge, for the goal.
   module _ (goal : List ℕ) (read : askBook (textLimits nodes) goal ≡ passed (G .goal ∷ [])) where
     judge-asks : (sheet : List ℕ) → Held nodes sheet → askJudge sheet goal ≡ askRules (graphOf sheet) (G .goal ∷ []) 0
     unfolding askJudge askSheetAndBook _>>_ _>>=_
@@ -235,7 +235,7 @@ module _ (nodes : ℕ) (book : List ℕ) (texts : List (List ℕ)) (G : Game) (s
       broken = λ m p. ((λ b. broken-breaks sheet k m p b), (λ b. breaks-broken sheet k m p b));
     }
 
--- Of each game that was read.
+-- For each game that was read.
 pub course-by-calls : (sheet book goal edits lengths : List ℕ) (dispatchers moves : ℕ) (G : Game) → askGame sheet book goal edits lengths dispatchers moves ≡ passed G → Bytes sheet
     → OverBytes sheet goal (record { book = book; texts = cut edits lengths; dispatchers = dispatchers }) G
 course-by-calls sheet book goal edits lengths d moves G e bytes =

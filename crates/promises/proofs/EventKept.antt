@@ -40,7 +40,7 @@ module _ (book : List ℕ) where
     within : Within (graphOf sheet)
     within = sound-is-stored present sheet (g .bytes) (g .keeps .sound) .within
 
-    -- a graph of as many nodes that was judged, and the same graph
+    -- a graph with as many nodes that was judged, and the same graph
     judged : {rules : List (Expr rule)} (h : Graph) → Within h → h .n ≡ graphOf sheet .n → Ready sheet book i rules → askRules h rules 0 ≡ passed tt → Keeps book (store h)
     judged {rules} h w e q a = keeps book rules h (record { within = w; book-read = rw e (book-passed sheet book (q .read)); hold = asked-hold h rules 0 a })
 

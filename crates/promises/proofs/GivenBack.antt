@@ -76,7 +76,7 @@ either-way false x = refl
 held-blank : (v : ℕ) → heldIn (storeOf noPlans) v ≡ nothing
 held-blank v = unfold heldOf keptOf in held-stored noPlans v ∙ sym (either-way (nameRight v) nothing)
 
--- What is told of a store that is sound: it is bytes, and holds what was last kept. Of one that is not, no return is done.
+-- What is known about a store that is sound: it is bytes, and holds what was last kept. From one that is not sound, no return is done.
 record Holds (v : ℕ) (k : Kept) (t : List ℕ) : Type 0 where
   bytes : Bytes t
   held : k ≡ heldIn t v

@@ -36,7 +36,7 @@ use Rattle.count_small.proofs.CountsRight.{counted-graphs, total-is}
 use Rattle.count_small.proofs.Examples.{cases-right}
 use Rattle.promises.specs.Item12.{SmallSheet, Counted, Item12}
 
--- A test or its contrary, and a statement or its contrary.
+-- A test or its negation, and a statement or its negation.
 abbrev test : Bool → Bool → Bool
 test true x = x
 test false x = not x

@@ -57,7 +57,7 @@ module _ (sheet : List ℕ) (bytes : Bytes sheet) where
     go (passed u) e = ap (λ t. graphOf t .inUse) (entered-applied sheet book edit room bytes e) ∙ applied-uses edit
     go (refused q p) e = ap (λ t. graphOf t .inUse) (leaves .sheet-stays sheet book edit room q p e)
 
--- Question 4 of block b, once all before it has passed.
+-- Question 4 of block b, once everything before it has passed.
 module _ (t : List ℕ) where
   abbrev nodes : Nodes
   nodes = isNode (graphOf t)

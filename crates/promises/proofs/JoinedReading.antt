@@ -1,4 +1,4 @@
--- The joined edit read with the n of a sheet: it is P followed by Q there too.
+-- The joined edit read with the n of a sheet: there, too, it is P followed by Q.
 use mathlib.Core.Path.{_≡_, _∙_, ap, subst}
 use mathlib.Core.Logic.{_↔_}
 use mathlib.Core.List.{List}
@@ -17,7 +17,7 @@ use Rattle.answer.proofs.AskedLaws.{outcome-passed}
 use Rattle.join_edits.proofs.JoinedPasses.{Joins, joined-passes, both-pass}
 use Rattle.promises.specs.Chained.{Passes}
 
--- an edit that passes for n is the one that it is for 60
+-- an edit that passes for n is the same edit for 60
 one-edit : (n : ℕ) → n ≤ maxNodes → (t : List ℕ) (Z Y : Edit) → askEdit (textLimits n) t ≡ passed Z → askEdit (textLimits maxNodes) t ≡ passed Y → Z ≡ Y
 one-edit n l t Z Y e f = let w : askEdit (textLimits maxNodes) t ≡ passed Z = edit-wider (now-below n l) t Z e in cc
 

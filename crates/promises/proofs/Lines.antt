@@ -1,4 +1,4 @@
--- The lines of enter and replay say their answers.
+-- The lines of enter and replay give their answers.
 use mathlib.Core.Path.{_≡_, refl, sym, ap}
 use mathlib.Core.List.{List}
 use Prim.Native.Nat.{ℕ}

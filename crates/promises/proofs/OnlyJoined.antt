@@ -1,4 +1,4 @@
--- The joined edit is entered where its first is not: by the computed examples of enter.
+-- The joined edit is entered where its first part is not: by the computed examples of enter.
 use mathlib.Core.Path.{_≡_, refl, ap}
 use mathlib.Core.List.{List, [], _∷_}
 use Rattle.answer.specs.Asked.{Asked, passed, _>>=_, _>>_, is}

@@ -46,7 +46,7 @@ each-read l (t ∷ ts) Zs e i h =
       go Z Ys r rest zero h = r
       go Z Ys r rest (suc i) h = rest i (omega arith)
 
--- The sheet that the steps of an edit leave is one that the game may come to.
+-- The sheet that the steps of an edit leave is one that the game may reach.
 module _ (nodes : ℕ) (sheet : List ℕ) (k : Held nodes sheet) (text : List ℕ) (Z : Edit) (read : askEdit (textLimits nodes) text ≡ passed Z) where
   edit-read : askEdit (textLimits (graphOf sheet .n)) text ≡ passed Z
   edit-read = subst (λ n. askEdit (textLimits n) text ≡ passed Z) (sym (k .as-many)) read
@@ -140,7 +140,7 @@ module _ (sheet book goal edits lengths : List ℕ) (d moves : ℕ) (G : Game) (
     pub by-calls : ByCalls nodes book texts G held
     by-calls = subst (λ H. ByCalls nodes book texts H held) (p .is) by-calls-read
 
--- As many of the texts are a side's as the game has edits of it.
+-- As many of the texts belong to a side as the game has edits for it.
 length-cut : (edits lengths : List ℕ) → length (cut edits lengths) ≡ length lengths
 unfolding cut
 length-cut edits [] = refl

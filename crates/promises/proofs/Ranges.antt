@@ -1,4 +1,4 @@
--- Rules in which no node is named are read alike for every n.
+-- Rules in which no node is named are read in the same way for every n.
 use mathlib.Core.Path.{_≡_}
 use mathlib.Core.List.{List, [], _∷_}
 use Prim.Native.Nat.{ℕ}

@@ -1,4 +1,4 @@
--- A return that is done leaves a sheet that keeps the book it was lent, whatever the sheet before: the kept sheet was judged.
+-- A return that is done leaves a sheet that keeps the book passed to it, whatever the sheet before: the kept sheet was judged.
 use mathlib.Core.Path.{_≡_}
 use mathlib.Core.List.{List}
 use Prim.Native.Nat.{ℕ, _-_}

@@ -1,4 +1,4 @@
--- Each call that lends a sheet asks the sheet first (blank, a blank store and drop are lent none), so what `Noticed` of `sheet` says of every caller holds of it.
+-- Each call that takes a sheet checks it first (blank, a blank store and drop take none), so what `Noticed` of `sheet` says about every caller holds for it.
 use Rattle.answer.specs.Asked.{_>>=_, _>>_, is, outcome}
 use Rattle.sheet.specs.Questions.{askSheet, askLabelBit, askArrowBit}
 use Rattle.sheet.specs.Noticed.{AsksSheetFirst}

@@ -50,7 +50,7 @@ use Rattle.promises.proofs.Item10 as item10
 asked-is : (sheet text : List ℕ) (K : Expr rule) → Sound sheet → askFirst (carriedLimits (graphOf sheet .n)) (take longestCarried text) ≡ passed K → askWitness sheet text ≡ passed (witness (graphOf sheet .n) (breaks (graphOf sheet) K))
 asked-is sheet text K s e = unfold askWitness _>>_ _>>=_ in rw (s, e) refl
 
--- what the first rule of a text is refused by, once the text is no longer than a carried rule
+-- the refusals of the first rule of a text, once the text is not longer than a carried rule
 first-numbers : (x : Read (Expr rule)) {q p : ℕ} → first x ≡ refused q p → (12 ≤ q) × (q ≤ 15)
 unfolding first
 first-numbers (got K rest p) e = refused-not-passed (sym e)
@@ -87,7 +87,7 @@ refusals sheet text {q} {p} e = go (askSheet sheet) refl e where
   go (passed u) s f = inr (rule-first f)
   go (refused n m) s f = let (low, high) = refused-between (sheet-refuses present sheet) s in let z : n ≡ q = cc in inl (omega arith, omega arith)
 
--- a witness is only answered of a sound sheet
+-- the answer is a witness only for a sound sheet
 answered-is : {sheet text : List ℕ} {K : Expr rule} {w : Witness} → Answered sheet text K w → w ≡ witness (graphOf sheet .n) (breaks (graphOf sheet) K)
 answered-is {sheet} {text} {K} {w} a =
     unfold askWitness in let (u, s, f) = then-passed _ _ w (a .answer) in sym (passed-same (sym (asked-is sheet text K s (a .first)) ∙ a .answer))
@@ -120,7 +120,7 @@ cut {A} f (x ∷ xs) (c ∷ before) b others e = go (cut f xs before b others cc
   go : Cut f xs before b others → Cut f (x ∷ xs) (c ∷ before) b others
   go r = record { first = x ∷ r .first; x = r .x; rest = r .rest; is-cut = ap {A = List A} (x ∷_) (r .is-cut); same-length = omega (arith, r .same-length); made = r .made }
 
--- one rule of a book: what is so of each, and that it is no longer and no deeper
+-- one rule of a book: what holds for each, and that it is not longer and not deeper
 each-at : (l : _) (before : List (Expr rule)) (K : Expr rule) (others : List (Expr rule)) → EachAllowed l (before ++ (K ∷ others)) → Allowed l (expr rule) 1 K
 each-at l [] K others h = h .0
 each-at l (C ∷ before) K others h = each-at l before K others (h .1)

@@ -1,4 +1,4 @@
--- The numbers that the calls of words refuse with, and their places.
+-- The refusals of the calls of words, and their places.
 use mathlib.Core.Path.{_≡_, refl, sym, _∙_, subst}
 use mathlib.Core.List.{List}
 use mathlib.Core.Logic.{_⊎_, inl, inr}
@@ -80,7 +80,7 @@ module _ (table words : List ℕ) (g : List Goal) (m last : ℕ)
       go (inl t) = let (n, o, w) = wrong-table table q p t in ReadingRefused.wrong-table t n o
       go (inr (es, t, f)) = inner es t (bind-refused (Read (nameIn es)) (λ bytes. askRoom bytes room) f)
 
--- Printing: what is asked after the table.
+-- Printing: the questions after the table.
 module _ (table : List ℕ) {A : Type 0} (ask : Asked A) (from to : ℕ) (printed : Naming → A → List ℕ) (room : ℕ) where
   abbrev After : List Entry → Asked (List ℕ)
   After es = ask >>= (λ a. askRoom (printed (nameIn es) a) room)

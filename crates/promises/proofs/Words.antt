@@ -104,7 +104,7 @@ module _ (table : List ℕ) where
       let w = words-refused table (λ name. readEdit name words) room low e in
       record { names = w .names; table-passes = w .table-passes; first-wrong = edit-fault (w .names) (table-free table (w .table-passes)) words high (w .refuses) }
 
--- By another table: the tokens are the same, so the words are.
+-- With another table: the tokens are the same, so the words are, too.
 module _ (table table′ : List ℕ) where
   by-another : (codes : List ℕ) (g : List Goal) (m : ℕ) (s : SameNames table table′ (uses codes g m)) {es : List Entry} → askNames table ≡ passed es
       → laid (spell (nameIn es) codes g m) ≡ laid (spell (nameIn (s .names′)) codes g m)

@@ -1,4 +1,4 @@
--- What holds of edits that join (document 02, item 9), on the bytes of the calls. proofs/Chained proves it.
+-- Edits that join (document 02, item 9), on the bytes of the calls. proofs/Chained proves it.
 use mathlib.Core.Path.{_≡_}
 use mathlib.Core.Logic.{_↔_}
 use mathlib.Core.List.{List, _++_}
@@ -41,7 +41,7 @@ pub record IsCarried (book q text : List ℕ) : Type 0 where
   pub answer : (room : ℕ) → length text ≤ room → carryAnswer book q room ≡ passed (length text)
   pub output : (output : List ℕ) → length text ≤ length output → carryOutput book q output ≡ writtenAtStart text output
 
--- Of edits that join, and the joined bytes.
+-- For edits that join, and the joined bytes.
 pub record Chained (p q joined : List ℕ) : Type 0 where
   -- Q stands where P's end stood.
   pub bytes : joined ≡ withoutLast p ++ q
@@ -56,12 +56,12 @@ pub record Chained (p q joined : List ℕ) : Type 0 where
   -- "The joined edit must leave the sheet that the two, carried out one after the other, leave."
   pub applies-when : (sheet : List ℕ) → Bytes sheet → Applies sheet joined ↔ (Applies sheet p × Applies (appliedSheet sheet p) q)
   pub applied : (sheet : List ℕ) → Bytes sheet → Applies sheet joined → appliedSheet sheet joined ≡ appliedSheet (appliedSheet sheet p) q
-  -- So does enter, where it is entered. It is, where 1 to 33 pass, exactly when the sheet that the two leave keeps the book;
+  -- So does enter, when the edit is entered. Where 1 to 33 pass, that is exactly when the sheet that the two leave keeps the book;
   pub entered-leaves : (sheet book : List ℕ) (room : ℕ) → Bytes sheet → enterAnswer sheet book joined room ≡ passed tt
       → enterSheet sheet book joined room ≡ appliedSheet (appliedSheet sheet p) q
   pub entered-when : (sheet book : List ℕ) (room : ℕ) → Bytes sheet → outcome (askBefore41 sheet book joined room) ≡ passed tt
       → (enterAnswer sheet book joined room ≡ passed tt) ↔ Keeps book (appliedSheet (appliedSheet sheet p) q)
-  -- so where both edits are entered, one after the other.
+  -- so it is where both edits are entered, one after the other.
   pub one-by-one : (sheet book : List ℕ) (room₁ room₂ room : ℕ) → Bytes sheet
       → enterAnswer sheet book p room₁ ≡ passed tt → enterAnswer (enterSheet sheet book p room₁) book q room₂ ≡ passed tt
       → outcome (askBefore41 sheet book joined room) ≡ passed tt

@@ -1,4 +1,4 @@
--- Demand 1: every input gets its answer. That each call answers these questions, and leaves these bytes, is its contract; proofs/Demand1 proves what follows.
+-- Demand 1: every input gets its answer. That each call answers these questions, and leaves these bytes, is its contract; proofs/Demand1 proves the rest.
 use mathlib.Core.Path.{_≡_}
 use mathlib.Core.Bool.{true}
 use mathlib.Core.List.{List}
@@ -20,7 +20,7 @@ use Rattle.plan_store.specs.Questions.{askKeep, askReturn}
 use Rattle.play.specs.Questions.{listsRight, askPlay}
 use Rattle.promises.specs.Lines.{Lines}
 
--- "Sheet, then book, then edit, then scratch": each call that is lent a sheet asks it first.
+-- "Sheet, then book, then edit, then scratch": each call that takes a sheet checks it first.
 pub record SheetFirst : Type 0 where
   pub check : AsksSheetFirst askSheet
   pub label-bit : (k i : ℕ) → AsksSheetFirst (λ sheet. askLabelBit sheet k i)
@@ -45,11 +45,11 @@ pub record Demand1 : Type 0 where
   -- "Every other input .. gets the first number that applies in document 01's questions"
   pub sheet-first : SheetFirst
   -- "and the sheet, scratch and output bytes stay unchanged, but that an edit refused only for a broken rule leaves the carried-back rules in the scratch":
-  -- of enter,
+  -- for enter,
   pub enter-leaves : Leaves
-  -- of an edit carried out without a book,
+  -- for an edit carried out without a book,
   pub apply-stays : (sheet edit : List ℕ) (q p : ℕ) → askApply sheet edit ≡ refused q p → appliedSheet sheet edit ≡ sheet
-  -- and of carry back.
+  -- and for carry back.
   pub carry-back-stays : (book edit output : List ℕ) (q p : ℕ) → carryAnswer book edit (length output) ≡ refused q p → carryOutput book edit output ≡ output
-  -- "with its place": the line that a program prints says number and place whole.
+  -- "with its place": the line that a program prints gives number and place in full.
   pub lines : Lines

@@ -1,5 +1,5 @@
--- Demand 2: truth, sheets and carried rules are those of the definitions: `value` (Table II of 004), `run` (its Definition 3.2) and `carry` (its Definition 4.1),
--- which the contracts of the evaluators, of apply and of carry back cite. proofs/Demand2 proves what ties these to the papers.
+-- Demand 2: truth, sheets and carried rules are those of the definitions: `value` (Table II of 004), `run` (its Definition 3.2) and `carry`
+-- (its Definition 4.1), which the contracts of the evaluators, of apply and of carry back cite. proofs/Demand2 proves what ties these to the papers.
 use mathlib.Core.Path.{_≡_}
 use mathlib.Core.Logic.{_↔_}
 use mathlib.Core.Bool.{not, _&&_}
@@ -23,11 +23,11 @@ use Rattle.runs.specs.Run.{Keeps}
 use Rattle.runs.specs.Examples.{enteredOnT, calls, results}
 
 pub record Demand2 : Type 0 where
-  -- "The truth of each rule": judge says that all is well exactly when the sheet keeps the book. The quantifiers and counts are those of the paper.
+  -- "The truth of each rule": judge answers done exactly when the sheet keeps the book. The quantifiers and counts are those of the paper.
   pub judge-says-kept : (sheet book : List ℕ) → (askJudge sheet book ≡ passed tt) ↔ Keeps book sheet
   pub every-is-no-other : (g : Graph) → Within g → (R : Expr arrow) (E : Expr node) → value g (every R E) ≡ value g (complement (some R (complement E)))
   pub at-least-none : (g : Graph) (R : Expr arrow) (E : Expr node) → value g (atLeast 0 R E) ≡ value g all
-  -- 0A counts different end nodes: from 01 at 0 it goes on by leaving one arrow out, and nothing else does.
+  -- 0A counts different end nodes: 0A 0 is 01, each next count leaves one arrow out, and these two equations determine it.
   pub at-least-one-more : (g : Graph) → Within g → (m : ℕ) (R : Expr arrow) (E : Expr node) (i : ℕ)
       → value g (atLeast (suc m) R E) i ≡ anyBelow (g .n) (λ j. (value g R i j && value g E j) && value g (atLeast m (minus R (pair i j)) E) i)
   pub at-least-only : (g : Graph) → Within g → (A : ℕ → Expr arrow → Expr node → Nodes) → ((R : Expr arrow) (E : Expr node) → A 0 R E ≡ value g all)

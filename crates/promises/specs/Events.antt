@@ -1,5 +1,5 @@
--- Events: enter, close and open calls under one book, each on the sheet as the call before left it (item 6 of document 02), and the runs
--- in them. proofs/Events proves `events-right`.
+-- Events: enter, close and open calls under one book, each on the sheet as the previous call left it (item 6 of document 02), and the runs
+-- among them. proofs/Events proves `events-right`.
 use mathlib.Core.Path.{_≡_}
 use mathlib.Core.List.{List, [], _∷_, _++_}
 use Prim.Native.Nat.{ℕ}
@@ -28,7 +28,7 @@ unfoldable pub sheetsAfter : (book sheet : List ℕ) → List Event → List (Li
 sheetsAfter book sheet [] = []
 sheetsAfter book sheet (e ∷ es) = leaves book sheet e ∷ sheetsAfter book (leaves book sheet e) es
 
--- A run in it: the sheet that opens it, and its enter calls.
+-- A run among them: the sheet that opens it, and its enter calls.
 pub record Run : Type 0 where
   pub opens : List ℕ
   pub calls : List Call
@@ -63,7 +63,7 @@ logs book (r ∷ rs) = log book (r .opens) (r .calls) ++ logs book rs
 pub record EventsRight (book sheet : List ℕ) (events : List Event) : Type 0 where
   -- After each call the sheet keeps the book.
   pub kept : All (Keeps book) (sheetsAfter book sheet events)
-  -- Each run opens on a sheet that keeps the book, and all that demand 3 says of runs holds of it.
+  -- Each run opens on a sheet that keeps the book, and everything that demand 3 says about runs holds for it.
   pub runs-right : All (λ r. Keeps book (r .opens) × RunRight (r .opens) book (r .calls)) (runs book sheet events)
-  -- What enter answers and leaves in the list of calls is what it does in those runs, one after the other.
+  -- Enter answers and leaves the same in the list of calls as in those runs, one after the other.
   pub runs-are : enterLines book sheet events ≡ logs book (runs book sheet events)

@@ -18,7 +18,7 @@ pub record TwoSheets (first second : List ℕ) : Type 0 where
   pub sound : Sound second
   pub alike : Alike (graphOf second) (graphOf first)
 
--- The page is accepted as that of the block with this number, which becomes the block of the first sheet, byte for byte; every other is as it was.
+-- The page is accepted as that of the block with this number, which becomes the block of the first sheet, byte for byte; every other block is as it was.
 pub record BecomesBlock (first second page : List ℕ) (b : Block) (number : ℕ) : Type 0 where
   pub accepted : askType second page ≡ passed b
   pub sound : Sound (typedSheet second page)

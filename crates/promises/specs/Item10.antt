@@ -13,7 +13,7 @@ use Rattle.runs.specs.Enter.{StepsAndCarried, askBefore41, enterAnswer, enterSh
 use Rattle.runs.specs.Leaves.{Leaves}
 use Rattle.runs.specs.Unmoved.{Unmoved}
 
--- The carried rules up to `last` were written into the scratch, each at its start over the one before: what is left.
+-- The carried rules up to `last` were written into the scratch, each at its start over the previous one: what is left there.
 pub record Written (sheet book edit scratch : List ℕ) : Type 0 where
   pub what : StepsAndCarried
   pub passes : askBefore41 sheet book edit (length scratch) ≡ passed what
@@ -23,17 +23,17 @@ pub record Written (sheet book edit scratch : List ℕ) : Type 0 where
   pub rules : what .carried ≡ before ++ (last ∷ unwritten)
   -- The last rule written stands at the start,
   pub at-start : take (length (code last)) (enterScratch sheet book edit scratch) ≡ code last
-  -- and from the length of the longest written rule on the bytes are those of before.
+  -- and from the length of the longest written rule on, the bytes are as they were.
   pub rest : drop (longestRule (before ++ (last ∷ []))) (enterScratch sheet book edit scratch) ≡ drop (longestRule (before ++ (last ∷ []))) scratch
 
 pub record Item10 : Type 0 where
   -- "Where it did not give 33, enter is to give the same number and place", and the same sheet; and what became of its 33.
   pub unmoved : Unmoved
-  -- A scratch that is not answered 33 gets the answer and the sheet that one of 16,384 bytes would.
+  -- With a scratch that does not get 33, enter gives the answer and leaves the sheet that it would with 16,384 bytes.
   pub any-scratch : (sheet book edit : List ℕ) (room : ℕ) → ((p : ℕ) → enterAnswer sheet book edit room ≢ refused 33 p)
       → (enterAnswer sheet book edit room ≡ enterAnswer sheet book edit longestCarried) × (enterSheet sheet book edit room ≡ enterSheet sheet book edit longestCarried)
-  -- "After done or 41 the scratch is what those writings leave, in demand 1 too"; after every other refusal it is as it was, and after every refusal the
-  -- sheet is.
+  -- "After done or 41 the scratch is what those writings leave, in demand 1 too"; after every other refusal it is as it was, and after every refusal
+  -- the sheet is as it was.
   pub leaves : Leaves
   -- What those writings leave. After 41 the last rule written is the one at the answer's place, which is the first broken one.
   pub after-41 : (sheet book edit scratch : List ℕ) (p : ℕ) → enterAnswer sheet book edit (length scratch) ≡ refused 41 p
@@ -43,5 +43,5 @@ pub record Item10 : Type 0 where
       → (w : Written sheet book edit scratch) × (w .unwritten ≡ [])
   -- An empty book leaves the scratch as it was.
   pub empty-book : (sheet edit scratch : List ℕ) → enterScratch sheet [] edit scratch ≡ scratch
-  -- Whatever is answered, the scratch is as long as before.
+  -- Whatever the answer, the scratch is as long as before.
   pub same-length : (sheet book edit scratch : List ℕ) → length (enterScratch sheet book edit scratch) ≡ length scratch

@@ -30,7 +30,7 @@ pub record Item11 : Type 0 where
   -- on every sound sheet whose n both fit, both have the same truth;
   pub same-truth : (carried steps sent : List ℕ) → Accepts carried steps sent → (sheet : List ℕ) → Bytes sheet → Sound sheet → (K L : Expr rule)
       → FitsAs (graphOf sheet .n) carried K → FitsAs (graphOf sheet .n) sent L → value (graphOf sheet) K ≡ value (graphOf sheet) L
-  -- and where both keep a book's own limits, judge answers the same of both, whatever the sheet.
+  -- and where both keep a book's own limits, judge gives the same answer to both, whatever the sheet.
   pub same-judged : (carried steps sent : List ℕ) → Accepts carried steps sent → (sheet : List ℕ) → Bytes sheet → (rules rules′ : List (Expr rule))
       → BookAs (graphOf sheet .n) carried rules → BookAs (graphOf sheet .n) sent rules′ → askJudge sheet carried ≡ askJudge sheet sent
   -- "every chain of fitting steps that ends in the text sent is accepted."

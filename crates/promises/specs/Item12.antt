@@ -14,7 +14,7 @@ use Rattle.count_small.specs.Small.{Small, total}
 use Rattle.count_small.specs.Exactly.{Exactly}
 use Rattle.count_small.specs.Questions.{Texts, askCount, countsOf}
 
--- "all nodes in use, only label 0 and arrow 0 in sheet": a sound sheet of n nodes that is such.
+-- "all nodes in use, only label 0 and arrow 0 in sheet": a sound sheet of n nodes like that.
 pub record SmallSheet (n : ℕ) (sheet : List ℕ) : Type 0 where
   pub are-bytes : Bytes sheet
   pub sound : Sound sheet

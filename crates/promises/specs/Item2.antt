@@ -21,10 +21,10 @@ pub record WithoutArrows (φ : SheetForm) (t : List ℕ) : Type 0 where
 pub record Item2 : Type 1 where
   -- "each stored little-endian in two bytes, s at 508 and t at 510 [..] Block 1 without arrows has s 3 and t 238."
   pub block-1 : (sheet : List ℕ) → WithoutArrows present sheet → drop 508 (blockOf sheet 1) ≡ 3 ∷ 0 ∷ 238 ∷ 0 ∷ []
-  -- Of the old form, which the converter asks, document 01: "Bytes 510 and 511: sums s and t [..] Block 1 without arrows has 3 and 254."
+  -- For the old form, which the converter checks, document 01: "Bytes 510 and 511: sums s and t [..] Block 1 without arrows has 3 and 254."
   pub old-block-1 : (card : List ℕ) → WithoutArrows (former modulo255) card → drop 510 (blockOf card 1) ≡ 3 ∷ 254 ∷ []
-  -- "Every caller may now rely on this: in a sound sheet, a change of any single byte, or an exchange of two unequal neighbours among a block's first 508, gives 2
-  -- for that block": of every call that asks the sheet first, as each does (`SheetFirst` of demand 1).
+  -- "Every caller may now rely on this: in a sound sheet, a change of any single byte, or an exchange of two unequal neighbours among a block's first 508,
+  -- gives 2 for that block": for every call that checks the sheet first, as each does (`SheetFirst` of demand 1).
   pub change-noticed : {A : Type 0} (call : List ℕ → Asked A) → AsksSheetFirst call → (sheet : List ℕ) → Bytes sheet → Sound sheet → (p x : ℕ) → p < sheetBytes → x < 256 → (x ≡ getD sheet p 0 → ⊥)
       → call (set sheet p x) ≡ refused 2 (p / blockBytes)
   pub exchange-noticed : {A : Type 0} (call : List ℕ → Asked A) → AsksSheetFirst call → (sheet : List ℕ) → Bytes sheet → Sound sheet → (p : ℕ) → p < sheetBytes → suc (p % blockBytes) < 508

@@ -15,5 +15,5 @@ pub record Item5 : Type 0 where
   pub t-of-weighed : (f : Form) (body : List ℕ) → sums f body .t ≡ weighed body % f .modulus
   -- "over any 508 bytes the plain totals are at most 129,540 and 32,967,930".
   pub plain-totals : (body : List ℕ) → length body ≡ 508 → Bytes body → (total body ≤ 129540) × (weighed body ≤ 32967930)
-  -- The call for a loader asks the sheet as every other does.
+  -- The call for a loader checks the sheet as every other does.
   pub check-first : AsksSheetFirst askSheet

@@ -29,7 +29,7 @@ use Rattle.promises.specs.Events.{Event, EventsRight}
 abbrev pub Closed : Graph → ℕ → Type 0
 Closed g i = g .inUse i ≡ false
 
--- Of a sheet only question 4 of block b is still to be asked.
+-- Of a sheet's questions only 4 of block b is still to be asked.
 pub record UpTo4 (sheet : List ℕ) (b : ℕ) : Type 0 where
   pub long : length sheet ≡ sheetBytes
   pub before : (j : ℕ) → j < b → askBlock present (getD sheet 2 0) (isNode (graphOf sheet)) j (blockOf sheet j) ≡ passed tt

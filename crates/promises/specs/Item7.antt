@@ -17,6 +17,6 @@ pub record Item7 : Type 0 where
   pub gives-back : (buffer : List ℕ) (calls : List StoreCall) → All KeepsBytes calls → (name : ℕ) → GivesBack nothing buffer (blank ∷ calls) name
   -- and from a store that comes from elsewhere, whose sheets count as kept.
   pub gives-back-from : (store : List ℕ) → Bytes store → (calls : List StoreCall) → All KeepsBytes calls → (name : ℕ) → GivesBack (heldIn store name) store calls name
-  -- "and a new run opens there": the sheet keeps the book that the return was lent, whatever the sheet before, and every run from it has what demand 3 says.
+  -- "and a new run opens there": the sheet keeps the book passed to the return, whatever the sheet before, and demand 3 holds for every run from it.
   pub run-opens : (sheet store : List ℕ) (name : ℕ) (book : List ℕ) → Bytes store → askReturn sheet store name book ≡ passed tt
       → Keeps book (returnedSheet sheet store name book) × ((calls : List Call) → RunRight (returnedSheet sheet store name book) book calls)

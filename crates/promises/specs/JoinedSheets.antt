@@ -1,4 +1,4 @@
--- What is promised of joined sheets (item 8 of document 02), over bytes. proofs/JoinedSheets proves it.
+-- What is promised about joined sheets (item 8 of document 02), over bytes. proofs/JoinedSheets proves it.
 use mathlib.Core.Path.{_≡_}
 use mathlib.Core.Logic.{_↔_}
 use mathlib.Core.List.{List}
@@ -17,7 +17,7 @@ use Rattle.runs.specs.Run.{Keeps}
 use Rattle.join_sheets.specs.Joined.{sideBySide, pairsBySide, joinedGraph, nodesTotal, askJoin, joinedSheet}
 use Rattle.join_sheets.specs.Joinable.{Joinable, JoinableBook}
 
--- Of two sheets that are joined.
+-- For two sheets that are joined.
 pub record TwoJoined (first second : List ℕ) : Type 0 where
   -- The sheet is sound, and what it stores is both graphs side by side.
   pub sound : Sound (joinedSheet first second)
@@ -27,11 +27,11 @@ pub record TwoJoined (first second : List ℕ) : Type 0 where
   pub pairs : (R : Expr arrow) → Joinable R → value (graphOf (joinedSheet first second)) R ≡ pairsBySide (graphOf first .n) (value (graphOf first) R) (value (graphOf second) R)
   -- "A rule built only from 21, 22 and 25, in which 04 and 17 do not appear, must hold on the joined sheet exactly when it holds on both."
   pub rule-holds : (K : Expr rule) → Joinable K → T (value (graphOf (joinedSheet first second)) K) ↔ (T (value (graphOf first) K) × T (value (graphOf second) K))
-  -- A book of such rules, which is read alike for every n, is kept by the joined sheet exactly when both keep it.
+  -- A book of such rules, which is read in the same way for every n, is kept by the joined sheet exactly when both keep it.
   pub book-kept : (book : List ℕ) (n : ℕ) (rules : List (Expr rule)) → askBook (textLimits n) book ≡ passed rules → JoinableBook rules
       → Keeps book (joinedSheet first second) ↔ (Keeps book first × Keeps book second)
 
--- Joining with a third is done from either side, and leaves the same bytes.
+-- Joining with a third sheet works from either side, and leaves the same bytes.
 pub record ThreeJoined (first second third : List ℕ) : Type 0 where
   pub from-the-left : (askJoin first second ≡ passed tt) × (askJoin (joinedSheet first second) third ≡ passed tt)
   pub from-the-right : (askJoin second third ≡ passed tt) × (askJoin first (joinedSheet second third) ≡ passed tt)

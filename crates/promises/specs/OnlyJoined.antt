@@ -1,4 +1,4 @@
--- Two edits of which the joined one is entered and the first is not: marked examples 8 and 9 of document 01, on the sheet T under the book B.
+-- Two edits whose joined edit is entered though the first is not: marked examples 8 and 9 of document 01, on the sheet T under the book B.
 use mathlib.Core.Path.{_≡_}
 use mathlib.Core.List.{List, [], _∷_}
 use Prim.Native.Nat.{ℕ}

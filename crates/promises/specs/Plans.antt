@@ -55,7 +55,7 @@ linesThrough book x (dropping name ∷ cs) = linesThrough book (left book x (dro
 pub record PlannedRight (book : List ℕ) (x : State) (calls : List PlanEvent) : Type 0 where
   -- After each call the sheet keeps the book.
   pub kept : All (Keeps book) (sheetsThrough book x calls)
-  -- Each run opens on a sheet that keeps the book, and all that demand 3 says of runs holds of it.
+  -- Each run opens on a sheet that keeps the book, and everything that demand 3 says about runs holds for it.
   pub runs-right : All (λ r. Keeps book (r .opens) × RunRight (r .opens) book (r .calls)) (runsThrough book x calls)
-  -- What enter answers and leaves is what it does in those runs, one after the other.
+  -- Enter answers and leaves the same as in those runs, one after the other.
   pub runs-are : linesThrough book x calls ≡ logs book (runsThrough book x calls)

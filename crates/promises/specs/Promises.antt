@@ -1,6 +1,6 @@
--- What we promise: the buyer's three demands, the thirteen requests of document 02, what a witness tells, what an edit's blocks of a log hold, and books and edits in
--- words: each a record with a field for each sentence. proofs/Promises proves them all, by citation; every call meets its contract, and the contracts cite the definitions
--- that these records speak of.
+-- What we promise: the buyer's three demands, the thirteen requests of document 02, what a witness says, what an edit's blocks of a log hold, and books
+-- and edits in words: each a record with a field for each sentence. proofs/Promises proves them all, by citation; every call meets its contract, and the
+-- contracts cite the definitions that these records speak of.
 use Rattle.runs.specs.Demand3.{Demand3}
 use Rattle.promises.specs.Demand1.{Demand1}
 use Rattle.promises.specs.Demand2.{Demand2}
@@ -54,7 +54,7 @@ pub record Promises : Type 1 where
   pub item-12 : Item12
   -- Dispatcher against disruption.
   pub item-13 : Item13
-  -- Who breaks a rule.
+  -- What breaks a rule.
   pub witnesses : Witnesses
   -- An edit cut into the blocks of a log.
   pub logged-edits : LoggedEdits

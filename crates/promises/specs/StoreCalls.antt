@@ -1,4 +1,4 @@
--- The calls that write a store (item 7 of document 02), one after the other on one store. Each is lent a sheet and a book of its own, so whatever was
+-- The calls that write a store (item 7 of document 02), one after the other on one store. Each takes its own sheet and book, so whatever was
 -- entered between two of them is covered. proofs/GivenBack proves `GivesBack`, and Item7 of the crate `promises` says it.
 use mathlib.Core.Path.{_≡_}
 use mathlib.Core.Bool.{_&&_, cond}
@@ -19,14 +19,14 @@ pub data StoreCall : Type 0 where
   return : (sheet : List ℕ) (name : ℕ) (book : List ℕ) → StoreCall
   drop : (name : ℕ) → StoreCall
 
--- A sheet that is kept is the contents of a buffer of bytes; of the other sheets and of the books nothing is asked.
+-- A sheet that is kept is the contents of a buffer of bytes; nothing is required of the other sheets or of the books.
 abbrev pub KeepsBytes : StoreCall → Type 0
 KeepsBytes blank = Unit {0}
 KeepsBytes (keep sheet name) = Bytes sheet
 KeepsBytes (return sheet name book) = Unit {0}
 KeepsBytes (drop name) = Unit {0}
 
--- The store after a call, and after all of them: a return leaves it.
+-- The store after a call, and after all of them: a return leaves it as it is.
 abbrev pub storeAfter : (store : List ℕ) → StoreCall → List ℕ
 storeAfter t blank = blankStore t
 storeAfter t (keep sheet name) = keptStore sheet t name
@@ -42,7 +42,7 @@ pub data Kept : Type 0 where
   nothing : Kept
   some : (sheet : List ℕ) → Kept
 
--- After one more call, told by the call and its answer alone: a blank that is done leaves nothing, a keep that is done the sheet that it was lent, a
+-- After one more call, from the call and its answer alone: a blank that is done leaves nothing, a keep that is done the sheet passed to it, a
 -- drop that is done nothing, and no other call changes it.
 abbrev pub told : (name : ℕ) → Kept → (store : List ℕ) → StoreCall → Kept
 told v k t blank = after (askBlankStore (length t)) (λ u. nothing) k

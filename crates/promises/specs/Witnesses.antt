@@ -23,7 +23,7 @@ use Rattle.witness.specs.Witnessed.{askWitness}
 use Rattle.witness.specs.Told.{breakingPart, Told}
 use Rattle.witness.specs.declared.Witness.{Witness}
 
--- A witness was answered, of the rule K.
+-- The answer was this witness, for the rule K.
 pub record Answered (sheet text : List ℕ) (K : Expr rule) (w : Witness) : Type 0 where
   pub first : askFirst (carriedLimits (graphOf sheet .n)) (take longestCarried text) ≡ passed K
   pub answer : askWitness sheet text ≡ passed w
@@ -39,11 +39,11 @@ pub record Foretold {book edit sheet : List ℕ} (i : Given book edit sheet) (sc
   pub same : askWitness sheet (enterScratch sheet book edit scratch) ≡ askWitness (afterSteps (i .steps) sheet) (code K)
 
 pub record Witnesses : Type 0 where
-  -- A refusal is 1 to 4 of the sheet or 12 to 15 of the rule: however long the text, 11 is never answered.
+  -- A refusal is 1 to 4 for the sheet or 12 to 15 for the rule: however long the text, the answer is never 11.
   pub refusals : (sheet text : List ℕ) {q p : ℕ} → askWitness sheet text ≡ refused q p → ((1 ≤ q) × (q ≤ 4)) ⊎ ((12 ≤ q) × (q ≤ 15))
   -- After done, kind 0 exactly when the rule holds.
   pub kind-0 : {sheet text : List ℕ} {K : Expr rule} {w : Witness} → Answered sheet text K w → (w .kind ≡ 0) ↔ (value (graphOf sheet) K ≡ true)
-  -- A witness of kind 1 or 2 is really one, and the lowest; `nodes` are all of them.
+  -- A witness of kind 1 or 2 does break the rule, and is the lowest; for kind 1, `nodes` are all nodes that do.
   pub tells : {sheet text : List ℕ} {K : Expr rule} {w : Witness} → Answered sheet text K w → value (graphOf sheet) K ≡ false → Told (graphOf sheet) (breakingPart (graphOf sheet) K) w
   -- What breaks a carried rule on the graph before is what breaks the rule on the graph that the edit leaves.
   pub carried : (Z : Edit) (K : Expr rule) (g : Graph) → breaks g (carry Z K) ≡ breaks (run Z g) K

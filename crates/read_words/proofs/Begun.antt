@@ -1,4 +1,4 @@
--- Reading goes on by what a token begins where a goal stands.
+-- Reading goes on with what a token begins for the goal that is wanted.
 use mathlib.Core.Path.{_≡_, refl, sym}
 use mathlib.Core.Bool.{Bool, true, false, cond}
 use mathlib.Core.List.{List, [], _∷_, _++_}
@@ -23,7 +23,7 @@ unfolding prefixed
 prefixed-none (passed bytes) = refl
 prefixed-none (refused q p) = refl
 
--- What is read after a start: a thing's level is asked first.
+-- What is read after a start: for a thing, its level is checked first.
 unfoldable pub continued : Goal → (place : ℕ) → Start → (rest : List Goal → Asked (List ℕ)) → Asked (List ℕ)
 continued (mark w) p (starts c then) rest = prefixed c (rest then)
 continued (mark w) p starts-nothing rest = refused 66 p
@@ -82,12 +82,12 @@ module _ (name : Naming) (end : ℕ) where
   unfolding parse goalOf slotOf levelOf prefixed
   parse-closing m = refl
 
-  -- A rule after the goals is one more.
+  -- A rule after the goals is one more goal.
   pub parse-rule : (t : Placed) (ts : List Placed) (m : ℕ) → parse name wordLimits end (t ∷ ts) [] (suc m) ≡ parse name wordLimits end (t ∷ ts) (goalOf 17 1 ∷ []) m
   unfolding parse goalOf slotOf levelOf
   parse-rule t ts m = refl
 
--- A start that the code tells.
+-- A start that the code has found.
 module _ (m : Met) (item d place : ℕ) (rest : List Goal → Asked (List ℕ)) where
   pub continued-wrong : m .wrong ≡ true → continued (goalOf item d) place (startOf m (levelOf item d)) rest ≡ refused (wrongNumber item) place
   unfolding startOf goalOf wrongNumber continued

@@ -1,4 +1,4 @@
--- The calls that read words, by their questions.
+-- The calls that read words, in terms of their questions.
 use mathlib.Core.Path.{_≡_, refl, sym, _∙_, ap}
 use mathlib.Core.List.{List, []}
 use Prim.Native.Nat.{ℕ, _≤_, _<_}
@@ -95,7 +95,7 @@ pub edit-is : (table text : List ℕ) (room : ℕ) → askFromWords 16 0 table t
 unfolding askFromWords askEditFromWords goalsOf goalOf slotOf levelOf
 edit-is table text room = refl
 
--- Where a rule stands.
+-- Where a rule begins.
 module _ (table text : List ℕ) (i : ℕ) where
   pub no-such-rule : 32 ≤ i → length text ≡ ruleInWords table text i
   no-such-rule h = unfold ruleInWords in sym (rw (le-ltb i 32 h))
@@ -121,7 +121,7 @@ module _ (table text : List ℕ) (i : ℕ) where
       unfolding tooMany
       other-fault {n} {p} g e = sym (rw (ne-eqb n 69 g)) ∙ by-words (refused n p) e
 
--- The codes, copied out of where they were read to.
+-- The codes, copied from the buffer they were read into.
 pub copied : (bytes codes zeros output : List ℕ) (n : ℕ) → n ≡ length bytes → n ≤ length zeros → n ≤ length output → codes ≡ filledFrom 0 bytes zeros
     → filledFrom 0 (take n codes) output ≡ writtenAtStart bytes output
 copied bytes codes zeros output n e h l q =

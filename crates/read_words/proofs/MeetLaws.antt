@@ -1,4 +1,4 @@
--- What the code says that a token begins is what it begins.
+-- What the code finds that a token begins is what it begins.
 use mathlib.Core.Path.{_≡_, refl, sym, _∙_, ap, ap₂, subst}
 use mathlib.Core.Bool.{Bool, true, false, not, cond}
 use mathlib.Core.List.{List, [], _∷_}
@@ -26,7 +26,7 @@ use Rattle.read_words.specs.declared.Met.{Met}
 use Rattle.keywords.proofs.PhraseRows.{start-by-word, start-bare}
 use Rattle.keywords.proofs.RowItems.{row-of-phrase}
 
--- Marks, as the code has them.
+-- The marks, as the code has them.
 pub mark-part : (item : ℕ) → 1 ≤ item → item < 4 → take (item - (item - 1)) (drop (item - 1) (0x28 ∷ 0x2C ∷ 0x29 ∷ [])) ≡ markOf item
 unfolding markOf ascii
 mark-part = each-from (λ x. take (x - (x - 1)) (drop (x - 1) (0x28 ∷ 0x2C ∷ 0x29 ∷ [])) ≡ markOf x) 1 3 (((tt, refl), refl), refl)
@@ -48,7 +48,7 @@ number-goal item d h k = unfold goalOf in rw (lt-leb item 3 (omega arith), le-le
 thing-goal : (item d : ℕ) → 9 ≤ item → goalOf item d ≡ thing (slotOf item) (levelOf item d)
 thing-goal item d h = unfold goalOf in rw (lt-leb item 3 (omega arith), lt-leb item 8 (omega arith))
 
--- A number is found below 256.
+-- A number that is found is below 256.
 found-small : (name : Naming) (k : Kind) (t : Token) (x : ℕ) → numberOf name wordLimits k t ≡ found x → x < 256
 found-small name k t x e = unfold numberOf in found-hit _ 256 x e .below
 
@@ -65,7 +65,7 @@ module _ (f : Found ℕ) (small : (y : ℕ) → f ≡ found y → y < 256) (x : 
     go (found y) i q = absurd (omega (arith, small y q))
     go absent i q = q
 
--- Meetings of tokens after which their rows go on.
+-- Tokens after which their row goes on.
 module _ (d x : ℕ) where
   counted-there : x < 256 → startOf (countedMet x) d ≡ starts (x ∷ []) []
   counted-there h = unfold startOf foundMet goalsOf in rw (lt-ltb x 256 h)
@@ -145,7 +145,7 @@ module _ (table : List ℕ) where
         short = counted-alone x .1;
       })
 
-  -- A name alone, or the end of steps.
+  -- Just a name, or the end of steps.
   pub label-meets : {item : ℕ} {t : Token} {x : ℕ} {m : Met} → item ≡ 9 → IsNumber 4 t x → x < 256 → m ≡ namedMet 3 x → MeetsBare table item t m
   unfolding bareStart slotOf kindOf
   label-meets {item} {t} {x} i e h q =

@@ -1,4 +1,4 @@
--- The reader's turns: what is still to be read gives, after the codes so far, what was asked for.
+-- The reader's turns: what is still to be read gives, after the codes so far, what was wanted.
 use mathlib.Core.Path.{_≡_, refl, sym, _∙_, ap, ap₂, subst}
 use mathlib.Core.Bool.{Bool, true, false, cond}
 use mathlib.Core.List.{List, [], _∷_, _++_, append-assoc, append-nil}
@@ -95,7 +95,7 @@ module _ (table words codes₀ : List ℕ) (begin rules : ℕ) where
       zeros k e = subst (λ k. Row k (getD (replicate 33 0) k 0)) (sym e) (row-one _ 0 (omega arith) (λ e. absurd (omega arith)))
 
   module _ {rows : List ℕ} {level row left at size : ℕ} {codes : List ℕ} (s : Reading rows level row left at size codes) where
-    -- The same is still to be read, told otherwise.
+    -- The same is still to be read, described differently.
     same-left : {rows′ : List ℕ} {level′ row′ left′ : ℕ} {name : Naming} → Holds table name
         → toRead name rows level row left at ≡ toRead name rows′ level′ row′ left′ at → SoFar name rows′ level′ row′ left′ at size codes
     same-left {name = name} h e = let f = s .read name h in record { bytes = f .bytes; whole = f .whole ∙ ap (prefixed (f .bytes)) e; count = f .count; put = f .put }
@@ -118,7 +118,7 @@ module _ (table words codes₀ : List ℕ) (begin rules : ℕ) where
       at-end : length words ≤ from → tokensFrom words at ≡ []
       at-end h = n .ended (omega (arith, n .in-order, n .inside))
 
-      -- The row of level 1 has ended: so has the text; or there is a rule more, too many or not.
+      -- The row of level 1 has ended: so has the text; or there is one more rule, too many or not.
       module _ (z : row ≡ 0) (l : level ≤ 1) where
         nothing-wanted : wanted rows row level ≡ []
         nothing-wanted = let e : level ≡ 1 = omega (arith, s .low) in ap₂ (λ r d. wanted rows r d) z e ∙ popped-all rows
@@ -195,7 +195,7 @@ module _ (table words codes₀ : List ℕ) (begin rules : ℕ) where
             ap₂ (λ ts g. parse name wordLimits (length words) ts g left) (at-end h) (wants-last (omega arith) ∙ ap₂ (λ x d. goalOf x d ∷ goalsAbove rows d) k d)
             ∙ parse-closing name (length words) left
 
-        -- A token is there, and the code tells what it begins.
+        -- A token is there, and the code has found what it begins.
         module _ {m : Met} (h : from < length words) (met : Meets table (row % 256) (slice words from to) m) where
           opened : {g : List Goal} {name : Naming} → wanted rows row level ≡ goalOf (row % 256) level ∷ g → Holds table name
               → toRead name rows level row left at
@@ -285,7 +285,7 @@ module _ (table words codes₀ : List ℕ) (begin rules : ℕ) where
                         (row-rest level row (s .here) z)))
                   ]
 
-            -- The steps after a step, or a rule, on the level of the row.
+            -- The steps after a step, or a rule, at the level of the row.
             pub on-level : {size′ : ℕ} {codes′ : List ℕ} → 14 ≤ row % 256 → m .row < 2 ^ 64 → size′ ≡ size + m .size → codes′ ≡ filledFrom size (bytesOf m) codes
                 → Reading rows level (m .row) left to size′ codes′
             on-level k r u e =
@@ -331,7 +331,7 @@ module _ (table words codes₀ : List ℕ) (begin rules : ℕ) where
           e ∙ ap₂ (λ n c. filledFrom n last c) z (g .put) ∙ filled-more 0 (g .bytes) last codes₀ ∙ ap (λ l. filledFrom 0 l codes₀) same,
     )
 
-    -- The text ends where an item is wanted.
+    -- The text ends although an item is wanted.
     pub ends-text : {from to : ℕ} {r : Written} {out : List ℕ} → Next words at from to → (row ≡ 0 → ⊥) → length words ≤ from
         → r ≡ cond (eqb (row % 256) 16) (Length (size + 1)) (Refused (WordsEnd from)) → (row % 256 ≡ 16 → out ≡ filledFrom size (0x30 ∷ []) codes) → Answered r out
     ends-text {from = from} {out = out} n z h e f = subst (λ r. Answered r out) (sym e) (go (eqb (row % 256) 16) refl) where

@@ -1,4 +1,4 @@
--- Words read into codes, a book's or an edit's: 63, 64 to 70, 33.
+-- Reading the words of a book or an edit into codes: 63, 64 to 70, 33.
 use mathlib.Core.List.{List}
 use Prim.Native.Nat.{ℕ}
 use Rattle.answer.specs.Asked.{Asked, _>>=_}

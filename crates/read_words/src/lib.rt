@@ -1,4 +1,4 @@
-// Books and edits in words, read.
+// Reads books and edits in words.
 ghost use mathlib.Core.Path.{_≡_};
 ghost use mathlib.Core.Bool.{cond};
 ghost use mathlib.Core.List.{List, [], _∷_};
@@ -23,7 +23,7 @@ use answer::Refusal;
 use answer::Written;
 use text::Text;
 
-// What a token begins where an item is wanted: nothing, or `size` bytes of codes and a row that must follow.
+// What a token begins if an item is wanted: nothing, or `size` bytes of codes and a row that must follow.
 struct Met {
     wrong: bool,
     size: usize,
@@ -32,7 +32,7 @@ struct Met {
     row: u64,
 }
 
-// The rows of one item: steps up to the text's end, and a rule.
+// The rows of one item: steps up to the text's end; a rule.
 const EDIT: u64 = 0x10;
 
 const RULE: u64 = 0x11;
@@ -40,7 +40,7 @@ const RULE: u64 = 0x11;
 // The last level.
 const DEEPEST: usize = Text::DEEPEST as usize;
 
-// Is this the mark that is wanted? Inner: the item is a mark.
+// Whether this is the mark wanted. Inner: the item is a mark.
 fn is_mark(item: usize, word: &[u8]) -> bool
     requires { ⌜ (1 ≤ item) × (item < 4) ⌝ }
     ensures { λ r. ⌜ r ≡ same (now (word .entry)) (markOf item) ⌝ }
@@ -50,7 +50,7 @@ fn is_mark(item: usize, word: &[u8]) -> bool
     buffers::same(word, &marks[from..item])
 }
 
-// A token that no row must follow.
+// A token with nothing after it.
 fn alone(wrong: bool, size: usize, first: u8, second: u8) -> Met
     ensures { λ r. ⌜ r ≡ aloneMet wrong size first second ⌝ }
 {
@@ -63,7 +63,7 @@ fn alone(wrong: bool, size: usize, first: u8, second: u8) -> Met
     }
 }
 
-// A count, or a name where one is wanted: nothing where there is no such number.
+// A count or a name where one is wanted; nothing if there is no such number.
 fn counted(x: usize) -> Met
     ensures { λ r. ⌜ r ≡ countedMet x ⌝ }
 {
@@ -73,7 +73,7 @@ fn counted(x: usize) -> Met
     alone(true, 0, 0, 0)
 }
 
-// A name alone, which stands for the code of its sort and the number.
+// Just a name, which stands for the code of its sort and its number.
 fn named(code: u8, x: usize) -> Met
     ensures { λ r. ⌜ r ≡ namedMet code x ⌝ }
 {
@@ -83,7 +83,7 @@ fn named(code: u8, x: usize) -> Met
     alone(true, 0, 0, 0)
 }
 
-// What a word begins that begins no phrase: a name alone, or the end of steps. Inner: the table holds names, and the item is a thing.
+// What a word begins that begins no phrase: just a name, or the end of steps. Inner: the table holds names, and the item is a thing.
 fn bare(table: &[u8], item: usize, word: &[u8]) -> Met
     requires { ⌜ Slots nameWidth nameCount (now table) × (9 ≤ item) × (item < 18) ⌝ }
     ensures { λ r. ⌜ MeetsBare (now (table .entry)) item (now (word .entry)) r ⌝ }
@@ -103,7 +103,7 @@ fn bare(table: &[u8], item: usize, word: &[u8]) -> Met
     }
 }
 
-// What a word begins where a thing is wanted. Inner: the table holds names, and the item is a thing.
+// What a word begins if a thing is wanted. Inner: the table holds names, and the item is a thing.
 fn begin(table: &[u8], item: usize, word: &[u8]) -> Met
     requires { ⌜ Slots nameWidth nameCount (now table) × (9 ≤ item) × (item < 18) ⌝ }
     ensures { λ r. ⌜ Meets (now (table .entry)) item (now (word .entry)) r ⌝ }
@@ -121,7 +121,7 @@ fn begin(table: &[u8], item: usize, word: &[u8]) -> Met
     }
 }
 
-// What a token begins where an item is wanted. Inner: the table holds names, and there is such an item.
+// What a token begins if an item is wanted. Inner: the table holds names, and the item exists.
 fn meet(table: &[u8], item: usize, word: &[u8]) -> Met
     requires { ⌜ Slots nameWidth nameCount (now table) × (1 ≤ item) × (item < 18) ⌝ }
     ensures { λ r. ⌜ Meets (now (table .entry)) item (now (word .entry)) r ⌝ }
@@ -148,7 +148,7 @@ fn wrong(item: usize, place: usize) -> Refusal
     Refusal::WordsStart { place }
 }
 
-// Writes the bytes of a token from a place on, as far as there is room, and says where they end. Inner: that place is a number.
+// Writes the bytes of a token from a place on, as far as there is room, and returns where they end. Inner: that place fits into a usize.
 fn put_codes(codes: &mut [u8], at: usize, m: Met) -> usize
     requires { ⌜ (m .size ≤ 2) × (at + m .size < 2 ^ 64) ⌝ }
     ensures { λ r. ⌜ r ≡ at + m .size ⌝ }
@@ -159,7 +159,7 @@ fn put_codes(codes: &mut [u8], at: usize, m: Met) -> usize
     buffers::put(codes, at, &both[..size])
 }
 
-// What is answered where the text ends and an item is wanted: steps up to its end are written 30 there. Inner: the next place is a number.
+// The answer if the text ends and an item is wanted: steps up to the text's end get their 30 there. Inner: the next place fits into a usize.
 fn end_of_text(item: usize, place: usize, codes: &mut [u8], size: usize) -> Written
     requires { ⌜ size + 1 < 2 ^ 64 ⌝ }
     ensures { λ r. ⌜ r ≡ cond (eqb item 16) (Written.Length (size + 1)) (Written.Refused (Refusal.WordsEnd place)) ⌝ }
@@ -171,8 +171,8 @@ fn end_of_text(item: usize, place: usize, codes: &mut [u8], size: usize) -> Writ
     Written::Length(buffers::put(codes, size, b"\x30"))
 }
 
-// Reads words along the rows of their phrases: `row` is what is left of the row of `level`, `rows` what is left of those above it. The codes are written as far as
-// there is room; the answer is how long they are. The codes of words that are refused are nobody's.
+// Reads words along the rows of their phrases: `row` is what remains of the row of `level`, `rows` what remains of those above it. Writes the codes as far
+// as there is room and answers their length. When words are refused, nothing is said about what `codes` holds.
 // Inner: the table holds names, and a book or an edit is wanted.
 fn read(table: &[u8], words: &[u8], start: u64, rules: usize, codes: &mut [u8]) -> Written
     requires { ⌜ Slots nameWidth nameCount (now table) × ((start ≡ 0) ⊎ (start ≡ 16)) × (rules ≤ 32) ⌝ }
@@ -232,7 +232,7 @@ fn read(table: &[u8], words: &[u8], start: u64, rules: usize, codes: &mut [u8]) 
     }
 }
 
-// Words of a book or an edit, by their first row and how many rules may follow it, read into codes at the output's start: 63, 64 to 70, 33. Answers their length.
+// Reads words, given their first row and how many rules may follow it, into codes at the output's start: 63, 64 to 70, 33. The answer is their length.
 // Inner: a book or an edit is wanted.
 fn from_words(names: &[u8], words: &[u8], start: u64, rules: usize, output: &mut [u8]) -> Written
     requires { ⌜ ((start ≡ 0) ⊎ (start ≡ 16)) × (rules ≤ 32) ⌝ }
@@ -259,7 +259,7 @@ fn from_words(names: &[u8], words: &[u8], start: u64, rules: usize, output: &mut
     Written::Length(size)
 }
 
-// Words of a book, read into codes: 63, 64 to 70, 33. Answers their length.
+// Reads the words of a book into codes: 63, 64 to 70, 33. The answer is their length.
 pub fn book_from_words(names: &[u8], words: &[u8], output: &mut [u8]) -> Written
     ensures { λ r. ⌜ writtenAsked r ≡ writtenLength (askBookFromWords (now (names .entry)) (now (words .entry)) (length (now (output .entry)))) ⌝ }
     ensures { λ _. ⌜ now (output .exit) ≡ writtenOutput (askBookFromWords (now (names .entry)) (now (words .entry)) (length (now (output .entry)))) (now (output .entry)) ⌝ }
@@ -267,7 +267,7 @@ pub fn book_from_words(names: &[u8], words: &[u8], output: &mut [u8]) -> Written
     from_words(names, words, 0, Text::RULES, output)
 }
 
-// The same of an edit.
+// The same for an edit.
 pub fn edit_from_words(names: &[u8], words: &[u8], output: &mut [u8]) -> Written
     ensures { λ r. ⌜ writtenAsked r ≡ writtenLength (askEditFromWords (now (names .entry)) (now (words .entry)) (length (now (output .entry)))) ⌝ }
     ensures { λ _. ⌜ now (output .exit) ≡ writtenOutput (askEditFromWords (now (names .entry)) (now (words .entry)) (length (now (output .entry)))) (now (output .entry)) ⌝ }
@@ -275,8 +275,8 @@ pub fn edit_from_words(names: &[u8], words: &[u8], output: &mut [u8]) -> Written
     from_words(names, words, EDIT, 0, output)
 }
 
-// Where a rule's first word stands in the words of a book, the rules counted from 0: where the book is refused if it may have no more rules than stand before it.
-// The words' length where there is none, where a rule before it cannot be read, or the table is wrong.
+// The place of a rule's first word in the words of a book, with rules counted from 0: where reading refuses a book that may have only the rules before it.
+// The words' length if there is no such rule, an earlier rule cannot be read, or the table is wrong.
 pub fn rule_in_words(names: &[u8], words: &[u8], rule: usize) -> usize
     ensures { λ r. ⌜ r ≡ ruleInWords (now (names .entry)) (now (words .entry)) rule ⌝ }
 {

@@ -31,7 +31,7 @@ most-kept : (m : ℕ) (R R′ : Expr arrow) (E E′ : Expr node) → T (leb m 59
 most-kept m R R′ E E′ h r e = unfold mostRewritten in let to : m ≤ 59 = leb→le m 59 h in rw (lt-ltb m 60 (omega arith)) (ap₂ (atMost m) r e)
 
 module _ (n : ℕ) where
-  -- A term whose counts are in the ranges of now is not changed.
+  -- A term whose counts are in today's ranges is not changed.
   pub kept : {s : Sort} (e : Expr s) → InRange (ranges n) e → rewritten e ≡ e
   unfolding InRange
   kept = byRewriting (λ s e e′. InRange (ranges n) e → e′ ≡ e) (λ s b h. refl)

@@ -1,4 +1,4 @@
--- A rewritten book is no longer than the book, has no more levels, and as many rules.
+-- A rewritten book is not longer than the book, has no more levels, and has as many rules.
 use mathlib.Core.Path.{_≡_, ap}
 use mathlib.Core.Bool.{Bool, true, false, cond}
 use mathlib.Core.List.{List, [], _∷_}
@@ -54,7 +54,7 @@ book-no-deeper (K ∷ Ks) = omega (arith, no-deeper K, book-no-deeper Ks)
 pub as-many-rules : (rules : List (Expr rule)) → length (rewrittenBook rules) ≡ length rules
 as-many-rules rules = length-map rules rewritten
 
--- and of texts: an output as long as the longest book suffices
+-- and for texts: an output as long as the longest book suffices
 pub text-no-longer : (t bytes : List ℕ) → askRewritten t ≡ passed bytes → (length bytes ≤ length t) × (length t ≤ longestText)
 text-no-longer t bytes h =
     let r = rewritten-from t bytes h in

@@ -15,7 +15,7 @@ use Rattle.ends.proofs.TreePlaces.{as-two}
 use Rattle.rewrite_counts.specs.Trees.{leastInPlace, mostInPlace, headInPlace, inPlace}
 
 module _ (text : List ℕ) (at : ℕ) where
-  -- a code with a count has two bytes, and two operands behind them
+  -- a code with a count has two bytes, and two operands after them
   pub record Count (t : Tree) : Type 0 where
     pub x : Tree
     pub y : Tree
@@ -59,7 +59,7 @@ module _ (text : List ℕ) (at : ℕ) where
       let q = as-two text at t a (omega arith) (omega arith) in
       (q .h, head-bytes (q .h) (q .x) (q .y) (subst (At text at) (q .is) a), ap inPlace (q .is))
 
-  -- the byte that takes the place of the tree, by the code and the count in the text
+  -- the byte that replaces the tree, by the code and the count in the text
   pub least-here : (t : Tree) → At text at t → getD text at 0 ≡ 0x0A → leastInPlace (getD text (at + 1) 0) ≡ inPlace t
   unfolding headInPlace shapes
   least-here t a e =
@@ -81,7 +81,7 @@ module _ (text : List ℕ) (at : ℕ) where
       let c = head-bytes h x y a .code-is in
       rw (ne-eqb (getD h 0 0) 0x0A (λ z. e (sym c ∙ z)), ne-eqb (getD h 0 0) 0x0B (λ z. f (sym c ∙ z)))
 
-  -- only a count has a byte in its place
+  -- only a count is replaced by a byte
   pub dropped-count : (t : Tree) → At text at t → (inPlace t ≡ 0 → ⊥) → Count t
   unfolding headInPlace shapes
   dropped-count t a n = count-at t a (go t a n) where

@@ -38,7 +38,7 @@ module _ (n : ℕ) where
     go true f = (rw (le-leb m 59 (omega (arith, f refl))) tt, r, e)
     go false f = tt
 
-  -- numbers that are no counts have the ranges of before
+  -- numbers that are not counts have the same ranges as before
   now-0 : {s : Sort} (b : Nullary s) → InRange (formerRanges n) (build0 b) → InRange (ranges n) (build0 b)
   unfolding InRange build0
   now-0 all· h = h
@@ -55,7 +55,7 @@ module _ (n : ℕ) where
   now-1 (pairIn· i j) h = h
   now-1 notRule· h = h
 
-  -- Each number of a rewritten term is in the ranges of now.
+  -- Each number of a rewritten term is in today's ranges.
   pub rewritten-in : {s : Sort} (e : Expr s) → InRange (formerRanges n) e → InRange (ranges n) (rewritten e)
   unfolding InRange
   rewritten-in = byRewriting (λ s e e′. InRange (formerRanges n) e → InRange (ranges n) e′) (λ s b. now-0 b)

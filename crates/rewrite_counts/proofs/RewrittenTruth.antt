@@ -33,7 +33,7 @@ count-most (suc n) v = go (v n) (count-most n v) where
   go false h = omega arith
 
 module _ (g : Graph) (few : g .n ≤ maxNodes) where
-  -- a count that says nothing has the value of what takes its place
+  -- a count that says nothing has the value of what replaces it
   least-value : (m : ℕ) (R : Expr arrow) (E : Expr node) → value g (leastRewritten m R E) ≡ value g (atLeast m R E)
   unfolding leastRewritten value
   least-value m R E = go (eqb m 0) (leb m 60) (eqb-true m 0) (leb-false m 60) where

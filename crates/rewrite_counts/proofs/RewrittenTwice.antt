@@ -13,11 +13,11 @@ use Rattle.rewrite_counts.proofs.Rewriting.{rewritten-from}
 use Rattle.rewrite_counts.proofs.RewrittenPasses.{rewritten-in, rewritten-passes}
 use Rattle.rewrite_counts.proofs.LeftAlone.{kept, left-alone}
 
--- of every term that a stored book can hold
+-- for every term that a stored book can hold
 pub twice-is-once : (n : ℕ) {s : Sort} (e : Expr s) → InRange (formerRanges n) e → rewritten (rewritten e) ≡ rewritten e
 twice-is-once n e h = kept n (rewritten e) (rewritten-in n e h)
 
--- and of bytes
+-- and for bytes
 pub rewritten-again : (t bytes : List ℕ) → askRewritten t ≡ passed bytes → askRewritten bytes ≡ passed bytes
 rewritten-again t bytes h =
     let s = rewritten-from t bytes h in

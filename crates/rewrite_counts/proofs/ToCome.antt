@@ -164,7 +164,7 @@ module _ {text whole done : List ℕ} {p : ℕ} (l : ToCome text whole done p) (
   pub next-turn : {byte next : ℕ} → ((t : Tree) → At text p t → Turned text p t byte next) → Next text whole done p byte next
   next-turn {byte} {next} u = turned byte next (u (f .t) (f .at))
 
--- So many bytes of `whole` are counted at p, no more than were passed over.
+-- This many bytes of `whole` are counted at p, no more than were passed.
 pub record Counted (text whole : List ℕ) (p q : ℕ) : Type 0 where
   pub done : List ℕ
   pub long : q ≡ length done
@@ -187,7 +187,7 @@ module _ {text whole : List ℕ} {p q byte next : ℕ} (w : Counted text whole p
   pub counted-put : (byte ≡ 0 → ⊥) → Counted text whole next (q + 1)
   counted-put z = counted-more 1 (ap length (n .put z)) (omega (arith, n .on))
 
--- So many bytes of `whole` are written over the start of an output.
+-- This many bytes of `whole` are written over the start of an output.
 pub record Stored (text whole output : List ℕ) (p q : ℕ) (out : List ℕ) : Type 0 where
   pub done : List ℕ
   pub wrote : Wrote output 0 done q out

@@ -54,7 +54,7 @@ tree-rewritten e = byRewriting (λ s e e′. tree e′ ≡ rewrittenTree (tree e
 abbrev pub anew : Tree → List ℕ
 anew t = treeCode (rewrittenTree t)
 
--- a book as its trees one behind the other: formed, its text, and its text rewritten
+-- a book as its trees one after the other: formed, its text, and its text rewritten
 abbrev pub trees : List (Expr rule) → List Tree
 trees rules = map tree rules
 

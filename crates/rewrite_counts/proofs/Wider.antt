@@ -1,4 +1,4 @@
--- What is in range is in any wider range, and a book or an edit that passes by ranges passes by any wider ones.
+-- What is in range is in any wider range, and a book or an edit that passes under some ranges passes under any wider ones.
 use mathlib.Core.Path.{_≡_}
 use mathlib.Core.List.{List}
 use Prim.Native.Nat.{ℕ, _≤_}

@@ -50,7 +50,7 @@ rewritten (notRule K) = notRule (rewritten K)
 abbrev pub rewrittenBook : List (Expr rule) → List (Expr rule)
 rewrittenBook rules = map rewritten rules
 
--- A stored book, read by the former ranges with n as 60: 11 to 16. What is learned is the rewritten book.
+-- A stored book, read by the former ranges with n as 60: 11 to 16. The result is the rewritten book.
 unfoldable pub askRewritten : List ℕ → Asked (List ℕ)
 askRewritten book = do
   rules ← askBook (formerLimits maxNodes) book

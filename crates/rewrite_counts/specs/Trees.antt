@@ -1,4 +1,4 @@
--- Rewriting as the code does it, on trees: at a count that says nothing one byte is put and the operands are passed over; all else is copied.
+-- Rewriting as the code does it, on trees: a count that says nothing becomes one byte and its operands are skipped; everything else is copied.
 use mathlib.Core.Path.{_≡_}
 use mathlib.Core.Bool.{cond}
 use mathlib.Core.List.{List, [], _∷_}
@@ -13,14 +13,14 @@ use Rattle.ends.specs.Shapes.{shapeOf}
 use Rattle.ends.specs.Books.{BookIs}
 use Rattle.rewrite_counts.specs.Rewritten.{rewrittenBook}
 
--- The byte that takes the place of an 0A, and of an 0B, with a count; 0 where they stay.
+-- The byte that replaces an 0A or an 0B with a count; 0 where they stay.
 unfoldable pub leastInPlace : ℕ → ℕ
 leastInPlace m = cond (eqb m 0) 0x01 (cond (leb m maxNodes) 0 0x02)
 
 unfoldable pub mostInPlace : ℕ → ℕ
 mostInPlace m = cond (ltb m maxNodes) 0 0x01
 
--- That of a tree; counts are the second bytes of heads with two operands.
+-- The same for a tree; counts are the second bytes of heads with two operands.
 unfoldable pub headInPlace : List ℕ → ℕ
 headInPlace h = cond (eqb (getD h 0 0) 0x0A) (leastInPlace (getD h 1 0)) (cond (eqb (getD h 0 0) 0x0B) (mostInPlace (getD h 1 0)) 0)
 
@@ -36,7 +36,7 @@ rewrittenTree (leaf h) = leaf h
 rewrittenTree (one h x) = one h (rewrittenTree x)
 rewrittenTree (two h x y) = cond (eqb (headInPlace h) 0) (two h (rewrittenTree x) (rewrittenTree y)) (leaf (headInPlace h ∷ []))
 
--- What is done at a tree that stands in a text: the byte to put, and the place where it goes on, behind the code and its numbers or behind the whole tree.
+-- What happens at a tree in a text: the byte to write, and the place to go on from, after the code and its numbers or after the whole tree.
 pub record Turned (text : List ℕ) (at : ℕ) (t : Tree) (byte next : ℕ) : Type 0 where
   pub byte-is : byte ≡ inPlace t
   pub stays : byte ≡ 0 → next ≡ at + shapeOf (getD text at 0) % 4

@@ -16,7 +16,7 @@ use answer::Written;
 use logic::Node;
 use text::Text;
 
-// The byte that takes the place of an 0A with this count and its operands; 0 where they stay.
+// The byte that replaces an 0A with this count and its operands; 0 where they stay.
 fn least_in_place(count: u8) -> u8
     ensures { λ r. ⌜ r ≡ leastInPlace count ⌝ }
 {
@@ -26,14 +26,14 @@ fn least_in_place(count: u8) -> u8
     if count > Node::MAX { 0x02 } else { 0 }
 }
 
-// That of an 0B.
+// The same for an 0B.
 fn most_in_place(count: u8) -> u8
     ensures { λ r. ⌜ r ≡ mostInPlace count ⌝ }
 {
     if count >= Node::MAX { 0x01 } else { 0 }
 }
 
-// The byte that takes the place of what stands at `at`; 0 where it stays.
+// The byte that replaces what stands at `at`; 0 where it stays.
 // Inner: the book was read before.
 fn in_place(book: &[u8], at: usize) -> u8
     requires { ⌜ Some (now book) at ⌝ }
@@ -49,13 +49,13 @@ fn in_place(book: &[u8], at: usize) -> u8
     0
 }
 
-// What is done at a code: the byte to put, 0 where the code stays with its numbers, and the place where the rewriter goes on.
+// What happens at a code: the byte to write, 0 where the code stays with its numbers, and the place where the rewriter goes on.
 struct Turn {
     byte: u8,
     next: usize,
 }
 
-// Where the code does not stay, its operands are passed over.
+// Where the code does not stay, its operands are skipped.
 // Inner: the book was read before.
 fn turn_at(book: &[u8], at: usize) -> Turn
     requires { ⌜ Some (now book) at ⌝ }

@@ -1,4 +1,4 @@
--- Loops over the members of a set, lowest first: what is done of those that have gone, and what is done when none is left.
+-- Loops over the members of a set, lowest first: what is done for those already taken, and what is done when none is left.
 use mathlib.Core.Path.{_≡_, refl, sym, ap, ap₂, _∙_}
 use mathlib.Core.Bool.{Bool, true, false, not, _&&_, _||_, cond, and-eq-true-iff, and-true, and-false, or-true, or-false}
 use Prim.Native.Nat.{ℕ, zero, suc, _<_, _≤_}
@@ -11,11 +11,11 @@ use Rattle.bitset.specs.Words.{setOf, member, combined}
 use Rattle.bitset.proofs.SetLaws.{setOf-cong, setOf-none, setOf-only, member-zero, member-of, combined-sets}
 use Rattle.rows.specs.Operations.{enough}
 
--- what is left is of the set
+-- what is left is in the set
 abbrev pub Inside : ℕ → ℕ → Type 0
 Inside left x = (k : ℕ) → member left k ≡ true → member x k ≡ true
 
--- what has gone
+-- what was taken
 abbrev pub gone : ℕ → ℕ → Nodes
 gone x left k = member x k && not (member left k)
 
@@ -52,7 +52,7 @@ module _ (x left i next : ℕ) (n : next ≡ setOf 64 (leave (member left) i)) (
 pub gone-left : (x left i : ℕ) → member left i ≡ true → gone x left i ≡ false
 gone-left x left i m = ap (λ (b : Bool). member x i && not b) m ∙ and-false (member x i)
 
--- Collecting those of which P holds.
+-- Collecting those for which P holds.
 abbrev pub Picked : (n x left : ℕ) → Nodes → ℕ → Type 0
 Picked n x left P r = r ≡ setOf n (λ k. gone x left k && P k)
 
@@ -79,7 +79,7 @@ module _ (n x : ℕ) (P : Nodes) where
       go k true d = let f : P k ≡ false = ap P (eqb-true k i d) ∙ q in ap (gone x left k &&_) f ∙ and-false (gone x left k) ∙ sym (ap ((gone x left k || eqb k i) &&_) f ∙ and-false (gone x left k || eqb k i))
       go k false d = sym (ap (_&& P k) (ap (gone x left k ||_) d ∙ or-false (gone x left k)))
 
--- Counting by columns: those in which so many of the rows that have gone end.
+-- Counting by columns: those in which at least k of the rows taken end.
 abbrev pub Counted : (k n x left : ℕ) → Pairs → ℕ → Type 0
 Counted k n x left v r = r ≡ setOf n (λ j. enough k n (λ i. v i j) (gone x left))
 

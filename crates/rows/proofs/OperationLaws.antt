@@ -18,7 +18,7 @@ use Rattle.bitset.proofs.SetLaws.{setOf-cong, setOf-empty, setOf-none, setOf-wi
 use Rattle.sheet.specs.Sheet.{Rows}
 use Rattle.rows.specs.Operations.{arrowOperation, Masked, Columns}
 
--- What a loop that changes the rows a in place has done up to row i: below i they are f, from i on still those of a.
+-- What a loop that changes the rows a in place has done up to row i: below i they are f, from i on they are still those of a.
 pub record Changed (i : ℕ) (a l : List ℕ) (f : ℕ → ℕ) : Type 0 where
   pub row : (k : ℕ) → k < i → getD l k 0 ≡ f k
   pub rest : (k : ℕ) → i ≤ k → getD l k 0 ≡ getD a k 0
@@ -36,7 +36,7 @@ changed-more {i} {l = l} {f = f} {v = v} h c e =
       rest = λ k b. getD-set-other l i k v 0 (λ z. omega arith) ∙ c .rest k (omega arith);
     }
 
--- what is at each index of zeros
+-- each index of zeros holds zero
 pub zeros-at : (n k : ℕ) → _≡_ {A = ℕ} (getD (replicate n 0) k 0) 0
 zeros-at zero k = refl
 zeros-at (suc n) zero = refl
@@ -45,7 +45,7 @@ zeros-at (suc n) (suc k) = zeros-at n k
 pub minus-empty : (n : ℕ) (v w : Nodes) → n ≤ 64 → eqb (combined (λ a b. a && not b) (setOf n v) (setOf n w)) 0 ≡ allBelow n (λ i. implies (v i) (w i))
 minus-empty n v w h = ap (λ (x : ℕ). eqb x 0) (combined-sets (λ a b. a && not b) refl n v w h) ∙ setOf-empty n (λ i. v i && not (w i)) ∙ none-outside n v w
 
--- The operations put nothing where nothing is.
+-- The operations put nothing where there is nothing.
 pub arrow-operation-none : (c : ℕ) → arrowOperation c false false ≡ false
 arrow-operation-none c = go (eqb c 0x13) (eqb c 0x14) where
   go : (b d : Bool) → cond b (false || false) (cond d (false && false) (false && not false)) ≡ false
@@ -68,7 +68,7 @@ module _ (n : ℕ) (v w : Nodes) (row e : ℕ) (h : n ≤ 64) (p : row ≡ setOf
   pub count-common : (x : ℕ) → x ≡ countBelow 64 (λ i. member row i && member e i) → x ≡ countBelow n (λ j. v j && w j)
   count-common x s = s ∙ ap₂ (λ (y z : ℕ). countBelow 64 (λ i. member y i && member z i)) p q ∙ common-sets n v w h
 
--- A set among n and a set of the whole word.
+-- A set among n nodes and a set of the whole word.
 pub combined-wide : (n : ℕ) (p q : Nodes) → n ≤ 64 → combined _&&_ (setOf n p) (setOf 64 q) ≡ setOf n (λ i. p i && q i)
 combined-wide n p q h =
     setOf-cong 64 _ (λ i. ltb i n && (p i && q i)) (λ i l. ap₂ _&&_ (member-of n p i) (member-setOf 64 q i l) ∙ go (ltb i n) (p i) (q i))

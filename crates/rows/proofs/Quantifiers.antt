@@ -1,4 +1,4 @@
--- The four quantifiers are one question, whether there are so many ends or more.
+-- The four quantifiers are one question: whether there are at least k ends.
 use mathlib.Core.Path.{_≡_, refl, sym, ap, ap₂, subst, _∙_}
 use mathlib.Core.Bool.{Bool, true, false, not, _&&_, _||_, cond, and-true}
 use Prim.Native.Nat.{ℕ, _+_, _^_, _<_, _≤_}
@@ -36,7 +36,7 @@ quantified-is c m n nodes v w ends = go (eqb c 0x08) (eqb c 0x09) (eqb c 0x0A) w
   go false false true = refl
   go false false false = most (countBelow n (λ j. v j && w j))
 
--- of the nodes within
+-- for the nodes of `within`
 pub answered-sets : (c n within r : ℕ) (f : Bool → Bool → Bool) (p : Nodes) → n ≤ 64 → within < 2 ^ n → r ≡ setOf n p → f false false ≡ false → ((a b : Bool) → f a b ≡ (a && answered c b)) → combined f within r ≡ setOf n (λ i. member within i && answered c (p i))
 answered-sets c n within r f p h l e z g =
     ap₂ (combined f) (sym (setOf-member-lt n within l)) e ∙ combined-sets f z n (member within) p h ∙ setOf-cong n _ _ (λ i m. g (member within i) (p i))
@@ -73,7 +73,7 @@ one-wanted c m l h = go (eqb c 0x08) refl where
   go true e = refl
   go false e = rw (eq-eqb c 0x09 (omega (arith, eqb-false c 0x08 e)))
 
--- What the code looks at and answers is what it means, of the nodes within: for the rows of v or, turned, for its columns.
+-- What the code looks at and answers is what the quantifier means, for the nodes of `within`: for the rows of v or, turned, for its columns.
 module _ (c m n all within e : ℕ) (v : Pairs) (among : Among all v) (turned b : Bool) (t : turned ≡ b) where
   abbrev looked-at : Nodes
   looked-at j = looked c (member all j) (member e j)

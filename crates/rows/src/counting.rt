@@ -1,4 +1,4 @@
-// The quantifiers, 08 to 0B, as one question: whether a row has so many ends or more in a set; how many, in which set, and of which nodes it is then so.
+// The quantifiers, 08 to 0B, as one question: whether a row has at least k ends in a set. Here: how many ends, which set, and which nodes then meet it.
 ghost use mathlib.Core.Path.{_≡_};
 ghost use mathlib.Core.Bool.{_&&_};
 ghost use Prim.Native.Nat.{ℕ, _^_, _<_, _≤_};
@@ -6,13 +6,13 @@ ghost use Rattle.logic.specs.Graph.{Nodes};
 ghost use Rattle.bitset.specs.Words.{setOf, member};
 ghost use Rattle.rows.specs.Operations.{number, enough, least, looked, answered};
 
-// How many ends are looked for: some one (08, 09), or a number of them that is counted (0A, 0B).
+// How many ends must be there: one (08, 09), or a number that is counted (0A, 0B).
 pub enum Wanted {
     One,
     Count(usize),
 }
 
-// Whether so many ends of a row are in e or more. For 0A and 0B the common bits are counted, however small the number is that they are compared with.
+// Whether at least k ends of a row are in e. 0A and 0B count the common bits, however small the number they are compared with.
 pub fn enough(k: Wanted, row: u64, e: u64) -> bool
     ensures { λ r. ⌜ ((n : ℕ) (v w : Nodes) → n ≤ 64 → row ≡ setOf n v → e ≡ setOf n w → r ≡ enough (number k) n v w) ⌝ }
 {
@@ -22,7 +22,7 @@ pub fn enough(k: Wanted, row: u64, e: u64) -> bool
     }
 }
 
-// 08, 09, 0A, 0B: how many ends are looked for,
+// For 08, 09, 0A, 0B: how many ends must be there,
 pub fn least(c: u8, m: u8) -> Wanted
     ensures { λ r. ⌜ number r ≡ least c m ⌝ }
 {
@@ -50,7 +50,7 @@ pub fn looked(c: u8, all: u64, e: u64) -> u64
     }
 }
 
-// and which nodes within it is then so of, where r have those ends.
+// and which nodes of `within` then meet it, where r are the nodes with those ends.
 pub fn answered(c: u8, within: u64, r: u64) -> u64
     ensures { λ x. ⌜ ((n : ℕ) (p : Nodes) → n ≤ 64 → within < 2 ^ n → r ≡ setOf n p → x ≡ setOf n (λ i. member within i && answered c (p i))) ⌝ }
 {

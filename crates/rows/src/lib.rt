@@ -1,6 +1,6 @@
 // Node sets as words and arrow relations as rows of words: what each code with operands does to them.
-// Relations have 64 rows, of which the first n count; they are changed in place. `all` is the word of the graph's nodes in use.
-// In this file: sets alone.
+// A relation has 64 rows, of which the first n count; it is changed in place. `all` is the word of the graph's nodes in use.
+// This file has the sets.
 ghost use mathlib.Core.Path.{_≡_};
 ghost use mathlib.Core.Bool.{_&&_};
 ghost use Prim.Native.Nat.{ℕ, _<_, _≤_};

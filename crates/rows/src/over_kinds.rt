@@ -15,8 +15,8 @@ use logic::Arrow;
 use logic::Node;
 use sheet::Sheet;
 
-// Of the nodes within, those with the ends wanted in e. Inner: the sheet is sound, n is its node count, and it has that arrow, here and in the
-// functions of this kind below.
+// The nodes of `within` that have the wanted ends in e. Inner, here and in the other functions of a kind below: the sheet is sound, n is its node count,
+// and it has that arrow kind.
 fn kind_starts(k: Wanted, sheet: &[u8], n: usize, within: u64, a: Arrow, e: u64) -> u64
     requires { ⌜ OfSheet (now sheet) n (a .0) × (within < 2 ^ n) ⌝ }
     ensures { λ r. ⌜ ((w : Nodes) → e ≡ setOf n w → r ≡ setOf n (λ i. member within i && enough (number k) n (graphOf (now (sheet .entry)) .joined (a .0) i) w)) ⌝ }
@@ -33,7 +33,7 @@ fn kind_starts(k: Wanted, sheet: &[u8], n: usize, within: u64, a: Arrow, e: u64)
     r
 }
 
-// Of all nodes.
+// The same for all nodes.
 fn kind_all_starts(k: Wanted, sheet: &[u8], n: usize, a: Arrow, e: u64) -> u64
     requires { ⌜ OfSheet (now sheet) n (a .0) ⌝ }
     ensures { λ r. ⌜ ((w : Nodes) → e ≡ setOf n w → r ≡ setOf n (λ i. enough (number k) n (graphOf (now (sheet .entry)) .joined (a .0) i) w)) ⌝ }
@@ -64,7 +64,7 @@ fn kind_ends_of_one(sheet: &[u8], n: usize, a: Arrow, e: u64) -> u64
     one
 }
 
-// The ends of all of them.
+// The ends of all arrows of that kind.
 pub fn kind_all_ends(sheet: &[u8], n: usize, a: Arrow) -> u64
     requires { ⌜ OfSheet (now sheet) n (a .0) ⌝ }
     ensures { λ r. ⌜ r ≡ setOf n (λ j. anyBelow n (λ i. graphOf (now (sheet .entry)) .joined (a .0) i j)) ⌝ }
@@ -78,8 +78,8 @@ pub fn kind_all_ends(sheet: &[u8], n: usize, a: Arrow) -> u64
     r
 }
 
-// Whether an operand with that code is asked straight from the sheet: an arrow kind, by rows, or for 08 and 09 by columns. 0A and 0B count along rows, which
-// a reversed arrow has only once it is reversed.
+// Whether an operand with that code is evaluated straight from the sheet: an arrow kind, by rows, or for 08 and 09 by columns. 0A and 0B count along rows,
+// and a reversed arrow has rows only once it is reversed.
 pub fn straight(code: u8, c: u8, turned: bool) -> bool
     ensures { λ r. ⌜ (r ≡ true → (code ≤ 0x11) × (turned ≡ true → c ≤ 0x09)) ⌝ }
 {
@@ -89,7 +89,7 @@ pub fn straight(code: u8, c: u8, turned: bool) -> bool
     if turned { c <= 0x09 } else { true }
 }
 
-// The nodes that some arrow of that kind from e ends in.
+// The nodes in which some arrow of that kind from e ends.
 fn kind_ends(sheet: &[u8], n: usize, all: u64, a: Arrow, e: u64) -> u64
     requires { ⌜ OfSheet (now sheet) n (a .0) × Among all (graphOf (now sheet) .joined (a .0)) × (e < 2 ^ n) ⌝ }
     ensures { λ r. ⌜ r ≡ setOf n (λ j. enough 1 n (λ i. graphOf (now (sheet .entry)) .joined (a .0) i j) (member e)) ⌝ }
@@ -101,7 +101,7 @@ fn kind_ends(sheet: &[u8], n: usize, all: u64, a: Arrow, e: u64) -> u64
     }
 }
 
-// 08, 09, 0A, 0B over 11, or over 12 11: the nodes within of which it holds. Inner: c is a quantifier's code, and `straight` says that it may be asked.
+// 08, 09, 0A, 0B over 11 or over 12 11: the nodes of `within` that meet it. Inner: c is a quantifier's code, and `straight` allows it.
 pub fn quantified_kind(
     c: u8,
     m: u8,

@@ -15,7 +15,7 @@ use crate::counting::least;
 use crate::counting::looked;
 use crate::relations::reverse_rows;
 
-// Of the nodes within, those with the ends wanted in e. Inner: n is a sheet's and there are 64 rows, as in all functions below.
+// The nodes of `within` that have the wanted ends in e. Inner, here and below: n is a sheet's node count and there are 64 rows.
 fn starts(k: Wanted, n: usize, within: u64, rows: &[u64], e: u64) -> u64
     requires { ⌜ (n ≤ maxNodes) × (length (now rows) ≡ 64) × (within < 2 ^ n) ⌝ }
     ensures { λ r. ⌜ ((v : Pairs) (w : Nodes) → Rows n v (now (rows .entry)) → e ≡ setOf n w → r ≡ setOf n (λ i. member within i && enough (number k) n (v i) w)) ⌝ }
@@ -32,7 +32,7 @@ fn starts(k: Wanted, n: usize, within: u64, rows: &[u64], e: u64) -> u64
     r
 }
 
-// Of all nodes, those with the ends wanted in e: by the rows in turn, which costs less a node than member by member.
+// All nodes that have the wanted ends in e: row by row, which costs less for each node than member by member.
 fn all_starts(k: Wanted, n: usize, rows: &[u64], e: u64) -> u64
     requires { ⌜ (n ≤ maxNodes) × (length (now rows) ≡ 64) ⌝ }
     ensures { λ r. ⌜ ((v : Pairs) (w : Nodes) → Rows n v (now (rows .entry)) → e ≡ setOf n w → r ≡ setOf n (λ i. enough (number k) n (v i) w)) ⌝ }
@@ -77,7 +77,7 @@ fn all_ends(n: usize, rows: &[u64]) -> u64
     r
 }
 
-// The nodes that some row of e ends in.
+// The nodes in which some row of e ends.
 fn ends(n: usize, all: u64, rows: &[u64], e: u64) -> u64
     requires { ⌜ (n ≤ maxNodes) × (length (now rows) ≡ 64) × (e < 2 ^ n) ⌝ }
     ensures { λ r. ⌜ ((v : Pairs) → Among all v → Rows n v (now (rows .entry)) → r ≡ setOf n (λ j. enough 1 n (λ i. v i j) (member e))) ⌝ }
@@ -89,7 +89,7 @@ fn ends(n: usize, all: u64, rows: &[u64], e: u64) -> u64
     }
 }
 
-// Of the nodes within, those with the ends wanted in e.
+// The nodes of `within` that have the wanted ends in e.
 fn asked_starts(k: Wanted, n: usize, all: u64, within: u64, rows: &[u64], e: u64) -> u64
     requires { ⌜ (n ≤ maxNodes) × (length (now rows) ≡ 64) × (within < 2 ^ n) ⌝ }
     ensures { λ r. ⌜ ((v : Pairs) (w : Nodes) → Rows n v (now (rows .entry)) → e ≡ setOf n w → r ≡ setOf n (λ i. member within i && enough (number k) n (v i) w)) ⌝ }
@@ -101,7 +101,7 @@ fn asked_starts(k: Wanted, n: usize, all: u64, within: u64, rows: &[u64], e: u64
     }
 }
 
-// 08, 09, 0A, 0B: the nodes within of which it holds, for the rows or, turned, for the columns. The rows may be used up.
+// 08, 09, 0A, 0B: the nodes of `within` that meet it, for the rows or, when turned, for the columns. The rows may be overwritten.
 pub fn quantified(
     c: u8,
     m: u8,

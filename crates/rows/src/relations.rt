@@ -1,5 +1,5 @@
-// Relations as rows: 11 to 17, and what 22 and 24 ask of them.
-// Inner, all of them: n is a sheet's, i and j are nodes' numbers, and there are 64 rows.
+// Relations as rows: 11 to 17, and what 22 and 24 need of them.
+// Inner, all of them: n is a sheet's node count, i and j are node numbers, and there are 64 rows.
 ghost use mathlib.Core.Path.{_≡_};
 ghost use mathlib.Core.Bool.{_&&_};
 ghost use Prim.Native.Nat.{ℕ, _<_, _≤_};
@@ -33,7 +33,7 @@ fn combined_row(c: u8, x: u64, y: u64) -> u64
     }
 }
 
-// 11: the rows of an arrow, from the sheet. Inner: the sheet is sound, n is its node count, and it has that arrow.
+// 11: the rows of an arrow kind, from the sheet. Inner: the sheet is sound, n is its node count, and it has that arrow kind.
 pub fn arrow_rows(sheet: &[u8], n: usize, a: Arrow, out: &mut [u64])
     requires { ⌜ Sound (now sheet) × (n ≡ graphOf (now sheet) .n) × (n ≤ maxNodes) × (a .0 < arrowCount) × (length (now out) ≡ 64) ⌝ }
     ensures { λ _. ⌜ Rows n (graphOf (now (sheet .entry)) .joined (a .0)) (now (out .exit)) × (length (now (out .exit)) ≡ 64) ⌝ }
@@ -45,7 +45,7 @@ pub fn arrow_rows(sheet: &[u8], n: usize, a: Arrow, out: &mut [u64])
     }
 }
 
-// 13, 14, 15: a becomes what both make.
+// 13, 14, 15: the result replaces a.
 pub fn combine_rows(c: u8, n: usize, a: &mut [u64], b: &[u64])
     requires { ⌜ (n ≤ maxNodes) × (length (now a) ≡ 64) × (length (now b) ≡ 64) ⌝ }
     ensures { λ _. ⌜ ((v w : Pairs) → Rows n v (now (a .entry)) → Rows n w (now (b .entry)) → Rows n (λ i j. arrowOperation c (v i j) (w i j)) (now (a .exit))) × (length (now (a .exit)) ≡ 64) ⌝ }
@@ -57,7 +57,7 @@ pub fn combine_rows(c: u8, n: usize, a: &mut [u64], b: &[u64])
     }
 }
 
-// 13, 14, 15 with an arrow of the sheet as the second: a becomes what both make. Inner: the sheet is sound, n is its node count, and it has that arrow.
+// 13, 14, 15 with an arrow kind of the sheet as second operand: the result replaces a. Inner: the sheet is sound, n is its node count, and it has that kind.
 pub fn combine_kind(c: u8, sheet: &[u8], n: usize, k: Arrow, a: &mut [u64])
     requires { ⌜ Sound (now sheet) × (n ≡ graphOf (now sheet) .n) × (n ≤ maxNodes) × (k .0 < arrowCount) × (length (now a) ≡ 64) ⌝ }
     ensures { λ _. ⌜ ((v : Pairs) → Rows n v (now (a .entry)) → Rows n (λ i j. arrowOperation c (v i j) (graphOf (now (sheet .entry)) .joined (k .0) i j)) (now (a .exit))) × (length (now (a .exit)) ≡ 64) ⌝ }
@@ -69,7 +69,7 @@ pub fn combine_kind(c: u8, sheet: &[u8], n: usize, k: Arrow, a: &mut [u64])
     }
 }
 
-// Each row with the mask e. Inner: the rows as words, whatever they stand for.
+// Each row with the mask e. Inner: the rows are words here, whatever they stand for.
 fn mask_rows(n: usize, rows: &mut [u64], e: u64)
     requires { ⌜ (n ≤ maxNodes) × (length (now rows) ≡ 64) ⌝ }
     ensures { λ _. ⌜ Masked n (now (rows .entry)) e (now (rows .exit)) × (length (now (rows .exit)) ≡ 64) ⌝ }
@@ -89,7 +89,7 @@ pub fn end_rows(n: usize, rows: &mut [u64], e: u64)
     mask_rows(n, rows, e);
 }
 
-// Column j of three rows. Inner: j is the number of a bit.
+// Column j of three rows. Inner: j is a bit's number.
 fn column(a: u64, b: u64, c: u64, j: usize) -> u64
     requires { ⌜ j < 64 ⌝ }
     ensures { λ r. ⌜ r ≡ setOf 3 (λ i. member (getD (a ∷ b ∷ c ∷ []) i 0) j) ⌝ }
@@ -97,7 +97,7 @@ fn column(a: u64, b: u64, c: u64, j: usize) -> u64
     (a >> j) % 2 + 2 * ((b >> j) % 2) + 4 * ((c >> j) % 2)
 }
 
-// The first three rows and columns exchanged: on a sheet of so few nodes the other rows need not move.
+// Exchanges the first three rows and columns: on a sheet of at most three nodes the other rows need not move.
 fn reverse_three(rows: &mut [u64])
     requires { ⌜ length (now rows) ≡ 64 ⌝ }
     ensures { λ _. ⌜ Columns 3 (now (rows .entry)) (now (rows .exit)) × (length (now (rows .exit)) ≡ 64) ⌝ }
@@ -110,7 +110,7 @@ fn reverse_three(rows: &mut [u64])
     rows[2] = column(a, b, c, 2);
 }
 
-// 12: rows and columns exchanged. Rows from n on are free, so that as columns they are masked out.
+// 12: exchanges rows and columns. Rows from n on may hold anything, so as columns they are masked out.
 pub fn reverse_rows(n: usize, rows: &mut [u64])
     requires { ⌜ (n ≤ maxNodes) × (length (now rows) ≡ 64) ⌝ }
     ensures { λ _. ⌜ ((v : Pairs) → Rows n v (now (rows .entry)) → Rows n (λ i j. v j i) (now (rows .exit))) × (length (now (rows .exit)) ≡ 64) ⌝ }
@@ -151,7 +151,7 @@ fn pair_row(all: u64, i: Node, j: Node) -> u64
     }
 }
 
-// 17: that pair only. Inner: the rows are zeros before.
+// 17: that pair only. Inner: the rows hold zeros before.
 pub fn pair_rows(all: u64, i: Node, j: Node, out: &mut [u64])
     requires { ⌜ (i .0 < maxNodes) × (j .0 < maxNodes) × (now out ≡ replicate 64 0) ⌝ }
     ensures { λ _. ⌜ ((n : ℕ) (nodes : Nodes) → n ≤ 64 → all ≡ setOf n nodes → Rows n (λ k l. (nodes k && eqb k (i .0)) && (nodes l && eqb l (j .0))) (now (out .exit))) × (length (now (out .exit)) ≡ 64) ⌝ }
@@ -160,7 +160,7 @@ pub fn pair_rows(all: u64, i: Node, j: Node, out: &mut [u64])
     out[at] = pair_row(all, i, j);
 }
 
-// 13, 15 with one pair as the second: one row changes. Inner: not for 14, which would change all.
+// 13, 15 with one pair as second operand: only one row changes. Inner: not for 14, which would change all.
 pub fn combine_pair(c: u8, all: u64, i: Node, j: Node, a: &mut [u64])
     requires { ⌜ (c ≡ 0x14 → ⊥) × (i .0 < maxNodes) × (j .0 < maxNodes) × (length (now a) ≡ 64) ⌝ }
     ensures { λ _. ⌜ ((n : ℕ) (nodes : Nodes) (v : Pairs) → n ≤ 64 → all ≡ setOf n nodes → Rows n v (now (a .entry)) → Rows n (λ k l. arrowOperation c (v k l) ((nodes k && eqb k (i .0)) && (nodes l && eqb l (j .0)))) (now (a .exit))) × (length (now (a .exit)) ≡ 64) ⌝ }

@@ -1,4 +1,4 @@
--- An edit carried out on a sound sheet: what it is asked, and the sheet it leaves.
+-- An edit carried out on a sound sheet: its questions, and the sheet it leaves.
 use mathlib.Core.Path.{_≡_, _∙_, ap}
 use mathlib.Core.List.{List}
 use Prim.Native.Nat.{ℕ}

@@ -44,7 +44,7 @@ module _ {book edit sheet : List ℕ} (i : Given book edit sheet) where
   carried-before-after : (K : Expr rule) → value (graphOf sheet) (carry (i .steps) K) ≡ value (graphOf (afterSteps (i .steps) sheet)) K
   carried-before-after K = carried (i .steps) K (graphOf sheet) ∙ ap (λ g. value g K) (sym left)
 
-  -- what keeps the book after the steps has all carried rules before
+  -- where the sheet after the steps keeps the book, all carried rules hold before
   kept-after : Keeps book (afterSteps (i .steps) sheet) → T (holdAll (graphOf sheet) (carriedBook (i .steps) (i .rules)))
   kept-after k =
       let n-same : graphOf (afterSteps (i .steps) sheet) .n ≡ graphOf sheet .n = ap (λ g. g .n) left ∙ run-n (i .steps) (graphOf sheet) in
@@ -66,7 +66,7 @@ module _ {book edit sheet : List ℕ} (i : Given book edit sheet) where
   asks : (room : ℕ) → askEnter sheet book edit room ≡ askSteps (i .rules) (graphOf sheet) (call room)
   asks room = enter-asks sheet book (i .rules) (call room) sheet-and-book
 
-  -- 31 to 33, and then 41 of the book's own rules on the sheet that the steps leave
+  -- 31 to 33, and then 41 for the book's own rules on the sheet that the steps leave
   answers : (room : ℕ) → enterAnswer sheet book edit room ≡ (askScratch (carriedBook (i .steps) (i .rules)) room >> askRules (graphOf (afterSteps (i .steps) sheet)) (i .rules) 0)
   unfolding askSteps outcome _>>=_ _>>_
   answers room =
@@ -79,7 +79,7 @@ module _ {book edit sheet : List ℕ} (i : Given book edit sheet) where
         go (passed u) (refused n p) = refl
         go (refused n p) r = refl
 
-  -- done is answered of this edit, and all else has passed
+  -- the answer for this edit is done, and everything else has passed
   done-with : (room : ℕ) → enterAnswer sheet book edit room ≡ passed tt → Entered (i .rules) (graphOf sheet) (call room) (i .steps)
   done-with room e =
       let (Z, a) = outcome-passed (askEnter sheet book edit room) e in
@@ -150,7 +150,7 @@ module _ (sheet book edit : List ℕ) (room : ℕ) (bytes : Bytes sheet) where
         fits = subst (λ carried. askScratch carried room ≡ passed tt) (p .carried-are) (p .fits);
       }
 
-  -- So of an edit that is entered: it leaves what it leaves when it is carried out alone, a sheet that keeps the book.
+  -- So for an edit that is entered: it leaves what it leaves when carried out alone, a sheet that keeps the book.
   module _ (e : enterAnswer sheet book edit room ≡ passed tt) where
     pub entered-given : GivenRoom sheet book edit room
     unfolding askEnter outcome

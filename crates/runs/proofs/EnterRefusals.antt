@@ -1,4 +1,4 @@
--- What enter can be refused with: the numbers of its questions, in their order, and no place above 16,384, whatever it is given.
+-- The refusals of enter: the numbers of its questions, in their order, and no place above 16,384, whatever the input.
 use mathlib.Core.Path.{_≡_, sym, ap}
 use mathlib.Core.List.{List}
 use Prim.Native.Nat.{ℕ, _≤_}
@@ -33,7 +33,7 @@ before-41-refuses sheet book edit room =
     (λ rules e. bind-refuses (wider (omega arith) (omega arith) (omega arith) (edit-refuses (textLimits (graphOf sheet .n)) edit))
     (λ Z f. then-refuses (wider (omega arith) (omega arith) (omega arith) (scratch-refuses (carriedBook Z rules) room)) passes))
 
--- There are as many carried rules as rules, so that 41 has a place below 32.
+-- There are as many carried rules as rules, so the place of 41 is below 32.
 few-carried : (sheet book edit : List ℕ) (room : ℕ) (c : StepsAndCarried) → askBefore41 sheet book edit room ≡ passed c → length (c .carried) ≤ mostRules
 few-carried sheet book edit room c e =
     let p = passed-33 sheet book edit room c e in
@@ -46,7 +46,7 @@ enter-refuses sheet book edit room =
     bind-refuses (wider (omega arith) (omega arith) (omega arith) (before-41-refuses sheet book edit room))
     (λ c e. then-refuses (wider (omega arith) (omega arith) (omega (arith, few-carried sheet book edit room c e)) (rules-refuse (graphOf sheet) (c .carried) 0)) passes)
 
--- A refusal that is given has such a number.
+-- Every refusal has such a number.
 pub refused-between : {A : Type 0} {from to most q p : ℕ} {x : Asked A} → Refuses from to most x → x ≡ refused q p → (from ≤ q) × (q ≤ to)
 refused-between passes e = refused-not-passed (sym e)
 refused-between {q = q} (refuses n m i j k) e = let z : n ≡ q = cc in (omega arith, omega arith)

@@ -50,7 +50,7 @@ T-within =
       no-more-arrows = λ a i j l. rw (ne-eqb a 0 (omega arith));
     }
 
--- What enter asks before 41, of a graph.
+-- The questions of enter before 41, on a graph.
 askOf : Graph → List ℕ → List ℕ → ℕ → Asked StepsAndCarried
 askOf g book edit room = do
   rules ← askBook (textLimits (g .n)) book
@@ -64,7 +64,7 @@ carried-of g book edit room w = ap (_>>= size (graphOf (store g))) (asked-of-sto
   size : Graph → List (Expr rule) → Asked StepsAndCarried
   size h rules = askEdit (textLimits (h .n)) edit >>= (λ Z. askScratch (carriedBook Z rules) room >> passed (record { steps = Z; carried = carriedBook Z rules }))
 
--- What is shown, from what is asked of T.
+-- The outcome, from the questions on T.
 resultOf : Graph → Asked StepsAndCarried → Asked StepsAndCarried → ℕ → Result
 resultOf g a b room =
     let q : Asked Edit = a >>= (λ c. askRules g (c .carried) 0 >> passed (c .steps)) in

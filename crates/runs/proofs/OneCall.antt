@@ -31,7 +31,7 @@ askSteps rules g c = do
   askRules (run Z g) rules 0
   passed Z
 
--- The questions of enter in one row.
+-- The questions of enter in one line.
 pub in-order : (sheet book edit : List ℕ) (room : ℕ) → askEnter sheet book edit room ≡ (askSheetAndBook sheet book >>= (λ rules. askEdit (textLimits (graphOf sheet .n)) edit >>= (λ Z. askScratch (carriedBook Z rules) room >> (askRules (graphOf sheet) (carriedBook Z rules) 0 >> passed Z))))
 unfolding askEnter askBefore41 _>>=_
 in-order sheet book edit room = simp (bind-bind, then-bind)
@@ -46,7 +46,7 @@ pub clerk-asks : (rules : List (Expr rule)) (g : Graph) (c : Fed) → clerkAsks 
 unfolding clerkAsks clerkCopy askSteps _>>=_
 clerk-asks rules g c = simp (bind-bind, then-bind)
 
--- What is known of an edit that has passed them all.
+-- What is known about an edit that has passed them all.
 pub record Entered (rules : List (Expr rule)) (g : Graph) (c : Fed) (Z : Edit) : Type 0 where
   pub edit-read : askEdit (textLimits (g .n)) (c .edit) ≡ passed Z
   pub fits : askScratch (carriedBook Z rules) (c .room) ≡ passed tt
@@ -63,7 +63,7 @@ when-passed rules g c Z e =
 pub so-passed : (rules : List (Expr rule)) (g : Graph) (c : Fed) (Z : Edit) → Entered rules g c Z → askSteps rules g c ≡ passed Z
 so-passed rules g c Z k = unfold askSteps _>>=_ _>>_ in rw (k .edit-read, k .fits, hold-asked (run Z g) rules 0 (k .hold))
 
--- The clerk's graph after a call, and what his log then says, by what was asked.
+-- The clerk's graph after a call, and what his log then says, by the questions.
 pub graph-after : (rules : List (Expr rule)) (g : Graph) (c : Fed) → clerkGraph rules g c ≡ after (askSteps rules g c) (λ Z. run Z g) g
 unfolding clerkGraph _>>=_ after
 graph-after rules g c = ap (λ q. after q (λ copy. copy) g) (clerk-asks rules g c) ∙ go (askSteps rules g c) where
@@ -108,7 +108,7 @@ passed-33 sheet book edit room c e =
     let (u, fits, e₃) = then-passed (askScratch (carriedBook Z rules) room) _ c e₂ in
     subst (Passed33 sheet book edit room) (passed-same e₃) (record { rules = rules; read = read; edit-read = edit-read; carried-are = refl; fits = fits })
 
--- The answer is then that to 41 of the carried rules.
+-- The answer is then that of 41 for the carried rules.
 pub answers-41 : (sheet book edit : List ℕ) (room : ℕ) (c : StepsAndCarried) → askBefore41 sheet book edit room ≡ passed c → enterAnswer sheet book edit room ≡ askRules (graphOf sheet) (c .carried) 0
 unfolding askEnter outcome _>>_
 answers-41 sheet book edit room c e = ap outcome (bind-on e _) ∙ go (askRules (graphOf sheet) (c .carried) 0) where

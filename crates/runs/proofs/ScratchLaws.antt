@@ -1,4 +1,4 @@
--- A scratch that holds one carried rule at a time: 31 to 33 by its room, what they can refuse, and what the writings leave in it.
+-- A scratch that holds one carried rule at a time: 31 to 33 by its room, their refusals, and what the writings leave in it.
 use mathlib.Core.Path.{_≡_, refl, sym, ap, _∙_}
 use mathlib.Core.Bool.{Bool, true, false}
 use mathlib.Core.List.{List, [], _∷_, _++_}
@@ -30,7 +30,7 @@ unfolding longest bookCode
 longest-short [] = omega arith
 longest-short (K ∷ rules) = omega (arith, longest-short rules, length-append (code K) (bookCode rules))
 
--- 31 to 33 by the room: where 33 is not answered, the room does not matter.
+-- 31 to 33 by the room: where the answer is not 33, the room does not matter.
 pub split : (m n : ℕ) {P : Type 0} → (m ≤ n → P) → (n < m → P) → P
 split m n {P} f g = go (leb m n) (leb-true m n) (leb-false m n) where
   go : (b : Bool) → (b ≡ true → m ≤ n) → (b ≡ false → n < m) → P
@@ -44,7 +44,7 @@ module _ (carried : List (Expr rule)) (room : ℕ) where
   pub passed-fits : askScratch carried room ≡ passed tt → longestRule carried ≤ room
   passed-fits e = unfold askScratch in let (u, asked, fits) = then-passed (askCarried carried) _ tt e in leb-true _ room (is-yes _ 33 _ fits)
 
--- What 31 and 32 can be refused with; once they have passed, 33 by the length that is needed and the room.
+-- The refusals of 31 and 32; once they have passed, 33 by the length needed and the room.
 pub carried-refuses : (carried : List (Expr rule)) → Refuses 31 32 0 (askCarried carried)
 carried-refuses carried = unfold askCarried in asked-refuses _ (omega arith) (omega arith) (omega arith) (λ e. is-refuses _ (omega arith) (omega arith) (omega arith))
 
@@ -59,7 +59,7 @@ module _ (carried : List (Expr rule)) (e : askCarried carried ≡ passed tt) whe
     pub too-short : room < needed → (askCarried carried >> is (leb needed room) 33 needed) ≡ refused 33 needed
     too-short l = then-on e _ ∙ is-not 33 needed (lt-leb needed room l)
 
--- Where 33 is not answered, the answer is that of a room in which every carried book fits.
+-- Where the answer is not 33, it is that of a room in which every carried book fits.
 pub any-room : (carried : List (Expr rule)) (room : ℕ) → ((p : ℕ) → askScratch carried room ≢ refused 33 p) → askScratch carried room ≡ askScratch carried longestCarried
 unfolding askScratch
 any-room carried room not-33 = go (askCarried carried) refl where
@@ -69,7 +69,7 @@ any-room carried room not-33 = go (askCarried carried) refl where
       split (longestRule carried) room (λ l. long-enough carried e _ room l ∙ sym (long-enough carried e (longestRule carried) longestCarried (omega (arith, longest-short carried, carried-short carried e))))
       (λ l. absurd (not-33 _ (too-short carried e _ room l)))
 
--- What a scratch can be refused with: 31 and 32, place 0, and 33, whose place is the length of a rule of a book that 31 has let pass.
+-- The refusals of a scratch: 31 and 32, place 0, and 33, whose place is the length of a rule of a book that 31 has let pass.
 pub scratch-refuses : (carried : List (Expr rule)) (room : ℕ) → Refuses 31 33 longestCarried (askScratch carried room)
 unfolding askScratch _>>_
 scratch-refuses carried room = go (askCarried carried) refl (carried-refuses carried) where
@@ -77,7 +77,7 @@ scratch-refuses carried room = go (askCarried carried) refl (carried-refuses car
   go (passed u) e h = is-refuses _ (omega arith) (omega arith) (omega (arith, longest-short carried, carried-short carried e))
   go (refused q p) e h = wider (omega arith) (omega arith) (omega arith) h
 
--- What writings leave in a buffer: the last text at its start, and the bytes of before from the longest text on.
+-- What writings leave in a buffer: the last text at its start, and the earlier bytes from the longest text on.
 -- One text.
 pub length-written : (bytes buffer : List ℕ) → length bytes ≤ length buffer → length (writtenAtStart bytes buffer) ≡ length buffer
 length-written bytes buffer h = omega (arith, h, length-append bytes (drop (length bytes) buffer), length-drop (length bytes) buffer)
@@ -111,7 +111,7 @@ last-over (first ∷ texts) text buffer = last-over texts text (writtenAtStart f
 pub last-at-start : (texts : List (List ℕ)) (text buffer : List ℕ) → take (length text) (overwritten (texts ++ (text ∷ [])) buffer) ≡ text
 last-at-start texts text buffer = ap (take (length text)) (last-over texts text buffer) ∙ take-append-seam text (drop (length text) (overwritten texts buffer))
 
--- Which rules are written, by the answer of 41.
+-- Which rules are written, by the answer to 41.
 module _ (g : Graph) where
   pub longest-written : (rules : List (Expr rule)) → longestRule (upToBroken g rules) ≤ longestRule rules
   unfolding longest upToBroken

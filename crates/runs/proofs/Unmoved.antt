@@ -1,4 +1,4 @@
--- Item 10 of document 02 moved 33 alone; and the scratch decides nothing else.
+-- Item 10 of document 02 changed only 33; and the scratch decides nothing else.
 use mathlib.Core.Path.{_≡_, refl, sym, _∙_, ap}
 use mathlib.Core.Logic.{_≢_, _⊎_, inl, inr, ⊎-elim}
 use mathlib.Core.List.{List}
@@ -28,12 +28,12 @@ use Rattle.runs.specs.Former.{formerEnter, formerAnswer, formerSheet}
 use Rattle.runs.specs.Unmoved.{AsBefore, StillShort, Unmoved}
 use Rattle.runs.proofs.EnterRefusals.{sheet-and-book-refuse, refused-between}
 
--- 31 to 33 of a carried book, by the longest rule and by the whole of it.
+-- 31 to 33 for a carried book, by the longest rule and by the whole book.
 module _ (carried : List (Expr rule)) (room : ℕ) where
   abbrev whole : ℕ
   whole = length (bookCode carried)
 
-  -- both refuse with a number that is not 33, both pass, or the whole alone is too long
+  -- both refuse with a number other than 33, both pass, or only the whole is too long
   pub record Alike : Type 0 where
     pub same : askScratch carried room ≡ askSize carried room
     pub other : (p : ℕ) → askSize carried room ≢ refused 33 p
@@ -65,7 +65,7 @@ module _ (sheet book edit : List ℕ) where
   not-33 carried Z p (passed u) n e = absurd (omega (arith, refused-between (outcome-refuses (then-refuses (rules-refuse (graphOf sheet) carried 0) passes)) e .0))
   not-33 carried Z p (refused m o) n e = n cc
 
-  -- Sheet, book or edit is refused, now as before and with no number of those; or all three are read, and 31 to 33 are asked.
+  -- Sheet, book or edit is refused, now as before and with none of those numbers; or all three are read, and 31 to 33 are asked.
   record Stops : Type 0 where
     number : ℕ
     place : ℕ
@@ -125,7 +125,7 @@ module _ (sheet book edit : List ℕ) where
           go (passed u) e r = refused-not-passed (sym g ∙ long-enough c e (longestRule c) room (omega (arith, longest-short c, carried-short c e)))
           go (refused m o) e (refuses _ _ i j k) = let z : m ≡ 33 = cc (then-ends e (is (leb (longestRule c) room) 33 (longestRule c))) in omega arith
 
-  -- Where 33 is not answered, the room does not matter.
+  -- Where the answer is not 33, the room does not matter.
   pub any-room-asks : (room : ℕ) → ((p : ℕ) → enterAnswer sheet book edit room ≢ refused 33 p) → askEnter sheet book edit room ≡ askEnter sheet book edit longestCarried
   any-room-asks room h = ⊎-elim (λ s. s .now room ∙ sym (s .now longestCarried)) one begins where
     one : Goes → askEnter sheet book edit room ≡ askEnter sheet book edit longestCarried

@@ -28,8 +28,8 @@ pub record Line : Type 0 where
 unfoldable pub rulesOf : ℕ → List ℕ → List (Expr rule)
 rulesOf n book = after (askBook (textLimits n) book) (λ rules. rules) []
 
--- He asks 21 to 26 of the edit, then 31 and 32 of the book carried back through it and 33 of its longest single rule; then he makes the edit's steps on a
--- copy.
+-- He asks 21 to 26 of the edit, then 31 and 32 of the book carried back through it and 33 of its longest single rule; then he makes the edit's steps
+-- on a copy.
 unfoldable pub clerkCopy : List (Expr rule) → Graph → Fed → Asked Graph
 clerkCopy rules g c = do
   Z ← askEdit (textLimits (g .n)) (c .edit)

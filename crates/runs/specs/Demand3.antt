@@ -1,4 +1,4 @@
--- Demand 3, word for word. proofs/Demand3 proves it.
+-- Demand 3, sentence by sentence. proofs/Demand3 proves it.
 use mathlib.Core.Path.{_≡_}
 use mathlib.Core.Logic.{_↔_}
 use mathlib.Core.List.{List, [], map}
@@ -18,7 +18,7 @@ use Rattle.runs.specs.Clerk.{clerk}
 use Rattle.bitset.specs.Words.{Bytes}
 use Rattle.runs.specs.Run.{Keeps, Call, fed, log, enteredAfterEach, madeInOrder, Given, Condition, Ensures}
 
--- Of a run, as one statement about the whole list of calls.
+-- For a run, as one statement about the whole list of calls.
 pub record RunRight (opening book : List ℕ) (calls : List Call) : Type 0 where
   -- After each call the sheet keeps the book
   pub kept : All (λ l. Keeps book (l .sheet)) (log book opening calls)
@@ -39,13 +39,13 @@ pub record Demand3 : Type 1 where
   pub carried-ensure : {book edit sheet : List ℕ} (i : Given book edit sheet)
       → T (holdAll (graphOf sheet) (carriedBook (i .steps) (i .rules))) → Keeps book (afterSteps (i .steps) sheet)
   -- Where the carried book is within its limits and the scratch is long enough, the edit is entered exactly when all of them hold; the sheet is then
-  -- the one that its steps leave. Long enough is: not shorter than the longest single carried rule (item 10 of document 02).
+  -- the one that its steps leave. Long enough means: not shorter than the longest single carried rule (item 10 of document 02).
   pub entered-when : {book edit sheet : List ℕ} (i : Given book edit sheet) (room : ℕ)
       → askScratch (carriedBook (i .steps) (i .rules)) room ≡ passed tt
       → (enterAnswer sheet book edit room ≡ passed tt) ↔ T (holdAll (graphOf sheet) (carriedBook (i .steps) (i .rules)))
   pub entered-leaves : {book edit sheet : List ℕ} (i : Given book edit sheet) (room : ℕ)
       → enterAnswer sheet book edit room ≡ passed tt → enterSheet sheet book edit room ≡ afterSteps (i .steps) sheet
-  -- Outside of runs too, on every sound sheet, also one that breaks the book: the answer is the first no of 31 to 33 of the carried book, else 41 with
+  -- Outside of runs too, on every sound sheet, even one that breaks the book: the answer is the first no of 31 to 33 for the carried book, else 41 with
   -- the first rule of the book itself that does not hold on the sheet that the steps leave, else done.
   pub enter-answers : {book edit sheet : List ℕ} (i : Given book edit sheet) (room : ℕ)
       → enterAnswer sheet book edit room

@@ -11,17 +11,17 @@ use Rattle.sheet.specs.Sheet.{store}
 use Rattle.text.specs.Marked.{sheetT, B}
 use Rattle.runs.specs.Enter.{enterAnswer, enterSheet, enterScratch}
 
--- What a call shows: the answer, and what sheet and scratch then hold.
+-- The outcome of a call: the answer, and what sheet and scratch then hold.
 pub record Result : Type 0 where
   pub answer : Asked (Unit {0})
   pub sheet : List ℕ
   pub scratch : List ℕ
 
--- A scratch of so many bytes EE.
+-- A scratch of that many bytes EE.
 abbrev pub scratchOf : ℕ → List ℕ
 scratchOf room = replicate room 0xEE
 
--- An edit entered into T under a book, with a scratch of so many bytes.
+-- An edit entered into T under a book, with a scratch of that many bytes.
 unfoldable pub enteredOnT : (book edit : List ℕ) → ℕ → Result
 enteredOnT book edit room =
     record {
@@ -39,18 +39,18 @@ calls enter =
     -- 8, and 9
     enter B (0x32 ∷ 0x01 ∷ 0x04 ∷ 0x02 ∷ 0x30 ∷ []) 14
     ∷ enter B (0x32 ∷ 0x01 ∷ 0x04 ∷ 0x02 ∷ 0x31 ∷ 0x01 ∷ 0x04 ∷ 0x02 ∷ 0x30 ∷ []) 17
-    -- 8 with a byte of scratch too few
+    -- 8 with one byte of scratch too few
     ∷ enter B (0x32 ∷ 0x01 ∷ 0x04 ∷ 0x02 ∷ 0x30 ∷ []) 11
-    -- node 0 gets label 1 too
+    -- node 0 gets label 1, too
     ∷ enter B (0x31 ∷ 0x01 ∷ 0x04 ∷ 0x00 ∷ 0x30 ∷ []) 12
     -- node 3 is not on T
     ∷ enter B (0x31 ∷ 0x01 ∷ 0x04 ∷ 0x03 ∷ 0x30 ∷ []) 2
-    -- node 0 gets label 1 too: rules of 11 and 7 bytes, the second over the first; and a byte too few for the longer
+    -- node 0 gets label 1, too: rules of 11 and 7 bytes, the second over the first; then one byte too few for the longer
     ∷ enter (B ++ two) (0x31 ∷ 0x01 ∷ 0x04 ∷ 0x00 ∷ 0x30 ∷ []) 12
     ∷ enter (B ++ two) (0x31 ∷ 0x01 ∷ 0x04 ∷ 0x00 ∷ 0x30 ∷ []) 10
-    -- no node has label 0, and node 2 not label 1: the second rule is broken
+    -- no node has label 0, and node 2 does not have label 1: the second rule is broken
     ∷ enter (B ++ two) (0x32 ∷ 0x00 ∷ 0x01 ∷ 0x32 ∷ 0x01 ∷ 0x04 ∷ 0x02 ∷ 0x30 ∷ []) 15
-    -- 8, where the first rule is broken and the second not written; its length counts all the same
+    -- 8, where the first rule is broken and the second is not written; its length counts all the same
     ∷ enter (two ++ B) (0x32 ∷ 0x01 ∷ 0x04 ∷ 0x02 ∷ 0x30 ∷ []) 12
     ∷ enter (two ++ B) (0x32 ∷ 0x01 ∷ 0x04 ∷ 0x02 ∷ 0x30 ∷ []) 11
     ∷ []

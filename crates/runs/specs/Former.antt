@@ -1,4 +1,4 @@
--- Enter as it was before item 10 of document 02, kept for one theorem alone (Unmoved): the scratch had to have room for the whole carried book.
+-- Enter as it was before item 10 of document 02, kept for a single theorem (Unmoved): the scratch needed room for the whole carried book.
 use mathlib.Core.List.{List}
 use Prim.Native.Nat.{ℕ}
 use Rattle.answer.specs.Asked.{Asked, passed, _>>=_, _>>_, after, outcome}
@@ -11,7 +11,7 @@ use Rattle.judge.specs.Questions.{askSheetAndBook, askRules}
 use Rattle.carry.specs.Carrying.{askSize}
 use Rattle.apply.specs.Apply.{afterSteps}
 
--- Its questions: what is learned is the edit.
+-- Its questions; the result is the edit.
 unfoldable pub formerEnter : (sheet book edit : List ℕ) (room : ℕ) → Asked Edit
 formerEnter sheet book edit room = do
   rules ← askSheetAndBook sheet book
@@ -20,7 +20,7 @@ formerEnter sheet book edit room = do
   askRules (graphOf sheet) (carriedBook Z rules) 0
   passed Z
 
--- Its answer, and the sheet after it.
+-- Its answer, and the sheet afterwards.
 abbrev pub formerAnswer : (sheet book edit : List ℕ) (room : ℕ) → Asked (Unit {0})
 formerAnswer sheet book edit room = outcome (formerEnter sheet book edit room)
 

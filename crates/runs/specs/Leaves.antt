@@ -24,13 +24,13 @@ pub record Leaves : Type 0 where
   -- Only done changes the sheet.
   pub sheet-stays : (sheet book edit : List ℕ) (room q p : ℕ)
       → enterAnswer sheet book edit room ≡ refused q p → enterSheet sheet book edit room ≡ sheet
-  -- After every refusal but 41 the scratch is as it was.
+  -- After every refusal except 41 the scratch is as it was.
   pub scratch-stays : (sheet book edit scratch : List ℕ) (q p : ℕ)
       → enterAnswer sheet book edit (length scratch) ≡ refused q p → q ≢ 41 → enterScratch sheet book edit scratch ≡ scratch
   -- After done or 41 it is what those writings leave.
   pub scratch-written : (sheet book edit scratch : List ℕ) (p : ℕ)
       → (enterAnswer sheet book edit (length scratch) ≡ passed tt) ⊎ (enterAnswer sheet book edit (length scratch) ≡ refused 41 p)
       → ScratchWritten sheet book edit scratch
-  -- A sheet that is not sound, or whose book is not within the limits, stays as it is through all calls, each refused alike.
+  -- A sheet that is not sound, or whose book is not within the limits, stays as it is through all calls, and each gets the same refusal.
   pub others-stay : (opening book : List ℕ) (calls : List Call) (q p : ℕ) → askSheetAndBook opening book ≡ refused q p
       → All (λ l. (l .answer ≡ refused q p) × (l .sheet ≡ opening)) (log book opening calls)

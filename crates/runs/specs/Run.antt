@@ -41,7 +41,7 @@ enterLine book sheet c =
       sheet = enterSheet sheet book (c .edit) (length (c .scratch));
     }
 
--- The log of a run: each call has the sheet as the call before it left it.
+-- The log of a run: each call has the sheet as the previous call left it.
 unfoldable pub log : (book sheet : List ℕ) → List Call → List Line
 log book sheet [] = []
 log book sheet (c ∷ cs) = enterLine book sheet c ∷ log book (enterLine book sheet c .sheet) cs
@@ -55,7 +55,7 @@ unfoldable pub enteredAfterEach : List (List ℕ) → List Line → List (List (
 enteredAfterEach edits [] = []
 enteredAfterEach edits (l ∷ ls) = entered edits l ∷ enteredAfterEach (entered edits l) ls
 
--- What edits leave when their steps are made in their order, each carried out alone.
+-- What edits leave when their steps are made in order, each edit carried out by itself.
 unfoldable pub madeInOrder : List ℕ → List (List ℕ) → List ℕ
 madeInOrder sheet [] = sheet
 madeInOrder sheet (edit ∷ edits) = madeInOrder (appliedSheet sheet edit) edits

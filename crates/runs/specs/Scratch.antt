@@ -21,18 +21,18 @@ longest (text ∷ texts) = max (length text) (longest texts)
 abbrev pub longestRule : List (Expr rule) → ℕ
 longestRule book = longest (map code book)
 
--- 31, 32 of the whole carried book; then 33, of the scratch and the longest single carried rule.
+-- 31 and 32 for the whole carried book; then 33 for the scratch and the longest single carried rule.
 unfoldable pub askScratch : List (Expr rule) → ℕ → Asked (Unit {0})
 askScratch carried room = do
   askCarried carried
   is (leb (longestRule carried) room) 33 (longestRule carried)
 
--- The rules up to the first that is broken on the graph, that one included; all of them where none is.
+-- The rules up to and including the first that is broken on the graph; all of them where none is.
 unfoldable pub upToBroken : Graph → List (Expr rule) → List (Expr rule)
 upToBroken g [] = []
 upToBroken g (K ∷ rules) = K ∷ elim (value g K) [ true ↦ upToBroken g rules | false ↦ [] ]
 
--- What a buffer holds after texts were written at its start, each over the one before.
+-- What a buffer holds after texts were written at its start, each over the previous one.
 unfoldable pub overwritten : List (List ℕ) → List ℕ → List ℕ
 overwritten [] buffer = buffer
 overwritten (text ∷ texts) buffer = overwritten texts (writtenAtStart text buffer)

@@ -16,7 +16,7 @@ use Rattle.seal.specs.Lanes.{total, weighed}
 use Rattle.seal.proofs.TotalLaws.{sums-total, sums-weighed}
 use Rattle.seal.proofs.SealLaws.{s-low, t-low}
 
--- two tests that are one
+-- two tests in one
 both-eqb : (x y s t a b : ℕ) → (x ≡ s → y ≡ t → a ≡ b) → (a ≡ b → (x ≡ s) × (y ≡ t)) → eqb a b ≡ (eqb x s && eqb y t)
 both-eqb x y s t a b to from = go (eqb x s) (eqb y t) refl refl where
   go : (u v : Bool) → eqb x s ≡ u → eqb y t ≡ v → eqb a b ≡ (u && v)
@@ -69,7 +69,7 @@ module _ (k : List ℕ) (h : length k ≡ blockBytes) where
       ap₂ (λ x y. set (set (set (set k 508 (s % 256)) 509 x) 510 (t % 256)) 511 y) e f
       ∙ sets-eq vs k 508 (omega arith) ∙ ap (λ y. take 508 k ++ vs ++ y) (drop-of-length-le k {i = 512} (omega arith)) ∙ append-nil (take 508 k ++ vs)
 
-  -- the check bytes of a block that is right say its sums
+  -- the check bytes of a right block are its sums
   pub check-bytes : Bytes k → sealRight modulo257 k ≡ true → (getD k 508 0 + getD k 509 0 * 256 ≡ sums modulo257 (take 508 k) .s) × (getD k 510 0 + getD k 511 0 * 256 ≡ sums modulo257 (take 508 k) .t)
   check-bytes small right =
       let s : ℕ = sums modulo257 (take 508 k) .s in
@@ -77,7 +77,7 @@ module _ (k : List ℕ) (h : length k ≡ blockBytes) where
       let both = and-eq-true-iff _ _ .0 (sym (right-257 small s t (s-low modulo257 (take 508 k)) (t-low modulo257 (take 508 k)) refl refl) ∙ right) in
       (eqb-true _ _ (both .0), eqb-true _ _ (both .1))
 
--- the sums of 2, the number of an arrow's block and zeros
+-- the sums of the body 2, the number of an arrow block, zeros
 total-zeros : (n : ℕ) → (total (replicate n 0) ≡ 0) × (weighed (replicate n 0) ≡ 0)
 unfolding total weighed
 total-zeros zero = (refl, refl)

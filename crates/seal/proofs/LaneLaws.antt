@@ -1,4 +1,4 @@
--- The bytes of a word in lanes: what the mask leaves of it.
+-- The bytes of a word as lanes: what the mask leaves.
 use mathlib.Core.Path.{_≡_, refl, sym, ap, _∙_}
 use mathlib.Core.List.{List}
 use Prim.Native.Nat.{ℕ, _+_, _*_, _/_, _%_, _≤_, _<_}
@@ -10,7 +10,7 @@ use Rattle.bitset.specs.Words.{Bytes, wordAt}
 use Rattle.bitset.proofs.WordLaws.{sumOfBytes, loaded}
 use Rattle.seal.specs.Lanes.{pack, oddsAt, pairsAt}
 
--- a mask of 00FF for each two bytes leaves the first of each two
+-- a mask of 00FF for each two bytes leaves the first of the two
 step : (a c r : ℕ) → r < 65536 → bitAnd (a * 65536 + r) (c * 65536 + 255) ≡ bitAnd a c * 65536 + r % 256
 step a c r h = and-block 16 a c r 255 h (lit< tt) ∙ ap (λ (y : ℕ). bitAnd a c * 65536 + y) (and-mask r 8)
 
@@ -56,7 +56,7 @@ module _ (l : List ℕ) (small : Bytes l) (at : ℕ) (h : at + 8 ≤ length l) (
   unfolding oddsAt pairsAt pack
   pairs-are = omega (arith, odds-are, ap (λ (y : ℕ). bitAnd y 0x00FF00FF00FF00FF) word-is, even-lanes _ _ _ _ _ _ _ _ (small at) (small (at + 1)) (small (at + 2)) (small (at + 3)) (small (at + 4)) (small (at + 5)) (small (at + 6)) (small (at + 7)))
 
-  -- both, and what they are at most
+  -- both, and their bounds
   pub lanes-read : ((bitAnd w 0x00FF00FF00FF00FF + bitAnd (w / 0x100) 0x00FF00FF00FF00FF ≡ pairsAt l at) × (bitAnd (w / 0x100) 0x00FF00FF00FF00FF ≡ oddsAt l at))
       × ((bitAnd w 0x00FF00FF00FF00FF + bitAnd (w / 0x100) 0x00FF00FF00FF00FF ≤ 0x01FE01FE01FE01FE) × (bitAnd (w / 0x100) 0x00FF00FF00FF00FF ≤ 0x00FF00FF00FF00FF))
   unfolding oddsAt pairsAt pack

@@ -11,14 +11,14 @@ use Rattle.seal.specs.Seal.{blockBytes}
 use Rattle.seal.specs.Lanes.{pack, oddsAt, pairsAt, fourAt, beforeAt, laneSum, lanePlaces, total, weighed}
 use Rattle.seal.proofs.WordSums.{S, T, eight, steps, odd, eight-more}
 
--- a number of two parts: what stands above the lowest bits, and those
+-- a number of two parts: what is above the lowest bits, and those bits
 above : (d y r : ℕ) → r < d → (r + y * d) / d ≡ y
 above d y r h = add-mul-div-right r y (omega arith) ∙ ap (_+ y) (div-eq-of-lt h) ∙ omega arith
 
 lowest : (y r : ℕ) → r < 65536 → (r + y * 65536) % 0x10000 ≡ r
 lowest y r h = omega arith
 
--- four lanes: each of them, all added, and what they say of places
+-- four lanes: each of them, their sum, and their sum weighted by place
 module _ (a b c d : ℕ) (h : a < 65536) (k : b < 65536) (j : c < 65536) where
   lane-0 : pack a b c d % 0x10000 ≡ a
   lane-0 = unfold pack in let e : pack a b c d ≡ a + (b + c * 65536 + d * 4294967296) * 65536 = omega arith in ap (_% 0x10000) e ∙ lowest _ a h
@@ -46,7 +46,7 @@ module _ (a b c d : ℕ) (h : a < 65536) (k : b < 65536) (j : c < 65536) where
   lane-places : (odds o : ℕ) → laneSum odds ≡ o → lanePlaces (pack a b c d) odds ≡ o + 2 * (b + 2 * c + 3 * d)
   lane-places odds o e = ap₂ (λ x y. x + 2 * y) e (ap₂ _+_ (ap₂ (λ x y. x + 2 * y) lane-1 lane-2) (ap (3 *_) lane-3))
 
-  -- words added: their lanes as one number, in the lowest 16 bits
+  -- the sum of a word's lanes as one number, in the lowest 16 bits
   four-added : a + c < 65536 → a + b + c + d < 65536 → (x : ℕ) → x ≡ pack a b c d → (x + x / 0x100000000 + (x + x / 0x100000000) / 0x10000) % 0x10000 ≡ a + b + c + d
   unfolding pack
   four-added low few x x-is =
@@ -56,7 +56,7 @@ module _ (a b c d : ℕ) (h : a < 65536) (k : b < 65536) (j : c < 65536) where
       let g : a + c + (b + d + c * 65536 + d * 4294967296) * 65536 + (b + d + c * 65536 + d * 4294967296) ≡ a + b + c + d + (b + d + c * 65537 + d * 4295032832) * 65536 = omega arith in
       ap (_% 0x10000) (ap₂ _+_ halves f ∙ g) ∙ lowest _ (a + b + c + d) few
 
--- x is four lanes of at most m each: all of them added are s, and the second, twice the third and three times the fourth are t
+-- x is four lanes of at most m each: their sum is s, and the second plus twice the third plus three times the fourth is t
 pub record Lanes (m x s t : ℕ) : Type 0 where
   lane : ℕ → ℕ
   is : x ≡ pack (lane 0) (lane 1) (lane 2) (lane 3)
@@ -89,7 +89,7 @@ module _ {m x s t : ℕ} (v : Lanes m x s t) where
     unfolding pack
     lanes-less k h = record { lane = λ i. v .lane i + k - o .lane i; is = omega arith; low = omega arith; sums = omega arith }
 
-    -- three times the one, twice the other and a third
+    -- three times one, twice another, and a third
     lanes-ahead : {z q r : ℕ} → Lanes n z q r → (k : ℕ) → 3 * m + 3 * n ≤ k → Lanes k (3 * x + 2 * y + z) (3 * s + 2 * u + q) (3 * t + 2 * w + r)
     unfolding pack
     lanes-ahead p k h = record { lane = λ i. 3 * v .lane i + 2 * o .lane i + p .lane i; is = omega arith; low = omega arith; sums = omega arith }
@@ -107,12 +107,12 @@ lanesOf a b c d i = getD (a ∷ b ∷ c ∷ d ∷ []) i 0
 abbrev oddSteps : List ℕ → ℕ → ℕ
 oddSteps l at = getD l (at + 3) 0 + 2 * getD l (at + 5) 0 + 3 * getD l (at + 7) 0
 
--- something of words as often as words of the four follow it
+-- a quantity of words, each counted as often as words of the four follow it
 abbrev ahead : (List ℕ → ℕ → ℕ) → List ℕ → ℕ → ℕ
 ahead f l at = 3 * f l at + 2 * f l (at + 64) + f l (at + 128)
 
 module _ (l : List ℕ) (small : Bytes l) where
-  -- the lanes of a word, of four and of eight
+  -- the lanes of one word, of four and of eight
   pub pairs-lanes : (at : ℕ) → Lanes 510 (pairsAt l at) (eight l at) (steps l at)
   unfolding pairsAt
   pairs-lanes at =
@@ -150,7 +150,7 @@ module _ (l : List ℕ) (small : Bytes l) where
       let w3 = eight-more l (at + 192) (q + 192) (omega arith) (omega arith) in
       (omega (arith, w0 .0, w1 .0, w2 .0, w3 .0), omega (arith, w0 .0, w1 .0, w2 .0), omega (arith, w0 .1, w1 .1, w2 .1, w3 .1))
 
--- a word more of each part: what it adds to totals, and to those in which the word j of 8 counts 8 - j times
+-- one more word of each part: what it adds to the totals, and to those in which word j of 8 counts 8 - j times
 onward : (q q′ p p′ x x′ p0 s : ℕ) → q ≡ p + x → q′ ≡ p′ + x′ → p + p′ ≡ p0 + s → q + q′ ≡ p0 + (s + (x + x′))
 onward q q′ p p′ x x′ p0 s e f g = omega arith
 
@@ -159,7 +159,7 @@ weigh : (q q′ b b′ r r′ e e′ o k o′ k′ a a′ x s u t v w j c d z : 
     → q + q′ + (x + (o + o′) + 2 * (t + k + (v + k′))) + 8 * (w * (s + e + (u + e′))) ≡ c + d + 8 * (suc j * (a + a′)) + 8 * (z + (e + e′) * suc w)
 weigh q q′ b b′ r r′ e e′ o k o′ k′ a a′ x s u t v w j c d z f g h i l = omega arith
 
--- What the code holds after j words of each part: four lanes each, and what they say of the totals up to there.
+-- What the code holds after j words of each part: four lanes each, and what they say about the totals so far.
 pub record Counted (l : List ℕ) (a b before odds z j : ℕ) : Type 0 where
   low : Laned (2040 * j) a
   high : Laned (2040 * j) b

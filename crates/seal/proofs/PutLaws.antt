@@ -1,4 +1,4 @@
--- A word put into a block's body: its sums, from what they were and from the lanes of the word that was there and of the one that is.
+-- Putting a word into a block's body: the new sums, from the old ones and the lanes of the old and the new word.
 use mathlib.Core.Path.{_≡_, refl, sym, ap, ap₂, _∙_}
 use mathlib.Core.List.{List, _++_}
 use mathlib.Core.Logic.{inr}
@@ -15,7 +15,7 @@ use Rattle.seal.proofs.TotalLaws.{sums-total, sums-weighed, alike}
 use Rattle.seal.proofs.WordSums.{S, T, eight, steps, placed, next-byte, eight-more}
 use Rattle.seal.proofs.LaneTotals.{Lanes, lanes-sum, lanes-places, lanes-low, lanes-less, pairs-lanes, odds-lanes}
 
--- Two lists that differ only in the eight bytes from `at` on: the totals of all bytes up to those eight and j behind them.
+-- Two lists that differ only in the eight bytes from `at` on: the totals of all bytes up to those eight and j bytes after them.
 module _ (k r : List ℕ) (at : ℕ) (before : take at r ≡ take at k) (behind : (i : ℕ) → at + 8 ≤ i → getD r i 0 ≡ getD k i 0) (same : length r ≡ length k) where
   word-moves : (j : ℕ) → at + (8 + j) ≤ length k → (S r (at + (8 + j)) + eight k at ≡ S k (at + (8 + j)) + eight r at)
       × (T r (at + (8 + j)) + (8 + j) * eight k at + placed r at ≡ T k (at + (8 + j)) + (8 + j) * eight r at + placed k at)
@@ -34,13 +34,13 @@ module _ (k r : List ℕ) (at : ℕ) (before : take at r ≡ take at k) (behind 
       let nr = next-byte r n (at + (8 + suc j)) e (omega arith) in
       (omega (arith, ih .0, c, nk .0, nr .0), omega (arith, ih .0, ih .1, c, nk .1, nr .1))
 
--- The remainder s of a total, when bytes in it change from e to e′ together: d is e′ - e, and n times m more.
+-- The remainder s of a total when bytes in it change from e to e′ together: d is e′ - e plus n times m.
 moved-s : (m a b e e′ s d n : ℕ) → b + e ≡ a + e′ → d + e ≡ e′ + n * m → s ≡ a % m → (s + d) % m ≡ b % m
 moved-s m a b e e′ s d n f o g =
     let c : a + d + 0 * m ≡ b + n * m = omega arith in
     ap (λ y. (y + d) % m) g ∙ mod-add-mod a m d ∙ alike m (a + d) b 0 n c
 
--- The same when they count w times, less their places, which change from p to p′: q is p′ - p, and i times m more.
+-- The same when they count w times, less their places, which change from p to p′: q is p′ - p plus i times m.
 moved-t : (m a b w e e′ p p′ t d q n i : ℕ) → b + w * e + p′ ≡ a + w * e′ + p → d + e ≡ e′ + n * m → q + p ≡ p′ + i * m → t ≡ a % m → q ≤ w * d → (t + w * d - q) % m ≡ b % m
 moved-t m a b w e e′ p p′ t d q n i f o v g l =
     let y : ℕ = w * d - q in
@@ -48,7 +48,7 @@ moved-t m a b w e e′ p p′ t d q n i f o v g l =
     let c : a + y + i * m ≡ b + w * n * m = omega (arith, ap (w *_) o) in
     ap (_% m) j ∙ ap (λ u. (u + y) % m) g ∙ mod-add-mod a m y ∙ alike m (a + y) b i (w * n) c
 
--- The lanes of the eight bytes from `at` on, of r less those of k, with 514 and 257 added to each: what they fold to, and what they say of the places.
+-- The lanes of the eight bytes from `at` on, those of r minus those of k, with 514 and 257 added to each: their sum, and their sum weighted by place.
 module _ (k r : List ℕ) where
   abbrev pub pairs : ℕ → ℕ
   pairs at = pairsAt r at + 0x0202020202020202 - pairsAt k at
@@ -68,7 +68,7 @@ module _ (k r : List ℕ) (at : ℕ) (small : Bytes k) (small′ : Bytes r) wher
       let odd-is = lanes-sum (lanes-less (odds-lanes r small′ at) (odds-lanes k small at) 257 (omega arith)) (omega arith) in
       omega (arith, lanes-places changed-pairs (omega arith) _ _ odd-is, lanes-low (pairs-lanes k small at), lanes-low (odds-lanes k small at))
 
-  -- no place in a word is above 7
+  -- a place in a word is at most 7
   pub places-low : lanePlaces (pairs k r at) (odds k r at) ≤ 8 * laneSum (pairs k r at)
   places-low =
       let few : 8 * eight k at ≤ placed k at + 9252 =
@@ -77,16 +77,16 @@ module _ (k r : List ℕ) (at : ℕ) (small : Bytes k) (small′ : Bytes r) wher
         enough : (d q e p e′ p′ : ℕ) → d + e ≡ e′ + 8 * 257 → q + p ≡ p′ + 28 * 257 → 8 * e ≤ p + 9252 → p′ ≤ 8 * e′ → q ≤ 8 * d
         enough d q e p e′ p′ f g h i = omega arith
 
--- Numbers that leave the sums of a block's body.
+-- Numbers whose remainders are the sums of a block's body.
 pub record Leaves (f : Form) (k : List ℕ) (s t : ℕ) : Type 0 where
   pub s-is : s % f .modulus ≡ sums f (take (f .bodyBytes) k) .s
   pub t-is : t % f .modulus ≡ sums f (take (f .bodyBytes) k) .t
 
--- the block with the sums that they leave behind it
+-- the body followed by those remainders is the sealed block
 pub leaves-sealed : (f : Form) (k : List ℕ) (s t : ℕ) → Leaves f k s t → take (f .bodyBytes) k ++ stored f (record { s = s % f .modulus; t = t % f .modulus }) ≡ reseal f k
 leaves-sealed f k s t v = unfold reseal sealed in ap₂ (λ y z. take (f .bodyBytes) k ++ stored f (record { s = y; t = z })) (v .s-is) (v .t-is)
 
--- A block k of which x is put into the body's eight bytes from `at` on, which makes it r: numbers that leave the sums of r, from the sums of k.
+-- Putting x into the eight bytes of block k's body from `at` on gives r: numbers whose remainders are the sums of r, from the sums of k.
 module _ (k r : List ℕ) (at x : ℕ) (h : length k ≡ blockBytes) (i : at + 8 ≤ 508) (put : r ≡ putWord k at x) where
   begins : take at r ≡ take at k
   unfolding putWord

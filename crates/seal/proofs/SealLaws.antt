@@ -1,4 +1,4 @@
--- The check bytes behind a body, in any form.
+-- The check bytes after a body, in any form.
 use mathlib.Core.Path.{_≡_, refl, sym, ap, ap₂, _∙_}
 use mathlib.Core.Bool.{Bool, true, _&&_, and-eq-true-iff}
 use mathlib.Core.List.{List, [], _∷_, _++_}
@@ -34,14 +34,14 @@ module _ (f : Form) where
   unfolding stored
   length-stored u = length-append (bytes (f .sumBytes) (u .s)) (bytes (f .sumBytes) (u .t)) ∙ ap₂ _+_ (length-bytes (f .sumBytes) (u .s)) (length-bytes (f .sumBytes) (u .t))
 
-  -- A block that is right is its body with the body's check bytes, and no other bytes behind that body are right.
+  -- A right block is its body followed by the body's check bytes, and no other bytes after that body are right.
   pub right-check : (k : List ℕ) → sealRight f k ≡ true → drop (f .bodyBytes) k ≡ seal f (take (f .bodyBytes) k)
   right-check k e = unfold sealRight sealOf in same-is (drop (f .bodyBytes) k) (seal f (take (f .bodyBytes) k)) e
 
   pub right-sealed : (k : List ℕ) → sealRight f k ≡ true → k ≡ sealed f (take (f .bodyBytes) k)
   right-sealed k e = unfold sealed in sym (take-append-drop (f .bodyBytes) k) ∙ ap (take (f .bodyBytes) k ++_) (right-check k e)
 
-  -- A body with its check bytes begins with the body and passes its question.
+  -- A body followed by its check bytes begins with the body and passes question 2.
   pub getD-sealed : (body : List ℕ) (p : ℕ) → p < length body → getD (sealed f body) p 0 ≡ getD body p 0
   getD-sealed body p h = unfold sealed in List·getD-append body (seal f body) 0 p h
 
@@ -56,7 +56,7 @@ module _ (f : Form) where
   pub length-body : (k : List ℕ) → length k ≡ blockBytes → length (take (f .bodyBytes) k) ≡ f .bodyBytes
   length-body k h = length-take-le (f .bodyBytes) k (omega (arith, f .whole))
 
-  -- sums are told by their check bytes
+  -- check bytes determine the sums
   pub stored-told : (u v : Sums) → u .s < f .modulus → u .t < f .modulus → v .s < f .modulus → v .t < f .modulus → stored f u ≡ stored f v → (u .s ≡ v .s) × (u .t ≡ v .t)
   unfolding stored
   stored-told u v hs ht ks kt e =
@@ -76,7 +76,7 @@ module _ (f : Form) where
   pub t-low : (l : List ℕ) → sums f l .t < f .modulus
   t-low l = rw (sums-weighed f l) (mod-lt (weighed l) (f .nonzero))
 
--- The body of a block with zeros behind its first two bytes.
+-- The body of a block with only zeros after its first two bytes.
 pub two-and-zeros : (k : List ℕ) → length k ≡ blockBytes → ((p : ℕ) → 2 ≤ p → p < modulo257 .bodyBytes → getD k p 0 ≡ 0) → take (modulo257 .bodyBytes) k ≡ getD k 0 0 ∷ getD k 1 0 ∷ replicate 506 0
 two-and-zeros k h z = ext-getD 0 (take 508 k) _ (length-take-le 508 k (omega arith)) (λ i l. let u : i < 508 = omega (arith, length-take-le 508 k (omega arith)) in getD-take 508 k i 0 u ∙ at i u)
   where

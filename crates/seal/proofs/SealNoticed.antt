@@ -1,4 +1,4 @@
--- What a block's check bytes notice where the modulus is above 255: every single byte changed, and every two unequal neighbours of the body exchanged.
+-- What a block's check bytes notice if the modulus is above 255: every change of a single byte, and every exchange of two unequal neighbours in the body.
 use mathlib.Core.Path.{_≡_, refl, sym, ap, ap₂, _∙_}
 use mathlib.Core.Bool.{Bool, true, false}
 use mathlib.Core.List.{List, _∷_}
@@ -15,7 +15,7 @@ use Rattle.seal.specs.Lanes.{total, weighed}
 use Rattle.seal.proofs.TotalLaws.{sums-total, sums-weighed, total-set, weighed-set}
 use Rattle.seal.proofs.SealLaws.{right-check, stored-told, s-low, t-low, length-body}
 
--- numbers below m that move two totals with the same remainder to one total
+-- if totals with the same remainder differ by two numbers below m, those numbers are equal
 byte-told : (m a b x y : ℕ) → a + y ≡ b + x → a % m ≡ b % m → x < m → y < m → x ≡ y
 byte-told m a b x y e r h k =
     let f : m * (b / m) + x ≡ m * (a / m) + y = omega (arith, div-add-mod a m, div-add-mod b m) in
@@ -25,7 +25,7 @@ refused : (b : Bool) → (b ≡ true → ⊥) → b ≡ false
 refused true h = absurd (h refl)
 refused false h = refl
 
--- neighbours x and y of a body exchanged: t moves as if one of them changed into the other
+-- when neighbours x and y of a body change places, t changes as if one of them became the other
 moved : (a : List ℕ) (p x y : ℕ) → suc p < length a → getD a p 0 ≡ x → getD a (suc p) 0 ≡ y → weighed (set (set a p y) (suc p) x) + x ≡ weighed a + y
 moved a p x y h e g =
     let v : ℕ = length a - suc p in
@@ -40,7 +40,7 @@ moved a p x y h e g =
       sums-up c b a v x y e f = omega arith
 
 module _ (f : Form) (above : 256 ≤ f .modulus) where
-  -- blocks that are right and have the same check bytes have the same sums
+  -- right blocks with the same check bytes have the same sums
   same-sums : (k j : List ℕ) → sealRight f k ≡ true → sealRight f j ≡ true → drop (f .bodyBytes) k ≡ drop (f .bodyBytes) j
       → (total (take (f .bodyBytes) k) % f .modulus ≡ total (take (f .bodyBytes) j) % f .modulus) × (weighed (take (f .bodyBytes) k) % f .modulus ≡ weighed (take (f .bodyBytes) j) % f .modulus)
   same-sums k j e g d =
@@ -91,7 +91,7 @@ module _ (f : Form) (above : 256 ≤ f .modulus) where
     pub exchange-noticed : (p : ℕ) → suc p < f .bodyBytes → (getD k p 0 ≡ getD k (suc p) 0 → ⊥) → sealRight f (exchanged k p) ≡ false
     exchange-noticed p l other = refused (sealRight f (exchanged k p)) (λ g. other (sym (neighbours-told p l g)))
 
--- Block 1 without arrows; and in the old form, where document 01 has 3 and 254.
+-- Block 1 without arrows; in the old form, where document 01 has 3 and 254.
 pub block-1 : sums modulo257 (2 ∷ 1 ∷ replicate 506 0) ≡ record { s = 3; t = 238 }
 block-1 = unfold sumsFrom in refl
 

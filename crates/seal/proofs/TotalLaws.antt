@@ -1,4 +1,4 @@
--- The sums of any form are the remainders of plain totals: along a body, and after one byte of it changes.
+-- The sums of any form are remainders of plain totals: along a body, and after one byte changes.
 use mathlib.Core.Path.{_≡_, sym, ap, ap₂, _∙_}
 use mathlib.Core.List.{List, [], _∷_}
 use Prim.Native.Nat.{ℕ, zero, suc, _+_, _-_, _*_, _%_, _≤_, _<_}
@@ -36,7 +36,7 @@ module _ (f : Form) (l : List ℕ) where
   pub sums-weighed : sums f l .t ≡ weighed l % f .modulus
   sums-weighed = ap (λ (u : Sums). u .t) from-zero
 
--- byte p changes from what it was to x
+-- byte p becomes x
 pub total-set : (l : List ℕ) (p x : ℕ) → p < length l → total (set l p x) + getD l p 0 ≡ total l + x
 unfolding total
 total-set [] p x h = absurd (omega arith)
@@ -49,11 +49,11 @@ weighed-set [] p x h = absurd (omega arith)
 weighed-set (b ∷ l) zero x h = let w : suc (length l) - 0 ≡ suc (length l) = omega arith in rw w (omega arith)
 weighed-set (b ∷ l) (suc p) x h = let w : suc (length l) - suc p ≡ length l - p = omega arith in rw w (omega (arith, weighed-set l p x (omega arith), ap (_* b) (length-set l p x)))
 
--- numbers that differ by multiples of m leave the same
+-- numbers that differ by multiples of m have the same remainder
 pub alike : (m x y a b : ℕ) → x + a * m ≡ y + b * m → x % m ≡ y % m
 alike m x y a b e = sym (add-mul-mod-self-right x a m) ∙ ap (_% m) e ∙ add-mul-mod-self-right y b m
 
--- The plain totals of bytes: of 508 they are at most 129,540 and 32,967,930.
+-- The plain totals of bytes: for 508 bytes at most 129,540 and 32,967,930.
 total-low : (l : List ℕ) → Bytes l → total l ≤ 255 * length l
 unfolding total
 total-low [] small = omega arith

@@ -1,4 +1,4 @@
--- The plain totals of bytes taken by words of 8.
+-- The plain totals of bytes, 8 bytes at a time.
 use mathlib.Core.Path.{_≡_, ap, _∙_}
 use mathlib.Core.List.{List, [], _∷_, _++_}
 use Prim.Native.Nat.{ℕ, suc, _+_, _*_, _≤_, _<_}
@@ -7,7 +7,7 @@ use lib.ListN.{length, getD, take, length-append}
 use lib.Seq.{take-suc}
 use Rattle.seal.specs.Lanes.{total, weighed}
 
--- one byte more
+-- one more byte
 total-more : (l : List ℕ) (b : ℕ) → total (l ++ b ∷ []) ≡ total l + b
 unfolding total
 total-more [] b = omega arith
@@ -30,7 +30,7 @@ module _ (l : List ℕ) where
       let one = ap (λ k. take k l) e ∙ take-suc l n 0 h in
       (ap total one ∙ total-more (take n l) (getD l n 0), ap weighed one ∙ weighed-more (take n l) (getD l n 0))
 
-  -- the eight bytes from p on: their total; by twos, each as often as its place says; those at odd places; and so each byte as often as its place says
+  -- the eight bytes from p on: their total; in pairs, weighted by place; those at odd places; and so each byte weighted by its place
   abbrev pub eight : ℕ → ℕ
   eight p = getD l p 0 + getD l (p + 1) 0 + (getD l (p + 2) 0 + getD l (p + 3) 0) + (getD l (p + 4) 0 + getD l (p + 5) 0) + (getD l (p + 6) 0 + getD l (p + 7) 0)
 

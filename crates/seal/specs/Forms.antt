@@ -1,4 +1,4 @@
--- The form of check bytes that the code is told.
+-- The form of check bytes that the code's argument names.
 use Rattle.seal.specs.declared.Modulo.{Modulo}
 use Rattle.seal.specs.declared.Modulo.the-variants.{M257, M255}
 use Rattle.seal.specs.Seal.{Form, modulo257, modulo255}

@@ -1,4 +1,4 @@
--- The check bytes of a block ("The sheet" of document 01, and item 2 of document 02). Only this file knows how they are taken and how many bytes they fill.
+-- The check bytes of a block ("The sheet" of document 01, item 2 of document 02). Only this file knows how they are computed and how many there are.
 use mathlib.Core.Path.{_≡_, refl}
 use mathlib.Core.Bool.{Bool, true, false, _&&_}
 use mathlib.Core.List.{List, [], _∷_, _++_}
@@ -11,8 +11,8 @@ use Rattle.bitset.specs.Words.{bytes}
 abbrev pub blockBytes : ℕ
 blockBytes = 512
 
--- What a form of check bytes fixes: what the sums are taken modulo, how many bytes they are taken over, in how many bytes each is stored.
--- Body and sums fill a block, and a sum fits its bytes, which are four at most.
+-- What a form of check bytes fixes: the modulus, how many bytes the sums are over, and in how many bytes each sum is stored.
+-- Body and sums fill a block, and a sum fits into its bytes, at most four.
 pub record Form : Type 0 where
   pub modulus : ℕ
   pub bodyBytes : ℕ
@@ -22,7 +22,7 @@ pub record Form : Type 0 where
   pub stores : modulus ≤ 256 ^ sumBytes
   pub few : sumBytes ≤ 4
 
--- Item 2's form; and document 01's, which only old cards have.
+-- The form of item 2; the form of document 01, which only old cards have.
 abbrev pub modulo257 : Form
 modulo257 = record { modulus = 257; bodyBytes = 508; sumBytes = 2; whole = refl; nonzero = lit< tt; stores = lit≤ tt; few = lit≤ tt }
 
@@ -42,7 +42,7 @@ sumsFrom m s t (b ∷ bs) = sumsFrom m ((s + b) % m) ((t + (s + b) % m) % m) bs
 abbrev pub sums : Form → List ℕ → Sums
 sums f body = sumsFrom (f .modulus) 0 0 body
 
--- Two sums as check bytes, s first, each with its lowest byte first; the check bytes of a body, and the body with them behind it.
+-- Two sums as check bytes, s first, each with its lowest byte first; the check bytes of a body; the body followed by them.
 unfoldable pub stored : Form → Sums → List ℕ
 stored f u = bytes (f .sumBytes) (u .s) ++ bytes (f .sumBytes) (u .t)
 
@@ -52,13 +52,14 @@ seal f body = stored f (sums f body)
 unfoldable pub sealed : Form → List ℕ → List ℕ
 sealed f body = body ++ seal f body
 
+-- Whether two lists of bytes are equal.
 unfoldable pub sameBytes : List ℕ → List ℕ → Bool
 sameBytes [] [] = true
 sameBytes [] (y ∷ ys) = false
 sameBytes (x ∷ xs) [] = false
 sameBytes (x ∷ xs) (y ∷ ys) = eqb x y && sameBytes xs ys
 
--- Whether a block's check bytes are those of a body; and whether they are right: they say the reduced sums of its own.
+-- Whether a block's check bytes are those of the given body; whether they are right, that is, those of its own body.
 unfoldable pub sealOf : Form → List ℕ → List ℕ → Bool
 sealOf f body k = sameBytes (drop (f .bodyBytes) k) (seal f body)
 
@@ -69,6 +70,6 @@ sealRight f k = sealOf f (take (f .bodyBytes) k) k
 unfoldable pub reseal : Form → List ℕ → List ℕ
 reseal f k = sealed f (take (f .bodyBytes) k)
 
--- The bytes with p and p + 1 exchanged.
+-- The bytes with those at p and p + 1 exchanged.
 unfoldable pub exchanged : List ℕ → ℕ → List ℕ
 exchanged k p = set (set k p (getD k (suc p) 0)) (suc p) (getD k p 0)

@@ -1,4 +1,4 @@
-// The check bytes of a block, in two forms: item 2's, and document 01's for old cards. Both are taken by words of 8 bytes.
+// The check bytes of a block, in two forms: that of item 2, and that of document 01 for old cards. Both are computed over words of 8 bytes.
 ghost use mathlib.Core.Path.{_≡_};
 ghost use mathlib.Core.Bool.{true};
 ghost use Prim.Native.Nat.{_<_, _≤_, _+_, _*_, _%_};
@@ -9,19 +9,19 @@ ghost use Rattle.seal.specs.Seal.{blockBytes, modulo255, modulo257, sums
 ghost use Rattle.seal.specs.Forms.{formOf};
 ghost use Rattle.seal.specs.Lanes.{oddsAt, pairsAt, fourAt, beforeAt, laneSum, lanePlaces, total, weighed};
 
-// A block's bytes, and those of its body: the check bytes fill what is left.
+// The length of a block, and of its body; the check bytes fill the rest.
 pub const BLOCK: usize = 512;
 
 pub const BODY: usize = 508;
 
-// Where s and t stand in a block.
+// Where s and t are in a block.
 const S: usize = BODY;
 
 const T: usize = BODY + 2;
 
 const MODULUS: u32 = 257;
 
-// The same of an old card.
+// The same for an old card.
 const FORMER_BODY: usize = 510;
 
 const FORMER_S: usize = FORMER_BODY;
@@ -30,7 +30,7 @@ const FORMER_T: usize = FORMER_BODY + 1;
 
 const FORMER_MODULUS: u64 = 255;
 
-// What the sums are taken modulo: 257, or 255 on old cards.
+// The modulus of the sums: 257, or 255 on old cards.
 pub enum Modulo {
     M257,
     M255,
@@ -42,7 +42,7 @@ struct Sums {
     t: u64,
 }
 
-// Where word i of a block stands, after its head of 16 bytes. Inner: a block has no more than 61 words.
+// The offset of word i of a block, after the head of 16 bytes. Inner: a block has at most 61 words.
 pub fn word_place(i: usize) -> usize
     requires { ⌜ i < 64 ⌝ }
     ensures { λ r. ⌜ r ≡ 16 + 8 * i ⌝ }
@@ -50,20 +50,20 @@ pub fn word_place(i: usize) -> usize
     16 + 8 * i
 }
 
-// A byte as a word. Inner: says beside its value that it is below 256.
+// A byte as a word, and the fact that it is below 256.
 fn wide(x: u8) -> u64
     ensures { λ r. ⌜ (r ≡ x) × (r < 256) ⌝ }
 {
     x as u64
 }
 
-// The bytes of a word in lanes of 16 bits: each two bytes added, and those at odd places.
+// The 8 bytes of a word as lanes of 16 bits: the sums of each two neighbours, and the bytes at odd places.
 struct Word {
     pairs: u64,
     odds: u64,
 }
 
-// The lanes of the 8 bytes from `at` on. Inner: they are there.
+// The lanes of the 8 bytes from `at` on. Inner: the callers' bytes reach that far.
 fn lanes(s: &[u8], at: usize) -> Word
     requires { ⌜ at + 8 ≤ length (now s) ⌝ }
     ensures { λ r. ⌜ (r .pairs ≡ pairsAt (now (s .entry)) at) × (r .odds ≡ oddsAt (now (s .entry)) at) ⌝ }
@@ -77,14 +77,14 @@ fn lanes(s: &[u8], at: usize) -> Word
     }
 }
 
-// The lanes of a word added.
+// The sum of a word's lanes.
 fn lane_sum(x: u64) -> u64
     ensures { λ r. ⌜ (r ≡ laneSum x) × (r ≤ 0x3FFFC) ⌝ }
 {
     x % 0x10000 + x / 0x10000 % 0x10000 + x / 0x100000000 % 0x10000 + x / 0x1000000000000
 }
 
-// What lanes say of the bytes' places in their words: each byte as often as its place says.
+// The sum of the bytes, each counted as often as its place in its word says.
 fn places(pairs: u64, odds: u64) -> u64
     ensures { λ r. ⌜ (r ≡ lanePlaces pairs odds) × (r ≤ 0x100000) ⌝ }
 {
@@ -94,14 +94,14 @@ fn places(pairs: u64, odds: u64) -> u64
     lane_sum(odds) + 2 * (second + 2 * third + 3 * fourth)
 }
 
-// Four words side by side, 64 bytes apart, in lanes: all added, each as often as words of the four follow it, and the bytes at odd places.
+// Four words, 64 bytes apart, as lanes: their sum, their sum with each counted as often as words of the four follow it, and the bytes at odd places.
 struct Four {
     sum: u64,
     before: u64,
     odds: u64,
 }
 
-// Those from `at` on. Inner: they are there.
+// The four words from `at` on. Inner: the callers' block reaches that far.
 fn four_words(block: &[u8], at: usize) -> Four
     requires { ⌜ at + 200 ≤ length (now block) ⌝ }
     ensures { λ r. ⌜ (r .sum ≡ fourAt pairsAt (now (block .entry)) at) × (r .before ≡ beforeAt (now (block .entry)) at) × (r .odds ≡ fourAt oddsAt (now (block .entry)) at) ⌝ }
@@ -120,15 +120,15 @@ fn four_words(block: &[u8], at: usize) -> Four
     }
 }
 
-// The plain totals of bytes: of them all, and with each counted as often as bytes follow it, itself counted.
+// The plain totals of bytes: their sum, and their sum with each byte counted once for itself and once for each byte after it.
 struct Totals {
     s: u64,
     t: u64,
 }
 
-// Those of a whole block, its check bytes too. Its eight parts of 64 bytes go side by side, a word of each at a time. For t the sum of the eight
-// counts as often as words follow in their part, itself counted, and a part's sum once for every word of the parts behind it; a byte's place in
-// its word is taken off at the end. Inner: it is a block.
+// The totals of a whole block, check bytes included. Its eight parts of 64 bytes are added side by side, one word of each at a time. For t, the sum
+// of the eight words counts once for itself and once for each later word of its part, and a part's sum once for each word of the later parts;
+// the place of each byte in its word is subtracted at the end. Inner: callers pass a whole block.
 fn block_totals(block: &[u8]) -> Totals
     requires { ⌜ length (now block) ≡ blockBytes ⌝ }
     ensures { λ r. ⌜ (r .s ≡ total (now (block .entry))) × (r .t ≡ weighed (now (block .entry))) ⌝ }
@@ -160,7 +160,7 @@ fn block_totals(block: &[u8]) -> Totals
     }
 }
 
-// The same of a block's first `end` bytes: those behind are taken off again, one by one. Inner: it is a block.
+// The totals of a block's first `end` bytes: the bytes after them are subtracted one by one. Inner: callers pass a whole block.
 fn totals_to(block: &[u8], end: usize) -> Totals
     requires { ⌜ (length (now block) ≡ blockBytes) × (end ≤ blockBytes) ⌝ }
     ensures { λ r. ⌜ (r .s ≡ total (take end (now (block .entry)))) × (r .t ≡ weighed (take end (now (block .entry)))) ⌝ }
@@ -177,14 +177,14 @@ fn totals_to(block: &[u8], end: usize) -> Totals
     Totals { s: s, t: t }
 }
 
-// What a number leaves by 257. It has 32 bits: a remainder takes less there.
+// The remainder modulo 257. The argument has 32 bits because a remainder is cheaper there.
 fn left(x: u32) -> u64
     ensures { λ r. ⌜ (r ≡ x % modulo257 .modulus) × (r < modulo257 .modulus) ⌝ }
 {
     (x % MODULUS) as u64
 }
 
-// The sums of a block's body. Plain totals of 508 bytes have 32 bits. Inner: it is a block.
+// The sums of a block's body. The plain totals of 508 bytes fit into 32 bits. Inner: callers pass a whole block.
 fn sums_of(block: &[u8]) -> Sums
     requires { ⌜ length (now block) ≡ blockBytes ⌝ }
     ensures { λ r. ⌜ (r .s ≡ sums modulo257 (take (modulo257 .bodyBytes) (now (block .entry))) .s) × (r .t ≡ sums modulo257 (take (modulo257 .bodyBytes) (now (block .entry))) .t) ⌝ }
@@ -197,7 +197,7 @@ fn sums_of(block: &[u8]) -> Sums
     }
 }
 
-// A number below 65,536 in two bytes from `at` on, the lowest first. Inner: they are there.
+// The number in two bytes from `at` on, the lowest first. Inner: the callers' block reaches that far.
 fn pair(block: &[u8], at: usize) -> u64
     requires { ⌜ at + 2 ≤ length (now block) ⌝ }
     ensures { λ r. ⌜ (r ≡ getD (now (block .entry)) at 0 + getD (now (block .entry)) (at + 1) 0 * 256) × (r < 65536) ⌝ }
@@ -205,7 +205,7 @@ fn pair(block: &[u8], at: usize) -> u64
     wide(block[at]) + wide(block[at + 1]) * 256
 }
 
-// Whether the check bytes modulo 257 are right. Inner: it is a block.
+// Whether the check bytes modulo 257 are right. Inner: callers pass a whole block.
 fn right_257(block: &[u8]) -> bool
     requires { ⌜ length (now block) ≡ blockBytes ⌝ }
     ensures { λ r. ⌜ r ≡ sealRight modulo257 (now (block .entry)) ⌝ }
@@ -217,7 +217,7 @@ fn right_257(block: &[u8]) -> bool
     false
 }
 
-// Whether the check bytes modulo 255 are right, those of an old card. Inner: it is a block.
+// Whether the check bytes modulo 255, those of an old card, are right. Inner: callers pass a whole block.
 fn right_255(block: &[u8]) -> bool
     requires { ⌜ length (now block) ≡ blockBytes ⌝ }
     ensures { λ r. ⌜ r ≡ sealRight modulo255 (now (block .entry)) ⌝ }
@@ -229,7 +229,7 @@ fn right_255(block: &[u8]) -> bool
     false
 }
 
-// Whether a block's check bytes are right, in one form or the other. Inner: it is a block.
+// Whether a block's check bytes are right in the given form. Inner: callers pass a whole block.
 pub fn seal_right(form: Modulo, block: &[u8]) -> bool
     requires { ⌜ length (now block) ≡ blockBytes ⌝ }
     ensures { λ r. ⌜ r ≡ sealRight (formOf form) (now (block .entry)) ⌝ }
@@ -240,8 +240,8 @@ pub fn seal_right(form: Modulo, block: &[u8]) -> bool
     }
 }
 
-// Whether a block's check bytes are those of the body 2, b and zeros, an arrow's without a row: nothing else is read, and all four bytes are
-// one number. s is 2 + b; t is 508 times 2 and 507 times b, which leaves 245 less 7 times b. Inner: it is a block, and b is one of a sheet's.
+// Whether a block's check bytes are those of an arrow block without a row, whose body is 2, b and zeros. Only the four check bytes are read, as one
+// number: s is 2 + b, and t is 508 times 2 plus 507 times b, which is 245 - 7b modulo 257. Inner: callers pass a whole block, with b at most 16.
 pub fn bare_seal(block: &[u8], b: usize) -> bool
     requires { ⌜ (length (now block) ≡ blockBytes) × (b ≤ 16) ⌝ }
     ensures { λ r. ⌜ r ≡ sealOf modulo257 (2 ∷ b ∷ replicate 506 0) (now (block .entry)) ⌝ }
@@ -250,7 +250,7 @@ pub fn bare_seal(block: &[u8], b: usize) -> bool
     bitset::load(block, BODY - 4) / 0x100000000 == 2 + n + 0x10000 * (245 - 7 * n)
 }
 
-// Puts sums behind a block's body. Inner: it is a block, and they are sums.
+// Writes the sums after a block's body. Inner: callers pass a whole block, and sums below the modulus.
 fn put_sums(block: &mut [u8], s: u64, t: u64)
     requires { ⌜ (length (now block) ≡ blockBytes) × (s < modulo257 .modulus) × (t < modulo257 .modulus) ⌝ }
     ensures { λ _. ⌜ now (block .exit) ≡ take (modulo257 .bodyBytes) (now (block .entry)) ++ stored modulo257 (record { s = s; t = t }) ⌝ }
@@ -261,7 +261,7 @@ fn put_sums(block: &mut [u8], s: u64, t: u64)
     block[T + 1] = (t / 256) as u8;
 }
 
-// Makes a block's check bytes right. Inner: it is a block.
+// Makes a block's check bytes right. Inner: callers pass a whole block.
 pub fn seal(block: &mut [u8])
     requires { ⌜ length (now block) ≡ blockBytes ⌝ }
     ensures { λ _. ⌜ now (block .exit) ≡ reseal modulo257 (now (block .entry)) ⌝ }
@@ -270,10 +270,10 @@ pub fn seal(block: &mut [u8])
     put_sums(block, c.s, c.t);
 }
 
-// Puts x into the 8 bytes of a block's body from `at` on and keeps its check bytes right, from what they were: no other byte is read.
-// A byte that changes by d changes s by d, and t by d once for each byte from it to the body's end. All eight are taken at once:
-// the word's lanes less those there were, with 514 or 257 added to each, two times 257 or once, so that none is below 0.
-// Inner: the bytes are there, and the check bytes are right.
+// Puts x into the 8 bytes of a block's body from `at` on and updates the check bytes from their old values, without reading any other byte.
+// A byte that changes by d changes s by d, and t by d once for each byte from it to the body's end. All eight bytes are handled at once:
+// the new lanes minus the old, with 514 (2 * 257) added to each lane of pairs and 257 to each of odd places, so that none is below 0.
+// Inner: the bytes are within the body, and the check bytes are right.
 pub fn put_word(block: &mut [u8], at: usize, x: u64)
     requires { ⌜ (length (now block) ≡ blockBytes) × (at + 8 ≤ modulo257 .bodyBytes) × (sealRight modulo257 (now block) ≡ true) ⌝ }
     ensures { λ _. ⌜ now (block .exit) ≡ reseal modulo257 (putWord (now (block .entry)) at x) ⌝ }

@@ -1,4 +1,4 @@
--- An arrow's block without a row: its check bytes by its number alone, and questions 2 to 4, whatever the nodes.
+-- An arrow block without a row: its check bytes follow from its number, and it passes questions 2 to 4 whatever the nodes.
 use mathlib.Core.Path.{_≡_, refl, sym, ap, ap₂, _∙_}
 use mathlib.Core.Bool.{Bool, true, false, not, _&&_, and-false, and-eq-true-iff}
 use mathlib.Core.List.{List, _∷_}
@@ -44,7 +44,7 @@ module _ (k : List ℕ) (b : ℕ) where
   not-headed M255 ne = refl
 
 module _ (k : List ℕ) (small : Bytes k) where
-  -- nothing behind the first three bytes
+  -- nothing after the first three bytes
   module _ (e : zeroBut modulo257 (λ j. 0) k ≡ true) where
     parts : (zerosAt k 3 13 ≡ true) × (allBelow wordCount (λ j. within k 0 j) ≡ true) × (zerosAt k (16 + 8 * wordCount) (padding modulo257 wordCount) ≡ true)
     parts = but-parts modulo257 (λ j. 0) k e
@@ -61,12 +61,12 @@ module _ (k : List ℕ) (small : Bytes k) where
       go (no a) (yes b) = inner p (omega arith) b
       go (no a) (no b) = zero-at k (16 + 8 * wordCount) (padding modulo257 wordCount) (parts .2) p (omega arith) (omega arith)
 
-  -- what the code finds: e of the edges, r of the words
+  -- what the code finds: e at the edges, r in the words
   pub zeros-are : (e r : ℕ) → Edges modulo257 k e → Outside k 0 wordCount 0 r → eqb (bitOr e r) 0 ≡ zeroBut modulo257 (λ j. 0) k
   zeros-are e r d o = all-zero k modulo257 (λ j. 0) e r d (record { none = λ z j l. o .none z j (omega arith) l; some = λ h. o .some (λ j a b. h j b) })
 
   module _ (h : length k ≡ blockBytes) (b : ℕ) (inside : b < blockCount) where
-    -- the head of an arrow's block, by its first word
+    -- the head of an arrow block, from its first word
     module _ (w : wordAt k 0 ≡ 2 + 0x100 * b) where
       head-bytes : (getD k 0 0 ≡ 2) × (getD k 1 0 ≡ b) × (getD k 2 0 ≡ 0)
       head-bytes = number-told k h small b inside (sym (head-number k h small (wordAt k 0) refl) ∙ omega (arith, w, inside))
@@ -76,7 +76,7 @@ module _ (k : List ℕ) (small : Bytes k) where
           head-later φ k b ne
           ∙ ap₂ _&&_ (eq-eqb (getD k 0 0) 2 (head-bytes .0)) (ap₂ _&&_ (eq-eqb (getD k 1 0) b (head-bytes .1)) (eq-eqb (getD k 2 0) 0 (head-bytes .2)))
 
-    -- what the code finds of the check bytes, where it goes on to the words
+    -- what the code finds in the check bytes, if it goes on to the words
     pub blank-is : (sums : Modulo) → sums ≡ M257 → (b ≡ 0 → ⊥) → wordAt k 0 ≡ 2 + 0x100 * b → (sealOf modulo257 (2 ∷ b ∷ replicate 506 0) k && zeroBut modulo257 (λ j. 0) k) ≡ blankIn sums b k
     unfolding blankIn sealRight
     blank-is sums m ne w = go (zeroBut modulo257 (λ j. 0) k) refl ∙ sym (ap (λ s. blankIn s b k) m ∙ rw (ne-eqb b 0 ne, eq-eqb (wordAt k 0) (2 + 0x100 * b) w) refl) where

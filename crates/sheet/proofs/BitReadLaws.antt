@@ -1,4 +1,4 @@
--- A bit read: the questions of the sheet, then 7.
+-- A bit read: the questions about the sheet, then 7.
 use mathlib.Core.Path.{_≡_, refl, sym, ap, _∙_}
 use mathlib.Core.Bool.{Bool, true, false}
 use mathlib.Core.List.{List}
@@ -14,7 +14,7 @@ use Rattle.sheet.specs.Questions.{askSheetIn, SoundIn, askSheet, Sound}
 pub done-sound : (φ : SheetForm) (t : List ℕ) (a : Answer) → asked a ≡ askSheetIn φ t → a ≡ Done → SoundIn φ t
 done-sound φ t a e d = sym e ∙ ap asked d
 
--- a read in range or not, of a bit x
+-- a read of a bit x, in range or not
 module _ (t : List ℕ) (range x : Bool) where
   pub read-refused : (a : Answer) (r : Refusal) → asked a ≡ askSheet t → a ≡ Refused r → refused (refusalNumber r) (refusalPlace r) ≡ (askSheet t >> (is range 7 0 >> passed x))
   read-refused a r e d = unfold _>>_ in sym (ap (_>> (is range 7 0 >> passed x)) (sym e ∙ ap asked d))

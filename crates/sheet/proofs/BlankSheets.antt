@@ -32,7 +32,7 @@ all-used n h = setOf-lowest n 64 (omega arith) ∙ setOf-cong n (λ i. true) (λ
 abbrev unsealed : List ℕ
 unsealed = replicate (blockBytes - (present .sums .bodyBytes)) 0
 
--- block j of the blank sheet, as it is made
+-- block j of the blank sheet, as the code makes it
 abbrev pub blankOf : ℕ → ℕ → List ℕ
 blankOf n j = blockOf (store (blank n)) j
 
@@ -70,7 +70,7 @@ module _ (n len : ℕ) where
     pub room : len ≡ sheetBytes → askBlank n len ≡ passed tt
     room h = unfold askBlank is _>>_ in rw (le-leb 1 n l, le-leb n maxNodes u, eq-eqb _ _ h)
 
--- the answer of a call, and the buffer that it leaves
+-- the answer of the call, and the buffer that it leaves
 pub answered : (n : ℕ) (t l : List ℕ) (q : Asked (Unit {0})) → askBlank n (length t) ≡ q → l ≡ after q (λ u. store (blank n)) t → (q ≡ askBlank n (length t)) × (l ≡ after (askBlank n (length t)) (λ u. store (blank n)) t)
 answered n t l q e m = (sym e, rw e m)
 

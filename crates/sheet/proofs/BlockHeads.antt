@@ -1,4 +1,4 @@
--- Bytes 0 to 2 of a block: what question 3 says of them, and the three as one number.
+-- Bytes 0 to 2 of a block: what question 3 says about them, and the three as one number.
 use mathlib.Core.Path.{_≡_, refl, sym, _∙_}
 use mathlib.Core.Bool.{Bool, true, false, _&&_, and-eq-true-iff}
 use mathlib.Core.List.{List, [], _∷_}
@@ -16,7 +16,7 @@ use Rattle.sheet.specs.Sheet.{SheetForm, blockCount, usedIn}
 use Rattle.sheet.specs.Questions.{nodeCountRight, headRight}
 use Rattle.sheet.proofs.ZeroLaws.{same-test}
 
--- three bytes by their tests, and by their places
+-- three bytes, by their tests and by their places
 module _ (k : List ℕ) (x y z : ℕ) where
   told-bytes : (eqb (getD k 0 0) x && (eqb (getD k 1 0) y && eqb (getD k 2 0) z)) ≡ true → (getD k 0 0 ≡ x) × (getD k 1 0 ≡ y) × (getD k 2 0 ≡ z)
   told-bytes e =
@@ -30,7 +30,7 @@ module _ (k : List ℕ) (x y z : ℕ) where
   head-bytes a b c (suc (suc zero)) l = c
   head-bytes a b c (suc (suc (suc p))) l = absurd (omega arith)
 
--- 3, of block 0 and of a later block
+-- question 3, for block 0 and for a later block
 module _ (φ : SheetForm) (k : List ℕ) where
   pub record FirstHead : Type 0 where
     pub byte-0 : getD k 0 0 ≡ 1
@@ -55,12 +55,12 @@ module _ (k : List ℕ) (h : length k ≡ blockBytes) (small : Bytes k) where
   pub head-number : (r : ℕ) → r ≡ wordAt k 0 → r % 0x1000000 ≡ getD k 0 0 + getD k 1 0 * 0x100 + getD k 2 0 * 0x10000
   head-number r e = unfold sumOfBytes in omega (arith, e, loaded k 0 (sumOfBytes k 0) (omega (arith, h)) refl, small 0, small 1, small 2)
 
-  -- the bytes that such a number says
+  -- such a number determines the bytes
   pub number-told : (b : ℕ) → b < blockCount → getD k 0 0 + getD k 1 0 * 0x100 + getD k 2 0 * 0x10000 ≡ 2 + 0x100 * b → (getD k 0 0 ≡ 2) × (getD k 1 0 ≡ b) × (getD k 2 0 ≡ 0)
   number-told b l w = omega (arith, small 0, small 1, small 2)
 
   module _ (r : ℕ) (e : r ≡ wordAt k 0) where
-    -- block 0 is not named
+    -- it is not the head of block 0
     pub not-first : (x : Bool) → (r % 0x1000000 % 0x10000 ≡ 1 → ⊥) → (eqb (getD k 0 0) 1 && (eqb (getD k 1 0) 0 && x)) ≡ false
     not-first x n = go (eqb (getD k 0 0) 1) (eqb (getD k 1 0) 0) refl refl where
       go : (a b : Bool) → eqb (getD k 0 0) 1 ≡ a → eqb (getD k 1 0) 0 ≡ b → (a && (b && x)) ≡ false

@@ -1,4 +1,4 @@
--- The bytes of a stored block: where its head, its words and its zeros stand; and the blocks of a stored sheet.
+-- The bytes of a stored block: where its head, its words and its zeros are; and the blocks of a stored sheet.
 use mathlib.Core.Path.{_≡_, refl, sym, _∙_, ap, ap₂}
 use mathlib.Core.Bool.{Bool, true, false, cond}
 use mathlib.Core.List.{List, [], _∷_, _++_}
@@ -21,7 +21,7 @@ use Rattle.sheet.specs.Questions.{blockOf}
 use Rattle.sheet.proofs.ChunkLaws.{length-chunks, take-chunk, getD-chunks}
 use Rattle.sheet.proofs.BlockParts.{block-byte, byte-2}
 
--- words one behind the other, and a block's body
+-- words one after the other, and a block's body
 abbrev pub wordsOf : ℕ → (ℕ → ℕ) → List ℕ
 wordsOf m f = chunks m 0 (λ k. bytes 8 (f k))
 
@@ -109,7 +109,7 @@ module _ (φ : Form) where
         (ap (λ q. getD (block φ head m f) q 0) (omega arith) ∙ word-byte ((p - 16) / 8) (p % 8) (omega arith) (omega arith))
         ∙ ap₂ (λ j r. member (byteOf (f ((p - 16) / 8)) j) r) (omega arith) (omega arith) ∙ bit-of-byte (f ((p - 16) / 8)) (p % 8 * 8 + i)
 
--- A block 0 without the nodes in use has a line less.
+-- A block 0 without the nodes in use has one line less.
 pub lines-range : (b : Bool) → (labelCount ≤ cond b (labelCount + 1) labelCount) × (cond b (labelCount + 1) labelCount ≤ labelCount + 1)
 lines-range true = (omega arith, omega arith)
 lines-range false = (omega arith, omega arith)

@@ -1,4 +1,4 @@
--- Block b of a sheet: its length, its bytes and its bits; and what block 0 tells of the sheet.
+-- Block b of a sheet: its length, its bytes and its bits; and what block 0 says about the sheet.
 use mathlib.Core.Path.{_≡_, sym, ap, ap₂, _∙_, fun-ext}
 use mathlib.Core.Bool.{Bool, true, false, _&&_, cond}
 use mathlib.Core.List.{List}
@@ -31,7 +31,7 @@ module _ (t : List ℕ) where
   pub block-small : Bytes t → (b : ℕ) → Bytes (blockOf t b)
   block-small small b = part-small t blockBytes (blockBytes * b) small
 
-  -- a bit of the 8 bytes at p of block b, which stand at q of the sheet
+  -- a bit of the 8 bytes at p of block b, which are at q of the sheet
   pub block-bit : (b p q i : ℕ) → q ≡ blockBytes * b + p → p + 8 ≤ blockBytes → bitIn (blockOf t b) p i ≡ bitIn t q i
   block-bit b p q i e h = go (decLt i 64) where
     go : Dec (i < 64) → bitIn (blockOf t b) p i ≡ bitIn t q i
@@ -40,7 +40,7 @@ module _ (t : List ℕ) where
         ap (λ x. ltb i 64 && member x (i % 8)) (block-byte b (p + i / 8) (omega arith) ∙ ap (λ x. getD t x 0) at)
     go (no l) = rw (le-ltb i 64 (omega arith))
 
-  -- block 0 tells n and the nodes in use
+  -- block 0 says n and the nodes in use
   pub byte-2 : getD (blockOf t 0) 2 0 ≡ getD t 2 0
   byte-2 = block-byte 0 2 (omega arith)
 

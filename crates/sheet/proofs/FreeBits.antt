@@ -1,4 +1,4 @@
--- Which bits of a block may be set, and that in a block that passes question 4 the others are not.
+-- Which bits of a block may be set, and that a block that passes question 4 has no others.
 use mathlib.Core.Path.{_≡_, refl, sym, _∙_, ap, ap₂}
 use mathlib.Core.Bool.{Bool, true, false, not, _&&_, cond, and-false, or-true}
 use mathlib.Core.List.{List}
@@ -24,21 +24,21 @@ pub clear : (b c : Bool) → c ≡ false → implies b c ≡ true → b ≡ fals
 clear true c e h = sym h ∙ e
 clear false c e h = refl
 
--- where a test fails, the set it guards has nothing
+-- where a test fails, the set that it guards has no member
 pub guarded : (i m : ℕ) (b c : Bool) → (i < m → b ≡ c) → (m ≤ i → c ≡ false) → (ltb i m && b) ≡ c
 guarded i m b c h l = go (ltb i m) (ltb→lt i m) (nltb→le i m) where
   go : (d : Bool) → (T d → i < m) → (T (not d) → m ≤ i) → (d && b) ≡ c
   go true p q = h (p tt)
   go false p q = sym (l (q tt))
 
--- a byte is known by its bits
+-- its bits determine a byte
 pub byte-ext : (x y : ℕ) → x < 256 → y < 256 → ((i : ℕ) → i < 8 → member x i ≡ member y i) → x ≡ y
 byte-ext x y hx hy e = is-setOf 8 x (member y) hx e ∙ setOf-member-lt 8 y hy
 
 no-bit : (x i : ℕ) → x ≡ 0 → member x i ≡ false
 no-bit x i e = ap (λ x. member x i) e ∙ member-zero i
 
--- a bit of byte p is one of the word that the byte is in
+-- a bit of byte p is a bit of the word around the byte
 pub bit-of-word : (k : List ℕ) (p i : ℕ) → 16 ≤ p → i < 8 → member (getD k p 0) i ≡ member (getD k (16 + 8 * ((p - 16) / 8) + (p % 8 * 8 + i) / 8) 0) ((p % 8 * 8 + i) % 8)
 bit-of-word k p i l s =
     let at : p ≡ 16 + 8 * ((p - 16) / 8) + (p % 8 * 8 + i) / 8 = omega arith in
@@ -58,7 +58,7 @@ module _ (φ : SheetForm) (n : ℕ) (nodes : Nodes) where
   label-gap p i l (inl u) = rw (le-ltb p 3 l, lt-leb 16 p u)
   label-gap p i l (inr u) = rw (le-ltb p 3 l, le-ltb p (16 + 8 * lineCount φ) u, and-false)
 
-  -- of a node not in use: no label; from n on, no bit in line 48 either
+  -- a node not in use has no label; from n on, line 48 has no bit either
   pub label-closed : (p i : ℕ) → 3 ≤ p → nodes (p % 8 * 8 + i) ≡ false → (p < 16 + 8 * labelCount) ⊎ (n ≤ p % 8 * 8 + i) → free φ n nodes 0 p i ≡ false
   unfolding free
   label-closed p i l h (inl u) = rw (le-ltb p 3 l, lt-ltb p (16 + 8 * labelCount) u, h, and-false, and-false)
@@ -93,7 +93,7 @@ module _ (φ : SheetForm) (n : ℕ) (nodes : Nodes) where
     pub word-bit-clear : (j i : ℕ) → 16 + 8 * suc j ≤ φ .sums .bodyBytes → ((p r : ℕ) → p ≡ 16 + 8 * j + i / 8 → r ≡ i % 8 → i < 64 → free φ n nodes b p r ≡ false) → bitIn k (16 + 8 * j) i ≡ false
     word-bit-clear j i l f = guarded i 64 _ false (λ s. bit-clear (16 + 8 * j + i / 8) (i % 8) (omega arith) (omega arith) (f (16 + 8 * j + i / 8) (i % 8) refl refl s)) (λ s. refl)
 
-  -- a block that has zeros but in its head and its m words, and there bits only where they may be, passes it
+  -- a block that is zero outside its head and its m words, with only bits there that may be set, passes question 4
   module _ (b : ℕ) (k : List ℕ) (m : ℕ)
       (gap : (p : ℕ) → 3 ≤ p → p < φ .sums .bodyBytes → (p < 16) ⊎ (16 + 8 * m ≤ p) → getD k p 0 ≡ 0)
       (words : (p i : ℕ) → 16 ≤ p → p < 16 + 8 * m → i < 8 → implies (member (getD k p 0) i) (free φ n nodes b p i) ≡ true) where

@@ -1,4 +1,4 @@
--- What must be zero in a block, put together: the words against one mask after the other, and the zeros before and after them.
+-- What must be zero in a block, joined: the words against one mask after the other, and the zeros before and after them.
 use mathlib.Core.Path.{_≡_, refl, sym, ap, ap₂, _∙_}
 use mathlib.Core.Bool.{Bool, true, false, not, _&&_, cond, and-eq-true-iff, and-true, and-false}
 use mathlib.Core.List.{List}
@@ -31,7 +31,7 @@ or-zero a b e = (omega (arith, or-add-and a b, and-le-r a b), omega (arith, or-a
 pub zero-or : (a b : ℕ) → a ≡ 0 → b ≡ 0 → bitOr a b ≡ 0
 zero-or a b e f = omega (arith, or-add-and a b)
 
--- two together, the same said otherwise, and a number itself
+-- two joined; an equivalent condition; a number itself
 zero-both : {P Q : Type 0} {r s : ℕ} → ZeroWhen r P → ZeroWhen s Q → ZeroWhen (bitOr r s) (P × Q)
 zero-both {r = r} {s = s} p q = record { none = λ z. let (a, b) = or-zero r s z in (p .none a, q .none b); some = λ h. zero-or r s (p .some (h .0)) (q .some (h .1)) }
 
@@ -48,14 +48,14 @@ module _ (k : List ℕ) where
   pub outside-none : (i mask : ℕ) → Outside k i i mask 0
   outside-none i mask = record { none = λ e j l u. absurd (omega arith); some = λ h. refl }
 
-  -- one word more
+  -- one more word
   pub outside-more : (i j mask r x : ℕ) → i ≤ j → Outside k i j mask r → x ≡ combined (λ a b. a && not b) (wordAt k (16 + 8 * j)) mask → Outside k i (j + 1) mask (bitOr r x)
   outside-more i j mask r x l o e =
       zero-as (zero-both o (zero-word j mask x e))
       (λ h c a b. ⊎-elim (λ q. ap (within k mask) q ∙ h .1) (λ q. h .0 c a q) (eq-or-lt-of-le (le-of-suc-le-suc (rw add-one at b))))
       (λ h. (λ c a b. h c a (omega arith), h j l (omega arith)))
 
-  -- the words of a set against nothing, but for those that are left
+  -- the words of a set against the empty mask, except for those still to come
   pub record Barely (set left r : ℕ) : Type 0 where
     pub part : (j : ℕ) → j < 64 → member left j ≡ true → member set j ≡ true
     pub zero : ZeroWhen r ((j : ℕ) → j < wordCount → member set j ≡ true → member left j ≡ false → within k 0 j ≡ true)
@@ -112,7 +112,7 @@ module _ (k : List ℕ) where
         go h j l (no a) (yes b) = at j (sym (use-mask j (omega arith))) (h .0 .1 j (omega arith) b)
         go h j l (no a) (no b) = at j (sym (no-mask j (omega arith))) (h .1 j (omega arith) l)
 
-  -- what lies outside the masks of an arrow's block: closed are the nodes below n that are not in use
+  -- what lies outside the masks of an arrow block; the closed nodes are those below n that are not in use
   pub rows-over : Bytes k → (n : ℕ) → n ≤ maxNodes → (nodes : Nodes) → ((i : ℕ) → n ≤ i → nodes i ≡ false) → (all : ℕ) → all ≡ setOf 64 nodes
       → (closed : ℕ) → ((j : ℕ) → j < 64 → member closed j ≡ (ltb j n && not (nodes j)))
       → (r s t : ℕ) → Outside k 0 wordCount all r → Bare k closed s → Outside k n wordCount 0 t → Over k (rowMask all) (bitOr (bitOr r s) t)
@@ -147,7 +147,7 @@ module _ (k : List ℕ) where
       (λ z. let (edge, words) = zero-both d o .none (eqb-true _ _ z) in ap₂ _&&_ (edge .0) (ap₂ _&&_ (all-true wordCount _ words) (edge .1)))
       (λ z. let (f, w, b) = but-parts φ mask k z in eq-eqb _ _ (zero-both d o .some ((f, b), all-each wordCount (λ j. within k (mask j) j) w)))
 
-  -- bytes 3 to 15 are the last five of the first word and the second word; those after the words are the first of the last
+  -- bytes 3 to 15 are the last five of the first word and all of the second; those after the words are the first of the last word
   pub edges : (φ : Form) → length k ≡ blockBytes → Bytes k → (r : ℕ) → r ≡ bitOr (bitOr (wordAt k 0 / 0x1000000) (wordAt k 8)) (wordAt k 504 % 256 ^ padding φ wordCount) → Edges φ k r
   edges φ h small r e =
       rw e

@@ -1,4 +1,4 @@
--- A sheet with one block replaced, and one whose blocks are replaced in turn.
+-- A sheet with one block replaced, and one whose blocks are replaced one by one.
 use mathlib.Core.Logic.{_≢_, ⊎-elim}
 use mathlib.Core.Path.{_≡_, refl, sym, ap, _∙_}
 use mathlib.Core.List.{List, _++_}
@@ -34,7 +34,7 @@ module _ (t k : List ℕ) (b : ℕ) (size : length t ≡ sheetBytes) (k-size : l
   pub block-here : blockOf replaced b ≡ k
   block-here = ap (take blockBytes) (drop-at front (k ++ rest) (blockBytes * b) front-length) ∙ take-at k rest blockBytes k-size
 
-  -- what stands there does not show in the blocks before and after it
+  -- the blocks before and after it do not depend on it
   before : (j : ℕ) (x : List ℕ) → j < b → blockOf (front ++ x) j ≡ blockOf front j
   before j x h =
       ap (take blockBytes) (drop-append-le (blockBytes * j) front x (omega (arith, front-length)))
@@ -52,7 +52,7 @@ module _ (t k : List ℕ) (b : ℕ) (size : length t ≡ sheetBytes) (k-size : l
     go (yes h) = before j (k ++ rest) h ∙ sym (before j (blockOf t b ++ rest) h)
     go (no h) = let l : b < j = omega (arith, d) in after j k l k-size ∙ sym (after j (blockOf t b) l (length-block t size b few))
 
--- l is t with the blocks below b made those of made, one by one
+-- l is t with the blocks below b replaced by those of `made`, one by one
 pub record Upto (made : ℕ → List ℕ) (t l : List ℕ) (b : ℕ) : Type 0 where
   pub size : length l ≡ sheetBytes
   pub done : (j : ℕ) → j < b → blockOf l j ≡ made j
@@ -62,7 +62,7 @@ module _ (made : ℕ → List ℕ) (t : List ℕ) where
   pub upto-none : length t ≡ sheetBytes → Upto made t t 0
   upto-none h = record { size = h; done = λ j l. absurd (omega arith); left = λ j l. refl }
 
-  -- what was there before need not be known
+  -- what was there before does not matter
   pub upto-again : (l : List ℕ) (b : ℕ) → Upto made t l b → Upto made l l b
   upto-again l b u = record { size = u .size; done = u .done; left = λ j l. refl }
 

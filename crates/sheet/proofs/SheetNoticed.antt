@@ -1,4 +1,4 @@
--- What the questions notice of a sound sheet: every byte changed, and every two unequal neighbours of a block's body exchanged, with 2 and the block.
+-- What the questions notice in a sound sheet: every changed byte, and every exchange of two unequal neighbours in a block's body, with 2 and the block.
 use mathlib.Core.Path.{_≡_, sym, ap, ap₂, _∙_}
 use mathlib.Core.Bool.{true, false, _&&_}
 use mathlib.Core.List.{List}
@@ -33,7 +33,7 @@ module _ (f : SheetForm) where
       (λ g. ap (λ a. a >> askBlocks f t m (suc i)) (before i (le-refl i) g) ∙ first-refused t m (suc i) b q g (omega arith) (λ j l u. before j (omega arith) u) e)
       (eq-or-lt-of-le h)
 
-  -- A sheet of which the blocks before block b are those of a sound sheet and block b has not the right check bytes.
+  -- A sheet whose blocks before block b are those of a sound sheet, while block b does not have the right check bytes.
   pub damaged : (t u : List ℕ) (b : ℕ) → SoundIn f t → b < blockCount → length u ≡ length t → ((j : ℕ) → j < b → blockOf u j ≡ blockOf t j) → sealRight (f .sums) (blockOf u b) ≡ false → askSheetIn f u ≡ refused 2 b
   unfolding askSheetIn askBlock is _>>_
   damaged t u b sound h n same broken =
@@ -48,7 +48,7 @@ module _ (f : SheetForm) where
           ∙ ap (λ (v : Nodes). askBlock f (getD t 2 0) v j (blockOf t j)) (nodes-0 u f ∙ ap (λ (c : List ℕ). λ i. ltb i (getD c 2 0) && usedIn f c i) first ∙ sym (nodes-0 t f))
           ∙ sound-parts f t sound .1 j (omega arith)
 
--- one block of a sheet, and the blocks before it, after byte p is changed, which is byte q of the block
+-- one block of a sheet, and the blocks before it, when byte p of the sheet changes, which is byte q of the block
 module _ (t : List ℕ) (b p : ℕ) where
   block-set : (q x : ℕ) → p ≡ blockBytes * b + q → q < blockBytes → blockOf (set t p x) b ≡ set (blockOf t b) q x
   block-set q x e l = rw e (ap (take blockBytes) (drop-set-add (blockBytes * b) t q x) ∙ take-set-lt blockBytes (drop (blockBytes * b) t) q x l)
@@ -59,7 +59,7 @@ module _ (t : List ℕ) (b p : ℕ) where
       ap (λ i. take blockBytes (drop (blockBytes * j) (set t i x))) e ∙ ap (take blockBytes) (drop-set-add (blockBytes * j) t (p - blockBytes * j) x)
       ∙ take-set-le blockBytes (drop (blockBytes * j) t) (p - blockBytes * j) x (omega arith)
 
--- Of every sound sheet whose form has a modulus above 255:
+-- In every sound sheet whose form has a modulus above 255:
 module _ (f : SheetForm) (above : 256 ≤ f .sums .modulus) (t : List ℕ) (small : Bytes t) (sound : SoundIn f t) where
   n : length t ≡ sheetBytes
   n = sound-parts f t sound .0
@@ -70,7 +70,7 @@ module _ (f : SheetForm) (above : 256 ≤ f .sums .modulus) (t : List ℕ) (smal
   byte-at : (b p q : ℕ) → p ≡ blockBytes * b + q → q < blockBytes → getD (blockOf t b) q 0 ≡ getD t p 0
   byte-at b p q e l = rw e (block-byte t b q l)
 
-  -- every byte changed,
+  -- every changed byte,
   pub sheet-change : (p x : ℕ) → p < sheetBytes → x < 256 → (x ≡ getD t p 0 → ⊥) → askSheetIn f (set t p x) ≡ refused 2 (p / blockBytes)
   sheet-change p x h k other =
       let b : ℕ = p / blockBytes in
@@ -82,7 +82,7 @@ module _ (f : SheetForm) (above : 256 ≤ f .sums .modulus) (t : List ℕ) (smal
       (ap (sealRight (f .sums)) (block-set t b p q x e l)
       ∙ change-noticed (f .sums) above (blockOf t b) (length-block t n b i) (block-small t small b) (block-right b i) q x l k (λ g. other (g ∙ byte-at b p q e l)))
 
-  -- and every two unequal neighbours of a block's body exchanged.
+  -- and every exchange of two unequal neighbours in a block's body.
   pub sheet-exchange : (p : ℕ) → p < sheetBytes → suc (p % blockBytes) < f .sums .bodyBytes → (getD t p 0 ≡ getD t (suc p) 0 → ⊥) → askSheetIn f (exchanged t p) ≡ refused 2 (p / blockBytes)
   unfolding exchanged
   sheet-exchange p h l other =
@@ -101,7 +101,7 @@ module _ (f : SheetForm) (above : 256 ≤ f .sums .modulus) (t : List ℕ) (smal
       (ap (sealRight (f .sums)) (block-set u b (suc p) (suc q) x e2 l2 ∙ ap (λ k. set k (suc q) x) (block-set t b p q y e (omega arith)) ∙ ap₂ (λ v w. set (set (blockOf t b) q v) (suc q) w) (sym ey) (sym ex))
       ∙ exchange-noticed (f .sums) above (blockOf t b) (length-block t n b i) (block-small t small b) (block-right b i) q l (λ g. other (sym ex ∙ g ∙ ey)))
 
--- Today's sheets have such a form: what every caller may rely on.
+-- Current sheets have such a form: every caller may rely on it.
 module _ (t : List ℕ) (small : Bytes t) (sound : Sound t) where
   pub every-change : (p x : ℕ) → p < sheetBytes → x < 256 → (x ≡ getD t p 0 → ⊥) → askSheet (set t p x) ≡ refused 2 (p / blockBytes)
   every-change = sheet-change present (lit≤ tt) t small sound

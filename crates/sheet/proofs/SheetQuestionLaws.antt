@@ -28,7 +28,7 @@ use Rattle.sheet.proofs.ZeroLaws.{same-test}
 use Rattle.sheet.proofs.BlockHeads.{first-head}
 use Rattle.sheet.proofs.SoundSheets.{block-ok}
 
--- 3, of block 0 and of a later block
+-- question 3, for block 0 and for a later block
 pub head-first : (φ : SheetForm) (k : List ℕ) (b : ℕ) → b ≡ 0 → headRight φ b k ≡ (eqb (getD k 0 0) 1 && (eqb (getD k 1 0) 0 && (nodeCountRight (getD k 2 0) && anyBelow (getD k 2 0) (usedIn φ k))))
 head-first φ k b e = unfold headRight in ap (λ x. headRight φ x k) e
 
@@ -52,7 +52,7 @@ any-word m u h = ap not (setOf-empty 64 (λ i. ltb i m && u i)) ∙ Bool·not-no
   up : anyBelow m u ≡ true → anyBelow 64 (λ i. ltb i m && u i) ≡ true
   up e = let (i, l, t) = any-found m u e in any-one 64 (λ i. ltb i m && u i) i (omega arith) (ap₂ _&&_ (lt-ltb i m l) t)
 
--- 3 of block 0, up to the nodes in use
+-- question 3 of block 0, up to the nodes in use
 pub head-used : (φ : SheetForm) (k : List ℕ) (b n all : ℕ) (nodes : Nodes) → Told φ k b n all nodes → b ≡ 0 → getD k 0 0 ≡ 1 → getD k 1 0 ≡ 0 → 1 ≤ getD k 2 0 → getD k 2 0 ≤ maxNodes → not (eqb all 0) ≡ headRight φ b k
 head-used φ k b n all nodes t e x y l u =
     let f = t .first e in
@@ -73,7 +73,7 @@ module _ (φ : SheetForm) (t : List ℕ) (n : ℕ) (q : n ≡ getD t 2 0) where
   told-all r e h =
       e ∙ setOf-cong 64 _ _ (λ i l. ap (ltb i) q ∙ sym (ap (ltb i (getD t 2 0) &&_) (ap (λ c. cond c (bitIn t (16 + 8 * labelCount)) (λ j. ltb j (getD t 2 0)) i) h) ∙ and-self (ltb i (getD t 2 0))))
 
--- what is told of each block
+-- what holds for each block
 pub told-of : (φ : SheetForm) (t : List ℕ) (n all : ℕ) → n ≡ getD t 2 0 → (n ≤ maxNodes → all ≡ setOf 64 (isNode (graphIn φ t))) → (b : ℕ) (k : List ℕ) → k ≡ blockOf t b → Told φ k b n all (isNode (graphIn φ t))
 unfolding graphIn
 told-of φ t n all q w b k e =
@@ -87,7 +87,7 @@ told-of φ t n all q w b k e =
     }
 
 module _ (φ : SheetForm) where
-  -- 2 to 4 of a block, up to the first no, or to the end
+  -- 2 to 4 of a block, up to the first that fails, or to the end
   module _ (n : ℕ) (nodes : Nodes) (b : ℕ) (k : List ℕ) where
     pub ask-2 : sealRight (φ .sums) k ≡ false → askBlock φ n nodes b k ≡ refused 2 b
     ask-2 e = unfold askBlock is _>>_ in rw e
@@ -102,14 +102,14 @@ module _ (φ : SheetForm) where
     block-right e f h = unfold askBlock is _>>_ in rw (e, f, h)
 
   module _ (t : List ℕ) where
-    -- 1
+    -- question 1
     pub wrong-length : (length t ≡ sheetBytes → ⊥) → refused 1 0 ≡ askSheetIn φ t
     wrong-length h = unfold askSheetIn is _>>_ in sym (rw (ne-eqb _ _ h))
 
     pub right-length : length t ≡ sheetBytes → askSheetIn φ t ≡ askBlocks φ t blockCount 0
     right-length h = unfold askSheetIn is _>>_ in rw (eq-eqb _ _ h)
 
-    -- the blocks in turn
+    -- the blocks one by one
     module _ (n : ℕ) (n-is : n ≡ getD t 2 0) where
       abbrev nodes : Nodes
       nodes = isNode (graphIn φ t)
@@ -127,7 +127,7 @@ module _ (φ : SheetForm) where
       pub block-stop : (b : ℕ) (a : Answer) (r : Refusal) → b < blockCount → asked a ≡ askBlock φ n nodes b (blockOf t b) → a ≡ Refused r → asked a ≡ askBlocks φ t (blockCount - b) b
       block-stop b a r h e d = unfold _>>_ in ap asked d ∙ sym (block-cons b h ∙ ap (_>> askBlocks φ t (blockCount - (b + 1)) (b + 1)) (sym e ∙ ap asked d))
 
-      -- n is in range once block 0 has its head
+      -- n is in range once block 0 has passed question 3
       pub few : (b : ℕ) → (0 < b → n ≤ maxNodes) → headRight φ b (blockOf t b) ≡ true → n ≤ maxNodes
       few zero h e = let l : getD (blockOf t 0) 2 0 ≤ maxNodes = first-head φ (blockOf t 0) e .few in omega (arith, n-is, byte-2 t)
       few (suc b) h e = h (omega arith)

@@ -1,4 +1,4 @@
--- What a sheet can be refused with: 1 to 4, and the number of a block, 0 to 16.
+-- How a sheet can be refused: with 1 to 4, and the number of a block, 0 to 16, as the place.
 use mathlib.Core.List.{List}
 use Prim.Native.Nat.{ℕ, zero, suc, _+_, _≤_}
 use native.Mathlib.Omega.{arith}

@@ -60,7 +60,7 @@ module _ (φ : SheetForm) where
         let both = both-yes (askBlock φ (getD t 2 0) (isNode g) b (blockOf t b)) (askBlocks φ t m (suc b)) e in
         ⊎-elim (λ q. subst PassesIn q (both .0)) (λ l. blocks-passed m (suc b) (both .1) j l (omega arith)) (eq-or-lt-of-le h)
 
-    -- what the questions of a sheet say
+    -- what the questions about a sheet say
     pub sound-parts : SoundIn φ t → (length t ≡ sheetBytes) × ((b : ℕ) → b < blockCount → PassesIn b)
     unfolding askSheetIn
     sound-parts e =
@@ -77,7 +77,7 @@ module _ (φ : SheetForm) where
       head : FirstHead φ (blockOf t 0)
       head = first-head φ (blockOf t 0) (ok 0 (omega arith) .heads)
 
-      -- bit i of word j of block b, at q of the sheet, where nothing may be
+      -- bit i of word j of block b, at q of the sheet, where no bit may be set
       clear-bit : (b j q i : ℕ) → b < blockCount → 16 + 8 * suc j ≤ φ .sums .bodyBytes → q ≡ blockBytes * b + (16 + 8 * j)
           → ((p r : ℕ) → p ≡ 16 + 8 * j + i / 8 → r ≡ i % 8 → i < 64 → free φ (getD t 2 0) (isNode g) b p r ≡ false) → bitIn t q i ≡ false
       clear-bit b j q i l u e f = sym (block-bit t b (16 + 8 * j) q i e (omega (arith, φ .sums .whole))) ∙ word-bit-clear φ (getD t 2 0) (isNode g) b (blockOf t b) (ok b l .zeros) j i u f
@@ -122,7 +122,7 @@ module _ (φ : SheetForm) where
             no-more-arrows = λ a i j l. rw (le-ltb a arrowCount l);
           }
 
-      -- line k of the graph, as the bits of the sheet
+      -- line k of the graph, as bits of the sheet
       line-is : (k i : ℕ) → k < lineCount φ → lineOf g k i ≡ bitIn t (16 + 8 * k) i
       unfolding graphIn
       line-is k i l = go (decLt k labelCount) (φ .holdsUse) refl where

@@ -1,4 +1,4 @@
--- What stands in a sound sheet: its n, its labels and its rows.
+-- What a sound sheet holds: its n, its labels and its rows.
 use mathlib.Core.Path.{_≡_, sym, ap, _∙_}
 use mathlib.Core.Bool.{true, _&&_}
 use mathlib.Core.List.{List}
@@ -35,7 +35,7 @@ module _ (φ : SheetForm) where
     pub sound-n : (1 ≤ g .n) × (g .n ≤ maxNodes)
     sound-n = let w : Within g = sound-is-stored φ t bytes sound .within in (some-n g w, w .few-nodes)
 
-    -- the word at p is that of a set whose bytes stand there in the sheet that stores the graph
+    -- the word at p is that of a set whose bytes are there in the sheet that stores the graph
     stored-word : (p : ℕ) (v : Nodes) → p + 8 ≤ sheetBytes → ((j : ℕ) → j < 8 → getD (storeIn φ g) (p + j) 0 ≡ byteOf (setOf (g .n) v) j) → wordAt t p ≡ setOf (g .n) v
     stored-word p v l e =
         let m : g .n ≤ 64 = omega (arith, sound-n) in
@@ -48,7 +48,7 @@ module _ (φ : SheetForm) where
     pub sound-label : (k : ℕ) → k < labelCount → wordAt t (16 + 8 * k) ≡ setOf (g .n) (g .labelled k)
     sound-label k h = sound-line k (omega (arith, label-lines φ)) ∙ ap (setOf (g .n)) (line-label g k h)
 
-    -- the nodes in use, where block 0 holds them
+    -- the nodes in use, if block 0 holds them
     pub sound-used : φ .holdsUse ≡ true → wordAt t (16 + 8 * labelCount) ≡ setOf (g .n) (isNode g)
     unfolding isNode
     sound-used e =

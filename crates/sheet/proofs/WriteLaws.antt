@@ -1,4 +1,4 @@
--- What writing words into a block of a stored sheet makes of the sheet.
+-- What writing words into a block of a stored sheet does to the sheet.
 use mathlib.Core.Logic.{_≢_, ⊎-elim}
 use mathlib.Core.Path.{_≡_, refl, sym, ap, ap₂, _∙_}
 use mathlib.Core.Bool.{Bool, true, false, cond}
@@ -28,7 +28,7 @@ use Rattle.sheet.proofs.BlockParts.{blocks-ext, length-block}
 use Rattle.sheet.proofs.BlockLaws.{wordsOf, bodyOf, length-words, length-body, labelHead, labelWord, line-label, line-use, label-lines, arrowHead, rowWord, length-labelBlock, length-arrowBlock, length-store, labels-fit, rows-fit, first-block, later-block, lines-held}
 use Rattle.sheet.proofs.ReplacedBlocks.{replaced, replaced-length, block-here, block-other}
 
--- a word is put where 8 bytes stand
+-- a word is put in place of 8 bytes
 put-mid : (A B D : List ℕ) (at x : ℕ) → length A ≡ at → length B ≡ 8 → putWord (A ++ (B ++ D)) at x ≡ A ++ (bytes 8 x ++ D)
 unfolding putWord
 put-mid A B D at x a b =
@@ -71,7 +71,7 @@ module _ (φ : Form) where
     pub seal-raw : (f : ℕ → ℕ) → 16 + 8 * m ≤ φ .bodyBytes → reseal φ (raw head m f c) ≡ block φ head m f
     seal-raw f fits = unfold reseal block in ap (sealed φ) (take-at (bodyOf φ head m f) c (φ .bodyBytes) (length-body φ head m f h3 fits))
 
-    -- the first i words are put into a block; before the last of them it has the words of h, but for that one
+    -- the first i words are put into a block; before the last of them it has the words of h, except that one
     put-rows-raw : (f h : ℕ → ℕ) (rows : List ℕ) (i : ℕ) → i ≤ m → ((j : ℕ) → j < i → getD rows j 0 ≡ h j) → ((j : ℕ) → i ≤ j → j < m → f j ≡ h j) → putRows i rows (raw head m f c) ≡ raw head m h c
     unfolding putRows
     put-rows-raw f h rows zero l new old =
@@ -82,7 +82,7 @@ module _ (φ : Form) where
         (λ j a b. ⊎-elim (λ q. ap f (sym q) ∙ sym (update-same h i (f i)) ∙ ap (update h i (f i)) q) (λ u. old j u b ∙ sym (update-other h i (f i) j (λ q. omega arith))) (eq-or-lt-of-le a)))
         ∙ put-raw (update h i (f i)) h i (getD rows i 0) (omega arith) (sym (new i (omega arith))) (λ j b q. update-other h i (f i) j q)
 
-  -- in a sealed block a word is put, or the first n, and it is sealed again
+  -- in a sealed block one word, or the first n, are put, and it is sealed again
   module _ (head : List ℕ) (h3 : length head ≡ 3) (m : ℕ) (fits : 16 + 8 * m ≤ φ .bodyBytes) (f h : ℕ → ℕ) where
     word-put : (k x : ℕ) → k < m → h k ≡ x → ((j : ℕ) → j < m → j ≢ k → f j ≡ h j) → reseal φ (putWord (block φ head m f) (16 + 8 * k) x) ≡ block φ head m h
     word-put k x l e same = unfold block sealed in ap (reseal φ) (put-raw head h3 m _ f h k x l e same) ∙ seal-raw head h3 m _ h fits
@@ -91,7 +91,7 @@ module _ (φ : Form) where
     rows-put rows n l new old = unfold block sealed in ap (reseal φ) (put-rows-raw head h3 m _ f h rows n l new old) ∙ seal-raw head h3 m _ h fits
 
 module _ (φ : SheetForm) where
-  -- block 0 made another's
+  -- block 0 replaced by that of another graph
   first-written : (make : List ℕ → List ℕ) (g : Graph) (v : ℕ → Nodes) (u : Nodes) → make (labelBlock φ g) ≡ labelBlock φ (withLines g v u) → (t : List ℕ) → t ≡ storeIn φ g
       → make (take blockBytes t) ++ drop blockBytes t ≡ storeIn φ (withLines g v u)
   unfolding storeIn arrowBlock
@@ -115,7 +115,7 @@ module _ (φ : SheetForm) where
       (q ∙ ap (setOf (g .n)) (sym (line-label (relabel g k v) k h ∙ update-same (g .labelled) k v)))
       (λ j l d. ap (λ (w : Nodes). cond (ltb j labelCount) w (g .inUse)) (sym (update-other (g .labelled) k v j d))) t e
 
-  -- Where block 0 holds the nodes in use: line 48 replaced.
+  -- If block 0 holds the nodes in use: line 48 replaced.
   pub reused : (g : Graph) (u : Nodes) (x : ℕ) (t : List ℕ) → φ .holdsUse ≡ true → t ≡ storeIn φ g → x ≡ setOf (g .n) u
       → reseal (φ .sums) (putWord (take blockBytes t) (16 + 8 * labelCount) x) ++ drop blockBytes t ≡ storeIn φ (withUse g u)
   reused g u x t held e q =

@@ -1,4 +1,4 @@
--- Question 4 by bytes and masks, as the code asks it, is question 4 by bits.
+-- Question 4 by bytes and masks, as the code asks it, is the same as question 4 by bits.
 use mathlib.Core.Path.{_≡_, refl, sym, ap, ap₂, _∙_}
 use mathlib.Core.Bool.{Bool, true, false, not, _&&_, cond, and-eq-true-iff}
 use mathlib.Core.List.{List}
@@ -48,7 +48,7 @@ but-parts φ mask k e =
     let b = and-eq-true-iff (allBelow wordCount (λ j. within k (mask j) j)) _ .0 (a .1) in
     (a .0, b .0, b .1)
 
--- a word within its mask, bit for bit
+-- a word within its mask, bit by bit
 module _ (k : List ℕ) (bytes : Bytes k) (node : Nodes) (j : ℕ) (h : j < wordCount) where
   abbrev word : Nodes
   word = member (wordAt k (16 + 8 * j))
@@ -76,7 +76,7 @@ pub within-none : (k : List ℕ) → Bytes k → (node : Nodes) (j : ℕ) → j 
 within-none k bytes node j h e = bits-within k bytes node j h (λ r l. if-clear (member (getD k (16 + 8 * j + r / 8) 0) (r % 8)) (node r) (word-clear k bytes j h e r l))
 
 module _ (φ : SheetForm) where
-  -- a block whose bits are free where their masks have them
+  -- a block in which bits may be set exactly where the masks have them
   module _ (k : List ℕ) (bytes : Bytes k) (n : ℕ) (nodes : Nodes) (b : ℕ) (masks : ℕ → Nodes)
       (gap : (p i : ℕ) → 3 ≤ p → (p < 16) ⊎ (16 + 8 * wordCount ≤ p) → free φ n nodes b p i ≡ false)
       (inner : (p i : ℕ) → 16 ≤ p → p < 16 + 8 * wordCount → free φ n nodes b p i ≡ masks ((p - 16) / 8) (p % 8 * 8 + i)) where

@@ -1,4 +1,4 @@
--- What the answer of a bit read says of the questions: the bit, or the first that did not pass.
+-- What the answer of a bit read says about the questions: the bit, or the first that failed.
 use mathlib.Core.Bool.{Bool}
 use Rattle.answer.specs.Answers.{refusalNumber, refusalPlace}
 use Rattle.answer.specs.Asked.{Asked, passed, refused}

@@ -1,4 +1,4 @@
--- The form of sheets that the code is told: the check bytes, and whether block 0 holds the nodes in use.
+-- The form of sheets that the code's arguments name: the check bytes, and whether block 0 holds the nodes in use.
 use mathlib.Core.Bool.{Bool}
 use Rattle.seal.specs.declared.Modulo.{Modulo}
 use Rattle.seal.specs.Forms.{formOf}

@@ -1,4 +1,4 @@
-// The questions of one block of a sheet, and a blank block. Inner: each function is lent a whole block.
+// The questions about one block of a sheet, and a blank block. Inner: callers pass a whole block to every function here.
 ghost use mathlib.Core.Path.{_≡_};
 ghost use mathlib.Core.Bool.{true, false, cond};
 ghost use Prim.Native.Nat.{ℕ, _%_, _^_, _<_, _≤_};
@@ -20,11 +20,11 @@ use answer::Answer;
 use answer::Refusal;
 use seal::Modulo;
 
-// The words that fill a body from byte 16 on.
+// The whole words of a body, from byte 16 on.
 const WORDS: usize = 61;
 
-// Question 3: are bytes 0 to 2 of block b right, n from 1 to 60, and is some node below n in use? They are looked at as one number.
-// Inner: it is a block of a sheet, and `all` is what is told of the nodes.
+// Question 3: are bytes 0 to 2 of block b right, is n from 1 to 60, and is some node below n in use? The bytes are compared as one number.
+// Inner: b is the number of a sheet's block, and `all` is the word of its nodes in use.
 fn head_right(block: &[u8], b: usize, all: u64) -> bool
     requires { ⌜ (length (now block) ≡ blockBytes) × (b < blockCount) ⌝ }
     ensures { λ r. ⌜ ((φ : SheetForm) (n : ℕ) (nodes : Nodes) → Told φ (now (block .entry)) b n all nodes → r ≡ headRight φ b (now (block .entry))) ⌝ }
@@ -44,7 +44,7 @@ fn head_right(block: &[u8], b: usize, all: u64) -> bool
     head == 2 + 0x100 * b as u64
 }
 
-// The bytes behind the last word of a body, as the word in a block's last 8 bytes leaves them.
+// The bytes after the last word of a body, from the word in a block's last 8 bytes.
 fn behind_words(form: Modulo, last: u64) -> u64
     ensures { λ r. ⌜ r ≡ last % 256 ^ padding (formOf form) wordCount ⌝ }
 {
@@ -54,7 +54,7 @@ fn behind_words(form: Modulo, last: u64) -> u64
     }
 }
 
-// What stands before and behind the words, all together: bytes 3 to 15, and those from the last word to the check bytes.
+// The bytes before and after the words, joined by or: bytes 3 to 15, and those from the last word to the check bytes.
 fn edges(form: Modulo, block: &[u8]) -> u64
     requires { ⌜ length (now block) ≡ blockBytes ⌝ }
     ensures { λ r. ⌜ Edges (formOf form) (now (block .entry)) r ⌝ }
@@ -63,7 +63,7 @@ fn edges(form: Modulo, block: &[u8]) -> u64
     bitset::load(block, 0) / 0x100_0000 | bitset::load(block, 8) | behind_words(form, last)
 }
 
-// What lies outside the mask in the words `from` to `to`, all together. Inner: a block has that many.
+// The bits outside the mask in the words `from` to `to`, joined by or. Inner: a block has that many words.
 fn outside(block: &[u8], from: usize, to: usize, mask: u64) -> u64
     requires { ⌜ (from ≤ to) × (to ≤ wordCount) × (length (now block) ≡ blockBytes) ⌝ }
     ensures { λ r. ⌜ Outside (now (block .entry)) from to mask r ⌝ }
@@ -77,7 +77,7 @@ fn outside(block: &[u8], from: usize, to: usize, mask: u64) -> u64
     r
 }
 
-// What line 48 may have: the nodes below n, or nothing where block 0 does not hold the nodes in use.
+// What line 48 may have: the nodes below n, or nothing if block 0 does not hold the nodes in use.
 fn use_mask(held: bool, n: usize) -> u64
     requires { ⌜ n ≤ maxNodes ⌝ }
     ensures { λ r. ⌜ r ≡ cond held (setOf 64 (λ i. ltb i n)) 0 ⌝ }
@@ -85,7 +85,7 @@ fn use_mask(held: bool, n: usize) -> u64
     if held { bitset::lowest(n) } else { 0 }
 }
 
-// What lies outside the masks of block 0, all together.
+// The bits outside the masks of block 0, joined by or.
 fn lines_over(held: bool, block: &[u8], n: usize, all: u64) -> u64
     requires { ⌜ (n ≤ maxNodes) × (length (now block) ≡ blockBytes) ⌝ }
     ensures { λ r. ⌜ ((φ : SheetForm) → held ≡ φ .holdsUse → Over (now (block .entry)) (lineMask φ n all) r) ⌝ }
@@ -95,7 +95,7 @@ fn lines_over(held: bool, block: &[u8], n: usize, all: u64) -> u64
     labels | line | outside(block, Sheet::LABELS + 1, WORDS, 0)
 }
 
-// The words of a set, all together. Inner: the set has only numbers of words.
+// The words whose numbers are in a set, joined by or. Inner: each number is that of a word.
 fn bare(block: &[u8], set: u64) -> u64
     requires { ⌜ ((j : ℕ) → member set j ≡ true → j < wordCount) × (length (now block) ≡ blockBytes) ⌝ }
     ensures { λ r. ⌜ Bare (now (block .entry)) set r ⌝ }
@@ -110,8 +110,8 @@ fn bare(block: &[u8], set: u64) -> u64
     r
 }
 
-// What lies outside the masks of an arrow's block, all together: rows have nodes in use only, and a closed node has none.
-// All rows are looked at by the same mask, those from n on too: a loop of fixed length takes half the time.
+// The bits outside the masks of an arrow block, joined by or: rows may have only nodes in use, and the row of a closed node is empty.
+// All rows, those from n on too, are checked against the same mask: a loop of fixed length takes half the time.
 fn rows_over(block: &[u8], n: usize, all: u64) -> u64
     requires { ⌜ (n ≤ maxNodes) × (length (now block) ≡ blockBytes) ⌝ }
     ensures { λ r. ⌜ ((nodes : Nodes) → ((i : ℕ) → n ≤ i → nodes i ≡ false) → all ≡ setOf 64 nodes → Over (now (block .entry)) (rowMask all) r) ⌝ }
@@ -121,7 +121,7 @@ fn rows_over(block: &[u8], n: usize, all: u64) -> u64
     rows | closed | outside(block, n, WORDS, 0)
 }
 
-// Question 4: is all zero that must be zero in block b? One test for all of it, at the end. Inner: n is in range, by question 3 of block 0.
+// Question 4: is everything in block b zero that must be zero? There is one test, at the end. Inner: n is in range, by question 3 of block 0.
 fn zero_right(sums: Modulo, held: bool, block: &[u8], b: usize, n: usize, all: u64) -> bool
     requires { ⌜ (n ≤ maxNodes) × (length (now block) ≡ blockBytes) ⌝ }
     ensures { λ r. ⌜ ((nodes : Nodes) → ((i : ℕ) → n ≤ i → nodes i ≡ false) → all ≡ setOf 64 nodes → r ≡ zeroRight (formIn sums held) n nodes b (now (block .entry))) ⌝ }
@@ -133,8 +133,8 @@ fn zero_right(sums: Modulo, held: bool, block: &[u8], b: usize, n: usize, all: u
     ends | rows_over(block, n, all) == 0
 }
 
-// Whether block b is an arrow's without a row, as most are, which answers 2 to 4 without its sums: they follow from b. Its head is looked at first,
-// then its check bytes, which tell a block that has rows. Block 0 is not asked, nor is an old card's. Inner: it is a block of a sheet.
+// Whether block b is an arrow block without a row, as most are. That settles 2 to 4 without computing sums, since they follow from b. It looks at the
+// head first, then at the check bytes, which give away a block with rows. Never so for block 0 or an old card. Inner: b is the number of a sheet's block.
 fn blank_arrow(sums: Modulo, block: &[u8], b: usize) -> bool
     requires { ⌜ (length (now block) ≡ blockBytes) × (b < blockCount) ⌝ }
     ensures { λ r. ⌜ r ≡ blankIn sums b (now (block .entry)) ⌝ }
@@ -154,7 +154,7 @@ fn blank_arrow(sums: Modulo, block: &[u8], b: usize) -> bool
     edges(Modulo::M257, block) | outside(block, 0, WORDS, 0) == 0
 }
 
-// Questions 2 to 4 of block b. Inner: n and `all` are what block 0 tells, and n is in range once it has its head.
+// Questions 2 to 4 of block b. Inner: n and `all` are what block 0 says, and n is in range once block 0 has passed question 3.
 pub fn ask_block(sums: Modulo, held: bool, block: &[u8], b: usize, n: usize, all: u64) -> Answer
     requires { ⌜ (length (now block) ≡ blockBytes) × (headRight (formIn sums held) b (now block) ≡ true → n ≤ maxNodes) × SomeTold (formIn sums held) (now block) b n all × (b < blockCount) ⌝ }
     ensures { λ r. ⌜ ((nodes : Nodes) → Told (formIn sums held) (now (block .entry)) b n all nodes → asked r ≡ askBlock (formIn sums held) n nodes b (now (block .entry))) ⌝ }
@@ -174,7 +174,7 @@ pub fn ask_block(sums: Modulo, held: bool, block: &[u8], b: usize, n: usize, all
     Answer::Done
 }
 
-// Makes the block one of three bytes, the word of line 48 and zeros, and seals it.
+// Fills the block with three bytes, the word of line 48 and otherwise zeros, and seals it.
 pub fn blank_block(block: &mut [u8], x: u8, y: u8, z: u8, used: u64)
     requires { ⌜ length (now block) ≡ blockBytes ⌝ }
     ensures { λ _. ⌜ now (block .exit) ≡ reseal (present .sums) (blankBlock x y z used) ⌝ }

@@ -20,7 +20,7 @@ use seal::Modulo;
 
 mod block;
 
-// The bit that was asked for, or why it was not read.
+// The bit, or why it was not read.
 pub enum BitRead {
     Bit(bool),
     Refused(Refusal),
@@ -42,17 +42,17 @@ impl Sheet {
 
     pub const BYTES: usize = Sheet::BLOCKS * Sheet::BLOCK;
 
-    // The place of the word of the nodes in use, line 48 of block 0: what `seal::word_place` says, which a constant cannot call.
+    // The offset of the nodes in use, line 48 of block 0: the same as `seal::word_place` gives, which a constant cannot call.
     pub const IN_USE: usize = 16 + 8 * Sheet::LABELS;
 
-    // Questions 1 to 4, of any bytes.
+    // Questions 1 to 4, for any bytes.
     pub fn check(sheet: &[u8]) -> Answer
         ensures { λ r. ⌜ asked r ≡ askSheet (now (sheet .entry)) ⌝ }
     {
         Sheet::check_in(Modulo::M257, true, sheet)
     }
 
-    // The word of the nodes in use, as a sheet of a form tells them. Inner: the sheet is whole, and n is its.
+    // The word of the nodes in use, as a sheet of a form says. Inner: the sheet has its full length, and n is its node count.
     fn nodes_told(held: bool, sheet: &[u8], n: usize) -> u64
         requires { ⌜ (length (now sheet) ≡ sheetBytes) × (n ≡ getD (now sheet) 2 0) ⌝ }
         ensures { λ r. ⌜ ((φ : SheetForm) → held ≡ φ .holdsUse → n ≤ maxNodes → r ≡ setOf 64 (isNode (graphIn φ (now (sheet .entry))))) ⌝ }
@@ -67,7 +67,7 @@ impl Sheet {
         below
     }
 
-    // The same in one form of sheets or another.
+    // Questions 1 to 4 in the given form of sheets.
     pub fn check_in(sums: Modulo, held: bool, sheet: &[u8]) -> Answer
         ensures { λ r. ⌜ asked r ≡ askSheetIn (formIn sums held) (now (sheet .entry)) ⌝ }
     {
@@ -89,7 +89,7 @@ impl Sheet {
         Answer::Done
     }
 
-    // Makes the buffer the sheet of n nodes, all in use, with no label and no arrow, or leaves it as it is: questions 5 and 1.
+    // Makes the buffer the sheet of n nodes, all in use, without labels and arrows, or leaves it unchanged: questions 5 and 1.
     pub fn blank(buf: &mut [u8], n: usize) -> Answer
         ensures { λ r. ⌜ asked r ≡ askBlank n (length (now (buf .entry))) ⌝ }
         ensures { λ _. ⌜ now (buf .exit) ≡ after (askBlank n (length (now (buf .entry)))) (λ _. store (blank n)) (now (buf .entry)) ⌝ }
@@ -149,7 +149,7 @@ impl Sheet {
         BitRead::Refused(Refusal::BitRange { place: 0 })
     }
 
-    // How many nodes the sheet's graph has. Inner: the sheet is sound.
+    // How many nodes the sheet has. Inner: the sheet is sound.
     pub fn node_count(sheet: &[u8]) -> usize
         requires { ⌜ Sound (now sheet) ⌝ }
         ensures { λ r. ⌜ (r ≡ graphOf (now (sheet .entry)) .n) × (1 ≤ r) × (r ≤ maxNodes) ⌝ }
@@ -157,7 +157,7 @@ impl Sheet {
         sheet[2] as usize
     }
 
-    // The set of its nodes in use. Inner: the sheet is sound.
+    // The set of the sheet's nodes in use. Inner: the sheet is sound.
     pub fn all_nodes(sheet: &[u8]) -> u64
         requires { ⌜ Sound (now sheet) ⌝ }
         ensures { λ r. ⌜ r ≡ setOf (graphOf (now (sheet .entry)) .n) (isNode (graphOf (now (sheet .entry)))) ⌝ }
@@ -165,7 +165,7 @@ impl Sheet {
         bitset::load(sheet, Sheet::IN_USE)
     }
 
-    // The set of the nodes with label k. Inner: the sheet is sound and has that label.
+    // The set of the nodes with label k. Inner: the sheet is sound, and the label is in range.
     pub fn label_word(sheet: &[u8], k: Label) -> u64
         requires { ⌜ Sound (now sheet) × (k .0 < labelCount) ⌝ }
         ensures { λ r. ⌜ r ≡ setOf (graphOf (now (sheet .entry)) .n) (graphOf (now (sheet .entry)) .labelled (k .0)) ⌝ }
@@ -173,7 +173,7 @@ impl Sheet {
         bitset::load(sheet, seal::word_place(k.0 as usize))
     }
 
-    // The set of the nodes to which arrow a goes from node i. Inner: the sheet is sound and has that arrow and node.
+    // The set of the nodes to which arrow a goes from node i. Inner: the sheet is sound, and arrow and node are in range.
     pub fn row_word(sheet: &[u8], a: Arrow, i: Node) -> u64
         requires { ⌜ Sound (now sheet) × (a .0 < arrowCount) × (i .0 < graphOf (now sheet) .n) ⌝ }
         ensures { λ r. ⌜ r ≡ setOf (graphOf (now (sheet .entry)) .n) (graphOf (now (sheet .entry)) .joined (a .0) (i .0)) ⌝ }

@@ -1,4 +1,4 @@
--- The check over the bytes of the call: what is accepted, what accepting means, and that each step leaves one rule within the limits.
+-- The check on the bytes of the call: what is accepted, what accepting means, and that each step leaves one rule within the limits.
 use mathlib.Core.Path.{_≡_, refl, _∙_, ap, subst}
 use mathlib.Core.Logic.{_↔_}
 use mathlib.Core.List.{List, [], _∷_}
@@ -23,7 +23,7 @@ use Rattle.shortening.proofs.StepsAccepted.{accepted}
 use Rattle.shortening.proofs.OneReading.{one-rule}
 
 module _ (l : Limits) where
-  -- "After each fitting step the text is again one rule within the limits."
+  -- After each fitting step the text is again one rule within the limits.
   pub step-passes : (x : Step) (K M : Expr rule) → Fits x K M → askRule l (code K) ≡ passed K → askRule l (code M) ≡ passed M
   step-passes x K M f h =
       let s = rule-is-spelled l (code K) K h in
@@ -38,7 +38,7 @@ module _ (l : Limits) where
   chain-passes [] K L c h = subst (λ M. askRule l (code M) ≡ passed M) c h
   chain-passes (x ∷ xs) K L (M, f, c) h = chain-passes xs M L c (step-passes x K M f h)
 
--- Accepted exactly when the carried rule is one, and the steps are a chain of fitting steps from it to the text sent.
+-- Accepted exactly when the carried text is one rule, and the steps are a chain of fitting steps from it to the text sent.
 pub check-passes : (carried steps sent : List ℕ) → (askCheck carried steps sent ≡ passed tt) ↔ CheckPasses carried steps sent
 unfolding askCheck _>>=_
 check-passes carried steps sent = (there, back) where
@@ -53,7 +53,7 @@ module _ (carried steps sent : List ℕ) (c : CheckPasses carried steps sent) (l
   abbrev last : Expr rule
   last = c .accepted .last
 
-  -- the chain leads from the rule that the carried text is by these limits
+  -- the chain starts from the rule that the carried text is under these limits
   led : Chain (c .accepted .chain) K last
   led = subst (λ M. Chain (c .accepted .chain) M last) (one-rule (carriedLimits maxNodes) l carried (c .first) K (c .read) read) (c .accepted .leads)
 

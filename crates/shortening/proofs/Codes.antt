@@ -1,5 +1,5 @@
--- The code of a term with x at a place: what stands before, the code of x, what stands behind. So the offset of the place is that of x's code,
--- and within the whole, for every code has bytes.
+-- The code of a term with x at a place: the bytes before, the code of x, the bytes after. So the offset of the place is that of x's code,
+-- and it is within the whole, since every code has bytes.
 use mathlib.Core.Path.{_≡_, sym, _∙_, ap}
 use mathlib.Core.List.{_++_, append-assoc, append-nil}
 use Prim.Native.Nat.{_<_}

@@ -20,7 +20,7 @@ use Rattle.shortening.proofs.Same.{same-equal, equal-same}
 use Rattle.shortening.proofs.StandingTerms.{StandsIn}
 use Rattle.shortening.proofs.StepsByArity.{step-here, step-only, step-first, step-second, made-stands}
 
--- In a left side stands for the variable what was put there.
+-- `find` gives back the term that was put in for the variable of a left side.
 abbrev Found : {s : Sort} → Law s → Type 0
 Found {s} l = (x : Expr s) → l .find (l .left x) ≡ x
 
@@ -50,7 +50,7 @@ module _ (n : ℕ) where
       ∙ ap (λ b. elim b as (λ c. Made (Expr s)) [ true ↦ made (l .right (l .find (l .left x))) | false ↦ unfit ]) (equal-same (l .left x) (l .left (l .find (l .left x))) (ap (l .left) (sym found)))
       ∙ ap (λ z. made (l .right z)) found
 
-  -- A step at a place is the law at the term that stands there.
+  -- A step at a place is the law applied to the term there.
   step-put : {s t : Sort} (c : Context s t) (x : Expr s) → makeStep n (put c x) (length (before c)) ≡ mapMade (put c) (byLaw x (numbered n (laws s)))
   unfolding put before
   step-put {s} here x = step-here n x ∙ map-here (byLaw x (numbered n (laws s)))

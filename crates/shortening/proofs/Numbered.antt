@@ -1,4 +1,4 @@
--- What is so of each law of the table is so of the law with a number; `made` is one to one, and never `unfit`.
+-- What holds for each law of the table holds for the law with a number; `made` is injective and never `unfit`.
 use mathlib.Core.Path.{_≡_, refl, sym, subst}
 use mathlib.Core.Bool.{Bool, true, false}
 use mathlib.Core.List.{List, [], _∷_}
@@ -23,7 +23,7 @@ infixr 5 _&_
 abbrev pub _&_ : {A B : Type 0} → A → B → A × B
 a & b = (a, b)
 
--- What holds of each law and its number holds of the law with a number.
+-- What holds for each law and its number holds for the law with a number.
 pub by-number : {s : Sort} (P : ℕ → Law s → Type 0) → All (λ l. P (l .number) l) (laws s) → {n : ℕ} {l : Law s} → numbered n (laws s) ≡ made l → P n l
 unfolding numbered
 by-number {s} P each {n} e = subst (OfMade (P n)) e (among (laws s) each) where

@@ -15,7 +15,7 @@ use Rattle.text.specs.Questions.{askBook, askRule}
 use Rattle.text.proofs.TextReadBack.{reads}
 use Rattle.text.proofs.TextSpelling.{EachAllowed, rule-is-spelled, book-is-spelled}
 
--- Nothing is read where no byte is, so that a rule has some.
+-- Nothing is read without a byte, so a rule has some.
 none-there : (l : Limits) (t : List ℕ) (K : Expr rule) (r : List ℕ) (p : ℕ) → t ≡ [] → readAs l (expr rule) t 0 ≡ got K r p → ⊥
 unfolding follow
 none-there l t K r p e h = let g : readAs l (expr rule) [] 0 ≡ got K r p = subst (λ u. readAs l (expr rule) u 0 ≡ got K r p) e h in let z : _≡_ {A = ℕ} 0 1 = cc in absurd (omega arith)
@@ -30,7 +30,7 @@ alone-read l t K h =
     let s = rule-is-spelled l t K h in
     ap (λ u. readAs l (expr rule) u 0) (s .text-is ∙ sym (append-nil (code K))) ∙ reads l (expr rule) 1 K (s .within) [] 0
 
--- Two readings get the same, or one of them nothing.
+-- Two readings give the same, or one of them gives nothing.
 abbrev Agree : {A : Type 0} → Read A → Read A → Type 0
 Agree (got a r p) (got b s q) = got a r p ≡ got b s q
 Agree (got a r p) (fault why q) = Unit {0}
@@ -54,7 +54,7 @@ agree-choice {A} {B} c (e ∷ es) f g why p h = go (eqb c (e .byte)) (agree-choi
   go false k = k
 
 module _ (l l′ : Limits) where
-  -- So do those of a format along a text by two limits.
+  -- So do two readings of a text by one format under two limits.
   agree : {A : Type 0} (t : List ℕ) (p : Format A) (at : ℕ) → Agree (follow l t p at) (follow l′ t p at)
   unfolding follow
   agree [] (done a) at = refl
@@ -72,7 +72,7 @@ module _ (l l′ : Limits) where
   pub one-rule : (t : List ℕ) (K L : Expr rule) → askRule l t ≡ passed K → askRule l′ t ≡ passed L → K ≡ L
   one-rule t K L h h′ = let e = got-same t (operand (expr rule) 1 done) 0 K L [] [] _ _ (alone-read l t K h) (alone-read l′ t L h′) in cc
 
-  -- read as a book, it is that rule alone.
+  -- read as a book, it is just that rule.
   pub one-rule-book : (t : List ℕ) (K : Expr rule) (rules : List (Expr rule)) → askRule l t ≡ passed K → askBook l′ t ≡ passed rules → rules ≡ K ∷ []
   unfolding bookCode
   one-rule-book t K rules h b = go rules (book-is-spelled l′ t rules b .spells .text-is) (book-is-spelled l′ t rules b .spells .rules) where

@@ -1,4 +1,4 @@
--- Two terms are the same term exactly when they are equal.
+-- `sameTerm` is true exactly when two terms are equal.
 use mathlib.Core.Path.{_≡_, refl, sym, _∙_, ap, ap₂, subst}
 use mathlib.Core.Bool.{true}
 use native.Mathlib.Decide.{ℕ-discrete}
@@ -6,7 +6,7 @@ use lib.Dec.{T}
 use Rattle.logic.specs.Syntax.{Sort, node, arrow, rule, Expr, all, none, label, nominal, complement, and, or, some, every, atLeast, atMost, arrowKind, reversed, union, common, minus, endingIn, pair, subNodes, subArrows, nodeIn, pairIn, both, either, notRule}
 use Rattle.shortening.specs.Raw.{Raw, all′, none′, label′, nominal′, complement′, and′, or′, some′, every′, atLeast′, atMost′, arrowKind′, reversed′, union′, common′, minus′, endingIn′, pair′, subNodes′, subArrows′, nodeIn′, pairIn′, both′, either′, notRule′, Raw-discrete, forget, holds, sameTerm}
 
--- a raw term read at each sort: what it says at its own, anything at the others
+-- a raw term read at each sort: its value at its own sort, anything at the others
 record Read : Type 0 where
   n : Expr node
   a : Expr arrow

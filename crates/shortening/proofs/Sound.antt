@@ -14,7 +14,7 @@ use Rattle.shortening.specs.Place.{Context, here, only, first, second, p
 use Rattle.shortening.specs.Laws.{Law, laws, Step, Fits, Chain}
 use Rattle.shortening.proofs.Numbered.{_&_, by-number}
 
--- A term's value goes by its operands' values.
+-- A term's value depends only on its operands' values.
 module _ (g : Graph) where
   value-put : {s t : Sort} (c : Context s t) (x y : Expr s) → value g x ≡ value g y → value g (put c x) ≡ value g (put c y)
   unfolding put

@@ -1,4 +1,4 @@
--- A term that stands in another, its first code at an offset.
+-- A term inside another, with its first code at an offset.
 use mathlib.Core.Path.{_≡_, refl, ap}
 use mathlib.Core.List.{_++_}
 use Prim.Native.Nat.{ℕ, _+_}
@@ -20,7 +20,7 @@ pub record StandsIn {t : Sort} (e : Expr t) (at : ℕ) : Type 0 where
 pub stands-root : {t : Sort} (e : Expr t) (at : ℕ) → at ≡ 0 → StandsIn e at
 stands-root {t} e at z = unfold put before in record { sort = t; place = here; what = e; from = refl; offset = z }
 
--- What stands in an operand stands in the whole.
+-- What is inside an operand is inside the whole.
 pub stands-only : {u t : Sort} (b : Unary u t) (x : Expr u) (k at : ℕ) → at ≡ length (head1 b) + k → StandsIn x k → StandsIn (build1 b x) at
 unfolding put before
 stands-only b x k at e s = record { sort = s .sort; place = only b (s .place); what = s .what; from = ap (build1 b) (s .from); offset = omega (arith, length-append (head1 b) (before (s .place)), s .offset) }

@@ -17,7 +17,7 @@ use Rattle.shortening.specs.Laws.{Law, laws, Step, Fits}
 use Rattle.shortening.proofs.Codes.{code-put}
 use Rattle.shortening.proofs.Numbered.{_&_, by-number}
 
--- The bytes: what stands before and behind stays.
+-- The bytes: what comes before and after stays.
 pub bytes-before : (x : Step) {t : Sort} (e e′ : Expr t) (f : Fits x e e′) → code e ≡ before (f .place) ++ (code (f .law .left (f .variable)) ++ behind (f .place))
 bytes-before x e e′ f = ap code (f .from) ∙ code-put (f .place) (f .law .left (f .variable))
 
@@ -63,7 +63,7 @@ step-no-deeper x e e′ f =
 
 -- And its numbers are in range.
 module _ (r : Ranges) where
-  -- A term in range has a term in range at its place, and is in range with any other there that is.
+  -- A term in range has a term in range at the place, and stays in range with any other such term there.
   exchange-at : {s t : Sort} (c : Context s t) (x : Expr s) → InRange r (put c x) → InRange r x × ((y : Expr s) → InRange r y → InRange r (put c y))
   unfolding put
   exchange-at here x q = (q, λ y p. p)

@@ -29,7 +29,7 @@ steps-led (a ∷ b ∷ n ∷ t) i K L h = go (makeStep n K (a + 256 * b)) refl h
   go (made M) e h rest = let (xs, d, c) = rest M h in (stepOf a b n ∷ xs, ap (mapMade (stepOf a b n ∷_)) d, (M, step-exact (stepOf a b n) K M .0 e, c))
   go unfit e h rest = refused-not-passed h
 
--- and a chain is made.
+-- and the steps of a chain are made.
 chain-made : (t : List ℕ) (i : ℕ) (K L : Expr rule) (xs : List Step) → stepsOf t ≡ made xs → Chain xs K L → askSteps t i K ≡ passed L
 unfolding askSteps stepsOf Chain mapMade
 chain-made [] i K L xs e c = ap passed (subst (λ ys. Chain ys K L) (sym (made-injective [] xs e)) c)
@@ -45,7 +45,7 @@ chain-made (a ∷ b ∷ n ∷ t) i K L xs e c = go (stepsOf t) refl (λ M ys. ch
   go (made ys) d rest e = led ys d rest (subst (λ zs. Chain zs K L) (sym (made-injective (stepOf a b n ∷ ys) xs e)) c)
   go unfit d rest e = absurd (unfit-not-made xs e)
 
--- Nothing differs exactly when the texts are equal.
+-- The comparison passes exactly when the texts are equal.
 same-text : (xs ys : List ℕ) (p : ℕ) → askSame xs ys p ≡ passed tt → xs ≡ ys
 unfolding askSame
 same-text [] [] p h = refl

@@ -1,4 +1,4 @@
--- The step made in a term, by how many operands its first code has; and where one is made, a term begins.
+-- Making a step in a term, by how many operands its first code has; and where a step is made, a term begins.
 use mathlib.Core.Path.{_≡_, refl, sym, _∙_, ap, ap₂, subst}
 use mathlib.Core.Bool.{Bool, true, false}
 use Prim.Native.Nat.{ℕ, _+_, _-_, _≤_, _<_}
@@ -34,7 +34,7 @@ module _ (n : ℕ) where
       → makeStep n (build2 b x y) ≡ atRoot n (build2 b x y) (inTwo (length (head2 b)) (build2 b) x y (makeStep n x) (makeStep n y))
   step-2 b x y = unfold makeStep in rw byArity-2
 
-  -- At the beginning: the law at the term itself.
+  -- At the beginning: the law applied to the whole term.
   pub step-here : {s : Sort} (e : Expr s) → makeStep n e 0 ≡ byLaw e (numbered n (laws s))
   unfolding atRoot
   step-here e = byArity (λ s e. makeStep n e 0 ≡ byLaw e (numbered n (laws s))) (λ s b. ap (λ f. f 0) (step-0 b))
@@ -42,7 +42,7 @@ module _ (n : ℕ) where
       (λ u v t b x y h k. ap (λ f. f 0) (step-2 b x y))
       e
 
-  -- Behind the first code's bytes: the step in an operand.
+  -- After the first code's bytes: the step in an operand.
   past : {s : Sort} (e : Expr s) (h k : ℕ) (inside : ℕ → Made (Expr s)) → 1 ≤ h → atRoot n e (λ at. elim (ltb at h) [ true ↦ unfit | false ↦ inside (at - h) ]) (h + k) ≡ inside k
   unfolding atRoot
   past {s} e h k inside l =

@@ -1,4 +1,4 @@
--- Steps made, one after the other (item 11 of document 02): what the check computes.
+-- Making steps one after the other (item 11 of document 02): what the check computes.
 use mathlib.Core.Bool.{true, false}
 use mathlib.Core.List.{List, [], _∷_}
 use Prim.Native.Nat.{ℕ, _-_}
@@ -15,16 +15,16 @@ unfoldable pub mapMade : {A B : Type 0} → (A → B) → Made A → Made B
 mapMade f (made a) = made (f a)
 mapMade f unfit = unfit
 
--- A law at the term itself.
+-- Applies a law to the whole term.
 unfoldable pub byLaw : {s : Sort} → Expr s → Made (Law s) → Made (Expr s)
 byLaw e (made l) = elim (sameTerm e (l .left (l .find e))) [ true ↦ made (l .right (l .find e)) | false ↦ unfit ]
 byLaw e unfit = unfit
 
--- At offset 0 the law at the term itself, else inside it.
+-- At offset 0, applies the law to the whole term; else goes inside.
 unfoldable pub atRoot : (n : ℕ) {s : Sort} → Expr s → (ℕ → Made (Expr s)) → ℕ → Made (Expr s)
 atRoot n {s} e inside at = elim (eqb at 0) [ true ↦ byLaw e (numbered n (laws s)) | false ↦ inside at ]
 
--- Inside a code of h bytes with one operand; with two, the first of which has l bytes.
+-- Goes inside a code of h bytes with one operand; with two operands, x and y.
 unfoldable pub inOne : {u t : Sort} (h : ℕ) → (Expr u → Expr t) → (ℕ → Made (Expr u)) → ℕ → Made (Expr t)
 inOne h make step at = elim (ltb at h) [ true ↦ unfit | false ↦ mapMade make (step (at - h)) ]
 
@@ -35,7 +35,7 @@ inTwo h make x y step₁ step₂ at =
       | false ↦ elim (ltb (at - h) (length (code x))) [ true ↦ mapMade (λ z. make z y) (step₁ (at - h)) | false ↦ mapMade (make x) (step₂ (at - h - length (code x))) ]
     ]
 
--- Law n at the code that begins at an offset.
+-- Applies law n at the code that begins at an offset.
 unfoldable pub makeStep : (n : ℕ) {s : Sort} → Expr s → ℕ → Made (Expr s)
 makeStep n e =
     byArity (λ s e. ℕ → Made (Expr s))
@@ -44,7 +44,7 @@ makeStep n e =
     (λ u v t b x y step₁ step₂. atRoot n (build2 b x y) (inTwo (length (head2 b)) (build2 b) x y step₁ step₂))
     e
 
--- All of them, in order.
+-- Makes all steps in order.
 unfoldable pub makeSteps : List Step → Expr rule → Made (Expr rule)
 makeSteps [] K = made K
 makeSteps (x ∷ xs) K = elim (makeStep (x .law) K (x .offset)) [ made M ↦ makeSteps xs M | unfit ↦ unfit ]

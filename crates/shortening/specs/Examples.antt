@@ -18,13 +18,13 @@ at offset law = record { offset = offset; law = law }
 
 unfoldable pub shortened : List (Made (Expr rule))
 shortened =
-    -- law 2 at offset 1, then law 1 where 05 05 03 00 then begins
+    -- law 2 at offset 1, then law 1 where 05 05 03 00 now begins
     makeSteps (at 1 2 ∷ at 6 1 ∷ []) long
-    -- law 1 first: it begins at offset 12
+    -- law 1 first, where 05 05 03 00 begins at offset 12
     ∷ makeSteps (at 12 1 ∷ at 1 2 ∷ []) long
     -- no steps
     ∷ makeSteps [] long
-    -- the 03 of 0A 03 is a count; one off; another law; a law of another sort; no such law; the second step's old offset; beyond the text
+    -- the 03 of 0A 03 is a count; one off; another law; a law of another sort; no such law; the second step's old offset; outside the text
     ∷ makeSteps (at 3 1 ∷ []) long
     ∷ makeSteps (at 13 1 ∷ []) long
     ∷ makeSteps (at 1 3 ∷ []) long
@@ -48,7 +48,7 @@ results =
     ∷ unfit
     ∷ []
 
--- The call: the chain and the text it ends in; a step cut; the second step's old offset; a text sent with another byte, one too short, one too long.
+-- The call: the chain and the text it ends in; a cut step; the second step's old offset; then texts sent with another byte, one too short, one too long.
 unfoldable pub checks : List (Asked (Unit {0}))
 checks =
     askChain long (1 ∷ 0 ∷ 2 ∷ 6 ∷ 0 ∷ 1 ∷ []) (0x21 ∷ 0x0A ∷ 0x03 ∷ 0x11 ∷ 0x00 ∷ 0x01 ∷ 0x03 ∷ 0x00 ∷ [])

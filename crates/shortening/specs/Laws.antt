@@ -8,7 +8,7 @@ use lib.ListN.{length}
 use Rattle.logic.specs.Syntax.{Sort, node, arrow, rule, Expr, all, none, label, nominal, complement, and, or, some, every, atLeast, atMost, arrowKind, reversed, union, common, minus, endingIn, pair, subNodes, subArrows, nodeIn, pairIn, both, either, notRule}
 use Rattle.shortening.specs.Place.{Context, put, before}
 
--- The first and the second operand of a code whose operands are of its own sort; of another the term itself.
+-- The first and the second operand of a code whose operands have its own sort; for any other code, the term itself.
 unfoldable pub operands : {s : Sort} → Expr s → Expr s × Expr s
 operands all = (all, all)
 operands none = (none, none)
@@ -42,7 +42,7 @@ operand1 e = operands e .0
 abbrev pub operand2 : {s : Sort} → Expr s → Expr s
 operand2 e = operands e .1
 
--- A law: its number, its two sides, with one variable, and what stands for the variable in a left side (proofs/ExactSteps, `laws-found`).
+-- A law: its number, its two sides, which have one variable, and how to find the variable's term in a left side (proofs/ExactSteps, `laws-found`).
 pub record Law (s : Sort) : Type 0 where
   pub number : ℕ
   pub left : Expr s → Expr s
@@ -65,12 +65,12 @@ laws rule =
     ∷ record { number = 8; left = λ K. either K K; right = λ K. K; find = operand1 }
     ∷ []
 
--- What was made, or nothing for want of a fit.
+-- What was made, or `unfit` if it does not fit.
 pub data Made (A : Type 0) : Type 0 where
   made : A → Made A
   unfit : Made A
 
--- The law of the table with this number.
+-- The law with this number in the table.
 unfoldable pub numbered : {s : Sort} → ℕ → List (Law s) → Made (Law s)
 numbered n [] = unfit
 numbered n (l ∷ ls) = elim (eqb n (l .number)) [ true ↦ made l | false ↦ numbered n ls ]
@@ -80,7 +80,7 @@ pub record Step : Type 0 where
   pub offset : ℕ
   pub law : ℕ
 
--- A step leads from one term to another: at some place the left side of the law with that number, for some term in its variable's place,
+-- A step leads from one term to another: at some place the left side of the law with that number, for some term as its variable,
 -- becomes the right side. "The offset must be that of the code where the left side begins."
 pub record Fits (x : Step) {t : Sort} (e e′ : Expr t) : Type 0 where
   pub sort : Sort

@@ -1,4 +1,4 @@
--- What the call of item 11 asks after the carried rule's own questions: 59 of each step in turn, then 60 of the text sent.
+-- What the call of item 11 asks after the carried rule's own questions: 59 for each step in order, then 60 for the text sent.
 use mathlib.Core.Path.{_≡_}
 use mathlib.Core.Bool.{true, false}
 use mathlib.Core.List.{List, [], _∷_}
@@ -17,7 +17,7 @@ use Rattle.shortening.specs.Checking.{mapMade, makeStep}
 abbrev pub stepOf : ℕ → ℕ → ℕ → Step
 stepOf a b n = record { offset = a + 256 * b; law = n }
 
--- The steps of a text, where none is cut.
+-- The steps in a text, if none is cut.
 unfoldable pub stepsOf : List ℕ → Made (List Step)
 stepsOf [] = made []
 stepsOf (a ∷ []) = unfit
@@ -31,14 +31,14 @@ askSteps (a ∷ []) i K = refused 59 i
 askSteps (a ∷ b ∷ []) i K = refused 59 i
 askSteps (a ∷ b ∷ n ∷ t) i K = elim (makeStep n K (a + 256 * b)) [ made M ↦ askSteps t (suc i) M | unfit ↦ refused 59 i ]
 
--- "60 when the last text differs from the one sent, place the first differing byte or the shorter length"; both from place p on.
+-- "60 when the last text differs from the one sent, place the first differing byte or the shorter length"; p is the place of both first bytes.
 unfoldable pub askSame : List ℕ → List ℕ → ℕ → Asked (Unit {0})
 askSame [] [] p = passed tt
 askSame [] (y ∷ ys) p = refused 60 p
 askSame (x ∷ xs) [] p = refused 60 p
 askSame (x ∷ xs) (y ∷ ys) p = elim (eqb x y) [ true ↦ askSame xs ys (suc p) | false ↦ refused 60 p ]
 
--- The steps of a rule, then the text sent.
+-- First the steps on a rule, then the text sent.
 unfoldable pub askChain : Expr rule → (steps sent : List ℕ) → Asked (Unit {0})
 askChain K steps sent = do
   L ← askSteps steps 0 K
@@ -58,7 +58,7 @@ pub record Accepted (K : Expr rule) (steps sent : List ℕ) : Type 0 where
   pub leads : Chain chain K last
   pub same : code last ≡ sent
 
--- What it takes to pass: the carried text is one rule, and the steps lead from it to the text sent.
+-- What passing requires: the carried text is one rule, and the steps lead from it to the text sent.
 pub record CheckPasses (carried steps sent : List ℕ) : Type 0 where
   pub first : Expr rule
   pub read : askRule (carriedLimits maxNodes) carried ≡ passed first

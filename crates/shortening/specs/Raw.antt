@@ -1,4 +1,4 @@
--- Whether two terms are the same. Terms without their sorts, one type, have decidable equality (derived), and so the terms have it.
+-- Whether two terms are equal. Terms without their sorts are one type, whose equality is decided by a derived function; the terms use that.
 use Prim.Native.Nat.{ℕ}
 use mathlib.Core.Bool.{Bool, true, false}
 use native.Mathlib.Decide.{ℕ-discrete}

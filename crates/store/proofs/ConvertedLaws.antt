@@ -1,4 +1,4 @@
--- A sheet of one form made one of a form with a shorter body: each block is sealed anew.
+-- Converting a sheet of one form to a form with a shorter body: each block is sealed again.
 use mathlib.Core.Path.{_≡_, refl, sym, ap, ap₂, _∙_}
 use mathlib.Core.Bool.{true}
 use mathlib.Core.List.{List, _++_, append-assoc}
@@ -44,7 +44,7 @@ module _ (φ ψ : Form) (shorter : ψ .bodyBytes ≤ φ .bodyBytes) where
     unfolding block sealed
     block-resealed fits = ap (reseal ψ) (rw (more-zeros (padding φ m) (padding ψ m) (φ .bodyBytes - ψ .bodyBytes) (omega arith)) (simp append-assoc)) ∙ seal-raw ψ head h m behind f fits
 
-    -- a block with one word more: where it is put there were zeros
+    -- a block with one more word, put where there were zeros
     word-of-zeros : wordsOf (m + 1) (update f m 0) ≡ wordsOf m f ++ replicate 8 0
     unfolding bytes
     word-of-zeros =
@@ -63,7 +63,7 @@ module _ (φ ψ : Form) (shorter : ψ .bodyBytes ≤ φ .bodyBytes) where
           as-raw : block φ head m f ≡ bodyOf ψ head (m + 1) (update f m 0) ++ behind
           as-raw = rw (word-of-zeros, zeros) (simp append-assoc)
 
--- An old card that passes its questions stores its graph, and the sheet made of it is sound and reads as that graph.
+-- An old card that passes its questions stores its graph, and the sheet made from it is sound and reads as that graph.
 module _ (f : Form) (card : List ℕ) (small : Bytes card) (sound : SoundIn (former f) card) where
   abbrev g : Graph
   g = graphIn (former f) card
@@ -107,11 +107,11 @@ module _ (f : Form) (card : List ℕ) (small : Bytes card) (sound : SoundIn (for
         ap (reseal (present .sums)) (block-other card k 0 size k-length (omega arith) (suc a) (λ z. omega arith) ∙ ap (λ t. blockOf t (suc a)) card-stored ∙ later-block (former f) g a (omega arith))
         ∙ block-resealed f (present .sums) fits (arrowHead a) maxNodes (rowWord g a) refl (rows-fit present) ∙ sym (later-block present g a (omega arith))
 
--- no form has a shorter body than today's
+-- no form has a shorter body than the current one
 pub body-fits : (m : Modulo) → present .sums .bodyBytes ≤ formOf m .bodyBytes
 body-fits M257 = lit≤ tt
 body-fits M255 = lit≤ tt
 
--- A card that does not is left as it is.
+-- A card that does not pass is left unchanged.
 pub refused-stays : (f : Form) (card : List ℕ) (number place : ℕ) → askConvert f card ≡ refused number place → converted f card ≡ card
 refused-stays f card number place e = unfold converted after in ap (λ (q : Asked (Unit {0})). after q (λ u. store (graphIn (former f) card)) card) e

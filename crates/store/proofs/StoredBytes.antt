@@ -1,4 +1,4 @@
--- A sheet that stores a graph is bytes.
+-- A sheet that stores a graph consists of bytes.
 use mathlib.Core.List.{List, [], _∷_, _++_}
 use Prim.Native.Nat.{ℕ, zero, suc, _+_, _/_, _%_, _≤_, _<_}
 use native.Mathlib.Omega.{arith}

@@ -26,7 +26,7 @@ use Rattle.sheet.proofs.FreeBits.{if-clear, zeros-right}
 use Rattle.store.proofs.StoredReads.{reads-back, all-storable}
 
 module _ (φ : SheetForm) where
-  -- a block with words for the m sets v has nothing where nothing may be, and passes if its head does
+  -- a block with words for the m sets v has no bit where none may be set, and passes if its head does
   module _ (head : List ℕ) (m : ℕ) (v : ℕ → Nodes) (h : length head ≡ 3) (fits : 16 + 8 * m ≤ φ .sums .bodyBytes) (n : ℕ) (nodes : Nodes) (b : ℕ)
       (inside : (p i : ℕ) → 16 ≤ p → p < 16 + 8 * m → p % 8 * 8 + i < n → implies (v ((p - 16) / 8) (p % 8 * 8 + i)) (free φ n nodes b p i) ≡ true) where
     abbrev f : ℕ → ℕ
@@ -63,7 +63,7 @@ module _ (φ : SheetForm) where
             any-cong (g .n) (usedIn φ (labelBlock φ g)) (g .inUse)
             (λ i l. ap (λ k. usedIn φ k i) (sym (first-block φ g)) ∙ sym (used-0 (storeIn φ g) φ i) ∙ ap (λ h. h .inUse i) (reads-back φ g w s)) ∙ w .some-node
 
-        -- a bit of a label that is set is a node in use; of line 48, below n
+        -- a bit set in a label is a node in use; one set in line 48 is below n
         line : (k j : ℕ) → j < g .n → (d : Bool) → (d ≡ true → lineOf g k ≡ g .labelled k) → (c : Bool) → lineOf g k j ≡ c → implies c (cond d (isNode g j) (ltb j (g .n))) ≡ true
         line k j l d f false e = refl
         line k j l false f true e = lt-ltb j (g .n) l

@@ -38,7 +38,7 @@ module _ (φ : SheetForm) where
         (λ l. line-back k (omega (arith, label-lines φ)) (subst (NodesIn g) (sym (line-label g k l)) (w .labels-in k)) i ∙ ap (λ v. v i) (line-label g k l))
         (w .no-more-labels k i)))
 
-    -- a node in use is one
+    -- a node marked as in use is a node
     use-in : NodesIn g (g .inUse)
     unfolding isNode
     use-in i h = go (decLt i (g .n)) where
@@ -61,7 +61,7 @@ module _ (φ : SheetForm) where
     pub reads-back : Storable φ g → graphIn φ (storeIn φ g) ≡ g
     reads-back s = unfold graphIn in λ t. record { n = n-is φ g t; inUse = use-back s t; labelled = labels-back t; joined = arrows-back t }
 
--- Today's sheets store every graph within the limits.
+-- Current sheets store every graph within the limits.
 pub all-storable : (g : Graph) → Storable present g
 all-storable g e = let z : _≡_ {A = ℕ} 0 1 = cc in absurd (omega arith)
 

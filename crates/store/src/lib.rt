@@ -1,4 +1,4 @@
-// What makes bytes of a graph: labels and arrows written into a sheet, and old cards made today's sheets. (A blank sheet is `Sheet::blank`.)
+// What turns a graph into bytes: labels and arrows written into a sheet, and old cards converted. (`Sheet::blank` makes a blank sheet.)
 ghost use mathlib.Core.Path.{_≡_};
 ghost use Prim.Native.Nat.{ℕ, _<_, _≤_};
 ghost use lib.ListN.{length, getD};
@@ -19,11 +19,11 @@ use logic::Label;
 use seal::Modulo;
 use sheet::Sheet;
 
-// The calls that write sheets: all bytes of a buffer, or one block of a sound sheet.
+// The calls that write sheets: either all bytes of a buffer, or one block of a sound sheet.
 pub struct Store;
 
 impl Store {
-    // Makes an old card with these sums today's sheet of the same graph, in the card's own buffer, or leaves it as it is: questions 1 to 4 of its form.
+    // Converts an old card with these sums to the current sheet of the same graph, in the card's buffer, or leaves it unchanged: 1 to 4 of its form.
     pub fn convert(sums: Modulo, card: &mut [u8]) -> Answer
         ensures { λ r. ⌜ asked r ≡ askConvert (formOf sums) (now (card .entry)) ⌝ }
         ensures { λ _. ⌜ now (card .exit) ≡ converted (formOf sums) (now (card .entry)) ⌝ }
@@ -44,7 +44,7 @@ impl Store {
         Answer::Done
     }
 
-    // Gives label k the nodes of the set x. Inner: the sheet is sound and has that label.
+    // Gives label k the nodes of the set x. Inner: the sheet is sound, and the label is in range.
     pub fn put_label(sheet: &mut [u8], k: Label, x: u64)
         requires { ⌜ Sound (now sheet) × (k .0 < labelCount) ⌝ }
         ensures { λ _. ⌜ ((v : Nodes) → x ≡ setOf (graphOf (now (sheet .entry)) .n) v → now (sheet .exit) ≡ store (relabel (graphOf (now (sheet .entry))) (k .0) v)) ⌝ }
@@ -64,7 +64,7 @@ impl Store {
         put_words(&mut sheet[0..Sheet::BLOCK], Sheet::LABELS, sets);
     }
 
-    // Gives arrow a the pairs whose rows are given; only the rows of nodes are read. Inner: the sheet is sound and has that arrow.
+    // Gives arrow a the pairs in the given rows; only the first n rows are read. Inner: the sheet is sound, and the arrow is in range.
     pub fn put_rows(sheet: &mut [u8], a: Arrow, rows: [u64; 64])
         requires { ⌜ Sound (now sheet) × (a .0 < arrowCount) ⌝ }
         ensures { λ _. ⌜ ((v : Pairs) → PairsIn (graphOf (now (sheet .entry))) v → Rows (graphOf (now (sheet .entry)) .n) v rows → now (sheet .exit) ≡ store (rejoin (graphOf (now (sheet .entry))) (a .0) v)) ⌝ }
@@ -76,7 +76,7 @@ impl Store {
     }
 }
 
-// Puts the first n of the rows into the block's words, and seals it. Inner: the block has that many.
+// Puts the first n of the rows into the block's words and seals it. Inner: the block has that many words.
 fn put_words(block: &mut [u8], n: usize, rows: [u64; 64])
     requires { ⌜ (length (now block) ≡ blockBytes) × (n ≤ maxNodes) ⌝ }
     ensures { λ _. ⌜ now (block .exit) ≡ reseal (present .sums) (putRows n rows (now (block .entry))) ⌝ }

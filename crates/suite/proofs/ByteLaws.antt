@@ -1,4 +1,4 @@
--- A number that no label, arrow or node has may be asked as the byte 255: the answer is 7 either way.
+-- A number that no label, arrow or node has may be passed as the byte 255: the answer is 7 either way.
 use mathlib.Core.Path.{_≡_, refl, ap, ap₂, sym, _∙_}
 use mathlib.Core.Bool.{Bool, true, false, _&&_, and-eq-true-iff}
 use mathlib.Core.List.{List}
@@ -14,7 +14,7 @@ use Rattle.sheet.specs.Sheet.{graphIn, graphOf}
 use Rattle.sheet.specs.Questions.{askSheet, askLabelBit, askArrowBit}
 use Rattle.node_sets.specs.NodeSets.{members, askLabelSet, askRowSet}
 
--- Below m, which no byte passes, a number is found exactly when its byte is,
+-- Below m, which is at most 255, a number is in range exactly when its byte is,
 below : (x m : ℕ) → m ≤ 255 → ltb (min x 255) m ≡ ltb x m
 below x m h = go (decLt x m) where
   go : Dec (x < m) → ltb (min x 255) m ≡ ltb x m
@@ -25,7 +25,7 @@ below x m h = go (decLt x m) where
 itself : (x m : ℕ) → m ≤ 255 → ltb x m ≡ true → min x 255 ≡ x
 itself x m h e = let l : x < m = ltb-true x m e in omega arith
 
--- Two ranges that are one, with the same bit or set where it is met, are asked alike.
+-- Two equal ranges, with the same bit or set where they hold, give the same answer.
 alike : {A : Type 0} (p q : Bool) (x y : A) → p ≡ q → (q ≡ true → x ≡ y) → (is p 7 0 >> passed x) ≡ (is q 7 0 >> passed y)
 unfolding _>>_ is
 alike p true x y e f = ap (λ b. is b 7 0 >> passed x) e ∙ ap passed (f refl)

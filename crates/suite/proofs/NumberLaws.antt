@@ -19,7 +19,7 @@ module _ {B : Type 0} where
   pub written : {r : LengthNumbers} {a q : Asked ℕ} → r ≡ lengthNumbers a → (a ≡ q) × B → (r ≡ lengthNumbers q) × B
   written e f = (e ∙ ap lengthNumbers (f .0), f .1)
 
--- what was learned does not show in number and place
+-- the result does not show in number and place
 pub outcome-numbers : {A : Type 0} (q : Asked A) → numbers (outcome q) ≡ numbers q
 unfolding outcome askedNumber askedPlace
 outcome-numbers (passed a) = refl

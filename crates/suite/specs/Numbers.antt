@@ -1,4 +1,4 @@
--- The numbers that a C function answers: number and place, 0 and 0 for done, and what was learned, 0 after a refusal.
+-- The numbers that a C function answers: number and place, 0 and 0 for done, and the result, 0 after a refusal.
 use mathlib.Core.Bool.{Bool}
 use mathlib.Core.List.{List}
 use Prim.Native.Nat.{ℕ}

@@ -1,4 +1,4 @@
--- The version: 1,000 times its first number and its second.
+-- The version: 1,000 times its first number, plus its second.
 use Prim.Native.Nat.{ℕ}
 
 abbrev pub version : ℕ

@@ -4,7 +4,7 @@ ghost use Rattle.play.specs.Questions.{askPlay, faultyEdit};
 ghost use Rattle.suite.specs.Games.{playNumbers};
 
 // Number and place; the outcome, 0 can't, 1 an edit, 2 a pass, 3 after a refusal; and an edit by its place in the list, from 0: the first move, or the
-// one that 21 to 26, 31 or 32 is about; else 0.
+// edit that 21 to 26, 31 or 32 is about; else 0.
 #[repr(C)]
 pub struct PlayNumbers {
     pub number: usize,

@@ -1,4 +1,4 @@
-// What a C program calls: numbers and byte slices, thin over the proved library. Each exported function stands in include/zamiathen.h.
+// What a C program calls: numbers and byte slices, thin over the proved library. Each exported function is declared in include/zamiathen.h.
 ghost use mathlib.Core.Path.{_≡_};
 ghost use Rattle.answer.specs.Answers.{asked};
 ghost use Rattle.answer.specs.Outputs.{writtenAsked};

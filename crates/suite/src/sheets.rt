@@ -86,7 +86,7 @@ fn bit_numbers(read: BitRead) -> BitNumbers
     }
 }
 
-// The byte of a number; 255, which no label, arrow or node has, for every number above.
+// A number as a byte; 255, which no label, arrow or node has, for every larger number.
 pub fn byte(x: usize) -> u8
     ensures { λ r. ⌜ r ≡ min x 255 ⌝ }
 {

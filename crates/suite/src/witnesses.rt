@@ -1,10 +1,10 @@
-// Who breaks a rule.
+// What breaks a rule.
 ghost use mathlib.Core.Path.{_≡_};
 ghost use Rattle.witness.specs.Witnessed.{askWitness, witnessAsked};
 ghost use Rattle.suite.specs.Witnesses.{witnessNumbers};
 use witness::Witnessed;
 
-// Number and place of an answer and, after done, the witness: its kind, a node or a pair, and all nodes of kind 1. 0 each after a refusal.
+// Number and place of an answer and, after done, the witness: its kind, a node or a pair, and all nodes for kind 1. 0 each after a refusal.
 #[repr(C)]
 pub struct WitnessNumbers {
     pub number: usize,

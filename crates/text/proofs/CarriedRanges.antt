@@ -1,4 +1,4 @@
--- Carrying keeps the ranges, so that a carried rule or book within the limits is read back.
+-- Carrying keeps numbers in range, so a carried rule or book within the limits is read back.
 use mathlib.Core.Path.{_≡_, refl}
 use mathlib.Core.Bool.{Bool, true, false, cond}
 use mathlib.Core.List.{List, _++_, map}

@@ -1,4 +1,4 @@
--- The sort of a code, by where the code lies.
+-- The sort of a code, from the range that the code is in.
 use mathlib.Core.Path.{_≡_}
 use mathlib.Core.Bool.{true, false, _&&_, and-eq-true-iff}
 use Prim.Native.Nat.{ℕ, _≤_}

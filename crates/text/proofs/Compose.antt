@@ -1,4 +1,4 @@
--- A format followed one part after the other; formats of one shape; and where a reading has come to.
+-- Following a format one part after the other; formats of one shape; and how far a reading has come.
 use mathlib.Core.Path.{_≡_, refl, sym, _∙_, ap, fun-ext}
 use mathlib.Core.Bool.{Bool, true, false}
 use mathlib.Core.List.{List, [], _∷_, _++_}
@@ -52,13 +52,13 @@ module _ (l : Limits) where
   follow-operand : {A : Type 0} (w : Want) (d : ℕ) (f : Thing w → Format A) (t : List ℕ) (at : ℕ) → follow l t (operand w d f) at ≡ continue (follow l t (operand w d done) at) f
   follow-operand w d f t at = unfold _>>=_ in follow-bind t (operand w d done) f at
 
--- Two formats that want the same of the bytes, whatever they make of them.
+-- Two formats that want the same bytes, whatever they make of them.
 pub data Alike {A B : Type 0} : Format A → Format B → Type 0 where
   same-end : {a : A} {b : B} → Alike (done a) (done b)
   same-number : {k : Kind} {f : ℕ → Format A} {g : ℕ → Format B} → ((x : ℕ) → Alike (f x) (g x)) → Alike (number k f) (number k g)
   same-operand : {w : Want} {d : ℕ} {f : Thing w → Format A} {g : Thing w → Format B} → ((e : Thing w) → Alike (f e) (g e)) → Alike (operand w d f) (operand w d g)
 
--- what is made in the end makes no difference
+-- what they make in the end does not matter
 pub alike-bind : {A B : Type 0} {p : Format A} {q : Format B} (b : B) → Alike p q → Alike (p >>= (λ a. done b)) q
 unfolding _>>=_
 alike-bind b same-end = same-end
@@ -82,13 +82,13 @@ alike-turns {A} {B} l (same-operand {w} {d} {f} {g} h) t at = ap turnOf (follow-
     go (got e r p) k = k e r p
     go (fault why p) k = refl
 
--- any format takes bytes and leaves the others
+-- any format takes some bytes and leaves the others
 fine-any : {A : Type 0} (l : Limits) (p : Format A) (pre : List ℕ) → Fine l (λ a bs. Unit {0}) p pre
 fine-any l (done a) pre = tt
 fine-any l (number k f) pre = λ x b. fine-any l (f x) (pre ++ x ∷ [])
 fine-any l (operand w d f) pre = λ e b. fine-any l (f e) (pre ++ spelling w e)
 
--- A reading that began at a place of a text has come to a later one, and what is left of the text stands there.
+-- A reading that began at a place of a text has come to a later one, and what is left of the text starts there.
 pub record Reached (text : List ℕ) (at : ℕ) (rest : List ℕ) (p : ℕ) : Type 0 where
   pub rest-is : rest ≡ drop p text
   pub on : at ≤ p
@@ -110,7 +110,7 @@ reached {A} l text p at = go (follow l (drop at text) p at) (outcome l (λ a bs.
       }
   go (fault why q) h = tt
 
--- A turn, and then one from where it has come to.
+-- A turn, and then one from where it ended.
 abbrev pub andThen : Turn → (ℕ → Turn) → Turn
 andThen (Next p) k = k p
 andThen (Stopped s) k = Stopped s

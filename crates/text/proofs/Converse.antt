@@ -32,7 +32,7 @@ pub record Allowed (l : Limits) (w : Want) (d : ℕ) (e : Thing w) : Type 0 wher
   pub numbers-fit : NumbersFit l w e
   pub levels-fit : d + depth w e ≤ suc (l .deepest)
 
--- P holds of whatever the format makes, and of the bytes before it, `pre`, with those that the format takes
+-- P holds for whatever the format makes together with the bytes before it, `pre`, and those that the format takes
 abbrev pub Fine : Limits → {A : Type 0} → (A → List ℕ → Type 0) → Format A → List ℕ → Type 0
 Fine l P (done a) pre = P a pre
 Fine l P (number k f) pre = (x : ℕ) → T (fits (l .numbers) k x) → Fine l P (f x) (pre ++ x ∷ [])
@@ -88,7 +88,7 @@ module _ (l : Limits) {A : Type 0} (P : A → List ℕ → Type 0) where
   outcome-if pre t at true r q h i = h tt
   outcome-if pre t at false r q h i = i
 
-  -- the table is fine where the level is within the limit, which is asked once the code is found
+  -- the table is fine if the level is within the limit, which is checked once the code is found
   outcome-choice : (X : Type 0) (pre t : List ℕ) (at : ℕ) (w : Want) (d c : ℕ) (es : List (Entry (Thing w))) (found : Format (Thing w) → Read A) (other : Read A) → (X → FineAll l w d es)
       → ((q : Format (Thing w)) → (X → Fine l (Spelled l w d) q (c ∷ [])) → Outcome pre t at (found q)) → Outcome pre t at other → Outcome pre t at (choice c es found other)
   unfolding choice
@@ -112,7 +112,7 @@ module _ (l : Limits) {A : Type 0} (P : A → List ℕ → Type 0) where
       (λ b. outcome-cons pre t at c (follow l t (q >>= f) (suc at)) (outcome t (q >>= f) (pre ++ c ∷ []) (suc at) (fine-bind w d q f pre (c ∷ []) (g b) h))) tt)
       tt
 
--- What a reading of a thing wanted at level d says, where it gives one: the text is the thing's bytes with the rest behind them,
+-- What a reading of a thing wanted at level d says if it gives one: the text is the thing's bytes followed by the rest,
 -- the place is the rest's, and the thing is within the limits.
 pub record Written (l : Limits) (w : Want) (d : ℕ) (t : List ℕ) (at : ℕ) (e : Thing w) (rest : List ℕ) (place : ℕ) : Type 0 where
   pub text-is : t ≡ spelling w e ++ rest

@@ -1,4 +1,4 @@
--- The patterns of the codes beside their formats: the format at a byte is the one that its pattern says.
+-- The patterns of the codes compared with their formats: the format at a byte is the one that its pattern says.
 use mathlib.Core.Path.{_≡_, refl, sym, _∙_, ap, subst}
 use mathlib.Core.Bool.{Bool, true, false, _&&_, cond, and-eq-true-iff}
 use mathlib.Core.List.{List, [], _∷_, _++_}
@@ -21,7 +21,7 @@ use Rattle.text.proofs.Converse.{_&_}
 
 ruleset alike = (same-end, same-number, same-operand)
 
--- the table of patterns beside the table of formats
+-- the table of patterns next to the table of formats
 abbrev pub EachPattern : (w : Want) (d : ℕ) → List (Entry (Thing w)) → Type 0
 EachPattern w d = All (λ e. (sortOf (e .byte) ≡ digit w) × Alike (e .format) (patternFormat (patternOf (e .byte)) d))
 
@@ -34,7 +34,7 @@ codes-patterns (expr arrow) d = search alike depth 40
 codes-patterns (expr rule) d = search alike depth 40
 codes-patterns edit d = search alike depth 40
 
--- A byte that is no code of the sort has no entry; one that is has one, and its pattern is that entry's.
+-- A byte that is not a code of the sort has no entry; one that is has one, and its pattern is that entry's.
 abbrev pub Differ : {A : Type 0} → ℕ → List (Entry A) → Type 0
 Differ c = All (λ e. c ≢ e .byte)
 
@@ -86,7 +86,7 @@ has-entry (expr arrow) d c h n = let q = in-range 0x11 0x17 c (sorts c .0 .1 h) 
 has-entry (expr rule) d c h n = let q = in-range 0x21 0x27 c (sorts c .1 .0 h) in one-of 0x21 7 c (q .0) (omega arith) n
 has-entry edit d c h n = let q = in-range 0x30 0x35 c (sorts c .1 .1 h) in one-of 0x30 6 c (q .0) (omega arith) n
 
--- A byte that is none of the codes.
+-- A byte that is not a code.
 abbrev pub expressionBytes : List ℕ
 expressionBytes = from 0x01 11 ++ (from 0x11 7 ++ from 0x21 7)
 
@@ -103,7 +103,7 @@ no-code c n = go (codeSort c) refl where
   go edits e = absurd (has-entry edit 0 c (ap sortDigit e) (all-drop (λ b. c ≢ b) 25 codeBytes n))
   go noCode e = sym (ap (λ s. patternIn s c) e)
 
--- Patterns have four digits at most.
+-- Patterns have at most four digits.
 unfoldable small : List ℕ → Bool
 small [] = true
 small (x ∷ xs) = ltb x 65536 && small xs

@@ -53,7 +53,7 @@ levels-1 b x = unfold levels in rw byArity-1
 pub levels-2 : {u v t : Sort} (b : Binary u v t) (x : Expr u) (y : Expr v) → levels (build2 b x y) ≡ suc (max (levels x) (levels y))
 levels-2 b x y = unfold levels in rw byArity-2
 
--- A code has bytes, and some before its first operand.
+-- A code has at least one byte before its first operand.
 pub head1-some : {u t : Sort} (b : Unary u t) → 1 ≤ length (head1 b)
 head1-some b = unfold head1 in omega arith
 

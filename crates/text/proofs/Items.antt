@@ -1,4 +1,4 @@
--- The items that follow a code, by their digits, and a pattern of them opened at its first.
+-- The items that follow a code, by their digits; and a pattern split at its first item.
 use mathlib.Core.Path.{_≡_, refl, sym, _∙_, ap, ap₂, subst}
 use Prim.Native.Nat.{ℕ, zero, suc, _+_, _-_, _/_, _%_, _≤_, _<_}
 use native.Mathlib.Decide.{decLt}
@@ -8,7 +8,7 @@ use Rattle.logic.specs.Limits.{Kind, labelNumber, arrowNumber, nodeNumber, leas
 use Rattle.text.specs.Reading.{Want, expr, edit, Format, operand, _>>=_}
 use Rattle.text.specs.Patterns.{Item, nothing, takes, deeper, here, items, itemOf, itemFormat, finished, patternFormat}
 
--- What holds of each number below m.
+-- What holds for each number below m.
 abbrev pub Each : (ℕ → Type 0) → ℕ → Type 0
 Each P zero = Unit {0}
 Each P (suc m) = Each P m × P m
@@ -20,7 +20,7 @@ each-below P (suc m) h x l = elim (decLt x m) [ yes k ↦ each-below P m (h .0) 
 pub each-from : (P : ℕ → Type 0) (lo m : ℕ) → Each (λ x. P (lo + x)) m → (x : ℕ) → lo ≤ x → x < lo + m → P x
 each-from P lo m e x h k = let q : lo + (x - lo) ≡ x = omega arith in subst P q (each-below (λ x. P (lo + x)) m e (x - lo) (omega arith))
 
--- The items by their digits: below 3 nothing, then numbers to 7, things one level deeper to B, things on the code's own level to F.
+-- The items by their digits: below 3 nothing, then numbers to 7, things one level deeper to B, things at the code's own level to F.
 nothing-at : (x : ℕ) → x < 3 → itemOf x ≡ nothing
 nothing-at = unfold itemOf items in each-below (λ x. itemOf x ≡ nothing) 3 (((tt, refl), refl), refl)
 
@@ -45,7 +45,7 @@ is-deeper = each-from IsDeeper 8 4 ((((tt, of (expr node) refl refl), of (expr a
   of : {x : ℕ} (w : Want) → itemOf x ≡ deeper w → itemOf (x + 4) ≡ here w → IsDeeper x
   of w e h = record { want = w; item-is = e; then-here = h }
 
--- the digit of a thing on the code's own level
+-- the digit of a thing at the code's own level
 abbrev pub digit : Want → ℕ
 digit (expr node) = 0xC
 digit (expr arrow) = 0xD
@@ -70,7 +70,7 @@ is-here = each-from IsHere 12 4 ((((tt, of (expr node) refl refl), of (expr arro
   of : {x : ℕ} (w : Want) → x ≡ digit w → itemOf x ≡ here w → IsHere x
   of w d e = record { want = w; digit-is = d; item-is = e }
 
--- a pattern that begins with a thing on the code's own level ends with it
+-- a pattern that begins with a thing at the code's own level ends with it
 here-item : (i : Item) (d : ℕ) (w : Want) (rest : Format (Unit {0})) → i ≡ here w → itemFormat i d rest ≡ operand w d (λ e. finished)
 here-item i d w rest e = unfold itemFormat in ap (λ j. itemFormat j d rest) e
 
@@ -84,7 +84,7 @@ end-item i d rest e = unfold itemFormat in ap (λ j. itemFormat j d rest) e
 pub end-pattern : (pattern d : ℕ) → pattern % 16 < 3 → patternFormat pattern d ≡ finished
 end-pattern pattern d h = unfold patternFormat in end-item (itemOf (pattern % 16)) d _ (nothing-at (pattern % 16) h)
 
--- a pattern opened at its first item
+-- a pattern split at its first item
 tail : (d b b′ c c′ z : ℕ) → b ≡ b′ → c ≡ c′ → z ≡ 0 → itemFormat (itemOf b) d (itemFormat (itemOf c) d finished) ≡ itemFormat (itemOf b′) d (itemFormat (itemOf c′) d (itemFormat (itemOf z) d finished))
 unfolding itemFormat itemOf items
 tail d b b′ c c′ z p q r = ap₂ (λ x y. itemFormat (itemOf x) d (itemFormat (itemOf y) d finished)) p q ∙ ap (λ u. itemFormat (itemOf b′) d (itemFormat (itemOf c′) d (itemFormat (itemOf u) d finished))) (sym r)

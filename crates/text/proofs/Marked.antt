@@ -11,7 +11,7 @@ use Rattle.text.specs.Reading as reading
 use Rattle.text.specs.Questions.{first, whole, readRules, askBook, askFirst, askOne}
 use Rattle.text.specs.Marked.{sheetT, members, readOnT, judgedOnT, throughOnT, Right, examples, times, found, texts}
 
--- Examples 1 to 10: from the printed bytes to what is printed.
+-- Examples 1 to 10: from the printed bytes to the printed results.
 pub marked : Right examples
 unfolding examples readOnT judgedOnT throughOnT sheetT members value isNode anyBelow allBelow countBelow update run substitute putLabel putArrow carry code first whole askFirst askOne _>>=_ _>>_ is codes choice follow reading._>>=_
 marked = refl

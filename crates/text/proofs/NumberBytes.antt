@@ -32,7 +32,7 @@ module _ (text : List ℕ) (ρ : Limits) where
     go true t = next t
     go false t = refl
 
--- An item that is a number, by its digit: it is missing, or in its range or not.
+-- An item that is a number, by its digit: it is missing, in range, or out of range.
 module _ (text : List ℕ) (ρ : Limits) (x d at : ℕ) (low : 3 ≤ x) (high : x < 8) where
   pub number-ends : length text ≤ at → turnAt text ρ (itemFormat (itemOf x) d finished) at ≡ Stopped (Missing at)
   number-ends h = let q = is-number x low high in ap (λ i. turnAt text ρ (itemFormat i d finished) at) (q .item-is) ∙ number-missing text ρ (q .kind) d at h

@@ -1,4 +1,4 @@
--- The turns that the code makes along a pattern: at a code byte of the pattern's own level, and at any other item.
+-- The turns that the code makes along a pattern: at a code byte at the pattern's own level, and at any other item.
 use mathlib.Core.Path.{_≡_, refl, sym, _∙_, ap}
 use mathlib.Core.Bool.{Bool, true, false, cond}
 use mathlib.Core.List.{List, [], _∷_}
@@ -19,7 +19,7 @@ use Rattle.text.proofs.Compose.{Alike, alike-bind, alike-turns, andThen
 use Rattle.text.proofs.Items.{is-deeper, is-here, digit, here-pattern, end-pattern, pattern-opens, goes-on, item-then}
 use Rattle.text.proofs.Entries.{codes-patterns, no-entry, an-entry, has-entry}
 
--- what the questions at a code byte answer: it is of the sort, its level is within the limit
+-- the outcome of the questions at a code byte: it is of the sort wanted, and its level is within the limit
 abbrev headed : (sort level : Bool) (at : ℕ) → Turn → Turn
 headed sort level at next = cond sort (cond level next (Stopped (TooDeep at))) (Stopped (WrongSort at))
 
@@ -29,7 +29,7 @@ headed-then true false at k = refl
 headed-then false e at k = refl
 
 module _ (text : List ℕ) (ρ : Limits) where
-  -- a thing wanted at a place with a byte c and others behind it
+  -- a thing wanted at a place where there is a byte c and others follow
   at-byte : (w : Want) (d at c : ℕ) (t : List ℕ) → turnOf (follow ρ (c ∷ t) (operand w d (λ e. finished)) at)
       ≡ headed (eqb (sortOf c) (digit w)) (leb d (ρ .deepest)) at (turnOf (follow ρ t (patternFormat (patternOf c) d) (suc at)))
   unfolding follow turnOf stopOf
@@ -62,13 +62,13 @@ module _ (text : List ℕ) (ρ : Limits) where
         ∙ headed-then sort level at (λ p. turnAt text ρ (patternFormat (patternOf (getD text at 0)) d) p)
         ∙ ap (λ b. andThen (cond b (headed sort level at (Next (at + 1))) (Stopped (Missing at))) (λ p. turnAt text ρ (patternFormat (patternOf (getD text at 0)) d) p)) (sym (lt-ltb at (length text) h))
 
-  -- A pattern at its first item, where that stands not on the code's own level: the item, and then the others.
+  -- A pattern whose first item is not a thing at the code's own level: that item, and then the others.
   pub at-item : (pattern d at : ℕ) → pattern < 65536 → 3 ≤ pattern % 16 → pattern % 16 < 12 → turnAt text ρ (patternFormat pattern d) at ≡ andThen (turnAt text ρ (itemFormat (itemOf (pattern % 16)) d finished) at) (λ p. turnAt text ρ (patternFormat (pattern / 16) d) p)
   at-item pattern d at h l k =
       ap (λ z. turnAt text ρ z at) (pattern-opens pattern d h ∙ item-then (itemOf (pattern % 16)) d (patternFormat (pattern / 16) d) (goes-on (pattern % 16) l k))
       ∙ turn-then text ρ (itemFormat (itemOf (pattern % 16)) d finished) (patternFormat (pattern / 16) d) at
 
-  -- A pattern whose first item stands there: a code, and then its pattern.
+  -- A pattern whose first item is one: a code, and then its pattern.
   pub at-here : (pattern d at : ℕ) → 12 ≤ pattern % 16 → turnAt text ρ (patternFormat pattern d) at ≡ andThen (headAt text (ρ .deepest) (pattern % 16) d at) (λ p. turnAt text ρ (patternFormat (patternOf (getD text at 0)) d) p)
   at-here pattern d at h =
       let q = is-here (pattern % 16) h (omega arith) in
@@ -76,7 +76,7 @@ module _ (text : List ℕ) (ρ : Limits) where
       ∙ at-code (q .want) d at
       ∙ ap (λ x. andThen (headAt text (ρ .deepest) x d at) (λ p. turnAt text ρ (patternFormat (patternOf (getD text at 0)) d) p)) (sym (q .digit-is))
 
-  -- A pattern that has ended is read.
+  -- A pattern that has ended has been read.
   pub at-end : (pattern d at : ℕ) → pattern % 16 < 3 → turnAt text ρ (patternFormat pattern d) at ≡ Next at
   unfolding turnAt turnOf follow
   at-end pattern d at h = ap (λ z. turnAt text ρ z at) (end-pattern pattern d h) ∙ go (drop at text) where

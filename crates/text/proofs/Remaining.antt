@@ -1,4 +1,4 @@
--- What is still to be read: what is left of the pattern of a level, and behind it what is left on the levels above, a pattern for each.
+-- What is still to be read: what remains of the pattern of a level, and then of the patterns of the levels above.
 use mathlib.Core.Path.{_≡_, refl, sym, _∙_, ap}
 use mathlib.Core.Bool.{true, false}
 use mathlib.Core.List.{List, [], _∷_}
@@ -18,7 +18,7 @@ use Rattle.text.proofs.PatternTurns.{at-item, at-here, at-end, at-deepe
 use Rattle.text.proofs.NumberBytes.{number-ends, number-is}
 use Rattle.text.proofs.HeadAt.{head-ends, head-wrong, head-deep, head-good}
 
--- The patterns of the levels above: 256 of them, of four digits at most.
+-- The patterns of the levels above: 256 of them, each of at most four digits.
 pub record Patterns (patterns : List ℕ) : Type 0 where
   pub all : length patterns ≡ 256
   pub small : (k : ℕ) → getD patterns k 0 < 65536
@@ -47,7 +47,7 @@ module _ (text : List ℕ) (ρ : Limits) where
   unfoldable pub remaining : (patterns : List ℕ) (pattern level at : ℕ) → Turn
   remaining patterns pattern d at = andThen (turnAt text ρ (patternFormat pattern d) at) (above patterns d)
 
-  -- A pattern that is written makes no difference to the levels above it.
+  -- Writing a pattern does not change the levels above it.
   above-same : (patterns : List ℕ) (level x d at : ℕ) → d ≤ level → above (set patterns level x) d at ≡ above patterns d at
   unfolding above
   above-same patterns level x zero at h = refl
@@ -55,7 +55,7 @@ module _ (text : List ℕ) (ρ : Limits) where
       ap (λ r. andThen (turnAt text ρ (patternFormat r d) at) (above (set patterns level x) d)) (getD-set-other patterns level d x 0 (λ e. absurd (omega arith)))
       ∙ then-same (turnAt text ρ (patternFormat (getD patterns d 0) d) at) (above (set patterns level x) d) (above patterns d) (λ p. above-same patterns level x d p (omega arith))
 
-  -- A thing on level 1 is one that is wanted one level deeper than level 0.
+  -- A thing at level 1 is one that is wanted one level deeper than level 0.
   pub to-begin : (patterns : List ℕ) (wanted at : ℕ) → 12 ≤ wanted → wanted < 16 → remaining patterns (wanted - 4) 0 at ≡ turnAt text ρ (patternFormat wanted 1) at
   unfolding above remaining
   to-begin patterns wanted at h k =
@@ -70,7 +70,7 @@ module _ (text : List ℕ) (ρ : Limits) where
       ∙ ap (λ x. turnAt text ρ (patternFormat x 1) at) back
 
   module _ (patterns : List ℕ) (pattern level at : ℕ) where
-    -- The pattern has ended: there is nothing above it, or the pattern above it goes on.
+    -- The pattern has ended: nothing is above it, or the pattern above it goes on.
     pub ended : pattern % 16 < 3 → level ≡ 0 → Next at ≡ remaining patterns pattern level at
     ended h e = unfold above remaining in sym (ap (λ d. remaining patterns pattern d at) e ∙ ap (λ s. andThen s (above patterns 0)) (at-end text ρ pattern 0 at h))
 
@@ -100,7 +100,7 @@ module _ (text : List ℕ) (ρ : Limits) where
       pub number-good : pattern % 16 < 8 → at < length text → numberFits (ρ .numbers) (itemOf (pattern % 16)) (getD text at 0) ≡ true → remaining patterns (pattern / 16) level (at + 1) ≡ remaining patterns pattern level at
       number-good k i e = sym (opened-at (Next (at + 1)) (omega arith) (number-is text ρ (pattern % 16) level at more k true i e))
 
-      -- a code on the pattern's own level, and one level deeper
+      -- a code at the pattern's own level, and one level deeper
       code-here : 12 ≤ pattern % 16 → remaining patterns pattern level at ≡ andThen (headAt text (ρ .deepest) (12 + pattern % 16 % 4) level at) (λ p. remaining patterns (patternOf (getD text at 0)) level p)
       unfolding remaining
       code-here k =
@@ -127,7 +127,7 @@ module _ (text : List ℕ) (ρ : Limits) where
               ∙ ap (λ r. andThen (turnAt text ρ (patternFormat r level) p) (above (set patterns level (pattern / 16)) level)) (sym (getD-set-same patterns level (pattern / 16) 0 i))
               ∙ ap (λ d. above (set patterns level (pattern / 16)) d p) (sym (add-one level))
 
-      -- in either case the code is asked for at a level
+      -- in either case a code is wanted at a level
       record Asks : Type 0 where
         depth : ℕ
         next : ℕ → Turn

@@ -1,4 +1,4 @@
--- Where the rules of a book stand: each behind the codes of those before it.
+-- Where the rules of a book start: each after the codes of those before it.
 use mathlib.Core.Path.{_≡_, refl, sym, _∙_, ap, subst}
 use mathlib.Core.List.{List, [], _∷_, _++_, append-assoc}
 use Prim.Native.Nat.{ℕ, zero, suc, _+_}
@@ -17,7 +17,7 @@ use Rattle.text.proofs.TextReadBack.{reads}
 use Rattle.text.proofs.TextSpelling.{EachAllowed, book-is-spelled}
 
 -- Rule i of a book: its place is the length of the codes before it, and what is left of the text there is the codes of the rules from i on.
--- So rule i stands there, if there is one.
+-- So rule i starts there, if there is one.
 pub record RuleStands (l : Limits) (t : List ℕ) (book : List (Expr rule)) (i : ℕ) : Type 0 where
   pub place-is : ruleStart l i t ≡ length (bookCode (take i book))
   pub left-is : drop (ruleStart l i t) t ≡ bookCode (drop i book)
@@ -29,7 +29,7 @@ book-append [] b = refl
 book-append (K ∷ a) b = ap (code K ++_) (book-append a b) ∙ sym (append-assoc (code K) (bookCode a) (bookCode b))
 
 module _ (l : Limits) where
-  -- behind one rule, and where there is none
+  -- after one rule, and where there is none
   pub end-step : (i : ℕ) (t : List ℕ) (at : ℕ) {K : Expr rule} {r : List ℕ} {p : ℕ} → readAs l (expr rule) t at ≡ got K r p → rulesEnd l (suc i) t at ≡ rulesEnd l i r p
   end-step i t at h = unfold rulesEnd in rw (h, rulesEnd)
 
@@ -45,7 +45,7 @@ module _ (l : Limits) where
       ∙ end-is i book (at + length (code K)) (a .1)
       ∙ omega (arith, length-append (code K) (bookCode (take i book)))
 
-  -- RULE i OF A BOOK THAT PASSES STANDS AT ruleStart, and its code begins there.
+  -- RULE i OF A BOOK THAT PASSES STARTS AT ruleStart, and its code begins there.
   pub rule-stands : (t : List ℕ) (book : List (Expr rule)) → askBook l t ≡ passed book → (i : ℕ) → RuleStands l t book i
   unfolding ruleStart bookCode
   rule-stands t book h i =

@@ -1,4 +1,4 @@
--- Bytes that stand at a place of a text: the first of them, what stands behind them, and that they are inside.
+-- Bytes at a place of a text: the first of them, what follows them, and that they are within the text.
 use mathlib.Core.Path.{_≡_, sym, ap, _∙_}
 use mathlib.Core.List.{List, _∷_, _++_}
 use Prim.Native.Nat.{ℕ, _+_, _-_}

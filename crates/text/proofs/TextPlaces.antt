@@ -7,7 +7,7 @@ use native.Mathlib.Decide.{decLt}
 use lib.ListN.{length, take}
 use lib.Seq.{take-all, take-length}
 
--- the place behind bytes that begin at a place
+-- the place after bytes that begin at a place
 unfoldable pub placeBehind : List ℕ → ℕ → ℕ
 placeBehind [] at = at
 placeBehind (x ∷ bytes) at = placeBehind bytes (suc at)
@@ -22,7 +22,7 @@ unfolding placeBehind
 placeBehind-append [] b at = refl
 placeBehind-append (x ∷ a) b at = placeBehind-append a b (suc at)
 
--- so much of a text as is looked at
+-- the part of a text that is looked at
 pub take-min : (t : List ℕ) (m e : ℕ) → e ≡ min (length t) m → take (e - 0) t ≡ take m t
 take-min t m e q = go (decLt (length t) m) where
   go : Dec (length t < m) → take (e - 0) t ≡ take m t

@@ -147,6 +147,6 @@ module _ (l : Limits) where
   got-same : {A : Type 0} {a b : A} {r r′ : List ℕ} {p p′ : ℕ} → got a r p ≡ got b r′ p′ → a ≡ b
   got-same h = cc
 
-  -- NO TWO READINGS: at one place of a text stands at most one thing of a sort.
+  -- NO TWO READINGS: at one place of a text there is at most one thing of a sort.
   pub one-reading : (w : Want) (d : ℕ) (e e′ : Thing w) (rest rest′ : List ℕ) → Allowed l w d e → Allowed l w d e′ → spelling w e ++ rest ≡ spelling w e′ ++ rest′ → e ≡ e′
   one-reading w d e e′ rest rest′ a a′ h = got-same (sym (reads w d e a rest 0) ∙ ap (λ z. follow l z (operand w d done) 0) h ∙ reads w d e′ a′ rest′ 0)

@@ -1,5 +1,5 @@
--- What a book and an edit can be refused with: 11 to 16 and 21 to 26, and a place of the text, its end included. A text that is too long is refused before it is read,
--- so that no place is beyond the longest text.
+-- How a book and an edit can be refused: with 11 to 16 and 21 to 26, and a place of the text or its end. A text that is too long is refused before it
+-- is read, so no place is outside the longest text.
 use mathlib.Core.Path.{_≡_, refl}
 use mathlib.Core.Bool.{Bool, true, false}
 use mathlib.Core.List.{List, [], _∷_}
@@ -16,7 +16,7 @@ use Rattle.text.specs.Reading.{Limits, Want, Thing, expr, edit, Format, 
 use Rattle.text.specs.Reading as reading
 use Rattle.text.specs.Questions.{faultNumber, mostRules, whole, readRules, askBook, askOne, askEdit}
 
--- A reading stays inside the text, of which this is the end: what is left stands at the place it has come to, and a fault is at no later place.
+-- A reading stays inside the text, whose end is `end`: what is left starts where the reading has come to, and a fault is at no later place.
 data Inside {A : Type 0} (end : ℕ) : Read A → Type 0 where
   left : {a : A} {rest : List ℕ} {p : ℕ} → p + length rest ≡ end → Inside end (got a rest p)
   at-fault : {why : Fault} (p : ℕ) → p ≤ end → Inside end (fault why p)

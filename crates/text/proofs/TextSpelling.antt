@@ -1,4 +1,4 @@
--- Books, edits and first rules: what passes the questions is spelled by its text and within the limits, and all that is so passes.
+-- Books, edits and first rules: what passes the questions is spelled by its text and within the limits, and everything of that kind passes.
 use mathlib.Core.Path.{_≡_, refl, sym, _∙_, ap, subst}
 use mathlib.Core.List.{List, [], _∷_, _++_, append-nil}
 use Prim.Native.Nat.{ℕ, zero, suc, _+_, _≤_}
@@ -50,7 +50,7 @@ pub record BeginsWith (l : Limits) (t : List ℕ) (K : Expr rule) : Type 0 where
   pub short : length t ≤ l .longest
   pub within : Allowed l (expr rule) 1 K
 
--- What was read where the questions on it pass.
+-- What was read if the questions about it pass.
 pub whole-got : {A : Type 0} (base : ℕ) (x : Read A) {a : A} → whole base x ≡ passed a → (p : ℕ) × (x ≡ got a [] p)
 unfolding whole
 whole-got base (got b [] p) h = (p, ap (λ y. got y [] p) (passed-same h))
@@ -66,7 +66,7 @@ pub fault-not-got : {A P : Type 0} {why : Fault} {q : ℕ} {a : A} {r : List ℕ
 fault-not-got e = let z : _≡_ {A = ℕ} 0 1 = cc in absurd (omega arith)
 
 module _ (l : Limits) where
-  -- what the rules that were read say of the text
+  -- what the rules that were read say about the text
   abbrev Rules : ℕ → List ℕ → Asked (List (Expr rule)) → Type 0
   Rules m t (passed book) = SpellsRules l m t book
   Rules m t (refused q p) = Unit {0}
@@ -86,7 +86,7 @@ module _ (l : Limits) where
     go (got K r p) w k = more K r p w (readRules l m r p) (k r p)
     go (fault why p) w k = tt
 
-  -- where a rule is read, the rules are that one and those behind it
+  -- if a rule is read, the rules are that one and those after it
   pub rules-step : (m : ℕ) (t : List ℕ) (at : ℕ) (K : Expr rule) (r : List ℕ) (p : ℕ) → readAs l (expr rule) t at ≡ got K r p → readRules l (suc m) t at ≡ readRules l m r p >>= (λ book. passed (K ∷ book))
   unfolding readRules follow
   rules-step m [] at K r p h = fault-not-got h
@@ -150,7 +150,7 @@ module _ (l : Limits) where
   pub spelled-rule-passes : (t : List ℕ) (K : Expr rule) → Spells l (expr rule) t K → askRule l t ≡ passed K
   spelled-rule-passes t K s = spelled-one-passes 10 (expr rule) t K s
 
-  -- An edit stands at the start of its text.
+  -- An edit starts at the start of its text.
   pub read-edit-stands : {t : List ℕ} {Z : Edit} → askEdit l t ≡ passed Z → EditStands (l .numbers) t 0 Z
   read-edit-stands {t} {Z} h = let s = edit-is-spelled t Z h in record { rest = []; here = s .text-is ∙ sym (append-nil (editCode Z)); range = s .within .numbers-fit }
 
@@ -170,7 +170,7 @@ module _ (l : Limits) where
       ∙ ap (λ x. first (readAs l (expr rule) x 0)) (s .text-is)
       ∙ ap first (reads l (expr rule) 1 K (s .within) (s .rest) 0)
 
--- RULE END: what stands in the part that holds the first rule is that rule, byte for byte.
+-- RULE END: the part that holds the first rule is that rule, byte for byte.
 part-holds : (t : List ℕ) → take (length (firstRule t)) t ≡ firstRule t
 unfolding firstRule after
 part-holds t = go (askRuleEnd t) refl where

@@ -1,4 +1,4 @@
--- What the checks of a book, an edit and a first rule answer in each of their cases, and where a rule starts.
+-- The answers of the checks of a book, an edit and a first rule in each of their cases; and where a rule starts.
 use mathlib.Core.Path.{_≡_, refl, sym, _∙_, ap, ap₂}
 use mathlib.Core.List.{List, [], _∷_}
 use Prim.Native.Nat.{ℕ, zero, suc, _-_, _≤_, _<_, _+_}
@@ -23,7 +23,7 @@ use Rattle.text.proofs.RuleStart.{end-step, end-fault}
 use Rattle.text.proofs.Compose.{same-operand, same-end, alike-turns, ReachedBy, reached}
 use Rattle.text.proofs.Items.{digit, here-pattern, here-digit}
 
--- what a fault answers
+-- the answer to a fault
 stop-answer : (base : ℕ) (why : Fault) (p : ℕ) → turnAnswer base (Stopped (stopOf why p)) ≡ refused (faultNumber base why) p
 unfolding stopOf
 stop-answer base missing p = refl
@@ -31,14 +31,14 @@ stop-answer base wrongSort p = refl
 stop-answer base tooDeep p = refl
 stop-answer base outOfRange p = refl
 
--- what a turn answers that is told part by part
+-- the answer to a turn, when turn and stop are given by equations
 pub answer-told : (base : ℕ) {t : Turn} {s s′ : Stop} → t ≡ Stopped s → s ≡ s′ → turnAnswer base (Stopped s′) ≡ turnAnswer base t
 answer-told base e f = sym (ap (turnAnswer base) (e ∙ ap Stopped f))
 
 turn-not : {P : Type 0} {p : ℕ} {s : Stop} → Next p ≡ Stopped s → P
 turn-not e = let z : _≡_ {A = ℕ} 0 1 = cc in absurd (omega arith)
 
--- What the code has read at a place: a thing that ends at p; or a fault.
+-- What the code has read at a place: a thing that ends at p, or a fault.
 pub record WasRead (t : List ℕ) (ρ : Limits) (w : Want) (at p : ℕ) : Type 0 where
   pub thing : Thing w
   pub reading : readAs ρ w (drop at t) at ≡ got thing (drop p t) p
@@ -131,7 +131,7 @@ module _ (t : List ℕ) (ρ : Limits) where
           omega (arith, length-drop at t)
           ∙ sym (ap (λ k. rulesEnd ρ k (drop at t) at) one-more ∙ end-fault ρ (left - 1) (drop at t) at (was-fault (expr rule) at e .reading))
 
-  -- ONE THING, an edit or a rule, by limits that are those asked
+  -- ONE THING, an edit or a rule, when the limits are those of the questions
   module _ (base : ℕ) (w : Want) {q : Limits} (same : ρ ≡ q) where
     pub one-same : outcome (askOne ρ base w t) ≡ outcome (askOne q base w t)
     one-same = ap (λ r. outcome (askOne r base w t)) same

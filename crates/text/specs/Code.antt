@@ -1,4 +1,4 @@
--- The codes of document 01 ("The code"), in prefix order: a code byte, its number bytes, its operands; and levels.
+-- The codes of document 01 ("The code"), in prefix order: a code byte, its number bytes, its operands. Also their levels.
 use mathlib.Core.List.{List, [], _∷_, _++_}
 use Prim.Native.Nat.{ℕ, suc, max}
 use Rattle.logic.specs.Syntax.{Sort, rule, Expr, all, none, label, nominal, complement, and, or, some, every, atLeast, atMost, arrowKind, reversed, union, common, minus, endingIn, pair, subNodes, subArrows, nodeIn, pairIn, both, either, notRule, Edit, finish, addLabel, takeLabel, addArrow, takeArrow, choose}
@@ -39,11 +39,11 @@ editCode (addArrow a R Z) = 0x33 ∷ a ∷ code R ++ editCode Z
 editCode (takeArrow a R Z) = 0x34 ∷ a ∷ code R ++ editCode Z
 editCode (choose K P Q Z) = 0x35 ∷ code K ++ editCode P ++ editCode Q ++ editCode Z
 
--- The levels of an expression: its first code is level 1, an operand is one level deeper than its code.
+-- The number of levels of an expression: its first code is level 1, an operand is one level deeper than its code.
 unfoldable pub levels : {s : Sort} → Expr s → ℕ
 levels e = byArity (λ s e. ℕ) (λ s b. 1) (λ u t b x l. suc l) (λ u v t b x y l m. suc (max l m)) e
 
--- The levels of an edit: Z is at the level of its step.
+-- The number of levels of an edit: Z is at the level of its step.
 unfoldable pub editLevels : Edit → ℕ
 editLevels finish = 1
 editLevels (addLabel k E Z) = max (suc (levels E)) (editLevels Z)
@@ -52,12 +52,12 @@ editLevels (addArrow a R Z) = max (suc (levels R)) (editLevels Z)
 editLevels (takeArrow a R Z) = max (suc (levels R)) (editLevels Z)
 editLevels (choose K P Q Z) = max (suc (max (levels K) (max (editLevels P) (editLevels Q)))) (editLevels Z)
 
--- A book: its rules one behind the other.
+-- The bytes of a book: its rules, one after the other.
 unfoldable pub bookCode : List (Expr rule) → List ℕ
 bookCode [] = []
 bookCode (K ∷ book) = code K ++ bookCode book
 
--- The levels of a book: those of its deepest rule.
+-- The number of levels of a book: those of its deepest rule.
 unfoldable pub bookLevels : List (Expr rule) → ℕ
 bookLevels [] = 0
 bookLevels (K ∷ book) = max (levels K) (bookLevels book)

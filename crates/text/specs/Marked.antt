@@ -1,5 +1,5 @@
 -- Marked examples 1 to 10 of document 01 on sheet T, and texts with faults: from the bytes as printed, through reading, meaning,
--- carrying and running, to what is printed.
+-- carrying and running, to the printed result.
 use mathlib.Core.Path.{_≡_}
 use mathlib.Core.Bool.{Bool, true, false, _&&_, _||_, cond}
 use mathlib.Core.List.{List, [], _∷_, _++_, map}
@@ -25,13 +25,13 @@ unfoldable pub members : ℕ → Nodes → List ℕ
 members zero v = []
 members (suc n) v = members n v ++ cond (v n) (n ∷ []) []
 
--- What an example shows: nodes; whether a rule holds; the carried text, whether it holds on T, and whether the rule holds after the edit.
+-- What an example shows: nodes; whether a rule holds; or the carried text, whether it holds on T, and whether the rule holds after the edit.
 pub data Shown : Type 0 where
   nodes : List ℕ → Shown
   holds : Bool → Shown
   carried : (text : List ℕ) (before after : Bool) → Shown
 
--- A row of a table: what the definitions give, and what the paper prints.
+-- A row of a table: what the definitions give, and what is expected.
 pub record Row (A : Type 0) : Type 0 where
   pub given : A
   pub printed : A
@@ -40,12 +40,12 @@ infix 68 _gives_
 abbrev pub _gives_ : {A : Type 0} → A → A → Row A
 x gives y = record { given = x; printed = y }
 
--- The table is right: in each row the two are the same.
+-- The table is right: in each row the two are equal.
 abbrev pub Right : {A : Type 0} → List (Row A) → Type 0
 Right rows = map (λ r. r .given) rows ≡ map (λ r. r .printed) rows
 
--- A node expression, a rule, and a rule through an edit, each from its bytes. The count of example 6 is one that document 01 allows: the
--- expression still means what it shows, though no book or edit may have it now.
+-- A node expression, a rule, and a rule through an edit, each from its bytes. The count in example 6 is one that document 01 allowed: the
+-- expression still means what the example shows, though books and edits may no longer contain it.
 unfoldable pub readOnT : Limits → List ℕ → Asked Shown
 readOnT l t = do
   E ← whole 20 (readAs l (expr node) t 0)
@@ -85,12 +85,12 @@ examples =
     ∷ throughOnT (0x21 ∷ 0x03 ∷ 0x01 ∷ 0x03 ∷ 0x00 ∷ []) (0x35 ∷ 0x23 ∷ 0x00 ∷ 0x03 ∷ 0x01 ∷ 0x31 ∷ 0x00 ∷ 0x04 ∷ 0x02 ∷ 0x30 ∷ 0x30 ∷ 0x30 ∷ []) gives passed (carried (0x25 ∷ 0x26 ∷ 0x27 ∷ 0x23 ∷ 0x00 ∷ 0x03 ∷ 0x01 ∷ 0x21 ∷ 0x03 ∷ 0x01 ∷ 0x07 ∷ 0x03 ∷ 0x00 ∷ 0x04 ∷ 0x02 ∷ 0x26 ∷ 0x23 ∷ 0x00 ∷ 0x03 ∷ 0x01 ∷ 0x21 ∷ 0x03 ∷ 0x01 ∷ 0x03 ∷ 0x00 ∷ []) false false)
     ∷ []
 
--- so many times the same bytes, and then others
+-- the same bytes a number of times, and then others
 unfoldable pub times : ℕ → List ℕ → List ℕ → List ℕ
 times zero bytes rest = rest
 times (suc m) bytes rest = bytes ++ times m bytes rest
 
--- What is found of a book, of an edit, and of the first rule of a text, without what is learned.
+-- What reading finds in a book, in an edit, and in the first rule of a text, without the result.
 pub data Found : Type 0 where
   sound : Found
   no : (number place : ℕ) → Found
@@ -108,11 +108,11 @@ editOf n t = found (askEdit (textLimits n) t)
 abbrev pub firstOf : List ℕ → Found
 firstOf t = found (askRuleEnd t)
 
--- of a stored book, by the former ranges
+-- a stored book, read with the former ranges
 abbrev pub storedOf : List ℕ → Found
 storedOf t = found (askBook (formerLimits maxNodes) t)
 
--- Texts that tell the places and the order of the questions apart, each with what is found.
+-- Texts that show the places and the order of the questions, each with what reading finds.
 unfoldable pub texts : List (Row Found)
 texts =
     -- an empty book is sound, an empty edit is 22, an empty text has no first rule
@@ -122,37 +122,37 @@ texts =
     -- 12: the place is the length
     ∷ bookOf 3 (0x21 ∷ 0x01 ∷ []) gives no 12 2
     ∷ bookOf 3 (0x24 ∷ 0x00 ∷ []) gives no 12 2
-    -- 13: 01 is no rule, 03 no arrow, 30 and 00 nothing that a book has
+    -- 13: 01 is not a rule, 03 not an arrow, 30 and 00 are nothing that a book has
     ∷ bookOf 3 (0x01 ∷ []) gives no 13 0
     ∷ bookOf 3 (0x23 ∷ 0x02 ∷ 0x08 ∷ 0x03 ∷ []) gives no 13 3
     ∷ bookOf 3 (0x30 ∷ []) gives no 13 0
     ∷ bookOf 3 (0x23 ∷ 0x02 ∷ 0x01 ∷ 0x00 ∷ []) gives no 13 3
     ∷ bookOf 3 (0x0C ∷ 0x18 ∷ 0x20 ∷ 0x28 ∷ 0x2F ∷ 0x36 ∷ []) gives no 13 0
-    -- 15 of a number before the next byte is looked at; label 47 against 48, arrow 15 against 16, node below n
+    -- 15 for a number before the next byte is looked at; label 47 and 48, arrow 15 and 16, node below n
     ∷ bookOf 3 (0x24 ∷ 0x3C ∷ []) gives no 15 1
     ∷ bookOf 3 (0x23 ∷ 0x03 ∷ []) gives no 15 1
     ∷ bookOf 4 (0x23 ∷ 0x03 ∷ 0x01 ∷ []) gives sound
     ∷ bookOf 3 (0x23 ∷ 0x00 ∷ 0x03 ∷ 0x30 ∷ []) gives no 15 3
     ∷ bookOf 3 (0x23 ∷ 0x00 ∷ 0x03 ∷ 0x2F ∷ []) gives sound
     ∷ bookOf 3 (0x22 ∷ 0x11 ∷ 0x0F ∷ 0x11 ∷ 0x10 ∷ []) gives no 15 4
-    -- the byte of a count is no code
+    -- the byte of a count is not a code
     ∷ bookOf 3 (0x23 ∷ 0x00 ∷ 0x0A ∷ 0x03 ∷ 0x11 ∷ 0x00 ∷ 0x01 ∷ []) gives sound
     -- the count of an 0A: 1 to 60, whatever n; example 6 in a book is 15
     ∷ bookOf 3 (0x23 ∷ 0x00 ∷ 0x0A ∷ 0x00 ∷ 0x11 ∷ 0x00 ∷ 0x02 ∷ []) gives no 15 3
     ∷ bookOf 3 (0x23 ∷ 0x00 ∷ 0x0A ∷ 0x01 ∷ 0x11 ∷ 0x00 ∷ 0x02 ∷ []) gives sound
     ∷ bookOf 3 (0x23 ∷ 0x00 ∷ 0x0A ∷ 0x3C ∷ 0x11 ∷ 0x00 ∷ 0x01 ∷ []) gives sound
     ∷ bookOf 3 (0x23 ∷ 0x00 ∷ 0x0A ∷ 0x3D ∷ []) gives no 15 3
-    -- of an 0B: 0 to 59
+    -- the count of an 0B: 0 to 59
     ∷ bookOf 3 (0x23 ∷ 0x00 ∷ 0x0B ∷ 0x00 ∷ 0x11 ∷ 0x00 ∷ 0x01 ∷ []) gives sound
     ∷ bookOf 3 (0x23 ∷ 0x00 ∷ 0x0B ∷ 0x3B ∷ 0x11 ∷ 0x00 ∷ 0x01 ∷ []) gives sound
     ∷ bookOf 3 (0x23 ∷ 0x00 ∷ 0x0B ∷ 0x3C ∷ 0x11 ∷ 0x00 ∷ 0x01 ∷ []) gives no 15 3
-    -- and so in an edit and in a first rule; a stored book may have any count, and nodes below 60
+    -- the same in an edit and in a first rule; a stored book may have any count, and nodes below 60
     ∷ editOf 3 (0x31 ∷ 0x00 ∷ 0x0A ∷ 0x00 ∷ 0x11 ∷ 0x00 ∷ 0x02 ∷ 0x30 ∷ []) gives no 25 3
     ∷ editOf 3 (0x31 ∷ 0x00 ∷ 0x0B ∷ 0x3C ∷ 0x11 ∷ 0x00 ∷ 0x02 ∷ 0x30 ∷ []) gives no 25 3
     ∷ firstOf (0x23 ∷ 0x00 ∷ 0x0A ∷ 0x3D ∷ 0x11 ∷ 0x00 ∷ 0x01 ∷ []) gives no 15 3
     ∷ storedOf (0x23 ∷ 0x3B ∷ 0x0A ∷ 0x00 ∷ 0x11 ∷ 0x00 ∷ 0x0B ∷ 0xFF ∷ 0x11 ∷ 0x00 ∷ 0x02 ∷ []) gives sound
     ∷ storedOf (0x23 ∷ 0x3C ∷ 0x01 ∷ []) gives no 15 1
-    -- level 32 against 33; 13 before 14 before 15; 12 before all
+    -- level 32 and 33; 13 before 14 before 15; 12 before all of them
     ∷ bookOf 3 (times 31 (0x27 ∷ []) (0x23 ∷ 0x00 ∷ 0x01 ∷ [])) gives no 14 33
     ∷ bookOf 3 (times 30 (0x27 ∷ []) (0x23 ∷ 0x00 ∷ 0x01 ∷ [])) gives sound
     ∷ bookOf 3 (times 32 (0x27 ∷ []) (0x01 ∷ [])) gives no 13 32
@@ -172,17 +172,17 @@ texts =
     ∷ bookOf 3 (times 32 (0x23 ∷ 0x00 ∷ 0x01 ∷ []) (0xFF ∷ [])) gives no 16 96
     ∷ bookOf 3 (times 31 (0x23 ∷ 0x00 ∷ 0x01 ∷ []) (0x23 ∷ 0x00 ∷ 0x02 ∷ 0x23 ∷ [])) gives no 16 96
     ∷ bookOf 3 (times 31 (0x23 ∷ 0x00 ∷ 0x01 ∷ []) (0x23 ∷ 0x03 ∷ 0x02 ∷ 0x23 ∷ [])) gives no 15 94
-    -- 26: the first byte behind the edit
+    -- 26: the first byte after the edit
     ∷ editOf 3 (0x30 ∷ 0x30 ∷ []) gives no 26 1
     ∷ editOf 3 (0x31 ∷ 0x00 ∷ 0x01 ∷ 0x30 ∷ 0xFF ∷ []) gives no 26 4
-    -- the same questions of an edit are 21 to 25
+    -- the same questions about an edit are 21 to 25
     ∷ editOf 3 (0x31 ∷ 0x30 ∷ []) gives no 25 1
     ∷ editOf 3 (0x21 ∷ 0x01 ∷ 0x01 ∷ []) gives no 23 0
-    -- the first rule alone is read, n as 60, and 12 has the whole length
+    -- only the first rule is read, n as 60, and the place of 12 is the whole text's length
     ∷ firstOf (0x23 ∷ 0x3B ∷ 0x01 ∷ 0xFF ∷ []) gives sound
     ∷ firstOf (0x23 ∷ 0x3C ∷ 0x01 ∷ 0xFF ∷ []) gives no 15 1
     ∷ firstOf (0x21 ∷ 0x01 ∷ []) gives no 12 2
-    -- 11 and 21 before all
+    -- 11 and 21 before all others
     ∷ bookOf 3 (times 4097 (0x01 ∷ []) []) gives no 11 0
     ∷ editOf 3 (times 4097 (0x01 ∷ []) []) gives no 21 0
     ∷ firstOf (0x23 ∷ 0x00 ∷ 0x01 ∷ times 4094 (0x01 ∷ []) []) gives no 11 0

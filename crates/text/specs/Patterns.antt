@@ -1,4 +1,4 @@
--- The codes as a table of patterns, one number for each code, and how the turns of the code follow the formats of a reading.
+-- The codes as a table of patterns, one number for each code, and how the code's turns follow the formats of a reading.
 use mathlib.Core.Bool.{Bool, true, _&&_, cond}
 use mathlib.Core.List.{List, [], _∷_}
 use Prim.Native.Nat.{ℕ, suc, _+_, _-_, _/_, _%_}
@@ -15,15 +15,15 @@ use Rattle.text.specs.declared.Turn.the-variants.{Next, Stopped}
 use Rattle.text.specs.Questions.{faultNumber}
 use Rattle.text.specs.Reading.{Limits, Want, expr, edit, Format, done, number, operand, Fault, missing, wrongSort, tooDeep, outOfRange, Read, got, fault, follow}
 
--- What can follow a code: nothing, with which its pattern ends; a number of a kind; a thing one level deeper; a thing on the code's own level,
--- with which its pattern ends too.
+-- What can follow a code: nothing, which ends its pattern; a number of a kind; a thing one level deeper; a thing at the code's own level,
+-- which also ends its pattern.
 pub data Item : Type 0 where
   nothing : Item
   takes : Kind → Item
   deeper : Want → Item
   here : Want → Item
 
--- The items, each by its digit.
+-- The items, by their digit.
 unfoldable pub items : List Item
 items =
     nothing ∷ nothing ∷ nothing
@@ -35,7 +35,7 @@ items =
 unfoldable pub itemOf : ℕ → Item
 itemOf x = getD items x nothing
 
--- The pattern of each code: its items as hexadecimal digits, the first item is the last digit.
+-- The pattern of each code: its items as hexadecimal digits, the first item in the last digit.
 unfoldable pub nodePatterns : List ℕ
 nodePatterns =
     0x0000 ∷  -- 01 all
@@ -94,7 +94,7 @@ codeSort c =
     (cond (leb 0x21 c && leb c 0x27) rules
     (cond (leb 0x30 c && leb c 0x35) edits noCode)))
 
--- The pattern of a code of a sort, and the sort as the digit of an item that stands on the code's level; 0 where the byte is no code.
+-- The pattern of a code of a sort; the sort as the digit of an item at the code's own level. Both are 0 if the byte is not a code.
 unfoldable pub patternIn : CodeSort → ℕ → ℕ
 patternIn nodes c = getD nodePatterns (c - 0x01) 0
 patternIn arrows c = getD arrowPatterns (c - 0x11) 0
@@ -119,7 +119,7 @@ sortOf c = sortDigit (codeSort c)
 abbrev pub finished : Format (Unit {0})
 finished = done tt
 
--- What an item, and a pattern of at most four items, want of the bytes to come, for a code at level d.
+-- What an item, and a pattern of at most four items, want from the bytes that follow a code at level d.
 unfoldable pub itemFormat : Item → ℕ → Format (Unit {0}) → Format (Unit {0})
 itemFormat nothing d rest = finished
 itemFormat (takes k) d rest = number k (λ x. rest)
@@ -129,7 +129,7 @@ itemFormat (here w) d rest = operand w d (λ e. finished)
 unfoldable pub patternFormat : (pattern d : ℕ) → Format (Unit {0})
 patternFormat pattern d = itemFormat (itemOf (pattern % 16)) d (itemFormat (itemOf (pattern / 16 % 16)) d (itemFormat (itemOf (pattern / 256 % 16)) d (itemFormat (itemOf (pattern / 4096 % 16)) d finished)))
 
--- The limits that the code is given.
+-- The limits of a reading, from the code's.
 abbrev pub limitsOf : declared.Limits → Limits
 limitsOf x = record { longest = x .longest; deepest = x .deepest; numbers = record { nodes = x .nodes; leastFrom = x .from; leastTo = x .to; mostTo = x .most } }
 
@@ -140,7 +140,7 @@ numberFits r (takes k) x = fits r k x
 numberFits r (deeper w) x = true
 numberFits r (here w) x = true
 
--- What a reading is to the code: the next place, or the fault and its place.
+-- The code's view of a reading: the next place, or the fault and its place.
 unfoldable pub stopOf : Fault → ℕ → Stop
 stopOf missing p = Missing p
 stopOf wrongSort p = WrongSort p
@@ -151,7 +151,7 @@ unfoldable pub turnOf : {A : Type 0} → Read A → Turn
 turnOf (got a rest p) = Next p
 turnOf (fault why p) = Stopped (stopOf why p)
 
--- What is answered to a turn that is the last: 12 to 15 of a book (base 10), 22 to 25 of an edit (base 20).
+-- The answer when this turn is the last: 12 to 15 for a book (base 10), 22 to 25 for an edit (base 20).
 abbrev pub turnAnswer : ℕ → Turn → Asked (Unit {0})
 turnAnswer base (Next p) = passed tt
 turnAnswer base (Stopped (Missing p)) = refused (faultNumber base missing) p
@@ -159,11 +159,11 @@ turnAnswer base (Stopped (WrongSort p)) = refused (faultNumber base wrongSort) p
 turnAnswer base (Stopped (TooDeep p)) = refused (faultNumber base tooDeep) p
 turnAnswer base (Stopped (OutOfRange p)) = refused (faultNumber base outOfRange) p
 
--- A format followed from a place of a text.
+-- The turn that a format gives when followed from a place of a text.
 unfoldable pub turnAt : {A : Type 0} → List ℕ → Limits → Format A → ℕ → Turn
 turnAt text l format at = turnOf (follow l (drop at text) format at)
 
--- The questions at a code byte: is it there, is it of the sort, is its level within the limit.
+-- The questions at a code byte: is it there, is it of the sort wanted, is its level within the limit?
 unfoldable pub headAt : List ℕ → (deepest sort d at : ℕ) → Turn
 headAt text deepest sort d at =
     cond (ltb at (length text))

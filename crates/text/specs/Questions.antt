@@ -1,4 +1,4 @@
--- The questions that a book, the first rule of a text, and an edit are asked: 11 to 16, 11 to 15, 21 to 26. And where a rule of a book stands.
+-- The questions about a book, the first rule of a text, and an edit: 11 to 16, 11 to 15, 21 to 26. Also where each rule of a book starts.
 use mathlib.Core.List.{List, [], _∷_}
 use Prim.Native.Nat.{ℕ, zero, suc, _+_}
 use lib.Dec.{leb}
@@ -18,19 +18,19 @@ faultNumber base wrongSort = base + 3
 faultNumber base tooDeep = base + 4
 faultNumber base outOfRange = base + 5
 
--- what is read at the start of a text, whatever follows
+-- What is read at the start of a text, whatever follows.
 unfoldable pub first : {A : Type 0} → Read A → Asked A
 first (got a rest p) = passed a
 first (fault why p) = refused (faultNumber 10 why) p
 
--- what is read, if the bytes have then ended: 16 or 26
+-- What is read, if no bytes follow; else 16 or 26.
 unfoldable pub whole : {A : Type 0} (base : ℕ) → Read A → Asked A
 whole base (got a [] p) = passed a
 whole base (got a (x ∷ t) p) = refused (base + 6) p
 whole base (fault why p) = refused (faultNumber base why) p
 
 module _ (l : Limits) where
-  -- The rules of a text, at most m of them: 12 to 15 of each, and 16 before one too many.
+  -- The rules of a text, at most m of them: 12 to 15 for each, and 16 before one too many.
   unfoldable pub readRules : (m : ℕ) → List ℕ → ℕ → Asked (List (Expr rule))
   readRules zero [] at = passed []
   readRules zero (c ∷ t) at = refused 16 at
@@ -41,12 +41,12 @@ module _ (l : Limits) where
         | fault why p ↦ refused (faultNumber 10 why) p
       ]
 
-  -- The place behind i rules of a text that begins at a place. Where they cannot be read, the text's end.
+  -- The place after i rules of a text that begins at `at`; the text's end if they cannot be read.
   unfoldable pub rulesEnd : (i : ℕ) → List ℕ → ℕ → ℕ
   rulesEnd zero t at = at
   rulesEnd (suc i) t at = elim (readAs l (expr rule) t at) [ got K rest p ↦ rulesEnd i rest p | fault why p ↦ at + length t ]
 
-  -- Where rule i of a text stands, from 0: behind i rules.
+  -- Where rule i of a text, from 0, starts: after i rules.
   unfoldable pub ruleStart : (i : ℕ) → List ℕ → ℕ
   ruleStart i t = rulesEnd i t 0
 
@@ -56,13 +56,13 @@ module _ (l : Limits) where
     is (leb (length t) (l .longest)) 11 0
     readRules mostRules t 0
 
-  -- The first rule of a text: 11, then 12 to 15 for it alone.
+  -- The first rule of a text: 11, then 12 to 15 for that rule only.
   unfoldable pub askFirst : List ℕ → Asked (Expr rule)
   askFirst t = do
     is (leb (length t) (l .longest)) 11 0
     first (readAs l (expr rule) t 0)
 
-  -- One thing and no more: its length, its bytes, and that none follow it, place the first of them.
+  -- One thing and nothing after it: the text's length, its bytes, and whether more follow; the place is then the first of those.
   unfoldable pub askOne : (base : ℕ) (w : Want) → List ℕ → Asked (Thing w)
   askOne base w t = do
     is (leb (length t) (l .longest)) (base + 1) 0
@@ -76,7 +76,7 @@ module _ (l : Limits) where
   abbrev pub askEdit : List ℕ → Asked Edit
   askEdit t = askOne 20 edit t
 
--- Rule end: n as 60. The bytes of the first rule, none when refused; and the part of the text that holds them.
+-- Rule end, with n as 60: the questions; the bytes of the first rule, none when refused; the part of the text that holds them.
 abbrev pub askRuleEnd : List ℕ → Asked (Expr rule)
 askRuleEnd t = askFirst (textLimits maxNodes) t
 

@@ -1,4 +1,4 @@
--- Reading a text ("The questions, in order" of document 01): what a code is followed by, as a format, and the format followed along the bytes.
+-- Reading a text ("The questions, in order" of document 01): what follows a code, as a format, and following a format along the bytes.
 use mathlib.Core.Bool.{true, false}
 use mathlib.Core.List.{List, [], _∷_}
 use Prim.Native.Nat.{ℕ, suc}
@@ -28,18 +28,18 @@ pub record Limits : Type 0 where
   pub deepest : ℕ
   pub numbers : Ranges
 
--- Those of a book or an edit, by its ranges.
+-- The limits of a book or an edit, with the given ranges.
 abbrev pub limitsBy : Ranges → Limits
 limitsBy r = record { longest = longestText; deepest = deepestText; numbers = r }
 
--- For n nodes; and by the former ranges, for the rewriter of stored books.
+-- The limits for n nodes; the same with the former ranges, for the rewriter of stored books.
 abbrev pub textLimits : ℕ → Limits
 textLimits n = limitsBy (ranges n)
 
 abbrev pub formerLimits : ℕ → Limits
 formerLimits n = limitsBy (formerRanges n)
 
--- Those of a carried book.
+-- The limits of a carried book.
 abbrev pub carriedLimits : ℕ → Limits
 carriedLimits n = record { longest = longestCarried; deepest = deepestCarried; numbers = ranges n }
 
@@ -52,7 +52,7 @@ abbrev pub Thing : Want → Type 0
 Thing (expr s) = Expr s
 Thing edit = Edit
 
--- What the bytes to come must be: nothing more; a number and then more; a thing at a level and then more.
+-- What the next bytes must be: nothing more; a number and then more; a thing at a level and then more.
 pub data Format (A : Type 0) : Type 0 where
   done : A → Format A
   number : Kind → (ℕ → Format A) → Format A
@@ -64,7 +64,7 @@ done a >>= f = f a
 number k p >>= f = number k (λ x. p x >>= f)
 operand w l p >>= f = operand w l (λ e. p e >>= f)
 
--- A code byte with the format of what follows it.
+-- A code byte, and the format of what follows it.
 pub record Entry (A : Type 0) : Type 0 where
   pub byte : ℕ
   pub format : Format A
@@ -123,23 +123,23 @@ module _ (l : ℕ) where
       ∷ 0x35 ⇒ (do K ← sub (expr rule); P ← sub edit; Q ← sub edit; Z ← operand edit l done; done (choose K P Q Z))
       ∷ []
 
--- The question that a text answers with no: is a byte there, is its code of the sort wanted, is its level within the limit,
--- is the number in range.
+-- The question at which reading stops: is a byte there, is its code of the sort wanted, is its level within the limit,
+-- is the number in range?
 pub data Fault : Type 0 where
   missing wrongSort tooDeep outOfRange : Fault
 
--- A thing that was read, with the bytes behind it and their place; or the first fault and its place.
+-- What was read, with the bytes after it and their place; or the first fault and its place.
 pub data Read (A : Type 0) : Type 0 where
   got : (result : A) (rest : List ℕ) (place : ℕ) → Read A
   fault : (why : Fault) (place : ℕ) → Read A
 
--- the format that stands at the byte c
+-- Goes on with the format that the byte c has among the entries, if it has one.
 unfoldable pub choice : {A B : Type 0} → ℕ → List (Entry A) → (Format A → Read B) → Read B → Read B
 choice c [] found other = other
 choice c (e ∷ es) found other = elim (eqb c (e .byte)) [ true ↦ found (e .format) | false ↦ choice c es found other ]
 
 module _ (l : Limits) where
-  -- The format followed along the bytes, the first of which is at a place.
+  -- Follows the format along the bytes, the first of which is at place `at`.
   unfoldable pub follow : {A : Type 0} → List ℕ → Format A → ℕ → Read A
   unfolding choice
   follow [] (done a) at = got a [] at
@@ -150,6 +150,6 @@ module _ (l : Limits) where
   follow (c ∷ t) (operand w d f) at =
       choice c (codes d w) (λ p. elim (leb d (l .deepest)) [ true ↦ follow t (p >>= f) (suc at) | false ↦ fault tooDeep at ]) (fault wrongSort at)
 
-  -- The thing that stands at the start of a text, its first code at level 1.
+  -- The thing at the start of a text, with its first code at level 1.
   abbrev pub readAs : (w : Want) → List ℕ → ℕ → Read (Thing w)
   readAs w t at = follow t (operand w 1 done) at

@@ -1,4 +1,4 @@
--- An expression or an edit that stands at a place of a text. Inner functions ask for some such thing and speak of every one.
+-- An expression or an edit that starts at a place of a text. Inner functions require that there is one, and their contracts speak about every such one.
 use mathlib.Core.Path.{_≡_}
 use mathlib.Core.List.{List, _++_}
 use Prim.Native.Nat.{ℕ}

@@ -14,7 +14,7 @@ ghost use Rattle.text.specs.Reading.{textLimits, formerLimits, carriedLi
 ghost use Rattle.text.specs.Questions.{askBook, askFirst, askRule, askEdit, askRuleEnd, firstPart, ruleStart};
 ghost use Rattle.text.specs.Part.{PartOf};
 
-// What is wrong with the bytes, and where: 12 to 15 of a book, 22 to 25 of an edit.
+// What is wrong with the bytes, and where: 12 to 15 for a book, 22 to 25 for an edit.
 pub enum Stop {
     Missing { place: usize },
     WrongSort { place: usize },
@@ -22,15 +22,15 @@ pub enum Stop {
     OutOfRange { place: usize },
 }
 
-// Where reading goes on, or what stopped it.
+// The place where reading goes on, or what stopped it.
 pub enum Turn {
     Next(usize),
     Stopped(Stop),
 }
 
 // What follows each code, a hexadecimal digit for each item, the first item last. 3 label, 4 arrow, 5 node number; 6, 7 the counts of 0A
-// and 0B; 8 nodes, 9 arrows, A rule, B edit, one level deeper; C nodes, D arrows, E rule, F edit, on the code's own level.
-// 0 where the byte is no code. One `match` with constants: the compiler makes it a table in read-only memory.
+// and 0B; 8 nodes, 9 arrows, A rule, B edit, one level deeper; C nodes, D arrows, E rule, F edit, at the code's own level.
+// 0 if the byte is not a code. A single `match` with constants, which the compiler turns into a table in read-only memory.
 fn pattern_of(code: u8) -> u32
     ensures { λ r. ⌜ r ≡ patternOf code ⌝ }
 {
@@ -70,12 +70,12 @@ fn pattern_of(code: u8) -> u32
     }
 }
 
-// The digits of a rule and an edit on their own level.
+// The digits of a rule and of an edit at the code's own level.
 const RULE: u32 = 0xE;
 
 const EDIT: u32 = 0xF;
 
-// The sort of a code, as the digit of an item on its level.
+// The sort of a code, as the digit of an item at the code's own level.
 fn sort_of(code: u8) -> u32
     ensures { λ r. ⌜ r ≡ sortOf code ⌝ }
 {
@@ -88,8 +88,8 @@ fn sort_of(code: u8) -> u32
     }
 }
 
-// The limits of a reading: the longest text, the last level, and the ranges of numbers: nodes are below `nodes`; the count of an 0A is from
-// `from` to `to`, that of an 0B up to `most`. Two words, so that a call hands them on in registers.
+// The limits of a reading: the longest text, the last level, and the ranges of numbers. Nodes are below `nodes`; the count of an 0A is from
+// `from` to `to`, that of an 0B at most `most`. The struct fills two words, so that calls pass it in registers.
 struct Limits {
     nodes: usize,
     longest: u32,
@@ -99,7 +99,7 @@ struct Limits {
     most: u8,
 }
 
-// Is a number byte of a kind in its range? Inner: the item is a number.
+// Whether a number byte is in the range of its kind. Inner: the item is a number.
 fn in_range(limits: Limits, kind: u32, x: u8) -> bool
     requires { ⌜ (3 ≤ kind) × (kind < 8) ⌝ }
     ensures { λ r. ⌜ r ≡ numberFits (limitsOf limits .numbers) (itemOf kind) x ⌝ }
@@ -113,8 +113,8 @@ fn in_range(limits: Limits, kind: u32, x: u8) -> bool
     }
 }
 
-// Reads a thing whose first code is on level 1, byte by byte along the patterns of its codes: `pattern` is what is left of the code at `level`,
-// `patterns` what is left of those above it. 512 bytes of stack, however deep the text.
+// Reads a thing whose first code is at level 1, byte by byte along the patterns of its codes: `pattern` is what remains of the code at `level`,
+// `patterns` what remains of those above it. Takes 512 bytes of stack, however deep the text.
 // Inner: the sort wanted is a digit from C to F.
 fn read(text: &[u8], limits: Limits, wanted: u32, at: usize) -> Turn
     requires { ⌜ (12 ≤ wanted) × (wanted < 16) ⌝ }
@@ -162,7 +162,7 @@ fn read(text: &[u8], limits: Limits, wanted: u32, at: usize) -> Turn
     }
 }
 
-// The answer to a book, and to an edit, of which this was the last turn.
+// The answer for a book, and for an edit, when this turn is the last.
 fn book_answer(turn: Turn) -> Answer
     ensures { λ r. ⌜ asked r ≡ turnAnswer 10 turn ⌝ }
 {
@@ -191,7 +191,7 @@ fn edit_answer(turn: Turn) -> Answer
     }
 }
 
-// The limits of a book or an edit for n nodes; those of stored books, where a count may be any byte; and those of a carried rule.
+// The limits of a book or an edit for n nodes; of a stored book, where a count may be any byte; of a carried rule.
 fn limits_for(n: usize) -> Limits
     ensures { λ r. ⌜ limitsOf r ≡ textLimits n ⌝ }
 {
@@ -231,7 +231,7 @@ fn carried_limits(n: usize) -> Limits
     }
 }
 
-// Is a book within the limits? 11 to 16.
+// Is the book within the limits? 11 to 16.
 fn book_within(book: &[u8], limits: Limits) -> Answer
     ensures { λ r. ⌜ asked r ≡ outcome (askBook (limitsOf limits) (now (book .entry))) ⌝ }
 {
@@ -254,7 +254,7 @@ fn book_within(book: &[u8], limits: Limits) -> Answer
     Answer::Done
 }
 
-// Is a text one rule within the limits, and no more? 11 to 16.
+// Is the text one rule within the limits, with nothing after it? 11 to 16.
 fn rule_within(text: &[u8], limits: Limits) -> Answer
     ensures { λ r. ⌜ asked r ≡ outcome (askRule (limitsOf limits) (now (text .entry))) ⌝ }
 {
@@ -271,7 +271,7 @@ fn rule_within(text: &[u8], limits: Limits) -> Answer
     Answer::Done
 }
 
-// Does a text begin with a rule within the limits? 11 to 15.
+// Does the text begin with a rule within the limits? 11 to 15.
 fn first_within(text: &[u8], limits: Limits) -> Answer
     ensures { λ r. ⌜ asked r ≡ outcome (askFirst (limitsOf limits) (now (text .entry))) ⌝ }
 {
@@ -281,19 +281,19 @@ fn first_within(text: &[u8], limits: Limits) -> Answer
     book_answer(read(text, limits, RULE, 0))
 }
 
-// Texts. Each function goes over a text once.
+// The calls that read texts, and their limits. Each call reads its text once.
 pub struct Text;
 
 impl Text {
-    // bytes of a book or an edit
+    // length of a book or an edit
     pub const LONGEST: usize = 4096;
     // the last level
     pub const DEEPEST: u8 = 32;
-    // bytes and the last level of a carried book or rule
+    // length and last level of a carried book or rule
     pub const LONGEST_CARRIED: usize = 16384;
 
     pub const DEEPEST_CARRIED: u8 = 255;
-    // rules of a book
+    // rules in a book
     pub const RULES: usize = 32;
     // label numbers, arrow numbers and, where there is no sheet, node numbers are below these
     pub const LABELS: u8 = Label::COUNT;
@@ -301,14 +301,14 @@ impl Text {
     pub const ARROWS: u8 = Arrow::COUNT;
 
     pub const NODES: usize = Node::MAX as usize;
-    // the counts of an 0A, and the last of an 0B
+    // the least and greatest count of an 0A, and the greatest of an 0B
     pub const LEAST_FROM: u8 = 1;
 
     pub const LEAST_TO: u8 = Node::MAX;
 
     pub const MOST_TO: u8 = Node::MAX - 1;
 
-    // Is a book within the limits for n nodes? 11 to 16.
+    // Is the book within the limits for n nodes? 11 to 16.
     pub fn check_book(book: &[u8], n: usize) -> Answer
         ensures { λ r. ⌜ asked r ≡ outcome (askBook (textLimits n) (now (book .entry))) ⌝ }
     {
@@ -316,7 +316,7 @@ impl Text {
         book_within(book, limits)
     }
 
-    // Is a stored book, which may have any count? 11 to 16 by the former ranges, n as 60. For the rewriter of stored books.
+    // Is the book within the limits by the former ranges, which allow any count? 11 to 16, n as 60. For the rewriter of stored books.
     pub fn check_former_book(book: &[u8]) -> Answer
         ensures { λ r. ⌜ asked r ≡ outcome (askBook (formerLimits maxNodes) (now (book .entry))) ⌝ }
     {
@@ -324,7 +324,7 @@ impl Text {
         book_within(book, limits)
     }
 
-    // Is a text one rule, and no more? 11 to 16.
+    // Is the text one rule, with nothing after it? 11 to 16.
     pub fn check_rule(text: &[u8], n: usize) -> Answer
         ensures { λ r. ⌜ asked r ≡ outcome (askRule (textLimits n) (now (text .entry))) ⌝ }
     {
@@ -332,7 +332,7 @@ impl Text {
         rule_within(text, limits)
     }
 
-    // Is a text one carried rule? 11 to 16 by the limits of a carried book, n as 60.
+    // Is the text one carried rule? 11 to 16 by the limits of a carried book, n as 60.
     pub fn check_carried_rule(text: &[u8]) -> Answer
         ensures { λ r. ⌜ asked r ≡ outcome (askRule (carriedLimits maxNodes) (now (text .entry))) ⌝ }
     {
@@ -340,7 +340,7 @@ impl Text {
         rule_within(text, limits)
     }
 
-    // Is an edit? 21 to 26.
+    // Is the edit within the limits for n nodes? 21 to 26.
     pub fn check_edit(edit: &[u8], n: usize) -> Answer
         ensures { λ r. ⌜ asked r ≡ outcome (askEdit (textLimits n) (now (edit .entry))) ⌝ }
     {
@@ -358,7 +358,7 @@ impl Text {
         Answer::Done
     }
 
-    // The first rule of a text, cut from it at its own place; empty, at the text's start, when refused. n is 60.
+    // The first rule of a text, as a part of that text; when refused, an empty part at its start. n is 60.
     pub fn first_rule(text: &[u8]) -> &[u8]
         ensures { λ r. ⌜ PartOf (text .entry) (firstPart (now (text .entry))) r ⌝ }
     {
@@ -373,7 +373,7 @@ impl Text {
         &text[0..p]
     }
 
-    // The answer that goes with it: 11 to 15.
+    // The answer that goes with `first_rule`: 11 to 15.
     pub fn first_rule_answer(text: &[u8]) -> Answer
         ensures { λ r. ⌜ asked r ≡ outcome (askRuleEnd (now (text .entry))) ⌝ }
     {
@@ -381,7 +381,7 @@ impl Text {
         first_within(text, limits)
     }
 
-    // Does a text begin with a carried rule, for n nodes? 11 to 15.
+    // Does the text begin with a carried rule, for n nodes? 11 to 15.
     pub fn check_first_carried(text: &[u8], n: usize) -> Answer
         ensures { λ r. ⌜ asked r ≡ outcome (askFirst (carriedLimits n) (now (text .entry))) ⌝ }
     {
@@ -389,7 +389,7 @@ impl Text {
         first_within(text, limits)
     }
 
-    // How much of a text is looked at for its first rule: a carried rule is no longer.
+    // How much of a text to look at for its first rule: no carried rule is longer.
     pub fn looked_at(length: usize) -> usize
         ensures { λ r. ⌜ r ≡ min length longestCarried ⌝ }
     {
@@ -400,8 +400,8 @@ impl Text {
         }
     }
 
-    // Where rule i of a book stands, from 0: behind i rules; the book's length where there are not so many, or where they can't be read.
-    // No rule stands at the book's end, so that reading stops there too.
+    // Where rule i of a book, from 0, starts: after i rules; the book's length if there are fewer rules or they cannot be read.
+    // No rule starts at the book's end, so reading stops there too.
     pub fn rule_start(book: &[u8], n: usize, i: usize) -> usize
         ensures { λ r. ⌜ r ≡ ruleStart (textLimits n) i (now (book .entry)) ⌝ }
     {

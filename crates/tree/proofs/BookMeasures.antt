@@ -1,4 +1,4 @@
--- A book is measured as one text: back over the edit once, with the number of rules.
+-- A book is measured as one text: once backwards over the edit, with the number of rules.
 use mathlib.Core.Path.{_≡_, refl, sym, _∙_, ap, ap₂}
 use mathlib.Core.Bool.{Bool, true, false, cond}
 use mathlib.Core.List.{List, [], _∷_, map}
@@ -14,7 +14,7 @@ use Rattle.tree.proofs.TreeLaws.{code-tree, height-tree, size-is}
 use Rattle.tree.specs.Sizes.{Measure, measure, substituted, chosen, back, together, nothing, measures}
 use Rattle.tree.proofs.Measured.{same-measure, under-max, max-under, measured}
 
--- Joining is a sum, and a maximum, in each number.
+-- Joining adds in each length and count, and takes the maximum in each level.
 pub together-nothing : (M : Measure) → together M nothing ≡ M
 together-nothing M = unfold together nothing in same-measure (omega arith) (omega arith) (λ c k. omega arith) (λ c k. omega arith)
 
@@ -45,7 +45,7 @@ substituted-together c k more E M N =
       deep-at true x y w = omega (arith, below w, max-under d e 2)
       deep-at false x y w = omega (arith, below w)
 
--- the two parts of two things, each with the same third one
+-- the maximum over two things of two parts each and a common third
 max-parts : (a b c d k : ℕ) → max (max (max a b) (max c d)) k ≡ max (max (max a c) k) (max (max b d) k)
 max-parts a b c d k = let e : max (max a b) (max c d) ≡ max (max a c) (max b d) = omega arith in ap (λ (x : ℕ). max x k) e ∙ shared (max a c) (max b d) where
   shared : (x y : ℕ) → max (max x y) k ≡ max (max x k) (max y k)
@@ -76,7 +76,7 @@ back-together r s (choose K P Q Z) M N =
     ap₂ (chosen (r + s) (measure (tree K))) (ap (back (r + s) P) (back-together r s Z M N) ∙ back-together r s P (back r Z M) (back s Z N)) (ap (back (r + s) Q) (back-together r s Z M N) ∙ back-together r s Q (back r Z M) (back s Z N))
     ∙ chosen-together r s (measure (tree K)) (back r P (back r Z M)) (back s P (back s Z N)) (back r Q (back r Z M)) (back s Q (back s Z N))
 
--- A book of one rule or more, carried, has the measure that going back once over the edit gives.
+-- A carried book of one or more rules has the measure that going once backwards over the edit gives.
 pub measured-book : (Z : Edit) (K : Expr rule) (Ks : List (Expr rule)) → measures (map (carry Z) (K ∷ Ks)) ≡ back (1 + length Ks) Z (measures (K ∷ Ks))
 unfolding measures
 measured-book Z K [] = together-nothing (measure (tree (carry Z K))) ∙ measured Z K ∙ sym (ap (back 1 Z) (together-nothing (measure (tree K))))

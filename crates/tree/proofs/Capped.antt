@@ -1,4 +1,4 @@
--- Cut numbers: what was cut beforehand makes no difference.
+-- Cut-off numbers: an earlier cut does not matter.
 use mathlib.Core.Path.{_≡_, refl, sym, _∙_, ap}
 use Prim.Native.Nat.{ℕ, zero, suc, _+_, _*_, max, _≤_, _<_}
 use native.Mathlib.Omega.{arith}

@@ -1,4 +1,4 @@
--- Measuring backward gives the measure of the carried rule.
+-- Measuring backwards gives the measure of the carried rule.
 use mathlib.Core.Path.{_≡_, refl, sym, _∙_, ap, ap₂}
 use mathlib.Core.Bool.{Bool, true, false, cond, _&&_, and-eq-true-iff}
 use mathlib.Core.List.{[], _∷_}
@@ -75,7 +75,7 @@ same-eq c k c′ k′ e = let p = and-eq-true-iff (eqb c c′) (eqb k k′) .0 e
 pub same-self : (c k : ℕ) → same c k c k ≡ true
 same-self c k = ap₂ _&&_ (eq-eqb c c refl) (eq-eqb k k refl)
 
--- where the second name is the third, or the first is
+-- if the second name is the third, or the first is
 alike-r : (a b c k c′ k′ : ℕ) → same c′ k′ c k ≡ true → same a b c′ k′ ≡ same a b c k
 alike-r a b c k c′ k′ e = let p = same-eq c′ k′ c k e in ap₂ (λ (u v : ℕ). same a b u v) (p .0) (p .1)
 

@@ -1,4 +1,4 @@
--- Writing a carried rule in one go: the steps passed so far are one simultaneous replacement.
+-- Writing a carried rule in one pass: the steps passed so far act as one simultaneous replacement.
 use mathlib.Core.Path.{_≡_, refl, sym, _∙_, ap, ap₂}
 use mathlib.Core.Bool.{Bool, true, false, cond}
 use mathlib.Core.List.{List, [], _∷_, _++_}
@@ -38,7 +38,7 @@ graft-only g c k F = λ i c′ k′. go c′ k′ (same c′ k′ c k) i where
   go c′ k′ true = refl
   go c′ k′ false = refl
 
--- a step and then what follows, under a stack, is what follows under the stack with the step
+-- a step and then what follows, under a stack, is what follows under the stack with that step
 under-step : (σ : List Substitution) (s : Substitution) (F : Tree) → graft (env σ) F ≡ becomes (s .op) (env σ (touched (s .op)) (s .number)) (graft (env σ) (s .what)) → (t : Tree)
     → graft (env σ) (graft (only (touched (s .op)) (s .number) F) t) ≡ graft (env (s ∷ σ)) t
 unfolding env
@@ -76,7 +76,7 @@ pub written-choose : (σ : List Substitution) (K₁ : Expr rule) (P Q Z : Edit) 
 unfolding written shown tree byArity head1 head2 graft treeCode
 written-choose σ K₁ P Q Z K = ap (λ (L : Expr rule). treeCode (graft (env σ) (tree L))) (carry-choose K₁ P Q Z K)
 
--- a name under a stack whose last step touches it, and under one whose last step does not
+-- a name under a stack whose last step changes it, and under one whose last step does not
 pub env-hit : (s : Substitution) (σ : List Substitution) (c k : ℕ) → same c k (touched (s .op)) (s .number) ≡ true → env (s ∷ σ) c k ≡ becomes (s .op) (env σ c k) (graft (env σ) (s .what))
 unfolding env
 env-hit s σ c k e = let p = same-eq c k (touched (s .op)) (s .number) e in

@@ -1,4 +1,4 @@
--- Measuring a carried rule without its text. Of a text only this is kept: its length, its levels, and for each name how often it stands there and on which deepest level.
+-- Measures a carried rule without writing its text. Of a text it keeps only the length, the levels, and for each name how often and how deep it occurs.
 -- A book of r rules is measured as one text.
 use mathlib.Core.Bool.{cond}
 use mathlib.Core.List.{List, [], _∷_}
@@ -7,6 +7,7 @@ use Rattle.logic.specs.Syntax.{rule, Expr, Edit, finish, addLabel, takeLabel, a
 use Rattle.text.specs.Reading.{longestCarried}
 use Rattle.tree.specs.Tree.{Tree, same, size, height, count, under, deep, tree}
 
+-- What is kept of a text: its length, its levels, how often each name occurs, and its deepest level (0 if it does not occur).
 pub record Measure : Type 0 where
   pub len : ℕ
   pub tall : ℕ
@@ -16,7 +17,7 @@ pub record Measure : Type 0 where
 unfoldable pub measure : Tree → Measure
 measure t = record { len = size t; tall = height t; counts = count t; deeps = deep t }
 
--- a text measured M, before a step that puts E to each name c k; `more` codes stand above E
+-- The measure of a text before a step that adds E to each name c k or takes it from there; M measures it after, and `more` codes stand above E.
 unfoldable pub substituted : (c k more : ℕ) (E M : Measure) → Measure
 substituted c k more E M = record {
   len = M .len + M .counts c k * (more + E .len);
@@ -25,7 +26,7 @@ substituted c k more E M = record {
   deeps = λ c′ k′. max (cond (same c′ k′ c k) (under (M .deeps c k) 2) (M .deeps c′ k′)) (under (under (M .deeps c k) (suc more)) (E .deeps c′ k′));
 }
 
--- 25 26 27 K T 26 K U for each of r rules
+-- 25 26 27 K T 26 K U, for each of r rules
 unfoldable pub chosen : (r : ℕ) (K T U : Measure) → Measure
 chosen r K T U = record {
   len = T .len + U .len + r * (4 + 2 * K .len);
@@ -34,6 +35,7 @@ chosen r K T U = record {
   deeps = λ c k. max (max (under 3 (T .deeps c k)) (under 3 (U .deeps c k))) (under 4 (K .deeps c k));
 }
 
+-- The measure of r rules carried back through an edit, from their measure M.
 unfoldable pub back : ℕ → Edit → Measure → Measure
 back r finish M = M
 back r (addLabel k E Z) M = substituted 0x03 k 1 (measure (tree E)) (back r Z M)
@@ -53,11 +55,11 @@ unfoldable pub measures : List (Expr rule) → Measure
 measures [] = nothing
 measures (K ∷ Ks) = together (measure (tree K)) (measures Ks)
 
--- Counting ends one beyond the bytes that a carried book may have.
+-- Counting stops one above the bytes that a carried book may have.
 abbrev pub beyond : ℕ
 beyond = longestCarried + 1
 
--- A number cut there: exact up to the most bytes of a carried book, and over them when the true number is.
+-- A number cut off there: exact up to the most bytes of a carried book, and above it exactly when the true number is.
 abbrev pub capped : ℕ → ℕ
 capped x = min x beyond
 

@@ -1,4 +1,4 @@
--- Every code of document 01 alike: a name (03 k or 11 a), or a head (the code byte with its number bytes) with no, one or two operands.
+-- Terms with all codes treated alike: a name (03 k or 11 a), or a head (the code byte with its number bytes) with no, one or two operands.
 use mathlib.Core.List.{List, [], _∷_, _++_}
 use mathlib.Core.Bool.{Bool, cond, _&&_}
 use Prim.Native.Nat.{ℕ, zero, suc, _+_, max}
@@ -20,7 +20,7 @@ treeCode (leaf h) = h
 treeCode (one h x) = h ++ treeCode x
 treeCode (two h x y) = h ++ treeCode x ++ treeCode y
 
--- every name replaced
+-- Replaces every name.
 unfoldable pub graft : (ℕ → ℕ → Tree) → Tree → Tree
 graft f (name c k) = f c k
 graft f (leaf h) = leaf h
@@ -30,11 +30,11 @@ graft f (two h x y) = two h (graft f x) (graft f y)
 abbrev pub same : ℕ → ℕ → ℕ → ℕ → Bool
 same c k c′ k′ = eqb c c′ && eqb k k′
 
--- one name replaced by F
+-- Replaces one name by F.
 unfoldable pub only : ℕ → ℕ → Tree → ℕ → ℕ → Tree
 only c k F c′ k′ = cond (same c′ k′ c k) F (name c′ k′)
 
--- the bytes, the levels, how often a name stands there, and its deepest level (0: nowhere)
+-- The number of bytes, the levels, how often a name occurs, and its deepest level (0 if it does not occur).
 unfoldable pub size : Tree → ℕ
 size (name c k) = 2
 size (leaf h) = length h
@@ -53,7 +53,7 @@ count (leaf h) c′ k′ = 0
 count (one h x) c′ k′ = count x c′ k′
 count (two h x y) c′ k′ = count x c′ k′ + count y c′ k′
 
--- the level of what is on level x of a thing whose first code is on level d; level 0 is nowhere
+-- The level of what is at level x of a thing whose first code is at level d; level 0 means nowhere.
 unfoldable pub under : ℕ → ℕ → ℕ
 under zero x = zero
 under (suc d) zero = zero

@@ -1,1 +1,1 @@
-// Terms as trees of bytes, for measuring and writing carried rules: definitions and laws only.
+// Terms as trees of bytes, for measuring and writing carried rules. This crate has only definitions and laws.

@@ -1,4 +1,4 @@
--- The witness of a rule without a rule inside, by what its expressions are evaluated to.
+-- The witness of a rule without a rule inside, by the values of its expressions.
 use mathlib.Core.Path.{_≡_, refl, sym, ap, ap₂, _∙_}
 use mathlib.Core.Bool.{Bool, true, false, not, _&&_, cond, and-false}
 use mathlib.Core.List.{List}

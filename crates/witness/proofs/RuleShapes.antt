@@ -1,4 +1,4 @@
--- A rule that stands at a place, as its code byte says that it is built.
+-- A rule that stands at a place, built as its code byte says.
 use mathlib.Core.Path.{_≡_, refl, sym, ap, _∙_, subst}
 use mathlib.Core.Bool.{cond}
 use mathlib.Core.List.{List, [], _∷_, _++_, append-assoc}
@@ -13,7 +13,7 @@ use Rattle.text.specs.Stands.{Stands}
 use Rattle.text.proofs.StandingLaws.{behind}
 use Rattle.eval.proofs.CodePlaces.{codeByte, by-byte, below, above}
 
--- e is built by two operands, or by one
+-- e is built from two operands, or from one
 abbrev Of2 : {u v : Sort} → (Expr u → Expr v → Expr rule) → Expr rule → Type 0
 Of2 {u} {v} build e = (x : Expr u) × (y : Expr v) × (e ≡ build x y)
 
@@ -37,7 +37,7 @@ built (either K L) = (K, L, refl)
 built (notRule K) = (K, refl)
 
 module _ (n : ℕ) (text : List ℕ) (at : ℕ) where
-  -- What is so of a rule that is built so, is so of the rule that stands here.
+  -- What holds for a rule built in this way holds for the rule that stands here.
   module _ (P : Expr rule → Type 0) (e : Expr rule) (h : Stands (ranges n) text at e) where
     shown : (c : ℕ) → getD text at 0 ≡ c → Built c e
     shown = by-byte (ranges n) text at e h Built (built e)

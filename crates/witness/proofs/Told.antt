@@ -1,4 +1,4 @@
--- A witness of a broken rule tells what it should.
+-- A witness of a broken rule says what it should.
 use mathlib.Core.Path.{_≡_, refl}
 use mathlib.Core.Bool.{Bool, true, false, not, _&&_, _||_, cond}
 use Prim.Native.Nat.{ℕ}
@@ -20,7 +20,7 @@ module _ (g : Graph) where
   abbrev n : ℕ
   n = g .n
 
-  -- what is told of nodes that are the breakers of a broken part
+  -- what a witness says about nodes that break a broken part
   of-nodes : (P : Expr rule) → value g P ≡ false → (v : Nodes) → v ≡ breakingNodes g P → anyBelow n v ≡ true → Told g P (witness n (nodes v))
   unfolding witness
   of-nodes P b v e some = record {
@@ -44,7 +44,7 @@ module _ (g : Graph) where
   of-none : (P : Expr rule) → value g P ≡ false → Told g P (witness n unnamed)
   of-none P b = unfold witness in record { broken = b; named = λ z. omega (arith, z); node = λ z. absurd (omega (arith, z)); pair = λ z. absurd (omega (arith, z)) }
 
-  -- where something is told of what breaks a part, it is told of what breaks the whole
+  -- what a witness says about a part that breaks, it says about the whole
   held : (P : Expr rule) (x : Bool) (b : Breaks) → x ≡ false → Told g P (witness n b) → Told g P (witness n (cond x nothing b))
   held P true b e t = let z : _≡_ {A = ℕ} 0 1 = cc in absurd (omega arith)
   held P false b e t = t

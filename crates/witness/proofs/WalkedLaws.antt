@@ -1,4 +1,4 @@
--- The walk to the part that breaks a rule, by what it found of the rules inside.
+-- The walk to the part that breaks a rule, by what it found for the rules inside.
 use mathlib.Core.Path.{_≡_, refl, sym, ap, _∙_}
 use mathlib.Core.Bool.{Bool, true, false, _&&_, _||_, cond}
 use mathlib.Core.List.{List}
@@ -16,12 +16,12 @@ use Rattle.eval.specs.Evaluated.{IsTruth}
 use Rattle.witness.specs.Walked.{NoPair, Breaking, IsWalked}
 use Rattle.witness.proofs.RuleShapes.{operands}
 
--- what was found of the rule e
+-- what was found for the rule e
 abbrev pub Finds : List ℕ → ℕ → List ℕ → ℕ → Bool → ℕ → ℕ → Expr rule → Type 0
 Finds sheet n text at x nx part e = IsWalked sheet n text at e x nx part
 
 module _ (sheet : List ℕ) (n : ℕ) (text : List ℕ) (at : ℕ) where
-  -- what was found of the rule at a place
+  -- what was found for the rule at a place
   abbrev pub Walks : ℕ → Bool → ℕ → ℕ → Type 0
   Walks p x nx part = (f : Expr rule) → Stands (ranges n) text p f → IsWalked sheet n text p f x nx part
 
@@ -30,7 +30,7 @@ module _ (sheet : List ℕ) (n : ℕ) (text : List ℕ) (at : ℕ) where
   inside e q b = record { part = b .part; stands = b .stands; broken = b .broken; same = q ∙ b .same; single = b .single }
 
   module _ (K L : Expr rule) where
-    -- 25: the first rule is broken, and the second passed over
+    -- 25: the first rule is broken, and the second is skipped
     pub both-first : Stands (ranges n) text at (both K L) → (x : Bool) (nx part ny : ℕ) → Walks (at + 1) x nx part → x ≡ false
         → ((f : Expr rule) → Stands (ranges n) text nx f → ny ≡ nx + length (code f)) → IsWalked sheet n text at (both K L) false ny part
     unfolding breaks value code InRange
@@ -55,7 +55,7 @@ module _ (sheet : List ℕ) (n : ℕ) (text : List ℕ) (at : ℕ) where
           breaking = λ b. inside (both K L) (ap (λ c. cond c (breaks (graphOf sheet) L) (breaks (graphOf sheet) K)) k) (t .breaking b);
         }
 
-    -- 26: the first rule holds, and the second is passed over
+    -- 26: the first rule holds, and the second is skipped
     pub either-first : Stands (ranges n) text at (either K L) → (x : Bool) (nx ny : ℕ)
         → ((f : Expr rule) → Stands (ranges n) text (at + 1) f → IsTruth sheet (at + 1) f x nx) → x ≡ true
         → ((f : Expr rule) → Stands (ranges n) text nx f → ny ≡ nx + length (code f)) → IsWalked sheet n text at (either K L) true ny at

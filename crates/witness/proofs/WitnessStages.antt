@@ -1,4 +1,4 @@
--- What a witness answers, by where its questions stop.
+-- The answer of the witness call, by where its questions stop.
 use mathlib.Core.Path.{_≡_, refl, sym, ap, _∙_, subst}
 use mathlib.Core.List.{List}
 use mathlib.Core.Bool.{Bool, true, false}

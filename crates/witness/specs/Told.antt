@@ -1,4 +1,4 @@
--- What a witness tells of a broken rule: the part that breaks it, and the nodes or pairs that break that part.
+-- What a witness says about a broken rule: the part that breaks it, and the nodes or pairs that break that part.
 use mathlib.Core.Path.{_≡_}
 use mathlib.Core.Bool.{false, not, _&&_, cond}
 use Prim.Native.Nat.{ℕ}
@@ -10,7 +10,7 @@ use Rattle.logic.specs.Witness.{IsLowest}
 use Rattle.bitset.specs.Words.{setOf}
 use Rattle.witness.specs.declared.Witness.{Witness}
 
--- The part of a broken rule that breaks it: of 25 that of its first rule, or, where that holds, of its second; of 26 that of its second.
+-- The part of a broken rule that breaks it: for 25 that of its first rule or, where that one holds, of its second; for 26 that of its second.
 unfoldable pub breakingPart : Graph → Expr rule → Expr rule
 breakingPart g (subNodes E F) = subNodes E F
 breakingPart g (subArrows R S) = subArrows R S
@@ -20,7 +20,7 @@ breakingPart g (both K L) = cond (value g K) (breakingPart g L) (breakingPart g 
 breakingPart g (either K L) = breakingPart g L
 breakingPart g (notRule K) = notRule K
 
--- The nodes that break a part: of 21 those of E that are not in F, of 23 that node. The pairs: of 22 those of R that are not in S, of 24 that pair.
+-- The nodes that break a part: for 21 those of E that are not in F, for 23 that node. The pairs: for 22 those of R that are not in S, for 24 that pair.
 unfoldable pub breakingNodes : Graph → Expr rule → Nodes
 breakingNodes g (subNodes E F) = λ i. value g E i && not (value g F i)
 breakingNodes g (nodeIn i E) = λ k. eqb k i
@@ -39,7 +39,8 @@ breakingPairs g (both K L) = λ k l. false
 breakingPairs g (either K L) = λ k l. false
 breakingPairs g (notRule K) = λ k l. false
 
--- The part is broken. A witness of kind 1 is the lowest node that breaks it, and `nodes` are all; one of kind 2 is the lowest pair, by its first node and then by its second.
+-- The part is broken. A witness of kind 1 is the lowest node that breaks it, and `nodes` are all such nodes;
+-- a witness of kind 2 is the lowest pair, by its first node and then by its second.
 pub record Told (g : Graph) (P : Expr rule) (w : Witness) : Type 0 where
   pub broken : value g P ≡ false
   pub named : (w .kind ≡ 0) → ⊥

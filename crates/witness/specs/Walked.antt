@@ -13,11 +13,11 @@ use Rattle.sheet.specs.Sheet.{graphOf}
 use Rattle.text.specs.Code.{code}
 use Rattle.text.specs.Stands.{Stands}
 
--- The byte of a rule that is no 25 and no 26.
+-- The first byte of a rule that is neither a 25 nor a 26.
 abbrev pub NoPair : ℕ → Type 0
 NoPair c = (c ≡ 0x25 → ⊥) × (c ≡ 0x26 → ⊥)
 
--- A rule that stands at a place of the text, is broken, and is broken by what breaks K.
+-- A rule that stands at a place of the text, is broken, and has the same breaking nodes or pairs as K.
 pub record Breaking (sheet : List ℕ) (n : ℕ) (text : List ℕ) (place : ℕ) (K : Expr rule) : Type 0 where
   pub part : Expr rule
   pub stands : Stands (ranges n) text place part
@@ -25,7 +25,7 @@ pub record Breaking (sheet : List ℕ) (n : ℕ) (text : List ℕ) (place : ℕ)
   pub same : breaks (graphOf sheet) K ≡ breaks (graphOf sheet) part
   pub single : NoPair (getD text place 0)
 
--- Whether the rule holds, where it ends, and where the part stands that breaks it.
+-- Whether the rule holds, where it ends, and where the part that breaks it stands.
 pub record IsWalked (sheet : List ℕ) (n : ℕ) (text : List ℕ) (at : ℕ) (K : Expr rule) (holds : Bool) (next place : ℕ) : Type 0 where
   pub truth : holds ≡ value (graphOf sheet) K
   pub ends : next ≡ at + length (code K)

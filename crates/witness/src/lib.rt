@@ -1,4 +1,4 @@
-// Who breaks a rule: the lowest node or pair that is where it must not be.
+// What breaks a rule: the lowest node or pair that is where it must not be.
 ghost use mathlib.Core.Path.{_≡_};
 ghost use mathlib.Core.Bool.{false, not, _&&_, cond};
 ghost use Prim.Native.Nat.{_≤_, _<_};
@@ -19,7 +19,7 @@ use answer::Refusal;
 use sheet::Sheet;
 use text::Text;
 
-// 0, the rule holds; 1, `first` is the lowest node that breaks it and `nodes` are all; 2, `first` and `second` are the lowest pair; 3, nothing is named.
+// 0: the rule holds; 1: `first` is the lowest node that breaks it and `nodes` are all; 2: `first` and `second` are the lowest pair; 3: nothing is named.
 pub struct Witness {
     pub kind: usize,
     pub first: usize,
@@ -27,13 +27,13 @@ pub struct Witness {
     pub nodes: u64,
 }
 
-// The witness that was asked for, or why there is none.
+// The witness, or the reason why there is none.
 pub enum Witnessed {
     Found(Witness),
     Refused(Refusal),
 }
 
-// No node and no pair, by kind.
+// A witness of that kind without a node or pair.
 fn unnamed(kind: usize) -> Witness
     ensures { λ r. ⌜ (r .kind ≡ kind) × (r .first ≡ 0) × (r .second ≡ 0) × (r .nodes ≡ 0) ⌝ }
 {
@@ -106,7 +106,7 @@ fn number(x: u8) -> usize
     x as usize
 }
 
-// The witness of a broken rule that is no 25 and no 26. Inner, as are the two above: the rule stands at `at`.
+// The witness of a broken rule that is neither a 25 nor a 26. Inner, as are the two above: the rule stands at `at`.
 fn name_part(sheet: &[u8], n: usize, all: u64, text: &[u8], at: usize) -> Witness
     requires { ⌜ Opened (now sheet) n all × SomeStands (ranges n) (now text) at rule × NoPair (getD (now text) at 0) ⌝ }
     ensures { λ r. ⌜ ((e : Expr rule) → Stands (ranges n) (now (text .entry)) at e → value (graphOf (now (sheet .entry))) e ≡ false → WitnessOf (now (sheet .entry)) n r e) ⌝ }
@@ -136,15 +136,15 @@ fn name_part(sheet: &[u8], n: usize, all: u64, text: &[u8], at: usize) -> Witnes
     }
 }
 
-// What a walk along a rule comes to: whether the rule holds, where the text goes on and, of a rule that is broken, where the part stands that breaks it.
+// The result of a walk along a rule: whether the rule holds, where the text goes on and, if the rule is broken, where the part that breaks it stands.
 struct Walked {
     holds: bool,
     next: usize,
     part: usize,
 }
 
-// Walks to the part that breaks a rule: of a 25 into its first rule, or, where that holds, into its second; of a 26 into its second.
-// Each part is evaluated once. Inner: the rule stands at `at`; a call for each level.
+// Walks to the part that breaks a rule: of a 25 into its first rule or, where that one holds, into its second; of a 26 into its second.
+// Each part is evaluated once. Inner: the rule stands at `at`; one call for each level.
 fn walk(sheet: &[u8], n: usize, all: u64, text: &[u8], at: usize) -> Walked
     requires { ⌜ Opened (now sheet) n all × SomeStands (ranges n) (now text) at rule ⌝ }
     ensures { λ r. ⌜ ((e : Expr rule) → Stands (ranges n) (now (text .entry)) at e → IsWalked (now (sheet .entry)) n (now (text .entry)) at e (r .holds) (r .next) (r .part)) ⌝ }
@@ -198,8 +198,8 @@ fn name_first(sheet: &[u8], text: &[u8]) -> Witness
     }
 }
 
-// Who breaks the first rule of a text, a carried one or not: questions 1 to 4 of the sheet, then 12 to 15 of the rule.
-// After 41 of enter the scratch begins with the carried rule, whose witness before the edit is the rule's own after it.
+// What breaks the first rule of a text, carried or not: questions 1 to 4 of the sheet, then 12 to 15 of the rule.
+// After 41 of enter the scratch begins with the carried rule: its witness on the sheet before the edit is the witness of the rule after the edit.
 pub fn find(sheet: &[u8], text: &[u8]) -> Witnessed
     ensures { λ r. ⌜ witnessAsked r ≡ askWitness (now (sheet .entry)) (now (text .entry)) ⌝ }
 {

@@ -50,7 +50,7 @@ module _ (edit : List ℕ) (at : ℕ) (m : getD edit at 0 ≡ 0x35) where
       let b = g (q .P) (q .first first a) in
       parted Z h a b (k (q .Q) (q .second second (omega (arith, a, b))))
 
--- The end: what is written is the rule under the steps passed.
+-- The end: the rule is written under the steps passed.
 pub end-written : {edit stack behind : List ℕ} {at h d : ℕ} {σ : List Substitution} {Z : Edit} {Ws : List Edit} → Way edit stack behind at h d σ Z Ws → getD edit at 0 ≡ 0x30 → d ≡ 0 → (K : Expr rule)
     → treeCode (graft (env σ) (tree K)) ≡ written σ (followed Z Ws) K
 unfolding followed shown

@@ -70,7 +70,7 @@ module _ {edit work : List ℕ} {j c k pos room : ℕ} (l : 0 < j) (s : SomeLink
   pub older-count : {o o′ : List ℕ} {p p′ : ℕ} → NameWrote edit (stackOf work) (getD work (1430 + (j - 1)) 0) c k o p p′ o′ → p′ ≡ p + length (treeCode (env (hit .below) c k))
   older-count u = u .each (hit .below) (hit-older s (w .is) l hit .0) (hit .stands) .counted
 
--- The text of a tree under the steps passed, and of one that is no name by its head and its operands.
+-- The text of a tree under the steps passed, and of one that is not a name by its head and its operands.
 abbrev shownBy : List Substitution → Tree → List ℕ
 shownBy σ t = treeCode (graft (env σ) t)
 
@@ -87,7 +87,7 @@ head-taken text at t a n e =
     let here : drop at text ≡ headOf t ++ r = a .here ∙ ap (λ (l : List ℕ). l ++ a .rest) (code-opened t) ∙ append-assoc (headOf t) (texts treeCode (partsOf t)) (a .rest) in
     ap (take n) here ∙ ap (λ (m : ℕ). take m (headOf t ++ r)) (sym e) ∙ take-append-seam (headOf t) r
 
--- An expression partly written: so many trees are wanted at p, and their texts are still to be written.
+-- An expression partly written: `wanted` trees are due at p, and their texts are still to be written.
 pub record Emitted (text : List ℕ) (σ : List Substitution) (t : Tree) (p wanted : ℕ) (o : List ℕ) (pos q : ℕ) (o′ : List ℕ) : Type 0 where
   pub parts : List Tree
   pub pending : Pending text p wanted parts
@@ -124,7 +124,7 @@ showing-end {text} {edit} {stack} {o} {o′} {at} {h} {p} {wanted} {pos} {q} I l
     go w [] n e = wrote-as (sym (append-nil (w .done)) ∙ e) (w .wrote)
     go w (x ∷ more) n e = absurd (omega (arith, n, l))
 
--- the next code is a name, or has so many bytes and operands
+-- the next code is a name, or has this many bytes and operands
 pub record NameAt (text edit stack : List ℕ) (p h pos q room : ℕ) : Type 0 where
   pub in-text : p + 2 ≤ length text
   pub is-named : Named (getD text p 0) (getD text (p + 1) 0)
@@ -215,7 +215,7 @@ module _ {text edit stack o o′ : List ℕ} {at h p wanted pos q : ℕ} (I : Sh
       pub head-shown : {q′ : ℕ} {o″ : List ℕ} → Wrote o′ q (take (s % 4) (drop p text)) q′ o″ → length o″ ≡ length o′ → Showing text at edit stack h (p + s % 4) (wanted - 1 + s / 4 % 4) o pos q′ o″
       head-shown u m = record { each = λ σ t g i a. let v = I .each σ t g i a in let f = first (v .pending) l in let n = turn (v .pending) f s e in shown-more v (n .next) (head-text σ (v .parts) f n) u; passed = passing-more (I .passed) l s e; long = m ∙ I .long }
 
--- A code without operands that is no name is written as it stands, whatever the steps.
+-- A code without operands that is not a name is written as it stands, whatever the steps.
 module _ (text edit stack : List ℕ) (at h pos s : ℕ) (e : s ≡ shapeOf (getD text at 0)) (l : s < 4) where
   pub leaf-room : {room : ℕ} → SomeShown text at edit stack h pos room → (0 < s) × (s < 4) × (at + s ≤ length text) × (pos + s ≤ room)
   leaf-room w = let g = head-at (showing-first text at edit stack h [] pos) (omega arith) s e (omega arith) w in (omega (arith, g), l, omega (arith, g), omega (arith, g))

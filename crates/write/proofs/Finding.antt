@@ -26,7 +26,7 @@ module _ (edit stack : List ℕ) where
   abbrev hits : ℕ → ℕ → ℕ → Bool
   hits j c k = same c k (codeAt edit (getD stack j 0)) (numberAt edit (getD stack j 0))
 
-  -- the last of one step more
+  -- the last of one more step
   last-case : (m c k : ℕ) → ((hits m c k ≡ true) × (lastIn edit stack (suc m) c k ≡ suc m)) ⊎ (lastIn edit stack (suc m) c k ≡ lastIn edit stack m c k)
   unfolding lastIn
   last-case m c k = go (hits m c k) refl where
@@ -93,7 +93,7 @@ found edit stack (s ∷ τ) c k i = go (hits edit stack (length τ) c k) refl (f
 pub found-as : {edit stack : List ℕ} {σ : List Substitution} {c k j : ℕ} → j ≡ lastIn edit stack (length σ) c k → StackIs edit stack σ → Found edit stack σ c k j
 found-as {edit} {stack} {σ} {c} {k} e i = subst (Found edit stack σ c k) (sym e) (found edit stack σ c k i)
 
--- the step before it of its name, as the work array has it
+-- the previous step of its name, as the work array has it
 older-at : {edit work : List ℕ} {h j : ℕ} (c k m : ℕ) (w : SomeLinks edit work h) → j ≡ lastIn edit (stackOf work) m c k → 0 < j → j - 1 < w .top → getD work (1430 + (j - 1)) 0 ≡ lastIn edit (stackOf work) (j - 1) c k
 older-at {edit} {work} {h} {j} c k m w e l r =
     let q = last-hits edit (stackOf work) m c k (j - 1) (omega (arith, e)) in
@@ -148,7 +148,7 @@ module _ {edit work : List ℕ} {h c k j : ℕ} (f : Following edit work h c k j
 pub kept-all : {n : ℕ} {l : List ℕ} → Kept n l l
 kept-all = record { same = λ i r. refl }
 
--- Links are read below a height only.
+-- Links are read only below a height.
 last-kept : (edit : List ℕ) {stack stack′ : List ℕ} (h c k : ℕ) → Kept h stack stack′ → lastIn edit stack′ h c k ≡ lastIn edit stack h c k
 unfolding lastIn
 last-kept edit zero c k s = refl
@@ -165,7 +165,7 @@ linked-kept {edit} {stack} {stack′} {links} {links′} {last} {last′} {h} s 
 abbrev cellAt : (edit : List ℕ) → ℕ → ℕ
 cellAt edit at = cell (codeAt edit at) (numberAt edit at)
 
--- one step more
+-- one more step
 module _ (edit : List ℕ) (at h : ℕ) {stack links last : List ℕ} (room : h < length stack) (wide : h < length links) (long : length last ≡ 64) (n : Named (codeAt edit at) (numberAt edit at)) (w : Linked edit stack links last h) where
   linked-set : Linked edit (set stack h at) (set links h (getD last (cellAt edit at) 0)) (set last (cellAt edit at) (h + 1)) (h + 1)
   unfolding lastIn

@@ -1,4 +1,4 @@
--- Bytes laid one part behind the other.
+-- Bytes laid one part after the other.
 use mathlib.Core.Path.{_≡_, refl, sym, ap, _∙_}
 use mathlib.Core.List.{List, [], _∷_, _++_, append-assoc}
 use Prim.Native.Nat.{ℕ, suc, min, _+_, _-_, _≤_, _<_}
@@ -24,13 +24,13 @@ laid-sets o p (b ∷ bs) = laid-sets (set o p b) (suc p) bs
 pub length-laid : (o : List ℕ) (p : ℕ) (bs : List ℕ) → length (laid o p bs) ≡ length o
 length-laid o p bs = ap length (laid-sets o p bs) ∙ length-sets o p bs
 
--- below the place all is as it was
+-- below the place everything is as it was
 laid-below : (o : List ℕ) (p : ℕ) (bs : List ℕ) (j : ℕ) → j < p → getD (laid o p bs) j 0 ≡ getD o j 0
 unfolding laid
 laid-below o p [] j h = refl
 laid-below o p (b ∷ bs) j h = laid-below (set o p b) (suc p) bs j (omega arith) ∙ getD-set-other o p j b 0 (λ e. omega (arith, e))
 
--- where they fit, the bytes stand between what was before and behind them
+-- where they fit, the bytes stand between what was before and after them
 pub laid-fits : (o : List ℕ) (p : ℕ) (bs : List ℕ) → p + length bs ≤ length o → laid o p bs ≡ take p o ++ bs ++ drop (p + length bs) o
 laid-fits o p bs h = laid-sets o p bs ∙ sets-eq bs o p h
 
@@ -81,7 +81,7 @@ module _ {text o out : List ℕ} {at n pos k : ℕ} (w : Coded text at n o pos k
   pub coded-long : length out ≡ length o
   coded-long = ap length (w .is) ∙ length-laid o pos (take (min k n) (drop at text))
 
--- so with bytes of the output itself, from below the place: writing leaves what stands there
+-- the same with bytes of the output itself, from below the place: writing leaves what stands there
 pub coded-again : {o out : List ℕ} {from n pos k : ℕ} → Coded o from n o pos k out → from + n ≤ pos → k < n → Coded o from n o pos (k + 1) (set out (pos + k) (getD out (from + k) 0))
 coded-again {o} {out} {from} {n} {pos} {k} w h l =
     let e : getD out (from + k) 0 ≡ getD o (from + k) 0 = ap (λ (x : List ℕ). getD x (from + k) 0) (w .is) ∙ laid-below o pos (take (min k n) (drop from o)) (from + k) (omega arith) in
@@ -91,7 +91,7 @@ coded-again {o} {out} {from} {n} {pos} {k} w h l =
 pub wrote-again : (o : List ℕ) (from n p b : ℕ) {o₂ : List ℕ} {p₂ : ℕ} → from + n ≤ p → Wrote (set o p b) (p + 1) (take n (drop from (set o p b))) p₂ o₂ → Wrote o p (b ∷ take n (drop from o)) p₂ o₂
 wrote-again o from n p b h u = unfold part in wrote-more (wrote-one o p b) (wrote-as (part-behind from n o p b h) u)
 
--- bytes written stand there still when more is written behind them
+-- written bytes still stand there when more is written after them
 module _ {o o₁ o₂ ys zs : List ℕ} {pos p p₂ : ℕ} (xs : List ℕ) (u : Wrote o pos (xs ++ ys) p o₁) (v : Wrote o₁ p zs p₂ o₂) (h : p₂ ≤ length o) where
   pub wrote-stands : take (p - (pos + length xs)) (drop (pos + length xs) o₂) ≡ ys
   wrote-stands =

@@ -1,4 +1,4 @@
--- A rule from the start of an edit; the rules of a book one behind the other.
+-- A rule from the start of an edit; the rules of a book one after the other.
 use mathlib.Core.Path.{_≡_, refl, sym, ap, _∙_, subst}
 use mathlib.Core.List.{List, [], _∷_, _++_, append-assoc, append-nil}
 use Prim.Native.Nat.{ℕ, _+_, _≤_, _<_}
@@ -75,7 +75,7 @@ pub record Left (book : List ℕ) (rules : List (Expr rule)) (Z : Edit) (o : Lis
   pub wrote : Wrote o 0 done pos out
   pub whole : done ++ bookCode (carriedBook Z left) ≡ bookCode (carriedBook Z rules)
 
--- one rule more
+-- one more rule
 module _ {book : List ℕ} {rules : List (Expr rule)} {Z : Edit} {o : List ℕ} {at pos : ℕ} {out : List ℕ} (h : Left book rules Z o at pos out) (f : FirstLeft book at (h .left)) where
   split : h .done ++ (code (carry Z (f .K)) ++ bookCode (carriedBook Z (f .others))) ≡ bookCode (carriedBook Z rules)
   split = unfold bookCode in rw (f .are) at (h .whole)

@@ -1,4 +1,4 @@
--- The work array at a 35: an offset behind is stored, and the last steps of names are put back for the second way.
+-- The work array at a 35: the offset of the edit that follows is stored, and the last steps of names are put back for the second way.
 use mathlib.Core.Path.{_≡_, refl, sym, ap, _∙_, subst}
 use mathlib.Core.List.{List, _∷_, _++_}
 use Prim.Native.Nat.{ℕ, _+_, _<_}
@@ -27,7 +27,7 @@ use Rattle.write.proofs.WrittenWays.{rested}
 kept-same : {n : ℕ} {l m : List ℕ} → m ≡ l → Kept n l m
 kept-same e = record { same = λ i r. ap (λ (x : List ℕ). getD x i 0) e }
 
--- the first way of a 35: its rule is written, and behind it stands `next`
+-- the first way of a 35: its rule is written, and `next` stands after it
 pub record Branch (text : List ℕ) (from : ℕ) (edit work : List ℕ) (at h d : ℕ) (o : List ℕ) (pos : ℕ) (work′ : List ℕ) (at′ h′ d′ first second next pos′ : ℕ) (o′ : List ℕ) : Type 0 where
   pub walked : Walked edit (stackOf work) (behindOf work) at h d (stackOf work′) at′ h′ d′
   pub some : SomeCarried text from edit (stackOf work′) (behindOf work) at′ h′ d′ pos (length o)
@@ -76,7 +76,7 @@ again work₁ {text} {edit} {work} {o} {o′} {last} {last′} {from} {at} {h} {
     let n = length-front work₁ last′ 64 e ∙ l ∙ f .long in
     record { written = rw (r .stack-is, r .behind-is) c; linked = k; fits = record { short = f .short; long = n }; kept = rw (r .links-are) t }
 
--- after both, what stood behind is there again
+-- after both, the offsets of the edits that follow are there again
 pub stored-back : (work₀ work₁ work : List ℕ) {text edit : List ℕ} {from at h d : ℕ} {o : List ℕ} {pos pos′ : ℕ} {o′ : List ℕ} {d′ : ℕ} → d′ < length (behindOf work₀) → length work₀ ≡ workLength → behindOf work₁ ≡ behindOf work₀
     → ((behind′ : List ℕ) → behind′ ≡ set (behindOf work) d′ (getD (behindOf work₀) d′ 0) → WayWritten text from edit (stackOf work₀) (behindOf work₀) at h d o pos pos′ (stackOf work) behind′ o′)
     → Kept h (linksOf work₀) (linksOf work)

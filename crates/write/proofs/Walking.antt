@@ -25,7 +25,7 @@ use Rattle.ends.proofs.Kept.{kept-set, kept-more}
 use Rattle.write.specs.Offsets.{StepAt, StackIs}
 use Rattle.write.specs.Ways.{followed, BehindIs, Way, SomeWay, SameWay, resting, Passed, Walked}
 
--- what is below on a stack stays what it is
+-- what is below on a stack stays as it is
 pub steps-kept : (edit : List ℕ) {stack stack′ : List ℕ} {top : ℕ} (σ : List Substitution) → length σ ≤ top → Kept top stack stack′ → StackIs edit stack σ → StackIs edit stack′ σ
 unfolding StackIs
 steps-kept edit [] l k i = i
@@ -43,7 +43,7 @@ unfolding followed
 followed-through f g Z [] = refl
 followed-through f g Z (W ∷ Ws) = g Z (followed W Ws)
 
--- an expression of one code, which is no name
+-- an expression of one code, which is not a name
 pub one-code : (text : List ℕ) (at s : ℕ) → s ≡ shapeOf (getD text at 0) → s < 4 → (t : Tree) → At text at t → at + s ≡ at + size t
 one-code text at s e l t a =
     let n : at + s ≡ at + s % 4 = omega arith in
@@ -111,11 +111,11 @@ module _ {edit stack behind : List ℕ} {at h d : ℕ} where
               i .0,
             )
 
--- where the stack and the offsets behind are given otherwise
+-- where the stack and the offsets of the edits that follow are given otherwise
 pub way-kept : {edit stack behind stack′ behind′ : List ℕ} {at h d : ℕ} {σ : List Substitution} {Z : Edit} {Ws : List Edit} → Kept h stack stack′ → behind′ ≡ behind → Way edit stack behind at h d σ Z Ws → Way edit stack′ behind′ at h d σ Z Ws
 way-kept {edit} {σ = σ} k e y = record { steps-passed = y .steps-passed; steps = steps-kept edit σ (omega (arith, y .steps-passed)) k (y .steps); here = y .here; around = y .around; rest = rw e (y .rest) }
 
--- a walk of many
+-- a walk of many steps
 pub record Walking (edit stack behind : List ℕ) (at h d : ℕ) (stack′ : List ℕ) (at′ h′ d′ : ℕ) : Type 0 where
   pub some : SomeWay edit stack′ behind at′ h′ d′
   pub each : (σ : List Substitution) (Z : Edit) (Ws : List Edit) → Way edit stack behind at h d σ Z Ws → SameWay edit stack′ behind at′ h′ d′ σ Z Ws

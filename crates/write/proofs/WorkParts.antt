@@ -50,7 +50,7 @@ pub record WorkIs (work last stack links behind : List ℕ) : Type 0 where
   pub links-are : linksOf work ≡ links
   pub behind-is : behindOf work ≡ behind
 
--- an offset of an edit behind stored
+-- an offset of an edit that follows, stored
 pub behind-stored : (work : List ℕ) (d v : ℕ) → d < 2048 → WorkIs (set work (2796 + d) v) (lastOf work) (stackOf work) (linksOf work) (set (behindOf work) d v)
 behind-stored work d v l = record {
   last-is = part-behind 0 64 work (2796 + d) v (omega arith);

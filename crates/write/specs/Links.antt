@@ -1,4 +1,4 @@
--- The last step of each name, and for each step on the stack the one before it of its name.
+-- The last step of each name and, for each step on the stack, the previous step of its name.
 use mathlib.Core.Path.{_≡_}
 use mathlib.Core.Bool.{cond}
 use mathlib.Core.List.{List}
@@ -17,11 +17,12 @@ codeAt edit o = touched (getD edit o 0)
 abbrev pub numberAt : (edit : List ℕ) → ℕ → ℕ
 numberAt edit o = getD edit (o + 1) 0
 
--- one more than the index of the last of so many steps that touches a name, or 0
+-- one more than the index of the last of h steps that touches a name, or 0
 unfoldable pub lastIn : (edit stack : List ℕ) (h c k : ℕ) → ℕ
 lastIn edit stack zero c k = 0
 lastIn edit stack (suc j) c k = cond (same c k (codeAt edit (getD stack j 0)) (numberAt edit (getD stack j 0))) (suc j) (lastIn edit stack j c k)
 
+-- for h steps: `last` has the last step of each name, and `links` the previous step of each step's name
 pub record Linked (edit stack links last : List ℕ) (h : ℕ) : Type 0 where
   pub lasts : (c k : ℕ) → Named c k → getD last (cell c k) 0 ≡ lastIn edit stack h c k
   pub olders : (j : ℕ) → j < h → getD links j 0 ≡ lastIn edit stack j (codeAt edit (getD stack j 0)) (numberAt edit (getD stack j 0))
@@ -29,7 +30,7 @@ pub record Linked (edit stack links last : List ℕ) (h : ℕ) : Type 0 where
 abbrev pub LinkedIn : (edit work : List ℕ) (h : ℕ) → Type 0
 LinkedIn edit work h = Linked edit (stackOf work) (linksOf work) (lastOf work) h
 
--- so for these steps and perhaps others above them
+-- the same for these steps and perhaps others above them
 pub record SomeLinks (edit work : List ℕ) (h : ℕ) : Type 0 where
   pub top : ℕ
   pub high : h ≤ top
@@ -41,7 +42,7 @@ pub record SomeLinks (edit work : List ℕ) (h : ℕ) : Type 0 where
 abbrev pub linkStep : (edit : List ℕ) (at h : ℕ) (work : List ℕ) → List ℕ
 linkStep edit at h work = set (set work (linksStart + h) (getD work (cell (codeAt edit at) (numberAt edit at)) 0)) (cell (codeAt edit at) (numberAt edit at)) (h + 1)
 
--- the links after a walk on from h steps, and the edits behind
+-- the links after a walk on from h steps, and the edits that follow
 pub record Relinked (edit work work′ : List ℕ) (h h′ : ℕ) : Type 0 where
   pub linked : LinkedIn edit work′ h′
   pub kept : Kept h (linksOf work) (linksOf work′)

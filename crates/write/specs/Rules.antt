@@ -21,7 +21,7 @@ pub record SomeRuleFits (text : List ℕ) (at : ℕ) (edit : List ℕ) (from pos
   pub Z-at : EditAt edit from Z
   pub fits : pos + length (code (carry Z K)) ≤ room
 
--- All rules go alike through an edit up to its first 35, or its end: a walk from its start rests there, and the work array is as it left it.
+-- All rules go through an edit in the same way up to its first 35, or its end: a walk from its start rests there, and the work array is as the walk left it.
 pub record Started (edit : List ℕ) (from : ℕ) (work : List ℕ) (at h d : ℕ) : Type 0 where
   pub each : (Z : Edit) → EditAt edit from Z → SameWay edit (stackOf work) (behindOf work) at h d [] Z []
   pub low : 3 * h ≤ at
@@ -34,12 +34,12 @@ pub record SomeRuleLeft (text : List ℕ) (place : ℕ) (edit work : List ℕ) (
   pub started : Started edit from work at h d
   pub fits : SomeRuleFits text place edit from pos room
 
--- what writing a carried rule leaves: the place behind the rule, the position behind its bytes, and the buffer
+-- what writing a carried rule leaves: the place after the rule, the position after its bytes, and the buffer
 pub record RuleWritten (Z : Edit) (K : Expr rule) (at : ℕ) (o : List ℕ) (pos at′ pos′ : ℕ) (o′ : List ℕ) : Type 0 where
   pub read : at′ ≡ at + length (code K)
   pub wrote : Wrote o pos (code (carry Z K)) pos′ o′
 
--- a book likewise, from the buffer's start
+-- the same for a book, from the buffer's start
 pub record SomeBookFits (book edit : List ℕ) (from room : ℕ) : Type 0 where
   pub rules : List (Expr rule)
   pub is : BookIs book rules

@@ -1,4 +1,4 @@
--- A way through an edit: a 35 has two, each followed by what stands behind the 35.
+-- A way through an edit: a 35 has two, each followed by what stands after the 35.
 use mathlib.Core.Path.{_≡_}
 use mathlib.Core.Bool.{Bool, true, false, cond}
 use mathlib.Core.List.{List, [], _∷_}
@@ -17,18 +17,18 @@ use Rattle.ends.specs.Books.{RuleAt}
 use Rattle.write.specs.Laid.{Wrote}
 use Rattle.write.specs.Offsets.{StackIs}
 
--- an edit, and then the edits that stand behind the 35s around it, the innermost first
+-- an edit, and then the edits that stand after the 35s around it, the innermost first
 unfoldable pub followed : Edit → List Edit → Edit
 followed Z [] = Z
 followed Z (W ∷ Ws) = followedBy Z (followed W Ws)
 
--- their offsets on a stack, the innermost on top; each stands behind the one before it, the first at `from` or behind
+-- their offsets on a stack, the innermost on top; each stands after the previous one, the first at `from` or later
 unfoldable pub BehindIs : (edit behind : List ℕ) → ℕ → List Edit → Type 0
 BehindIs edit behind from [] = Unit {0}
 BehindIs edit behind from (W ∷ Ws) =
     (from ≤ getD behind (length Ws) 0) × EditAt edit (getD behind (length Ws) 0) W × BehindIs edit behind (getD behind (length Ws) 0 + length (editCode W)) Ws
 
--- h steps passed, the edit at a place, and d edits behind it
+-- h steps passed, the edit at a place, and d edits after it
 pub record Way (edit stack behind : List ℕ) (at h d : ℕ) (σ : List Substitution) (Z : Edit) (Ws : List Edit) : Type 0 where
   pub steps-passed : h ≡ length σ
   pub steps : StackIs edit stack σ
@@ -36,7 +36,7 @@ pub record Way (edit stack behind : List ℕ) (at h d : ℕ) (σ : List Substitu
   pub around : d ≡ length Ws
   pub rest : BehindIs edit behind (at + length (editCode Z)) Ws
 
--- some way, with room for its offsets below its place: a step has three bytes at least
+-- some way, with room for its offsets below its place: a step has at least three bytes
 pub record SomeWay (edit stack behind : List ℕ) (at h d : ℕ) : Type 0 where
   pub steps : List Substitution
   pub what : Edit
@@ -45,7 +45,7 @@ pub record SomeWay (edit stack behind : List ℕ) (at h d : ℕ) : Type 0 where
   pub low : 3 * h ≤ at
   pub low-behind : 2 * d ≤ at
 
--- further on the same way: what is written of each rule is the same
+-- further along the same way: what is written for each rule is the same
 pub record SameWay (edit stack behind : List ℕ) (at h d : ℕ) (σ : List Substitution) (Z : Edit) (Ws : List Edit) : Type 0 where
   pub steps : List Substitution
   pub what : Edit
@@ -53,7 +53,7 @@ pub record SameWay (edit stack behind : List ℕ) (at h d : ℕ) (σ : List Subs
   pub way : Way edit stack behind at h d steps what later
   pub same : (K : Expr rule) → written σ (followed Z Ws) K ≡ written steps (followed what later) K
 
--- A walk rests before a 35, and at the end, the 30 with no edit behind it.
+-- A walk rests before a 35, and at the end, the 30 that no edit follows.
 unfoldable pub resting : ℕ → ℕ → Bool
 resting c d = cond (eqb c 0x35) true (cond (eqb c 0x30) (eqb d 0) false)
 
@@ -74,7 +74,7 @@ pub record Walked (edit stack behind : List ℕ) (at h d : ℕ) (stack′ : List
   pub low-behind : 2 * d′ ≤ at′
   pub rests : resting (getD edit at′ 0) d′ ≡ true
 
--- some two edits, one behind the other
+-- some two edits, one after the other
 pub record SomeTwo (edit : List ℕ) (at : ℕ) : Type 0 where
   pub P : Edit
   pub Q : Edit

@@ -1,4 +1,4 @@
--- The work array, in parts one behind the other.
+-- The work array, in parts one after the other.
 use mathlib.Core.List.{List}
 use Prim.Native.Nat.{ℕ}
 use lib.ListN.{take, drop}
@@ -6,11 +6,11 @@ use lib.ListN.{take, drop}
 unfoldable pub part : (from n : ℕ) → List ℕ → List ℕ
 part from n work = take n (drop from work)
 
--- so many steps an edit of 4,096 bytes can have, and one more: each has three bytes or more
+-- one more than the most steps of an edit of 4,096 bytes: each has at least three bytes
 abbrev pub mostSteps : ℕ
 mostSteps = 1366
 
--- where the second, third and fourth part start, and the length of all
+-- where the second, third and fourth parts start, and the whole length
 abbrev pub stackStart : ℕ
 stackStart = 64
 
@@ -34,6 +34,6 @@ stackOf work = part stackStart mostSteps work
 abbrev pub linksOf : List ℕ → List ℕ
 linksOf work = part linksStart mostSteps work
 
--- the offsets of the edits behind
+-- the offsets of the edits that follow
 abbrev pub behindOf : List ℕ → List ℕ
 behindOf work = part behindStart 2048 work

@@ -9,7 +9,7 @@ use Rattle.ends.specs.Shapes.{At}
 use Rattle.write.specs.Offsets.{StackIs}
 use Rattle.write.specs.Links.{lastIn}
 
--- some steps are on the stack, of which the one below index j is the last that touches a name, and what the name becomes under them fits a
+-- some steps are on the stack; the one below index j is the last that touches a name, and what the name becomes under them fits a
 -- buffer of `room` bytes from `pos` on
 pub record SomeName (edit stack : List ℕ) (j c k pos room : ℕ) : Type 0 where
   pub steps : List Substitution
@@ -17,7 +17,7 @@ pub record SomeName (edit stack : List ℕ) (j c k pos room : ℕ) : Type 0 wher
   pub stands : StackIs edit stack steps
   pub fits : pos + length (treeCode (env steps c k)) ≤ room
 
--- some steps are on the stack, and an expression that stands in a text fits likewise under them
+-- some steps are on the stack, and an expression that stands in a text fits the buffer under them, too
 pub record SomeShown (text : List ℕ) (at : ℕ) (edit stack : List ℕ) (h pos room : ℕ) : Type 0 where
   pub steps : List Substitution
   pub is : h ≡ length steps

@@ -1,4 +1,4 @@
-// Bytes written one behind the other.
+// Bytes written one after the other.
 ghost use mathlib.Core.List.{[], _∷_};
 ghost use Prim.Native.Nat.{_+_, _<_, _≤_};
 ghost use lib.ListN.{length, take, drop};
@@ -18,7 +18,7 @@ pub fn copy(text: &[u8], at: usize, n: usize, out: &mut [u8], pos: usize) -> usi
     pos + n
 }
 
-// Writes a code with its numbers, n bytes: by themselves, since there are three at most.
+// Writes a code with its numbers, n bytes: without a loop, since there are at most three.
 // Inner: they are there, and there is room.
 pub fn copy_code(text: &[u8], at: usize, n: usize, out: &mut [u8], pos: usize) -> usize
     requires { ⌜ (0 < n) × (n < 4) × (at + n ≤ length (now text)) × (pos + n ≤ length (now out)) ⌝ }
@@ -45,7 +45,7 @@ pub fn put_two(a: u8, b: u8, out: &mut [u8], pos: usize) -> usize
     pos + 2
 }
 
-// Writes n bytes of the output again, that stand before the place.
+// Writes again n bytes of the output that stand before the place.
 // Inner: they are there, and there is room.
 pub fn again(out: &mut [u8], from: usize, n: usize, pos: usize) -> usize
     requires { ⌜ (from + n ≤ pos) × (pos + n ≤ length (now out)) ⌝ }

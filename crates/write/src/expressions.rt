@@ -44,7 +44,7 @@ fn put_not(op: u8, out: &mut [u8], pos: usize) -> usize
     pos
 }
 
-// Writes a name under steps of which the one below index j is the last that touches it. A step's expression of one code is written here: most are.
+// Writes a name under steps of which the one below index j is the last that touches it. A step's expression of a single code, as most are, is written here.
 // Inner: the work array holds offsets of steps, with their links, and there is room; the room left falls with each call.
 fn name(edit: &[u8], work: &[u16], j: usize, of: Name, out: &mut [u8], pos: usize) -> usize
     requires { ⌜ (0 < j) × SomeName (now edit) (stackOf (now work)) j (of .code) (of .number) pos (length (now out)) × SomeLinks (now edit) (now work) j ⌝ }
@@ -70,8 +70,8 @@ fn name(edit: &[u8], work: &[u16], j: usize, of: Name, out: &mut [u8], pos: usiz
     emit(edit, edit, work, below, out, Place { at, pos: q }).pos
 }
 
-// Writes an expression of a text under h steps, code by code: a name as it is under them, any other code with its numbers as it stands. Answers the places behind what was read and behind what was written.
-// Each code takes one from the expressions that are wanted, and adds its operands.
+// Writes an expression of a text under h steps, code by code: a name as the steps make it, any other code with its numbers as it stands.
+// Returns the places after what was read and after what was written. Each code takes one from the expressions still wanted, and adds its operands.
 // Inner: it stands there, the work array holds offsets of steps, and there is room.
 pub fn emit(text: &[u8], edit: &[u8], work: &[u16], h: usize, out: &mut [u8], place: Place) -> Place
     requires { ⌜ SomeShown (now text) (place .at) (now edit) (stackOf (now work)) h (place .pos) (length (now out)) × SomeLinks (now edit) (now work) h ⌝ }

@@ -13,8 +13,8 @@ mod expressions;
 mod names;
 mod ways;
 
-// The work array, in parts: for each of the 64 names its last step, the offsets of the steps passed, the link of each, the offsets of the edits behind.
-// A step has three bytes at least, so that an edit has 1,365 at most.
+// The parts of the work array: the last step of each of the 64 names, the offsets of the steps passed, the link of each, the offsets of the edits that follow.
+// A step has at least three bytes, so an edit has at most 1,365.
 const STACK: usize = 64;
 
 const LINKS: usize = 1430;
@@ -23,21 +23,21 @@ const BEHIND: usize = 2796;
 
 pub const WORK: usize = 4844;
 
-// Where reading and writing stand.
+// Where reading and writing have come to.
 pub struct Place {
     pub at: usize,
     pub pos: usize,
 }
 
-// How far a walk has come: the place in the edit, the number of steps passed, the number of edits behind.
+// How far a walk has come: the place in the edit, the number of steps passed, the number of edits that follow.
 pub struct Reached {
     pub at: usize,
     pub h: usize,
     pub d: usize,
 }
 
-// Walks through the edit that stands at `from` as far as all rules go alike, for the rules to be written from there on.
-// Inner: it was read before. What `work` holds before is free; until the last rule is written, only these functions write it.
+// Walks through the edit that stands at `from` as far as all rules go the same way; the rules are written from there on.
+// Inner: it was read before. `work` may hold anything before; until the last rule is written, only these functions write it.
 pub fn start(edit: &[u8], from: usize, work: &mut [u16]) -> Reached
     requires { ⌜ SomeEdit (now edit) from × Fitting (now edit) (now work) ⌝ }
     ensures { λ r. ⌜ Started (now (edit .entry)) from (now (work .exit)) (r .at) (r .h) (r .d) ⌝ }
@@ -56,7 +56,7 @@ pub fn start(edit: &[u8], from: usize, work: &mut [u16]) -> Reached
 }
 
 // Writes the rule at a place of a text as carried back through an edit, from where the first walk through it rests.
-// Inner: rule and edit were read before, and there is room. The work array is after as it was left by that walk.
+// Inner: rule and edit were read before, and there is room. The work array is afterwards as that walk left it.
 pub fn write_rule(
     text: &[u8],
     edit: &[u8],
@@ -77,8 +77,8 @@ pub fn write_rule(
     end
 }
 
-// Writes a book carried back through the edit that stands at `from`, rule by rule, and answers its length.
-// Inner: both were read before, and there is room. What `work` holds before and after is free.
+// Writes a book carried back through the edit that stands at `from`, rule by rule, and returns its length.
+// Inner: both were read before, and there is room. `work` may hold anything before and after.
 pub fn write_book(book: &[u8], edit: &[u8], from: usize, work: &mut [u16], out: &mut [u8]) -> usize
     requires { ⌜ SomeBookFits (now book) (now edit) from (length (now out)) × Fitting (now edit) (now work) ⌝ }
     ensures { λ r. ⌜ ((rules : List (Expr rule)) (Z : Edit) → BookIs (now (book .entry)) rules → EditAt (now (edit .entry)) from Z → BookWritten Z rules (now (out .entry)) r (now (out .exit))) ⌝ }

@@ -1,4 +1,4 @@
-// The last step that touches a name, by links from each step to the one before it of its name.
+// The last step that touches a name, by links from each step to the previous step of its name.
 use crate::LINKS;
 ghost use mathlib.Core.Path.{_≡_};
 ghost use Prim.Native.Nat.{_+_, _<_, _≤_};
@@ -9,7 +9,7 @@ ghost use Rattle.ends.specs.Kept.{Kept};
 ghost use Rattle.write.specs.Work.{mostSteps, workLength, stackOf};
 ghost use Rattle.write.specs.Links.{lastIn, SomeLinks, linkStep};
 
-// A name as it stands in a text, 03 k or 11 a, of either sort on purpose: both bytes are copied as they are, and a cell of them is made by `ends::cell_of` alone.
+// A name as it stands in a text, 03 k or 11 a, deliberately of either sort: both bytes are copied as they are, and only `ends::cell_of` makes a cell of them.
 pub struct Name {
     pub code: u8,
     pub number: u8,
@@ -31,7 +31,7 @@ pub fn find(edit: &[u8], work: &[u16], h: usize, of: Name) -> usize
     j
 }
 
-// Links the step at `at`, which is the one on top of h others, to the one before it of its name.
+// Links the step at `at`, which is on top of h others, to the previous step of its name.
 // Inner: a step stands there.
 pub fn link(edit: &[u8], at: usize, work: &mut [u16], h: usize)
     requires { ⌜ (at + 1 < length (now edit)) × (h < mostSteps) × (length (now work) ≡ workLength) × Named (touched (getD (now edit) at 0)) (getD (now edit) (at + 1) 0) ⌝ }
@@ -42,7 +42,7 @@ pub fn link(edit: &[u8], at: usize, work: &mut [u16], h: usize)
     work[i] = (h + 1) as u16;
 }
 
-// The last step of each name.
+// Copies the last step of each name.
 // Inner: over the 64 names.
 pub fn copy_last(src: &[u16], out: &mut [u16])
     requires { ⌜ (length (now src) ≡ 64) × (length (now out) ≡ 64) ⌝ }

@@ -26,7 +26,7 @@ ghost use Rattle.write.specs.Links.{SomeLinks, LinkedIn, Relinked, Fitti
 ghost use Rattle.write.specs.Ways.{SomeWay, resting, Passed, Walked, SomeTwo, SomeCarried, WayWritten};
 ghost use Rattle.write.specs.Writing.{SomeShown};
 
-// Does a walk rest here: at a 35, or at the end?
+// Whether a walk rests here: at a 35, or at the end.
 // Inner: the place is in the edit.
 fn rests(edit: &[u8], at: usize, d: usize) -> bool
     requires { ⌜ at < length (now edit) ⌝ }
@@ -42,8 +42,8 @@ fn rests(edit: &[u8], at: usize, d: usize) -> bool
     d == 0
 }
 
-// The place behind the expression of a step, as `ends::past` finds it. One of a single code is looked at here: a rule passes each step, and most steps
-// have such a one.
+// The place after the expression of a step, as `ends::past` finds it. An expression of a single code is handled here: a rule passes each step, and most steps
+// have one of that kind.
 // Inner: the edit was read before.
 fn behind(edit: &[u8], at: usize) -> usize
     requires { ⌜ Some (now edit) at ⌝ }
@@ -56,7 +56,7 @@ fn behind(edit: &[u8], at: usize) -> usize
     ends::past(edit, at)
 }
 
-// Goes past a step, which is put on the stack and linked, or past an end, to the edit behind it.
+// Goes past a step, which is put on the stack and linked, or past an end to the edit after it.
 // Inner: there is a way, and it does not rest here.
 fn pass(edit: &[u8], work: &mut [u16], from: Reached) -> Reached
     requires { ⌜ SomeWay (now edit) (stackOf (now work)) (behindOf (now work)) (from .at) (from .h) (from .d) × (resting (getD (now edit) (from .at) 0) (from .d) ≡ false) × Fitting (now edit) (now work) × LinkedIn (now edit) (now work) (from .h) ⌝ }
@@ -103,7 +103,7 @@ struct Ways {
     next: usize,
 }
 
-// Inner: the first way stands there, and the second behind it.
+// Inner: the first way stands there, and the second after it.
 fn ways_at(edit: &[u8], first: usize) -> Ways
     requires { ⌜ SomeTwo (now edit) first ⌝ }
     ensures { λ r. ⌜ ((P : Edit) → EditAt (now (edit .entry)) first P → r .second ≡ first + length (editCode P)) × ((Q : Edit) → EditAt (now (edit .entry)) (r .second) Q → r .next ≡ r .second + length (editCode Q)) ⌝ }
@@ -113,7 +113,7 @@ fn ways_at(edit: &[u8], first: usize) -> Ways
     Ways { second, next }
 }
 
-// Writes 25 26 27 and the rule of the 35 where a walk rests. Answers the places behind what was read and behind what was written.
+// Writes 25 26 27 and the rule of the 35 where a walk rests. Returns the places after what was read and after what was written.
 // Inner: it stands there, the work array holds offsets of steps, and there is room.
 fn open_first(edit: &[u8], work: &[u16], rest: Reached, out: &mut [u8], pos: usize) -> Place
     requires { ⌜ SomeShown (now edit) (rest .at + 1) (now edit) (stackOf (now work)) (rest .h) (pos + 3) (length (now out)) × SomeLinks (now edit) (now work) (rest .h) ⌝ }
@@ -135,8 +135,8 @@ fn open_second(out: &mut [u8], from: usize, n: usize, pos: usize) -> usize
     bytes::again(out, from, n, pos + 1)
 }
 
-// Writes the rule at a place of a text as carried back along a way of the edit. Answers the places behind what was read and behind what was written.
-// Inner: the rule stands there, there is a way, and there is room; the room left falls with each call. What the last steps of names are after is free.
+// Writes the rule at a place of a text as carried back along a way of the edit. Returns the places after what was read and after what was written.
+// Inner: the rule stands there, there is a way, and there is room; the room left falls with each call. Afterwards the last steps of names may be anything.
 pub fn write_way(
     text: &[u8],
     edit: &[u8],

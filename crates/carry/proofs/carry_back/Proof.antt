@@ -1,4 +1,4 @@
--- `carry::carry_back` meets its contract: it asks the book, the edit and then the size. Assumes nothing.
+-- `carry::carry_back` meets its contract: it checks the book, the edit and then the size. Assumes nothing.
 use mathlib.Core.Path.{_≡_, sym, ap, _∙_}
 use denote.Ref.{now}
 use borrow.Author.Needs.{needs}

@@ -1,4 +1,4 @@
--- `carry::carry_into` meets its contract: the questions by the measured size, and the bytes those of the book carried through the edit. Assumes nothing.
+-- `carry::carry_into` meets its contract: it answers the questions by the measured size and writes the book carried through the edit. Assumes nothing.
 use native.Mathlib.Omega.{arith}
 use borrow.Author.Needs.{needs}
 use denote.Ref.{now}

@@ -19,7 +19,7 @@ Inv-loop text at gap end n second i₀ i = (i ≤ n) × (alike text at second i 
 abbrev μ-loop : tie.MeasureT-loop
 μ-loop text at gap end n second i₀ i = n - i
 
--- The places: behind the expression, and behind it where there is room, in a turn of the loop, with its two bytes read.
+-- The places: after the expression; after it with room; in a turn of the loop, with its two bytes read.
 abbrev Behind : Type 0
 Behind = tie.After-behind Inv-loop μ-loop
 

@@ -20,7 +20,7 @@ use Rattle.check_steps.proofs.CheckStages.{rule-refused, rule-short, ru
 use Rattle.check_steps.proofs.check_steps.Statement.{statement}
 use Rattle.check_steps.proofs.check_steps.Tie as tie
 
--- The places: the carried rule is read, it stands in the work text, the steps are made.
+-- The places: the carried rule is read, it is in the work text, the steps are made.
 abbrev start : tie.After-enum-told2 → tie.Start
 start r = r .before .before .before .before .before .before
 

@@ -12,7 +12,7 @@ Inv-loop work₀ length steps len₀ p₀ i₀ work len p i = Leading work₀ le
 abbrev μ-loop : tie.MeasureT-loop
 μ-loop work₀ length steps len₀ p₀ i₀ work len p i = lists.length steps - p
 
--- The places: a turn of the loop, a step that is whole in it, and the step made.
+-- The places: a turn of the loop, a whole step in it, and the step made.
 abbrev Turn : Type 0
 Turn = tie.At-loop Inv-loop μ-loop
 

@@ -21,7 +21,7 @@ touched-requires c κs =
     let s = c .before .before .before .before in let n = c .before .before .node-count .ensures in
     (record { sound = s .pre .0; count = n .0; few = n .2; kind = omega (arith, c .loop-test .taken) }, omega (arith, s .pre .1, n .0))
 
--- what `touched` said of a kind, by the sheet's own count
+-- what `touched` answered for a kind, by the sheet's own count
 kind-touched : (c : tie.After-touched Inv-loop μ-loop) → let s = c .before .before .before .before .before in arrowsAt (graphOf (s .args .sheet .now)) (s .args .node .0) (c .before .before .loop .a) ≡ c .touched .result
 kind-touched c = rw (← c .before .before .before .node-count .ensures .0) (sym (c .touched .ensures))
 

@@ -24,7 +24,7 @@ module _ (c : tie.After-enum-told) where
   rules : Learned (askBook (textLimits (start .args .n)) (start .args .book .now))
   rules = learned _ (sym (ap asked (c .enum-told .given .1)) ∙ c .before .before .check-book .ensures)
 
--- the edit too
+-- so is the edit
 module _ (c : tie.After-enum-told3) where
   abbrev told : tie.After-enum-told
   told = c .before .before .before

@@ -1,4 +1,4 @@
--- The loop's invariant: whatever may stand at the place, so many trees are still to come of it, and they end where it ends.
+-- The loop's invariant: whatever tree is at the place, this many parts of it are still to come, and they end where it ends.
 use borrow.Author.Needs.{needs}
 use native.Mathlib.Omega.{arith}
 use Prim.Native.Nat.{_-_}

@@ -1,4 +1,4 @@
--- Each code by itself, and a byte that is none of them.
+-- Each code by itself, and a byte that is not a code.
 use mathlib.Core.Path.{_≡_, refl, sym, ap}
 use mathlib.Core.List.{List, [], _∷_}
 use mathlib.Core.Logic.{_≢_}
@@ -10,7 +10,7 @@ use Rattle.ends.specs.Shapes.{shapes, shapeOf}
 use Rattle.ends.proofs.shape.Statement.{statement}
 use Rattle.ends.proofs.shape.Tie as tie
 
--- a place that is none of those with an entry other than 0
+-- a number that is not one of those with an entry other than 0
 Elsewhere : ℕ → (ℕ → ℕ) → List ℕ → Type 0
 Elsewhere c f [] = Unit {0}
 Elsewhere c f (zero ∷ l) = Elsewhere c (λ i. f (suc i)) l

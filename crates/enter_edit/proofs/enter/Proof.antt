@@ -66,7 +66,7 @@ all-read c =
     let steps = done-learned (rw count at (c .before .before .check-edit .ensures)) (c .enum-told5 .given .1) in
     record { rules = k .what; steps = steps .what; book-is = k .is; steps-are = steps .is }
 
--- The needs that the search does not close.
+-- The obligations that the search does not close.
 sheet-refuses : tie.Need-returns
 sheet-refuses c = let no = c .enum-told2 .given .1 in book-stops _ _ _ _ (sheet-refused _ _ (c .before .before .check .ensures) no) no
 

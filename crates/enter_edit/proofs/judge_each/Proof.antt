@@ -23,7 +23,7 @@ Inv-loop sheet book edit from work₀ scratch₀ n all rest at₀ i₀ work scra
 abbrev μ-loop : tie.MeasureT-loop
 μ-loop sheet book edit from work₀ scratch₀ n all rest at₀ i₀ work scratch at i = length book - at
 
--- what the evaluator asks of the sheet, and the rule that was written
+-- what the evaluator requires of the sheet, and the rule that was written
 eval-rule-requires : tie.Need-eval-rule-requires Inv-loop μ-loop
 eval-rule-requires c κs =
     let w = c .before .before .before .before .before in

@@ -48,7 +48,7 @@ use Rattle.eval.proofs.+combine_arrow+eval_arrow+node_within.Tie.{close
 abbrev μ-eval-arrow : Measures 3 eval-arrow-kinds.ps ℕ
 μ-eval-arrow κs a = 2 * (length (a .1 .1 .1 .0 .now) - a .1 .1 .1 .1 .0)
 
--- A relation that is combined apart is evaluated where it stands: one more.
+-- A relation that is combined separately is evaluated where it stands: one more.
 abbrev μ-combine-arrow : Measures 3 combine-arrow-kinds.ps ℕ
 μ-combine-arrow κs a = 2 * (length (a .1 .1 .1 .1 .0 .now) - a .1 .1 .1 .1 .1 .0) + 1
 
@@ -151,7 +151,7 @@ module _ (t : ℕ) where
   abbrev at-08 : InNode node-within-lts.After-ahead → InNode node-within-lts.Start
   at-08 c = c .before .before .before .before .before .before .before .before .before
 
-  -- from where the 12s have been passed, and where it is told whether a kind of arrows stands behind them
+  -- from where the 12s have been skipped, and where it is known whether an arrow kind stands after them
   abbrev counted : InNode node-within-lts.After-behind-turns → InNode node-within-lts.After-ahead
   counted c = c .before .before
 

@@ -57,7 +57,7 @@ join-lines-requires c κs =
     let st = start (c .before .before) in
     (length-take-le blockBytes (first st) (omega (arith, first-size st)), length-take-le blockBytes (second st) (omega (arith, second-size st)), few (c .before .before))
 
--- block 0 is made
+-- block 0 is done
 module _ (c : tie.After-join-lines Inv-loop μ-loop) where
   abbrev counted : tie.After-node-count2 Inv-loop μ-loop
   counted = c .before .before .before

@@ -14,7 +14,7 @@ use Rattle.join_sheets.specs.BesideWrites.{raised, beside, putBeside}
 use Rattle.join_sheets.proofs.put_beside.Statement.{statement}
 use Rattle.join_sheets.proofs.put_beside.Tie as tie
 
--- i words are put, and those behind them are as they were
+-- i words are put, and those after them are unchanged
 abbrev Inv-loop : tie.InvT-loop
 Inv-loop block₀ at other m n i₀ block i = (i ≤ m) × (length block ≡ blockBytes) × (block ≡ putBeside at n other i block₀) × ((p : ℕ) → 16 + 8 * (at + i) ≤ p → wordAt block p ≡ wordAt block₀ p)
 

@@ -1,6 +1,6 @@
--- `judge::judge` meets its contract: a walk of its MIR, by hand. `decide`, `part_of` and `with_part` are called one after the other, and each one's result goes on whole.
--- The two slices are Copy: what each owns is had as often as it is passed, and one of each is kept for the exit. A verdict is plain, so what it owns is made anew of its facts.
---
+-- `judge::judge` meets its contract: a walk of its MIR, by hand. `decide`, `part_of` and `with_part` are called one after the other, and each passes
+-- its whole result on. The two slices are Copy: what each owns is available as often as it is passed, and one of each is kept for the exit. A verdict is
+-- plain, so what it owns is made anew from its facts.
 use mathlib.Core.Path.{_≡_, refl, sym, ap, _∙_, subst}
 use Prim.Native.Nat.{ℕ, _+_, _≤_}
 use mathlib.Core.List.{List, [], _∷_}
@@ -92,7 +92,7 @@ module _ {M : Type 1} (𝓤 : URA M) (H : Heap 𝓤) (A : Atoms 𝓤) (W : Given
   abbrev at : Vals judge.signature κs
   at = (vs ∷ [], (vb ∷ [], tt))
 
-  -- what each call says
+  -- what each call ensures
   abbrev Found : Verdict → Type 0
   Found r = (asked (r .answer) ≡ askJudge (now s) (now b)) × (partNamed r ≡ judgedPart (now s) (now b))
 

@@ -1,6 +1,5 @@
 -- `judge::with_part` meets its contract: a walk of its MIR, by hand. A `Judged` is made of the verdict's answer, which is plain, and the slice passed.
--- What the answer owns is made anew of its facts; a `&[u8]` is Copy, so what it owns is had twice, once for the exit and once inside the result.
---
+-- What the answer owns is made anew from its facts; a `&[u8]` is Copy, so what it owns is available twice, once for the exit and once inside the result.
 use mathlib.Core.Path.{refl}
 use Prim.Native.Nat.{ℕ}
 use mathlib.Core.List.{List, [], _∷_}

@@ -13,7 +13,7 @@ use Rattle.log.proofs.TakeLaws.{cut-short, sums-wrong, too-many, fields
 use Rattle.log.proofs.take_block.Statement.{statement}
 use Rattle.log.proofs.take_block.Tie as tie
 
--- The places: the sums are right, the fields are asked, they are right, and the block is kept.
+-- The places: the sums are right, the fields are checked, they are right, and the block is kept.
 module _ (e : tie.Else2) where
   abbrev started : tie.Start
   started = e .before .before .before .before .before

@@ -11,7 +11,7 @@ use Rattle.name_table.proofs.PartlyLaws.{taken-is, free-unspelled, free
 use Rattle.name_table.proofs.free_name.Statement.{statement}
 use Rattle.name_table.proofs.free_name.Tie as tie
 
--- The word is well spelled; it is no word of the notation.
+-- The word is well spelled; it is not a word of the notation.
 spelled : (c : tie.Else1) → wellSpelled (now (c .before .before .before .before .args .word)) ≡ true
 spelled c = sym (c .before .is-spelled .ensures) ∙ not-false _ (c .if1 .left)
 

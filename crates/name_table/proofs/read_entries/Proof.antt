@@ -14,7 +14,7 @@ use Rattle.name_table.specs.Entries.{Begun, Turned, Read}
 use Rattle.name_table.proofs.read_entries.Statement.{statement}
 use Rattle.name_table.proofs.read_entries.Tie as tie
 
--- The entries read so far, and that the rest of the text is asked after them.
+-- The entries read so far, and that the rest of the text is read after them.
 record Sofar (text table : List ℕ) (at : ℕ) : Type 0 where
   begun : Begun table
   rest : askNames text ≡ askEntries (length text) (tokensFrom text at) (begun .entries)

@@ -11,7 +11,7 @@ use Rattle.name_table.proofs.TurnLaws.{turn-end, turn-kind, turn-number
 use Rattle.name_table.proofs.read_entry.Statement.{statement}
 use Rattle.name_table.proofs.read_entry.Tie as tie
 
--- The places: three tokens are looked for, the first is a kind, the second has a free slot, the third is a free name.
+-- The places: three tokens are looked for; the first is a kind, the second has a free slot, the third is a free name.
 abbrev first : tie.After-item-of → tie.After-next
 first i = i .before .before .before
 

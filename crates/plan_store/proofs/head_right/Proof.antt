@@ -6,7 +6,7 @@ use Rattle.plan_store.proofs.StoreHead.{not-four, bit-7, not-zero, word
 use Rattle.plan_store.proofs.head_right.Statement.{statement}
 use Rattle.plan_store.proofs.head_right.Tie as tie
 
--- the bytes that are no words are zero
+-- the bytes outside the words are zero
 returns-5 : tie.Need-returns-5
 returns-5 c = words-not-zero _ (c .before .before .before .before .if3 .left) (c .before .before .if4 .left) (sym (c .before .zeros .ensures) ∙ not-is _ _ (c .if5 .taken))
 

@@ -31,7 +31,7 @@ module _ (c : tie.After-enum-told) where
   sound : Sound sheet
   sound = sym (c .before .before .check .ensures) ∙ ap asked (c .enum-told .given .1)
 
--- the name too
+-- so has the name
 module _ (c : tie.After-enum-told3) where
   abbrev asked-sheet : tie.After-enum-told
   asked-sheet = c .before .before .before .before

@@ -14,7 +14,7 @@ start c = c .before .before .before .before .before .before .before
 returns : tie.Need-returns
 returns c = c .zeros .ensures ∙ place-unfilled _ _ _ (c .before .before .before .wide .ensures .0) (sym (c .before .before .member .ensures) ∙ not-is _ _ (c .before .if1 .taken))
 
--- the place is asked as a sheet
+-- the place is checked as a sheet
 checked : (c : tie.After-check) → isPassed (asked (c .check .result)) ≡ placeRight (start c .args .store .now) (start c .args .place)
 checked c =
     place-filled _ _ _ (c .before .before .before .before .wide .ensures .0) (c .check .result) _ (sym (c .before .before .before .member .ensures) ∙ not-is _ _ (c .before .before .if1 .left))

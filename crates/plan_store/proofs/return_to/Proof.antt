@@ -34,7 +34,7 @@ returns-2 c =
     stops _ _ _ (c .enum-told4 .given .1)
     (first-stops _ _ (c .enum-told4 .given .1) (c .before .before .ask-filled .ensures) ∙ sym (then-on (sound (c .before .before .before)) _))
 
--- the name too
+-- so has the name
 module _ (c : tie.After-enum-told3) where
   abbrev asked-sheet : tie.After-enum-told
   asked-sheet = c .before .before .before

@@ -1,4 +1,4 @@
--- The loop's invariant: what is still to be read gives, after the codes so far, what was asked for. A turn takes a token, begins a rule, or goes a level up.
+-- The loop's invariant: what is still to be read gives, after the codes so far, what was wanted. A turn takes a token, begins a rule, or goes up a level.
 use mathlib.Core.Path.{sym, _∙_, ap₂, subst}
 use mathlib.Core.List.{[]}
 use mathlib.Core.Logic.{⊎-elim}
@@ -51,7 +51,7 @@ ended c =
     let i = c .before .before .before .before in
     ends-text _ _ _ _ _ (i .before .before .before .loop .inv) (i .before .next2 .ensures) (i .before .before .if1 .left) (i .if5 .taken) (e .0) (e .1)
 
--- a token: it begins nothing; it is a mark, a name or a count; it begins a thing one level deeper, or on the level of the row
+-- a token: it begins nothing; it is a mark, a name or a count; it begins a thing one level deeper, or at the level of the row
 begins-nothing : tie.Need-returns-4 Inv-loop μ-loop
 begins-nothing c =
     let m = c .before .before in

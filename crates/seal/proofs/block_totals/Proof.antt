@@ -27,7 +27,7 @@ abbrev μ-loop : tie.MeasureT-loop
 loop-holds : tie.Need-loop-holds Inv-loop μ-loop
 loop-holds c = record { within = omega arith; low = omega arith; z-low = omega arith; counted = counted-none _ }
 
--- a sum of lanes counted up to 8 times
+-- a sum of lanes times at most 8
 product : (x j : ℕ) → x % 0x10000 * (8 - j) ≤ 524280
 product x j = mul-le-mul {n₂ = 0xFFFF} {m₂ = 8} (below x) (omega arith) where
   below : (x : ℕ) → x % 0x10000 ≤ 0xFFFF
@@ -36,7 +36,7 @@ product x j = mul-le-mul {n₂ = 0xFFFF} {m₂ = 8} (below x) (omega arith) wher
 more-fits : (x y j : ℕ) → j ≤ 8 → x ≤ 524280 * j → y ≤ 524280 → x + y < 0x10000000000000000
 more-fits x y j h f g = omega arith
 
--- eight words added, and their halves besides
+-- eight words added, plus their upper half
 halves-low : (x y : ℕ) → x ≤ 0x07F807F807F807F8 → y ≤ 0x07F807F807F807F8 → x + y + (x + y) / 0x100000000 ≤ 0x0FF00FF01FE01FE0
 halves-low x y f g = omega arith
 
@@ -80,7 +80,7 @@ loop-again c =
           (x .ensures .0 .0) (y .ensures .0 .0) (x .ensures .0 .1) (y .ensures .0 .1) (x .ensures .0 .2) (y .ensures .0 .2) (across-is k small (l .j) eight (ap₂ _+_ (x .ensures .0 .0) (y .ensures .0 .0)));
     })
 
--- the totals, and what is taken off of t
+-- the totals, and what is subtracted from t
 right : (c : tie.After-places Inv-loop μ-loop) → let l = ended c .loop in let k = block (ended c) in
     (laneSum (l .first + l .second) ≡ total k)
     × (8 * (l .z + 8 * (c .before .before .before .lane-sum .result + 4 * c .before .before .lane-sum2 .result)) ≡ weighed k + lanePlaces (l .first + l .second) (l .odds))
@@ -91,7 +91,7 @@ right c =
     let both = counted-all k (ended c .before .before .pre) (subst (Counted k (l .first) (l .second) (l .before) (l .odds) (l .z)) e (l .inv .counted)) in
     (both .0, ap₂ (λ x y. 8 * (l .z + 8 * (x + 4 * y))) (c .before .before .before .lane-sum .ensures .0) (c .before .before .lane-sum2 .ensures .0) ∙ both .1)
 
--- what is taken off is there, and what is left
+-- what is subtracted is no more than there is, and what remains
 less : (x w p off : ℕ) → x ≡ w + p → off ≡ p → (off ≤ x) × (x - off ≡ w)
 less x w p off e f = omega arith
 

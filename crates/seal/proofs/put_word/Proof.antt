@@ -47,7 +47,7 @@ times c = (508 - start (lanes-read c) .args .at) * c .lane-sum .result
 times-low : (c : tie.After-lane-sum) → read-t (lanes-read c) .pair2 .result + times c < 0x10000000
 times-low c = sum-low _ _ (read-t (lanes-read c) .pair2 .ensures .1) (product _ _ (omega arith) (c .lane-sum .ensures .1))
 
--- the places can be taken off, and the numbers leave the sums
+-- the places can be subtracted, and the numbers have the sums as remainders
 record Changed (c : tie.After-places) : Type 0 where
   pub there : c .places .result ≤ times (c .before)
   pub leaves : let l = lanes-read (c .before) in

@@ -13,7 +13,7 @@ use Rattle.seal.proofs.CodeLaws.{right-255}
 use Rattle.seal.proofs.right_255.Statement.{statement}
 use Rattle.seal.proofs.right_255.Tie as tie
 
--- the check bytes, and what the totals leave, with which they are compared
+-- the check bytes, and the remainders that they are compared with
 abbrev block : tie.After-totals-to → List ℕ
 block c = c .before .before .args .block .now
 

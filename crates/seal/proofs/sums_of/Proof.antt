@@ -10,7 +10,7 @@ use Rattle.seal.proofs.TotalLaws.{sums-total, sums-weighed, plain-total
 use Rattle.seal.proofs.sums_of.Statement.{statement}
 use Rattle.seal.proofs.sums_of.Tie as tie
 
--- the body's plain totals have 32 bits
+-- the body's plain totals fit into 32 bits
 totals-fit : (c : tie.After-totals-to) → (c .totals-to .result .s < 4294967296) × (c .totals-to .result .t < 4294967296)
 totals-fit c =
     let st = c .before .before in

@@ -31,7 +31,7 @@ loop-holds c =
     let all : take 512 k ≡ k = take-all 512 k (omega (arith, st .pre .0)) in
     record { from = st .pre .1; to = omega arith; s-is = f .0 ∙ ap total (sym all); t-is = f .1 ∙ ap weighed (sym all) }
 
--- a byte taken off
+-- one byte subtracted
 module _ {l : List ℕ} {end s t i : ℕ} (v : Inv l end s t i) (h : end < i) (n : length l ≡ 512) where
   last : (S l i ≡ S l (i - 1) + getD l (i - 1) 0) × (T l i ≡ T l (i - 1) + (S l (i - 1) + getD l (i - 1) 0))
   last = next-byte l (i - 1) i (omega arith) (omega (arith, v .to))

@@ -18,7 +18,7 @@ Inv-loop block₀ n rows i₀ block i = (i ≤ n) × (length block ≡ blockByte
 abbrev μ-loop : tie.MeasureT-loop
 μ-loop block₀ n rows i₀ block i = n - i
 
--- i words have been put
+-- i words have been written
 module _ (p : tie.At-loop Inv-loop μ-loop) where
   abbrev st : tie.Start Inv-loop μ-loop
   st = p .before .before

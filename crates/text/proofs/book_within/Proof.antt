@@ -1,4 +1,4 @@
--- The loop's invariant: the rules that are left give the answer to the book. A turn takes one of those that a book may have.
+-- The loop's invariant: the rules that are left give the answer for the book. A turn takes one of those that a book may have.
 use borrow.Author.Needs.{needs}
 use native.Mathlib.Omega.{arith}
 use mathlib.Core.Path.{_≡_, sym, ap, _∙_}

@@ -1,4 +1,4 @@
--- Each code by itself, and a byte that is none of them.
+-- Each code by itself, and a byte that is not a code.
 use mathlib.Core.Path.{_≡_, sym, ap}
 use mathlib.Core.Logic.{_≢_}
 use Prim.Native.Nat.{ℕ}

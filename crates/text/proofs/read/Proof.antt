@@ -1,4 +1,4 @@
--- The loop's invariant: what is still to be read gives what was asked for. A turn takes a byte, or goes a level up.
+-- The loop's invariant: what is still to be read gives what was wanted. A turn takes a byte, or goes up a level.
 use borrow.Author.Needs.{needs}
 use native.Mathlib.Omega.{arith}
 use mathlib.Core.Path.{_≡_, sym, _∙_, subst}

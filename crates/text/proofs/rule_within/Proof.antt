@@ -7,7 +7,7 @@ use Rattle.text.proofs.rule_within.Statement.{statement}
 use Rattle.text.specs.Reading.{expr}
 use Rattle.text.proofs.rule_within.Tie as tie
 
--- r is where the rule was read.
+-- r is the place after the rule.
 returns-2 : tie.Need-returns-2
 returns-2 c =
     let r = c .before .before .before in

@@ -1,4 +1,4 @@
--- Each way through the tests says where the code lies.
+-- Each path through the tests gives the range that the code is in.
 use native.Mathlib.Omega.{arith}
 use Rattle.text.proofs.CodeSorts.{of-nodes, of-arrows, of-rules, of-edits, of-none}
 use Rattle.text.proofs.sort_of.Statement.{statement}

@@ -15,7 +15,7 @@ use Rattle.witness.proofs.WitnessStages.{sheet-refused, rule-refused, r
 use Rattle.witness.proofs.find.Statement.{statement}
 use Rattle.witness.proofs.find.Tie as tie
 
--- The sheet has passed, and so much of the text is looked at.
+-- The sheet has passed, and this much of the text is looked at.
 module _ (c : tie.After-seen) where
   abbrev start : tie.Start
   start = c .before .before .before .before .before .before .before

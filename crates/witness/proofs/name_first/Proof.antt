@@ -10,7 +10,7 @@ use Rattle.witness.proofs.WitnessStages.{for-count, names-none, names-p
 use Rattle.witness.proofs.name_first.Statement.{statement}
 use Rattle.witness.proofs.name_first.Tie as tie
 
--- the sheet and the rule, as they are handed down
+-- the sheet and the rule, as they are passed down
 module _ (c : tie.After-all-nodes) where
   abbrev start : tie.Start
   start = c .before .before .before .before

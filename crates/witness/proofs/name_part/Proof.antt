@@ -26,7 +26,7 @@ module _ (c : tie.Then4) where
   pair-in : IsPairIn (start-4 .args .n) (start-4 .args .text .now) (start-4 .args .at) (start-4 .pre .1 .what)
   pair-in = as-pair-in _ _ _ (start-4 .pre .1 .what) (start-4 .pre .1 .stands) (c .before .if3 .left) (c .if4 .taken)
 
--- a code above 24 that is no 25 and no 26
+-- a code above 24 that is neither 25 nor 26
 above-26 : {c : ℕ} → 0x24 < c → NoPair c → 0x26 < c
 above-26 {c} l p = go (decLt 0x26 c) (decLt 0x25 c) where
   go : Dec (0x26 < c) → Dec (0x25 < c) → 0x26 < c

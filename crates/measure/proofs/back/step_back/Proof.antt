@@ -19,7 +19,7 @@ use Rattle.measure.proofs.back.step_back.Tie as tie
 abbrev q : (s : tie.Start) → IsStep (now (s .args .text)) (s .args .at) (s .pre .0 .what)
 q s = as-step _ _ (s .pre .0 .what) (s .pre .0 .stands) (s .pre .3) (s .pre .4)
 
--- is it a 32?
+-- whether it is a 32
 abbrev two : tie.Start → Bool
 two s = eqb (getD (now (s .args .text)) (s .args .at) 0) 0x32
 

@@ -20,7 +20,7 @@ start c = c .before
 abbrev g : tie.After-shared-slice-known → Graph
 g c = graphOf (now (start c .args .sheet))
 
--- the kind is one of a sheet's, and the row a node's
+-- the kind is one that a sheet has, and the row is a node's
 row : (c : tie.After-shown) → (c .shown .given .0 .0 < arrowCount) × (start (c .before .before) .args .x < g (c .before .before) .n)
 row c =
     let s = start (c .before .before) in

@@ -24,7 +24,7 @@ module _ (c : tie.Else1) where
   ok : listsRight (start .args .edits .now) (start .args .lengths .now) (start .args .dispatchers) (start .args .moves) ≡ true
   ok = sym (c .before .lists-right .ensures) ∙ not-false _ (c .if1 .left)
 
--- sheet, book and goal too
+-- so have sheet, book and goal
 module _ (c : tie.After-enum-told) where
   abbrev lists : tie.Else1
   lists = c .before .before .before
@@ -38,7 +38,7 @@ module _ (c : tie.After-enum-told) where
   known : AimsRead sheet (start lists .args .book .now) (start lists .args .goal .now) (aims .what)
   known = aims-read _ _ _ (aims .what) (aims .is)
 
--- the edits are asked
+-- the edits are checked
 module _ (c : tie.After-check-edits) where
   abbrev told : tie.After-enum-told
   told = c .before .before

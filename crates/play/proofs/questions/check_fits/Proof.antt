@@ -51,7 +51,7 @@ module _ (c : tie.After-end-of Inv-loop μ-loop) where
   inside : (at-loop .loop .at ≤ c .end-of .result) × (c .end-of .result ≤ length edits)
   inside = part-in (from (known .what) (known .are)) (below (known .what) (known .are)) (ends (known .what) (known .are))
 
--- the book carried back through it was asked
+-- the book carried back through it was measured
 module _ (c : tie.After-fits2 Inv-loop μ-loop) (rules : List (Expr rule)) (Zs : List Edit) where
   abbrev end : tie.After-end-of Inv-loop μ-loop
   end = c .before .before

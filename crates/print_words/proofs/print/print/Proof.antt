@@ -1,4 +1,4 @@
--- The loop's invariant is what printing keeps, with the rows that are known. A turn leaves fewer tokens ahead, or goes a level up.
+-- The loop's invariant is what printing keeps, with the rows that are known. A turn leaves fewer tokens ahead, or goes up a level.
 use native.Mathlib.Omega.{arith}
 use mathlib.Core.Path.{_≡_, sym, _∙_}
 use mathlib.Core.List.{[]}
@@ -32,7 +32,7 @@ abbrev μ-loop : tie.MeasureT-loop
 table-slots : (l : tie.At-loop Inv-loop μ-loop) → Slots nameWidth nameCount (now (l .before .before .before .before .args .table))
 table-slots l = l .before .before .before .before .pre .0
 
--- No row is left above the first level; and no rule follows, or one more.
+-- No row is left above the first level; and no rule follows, or one more does.
 first-level : (c : tie.Else2 Inv-loop μ-loop) → c .before .before .loop .level ≡ 1
 first-level c = omega (arith, c .before .before .loop .inv .least, c .if2 .left)
 

@@ -43,7 +43,7 @@ module _ (p : tie.At-loop Inv-loop μ-loop) where
   abbrev nodes : Nodes
   nodes = isNode (graphIn φ t)
 
-  -- of the part that is lent
+  -- for the part that is passed to the call
   told : Told φ (take (blockBytes * b + blockBytes - blockBytes * b) (drop (blockBytes * b) t)) b n (p .before .nodes-told .result) nodes
   told = told-of φ t n _ refl (p .before .nodes-told .ensures φ refl) b _ (part-is t b)
 

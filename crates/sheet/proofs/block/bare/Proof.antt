@@ -15,7 +15,7 @@ Inv-loop block set r₀ left₀ r left = Barely block set left r
 abbrev μ-loop : tie.MeasureT-loop
 μ-loop block set r₀ left₀ r left = left
 
--- the set's first number is a word's
+-- the set's first number is that of a word
 word-there : (c : tie.After-first Inv-loop μ-loop) → c .first .result < wordCount
 word-there c = c .before .before .before .before .pre .0 _ (c .before .before .loop .inv .part _ (c .first .ensures .1) (c .first .ensures .0))
 

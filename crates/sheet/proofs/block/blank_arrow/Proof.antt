@@ -12,7 +12,7 @@ use Rattle.sheet.proofs.BareBlocks.{not-asked, not-block-0, not-headed,
 use Rattle.sheet.proofs.block.blank_arrow.Statement.{statement}
 use Rattle.sheet.proofs.block.blank_arrow.Tie as tie
 
--- an arrow's block with its head, whose check bytes have been looked at
+-- an arrow block with its head, whose check bytes have been checked
 module _ (p : tie.After-bare-seal) where
   abbrev known : tie.After-shared-slice-known
   known = p .before .before .before .before .before .before

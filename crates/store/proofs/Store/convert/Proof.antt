@@ -18,7 +18,7 @@ use Rattle.store.proofs.ConvertedLaws.{begun-length, each-made, card-fe
 use Rattle.store.proofs.Store.convert.Statement.{statement}
 use Rattle.store.proofs.Store.convert.Tie as tie
 
--- what a block is made
+-- what a block becomes
 abbrev resealed : List ℕ → ℕ → List ℕ
 resealed t j = reseal (present .sums) (blockOf t j)
 
@@ -48,7 +48,7 @@ module _ (p : tie.After-enum-told Inv-loop μ-loop) where
   bytes : Bytes card
   bytes i = omega (arith, known .slice-known .given i)
 
--- it has its nodes in use
+-- its nodes in use are written
 module _ (p : tie.After-store Inv-loop μ-loop) where
   abbrev passed : tie.After-enum-told Inv-loop μ-loop
   passed = p .before .before .before .before

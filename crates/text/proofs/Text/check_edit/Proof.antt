@@ -6,7 +6,7 @@ use Rattle.text.proofs.Text.check_edit.Statement.{statement}
 use Rattle.text.specs.Reading.{edit}
 use Rattle.text.proofs.Text.check_edit.Tie as tie
 
--- r is where the edit was read.
+-- r is the place after the edit.
 returns-2 : tie.Need-returns-2
 returns-2 c =
     let r = c .before .before .before in

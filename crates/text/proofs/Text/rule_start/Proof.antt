@@ -1,4 +1,4 @@
--- The loop's invariant: behind the rules that are left lies the place asked for. A turn takes one of them.
+-- The loop's invariant: the place wanted is after the rules that are left. A turn takes one of them.
 use borrow.Author.Needs.{needs}
 use mathlib.Core.Path.{_≡_, sym, ap, _∙_}
 use Prim.Native.Nat.{_≤_}

@@ -1,4 +1,4 @@
--- The loop's invariant: whatever expression stands at the place, so many trees are still to come of it, and their texts are still to be written.
+-- The loop's invariant: whatever expression stands at the place, this many of its trees are still to come, and their texts are still to be written.
 use lib.ListN.{length, getD, set, length-set}
 use denote.Ref.{now}
 use mathlib.Core.Path.{_≡_, _∙_}
