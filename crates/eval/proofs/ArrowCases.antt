@@ -1,6 +1,6 @@
 -- The cases of an arrow expression by its code byte, and the relation that each means.
 use mathlib.Core.Path.{_≡_, refl, sym, ap, ap₂}
-use mathlib.Core.Bool.{cond, _&&_}
+use mathlib.Core.Bool.{Bool, true, false, not, cond, _&&_}
 use mathlib.Core.List.{List, []}
 use Prim.Native.Nat.{ℕ, _+_, _≤_, _<_}
 use native.Mathlib.Omega.{arith}
@@ -14,9 +14,9 @@ use Rattle.bitset.specs.Words.{setOf}
 use Rattle.sheet.specs.Sheet.{graphOf, Rows}
 use Rattle.text.specs.Code.{code}
 use Rattle.text.specs.Stands.{Stands}
-use Rattle.rows.specs.Operations.{arrowOperation}
-use Rattle.eval.specs.Evaluated.{Opened, IsRelation, IsCombined}
-use Rattle.eval.proofs.EvaluatorPosts.{SetAt, RelationAt}
+use Rattle.rows.specs.Operations.{arrowOperation, turn}
+use Rattle.eval.specs.Evaluated.{Opened, IsRelation, IsEitherWay, IsCombined, IsCombinedWay, IsTurned}
+use Rattle.eval.proofs.EvaluatorPosts.{SetAt, WayAt}
 use Rattle.eval.proofs.InUse.{is-whole}
 use Rattle.eval.proofs.CodePlaces.{first-number, second-number, codeByte, by-byte, below, above, Leaf, One, Two, leaf-at, one-at, two-at}
 
@@ -84,21 +84,27 @@ module _ (n : ℕ) (text : List ℕ) (at : ℕ) where
     pub leaf-relation : {k : ℕ} {P : Type 0} {v : Graph → Pairs} → Leaf text at k P v e → Rows n (v (graphOf sheet)) out → IsRelation sheet n at e out (at + k)
     leaf-relation h r = record { rows-are = rw (h .means (graphOf sheet)) r; ends = omega (arith, h .size) }
 
-    pub reversed-relation : IsReversed e → (rows : List ℕ) (nx : ℕ) → RelationAt n text sheet (at + 1) rows nx
-        → ((v : Pairs) → Rows n v rows → Rows n (λ i j. v j i) out) → IsRelation sheet n at e out nx
-    reversed-relation h rows nx p r =
-        let a = p (h .A) (h .first) in
-        record { rows-are = rw (h .means (graphOf sheet)) (r (value (graphOf sheet) (h .A)) (a .rows-are)); ends = omega (arith, a .ends, h .size) }
+    -- in rows or in columns
+    pub straight-way : {nx : ℕ} → IsRelation sheet n at e out nx → IsEitherWay sheet n at e out false nx
+    straight-way r = record { rows-are = r .rows-are; ends = r .ends }
 
-    pub two-relation : IsTwo (getD text at 0) e → (first : List ℕ) (nx ny : ℕ) → RelationAt n text sheet (at + 1) first nx
-        → ((f : Expr arrow) → Stands (ranges n) text nx f → IsCombined sheet n nx (getD text at 0) f first out ny) → IsRelation sheet n at e out ny
-    two-relation h first nx ny p q =
+    pub reversed-way : IsReversed e → (turned : Bool) (nx : ℕ) → WayAt n text sheet (at + 1) out turned nx → IsEitherWay sheet n at e out (not turned) nx
+    reversed-way h turned nx p =
+        let a = p (h .A) (h .first) in
+        record { rows-are = rw (h .means (graphOf sheet)) (go turned (value (graphOf sheet) (h .A)) (a .rows-are)); ends = omega (arith, a .ends, h .size) } where
+          go : (b : Bool) (v : Pairs) → Rows n (turn b v) out → Rows n (turn (not b) (λ i j. v j i)) out
+          go true v q = q
+          go false v q = q
+
+    pub two-way : IsTwo (getD text at 0) e → (first : List ℕ) (before turned : Bool) (nx ny : ℕ) → WayAt n text sheet (at + 1) first before nx
+        → ((f : Expr arrow) → Stands (ranges n) text nx f → IsCombinedWay sheet n nx (getD text at 0) f before first out turned ny) → IsEitherWay sheet n at e out turned ny
+    two-way h first before turned nx ny p q =
         let a = p (h .A) (h .first) in let b = q (h .B) (h .second nx (a .ends)) in
         record { rows-are = rw (h .means (graphOf sheet)) (b .rows-are (value (graphOf sheet) (h .A)) (a .rows-are)); ends = omega (arith, a .ends, b .ends, h .size) }
 
-    pub ending-relation : {all : ℕ} → Opened sheet n all → IsEnding e → (rows : List ℕ) (x nx ny : ℕ) → RelationAt n text sheet (at + 1) rows nx → SetAt n text sheet nx all x ny
-        → ((v : Pairs) (w : Nodes) → Rows n v rows → x ≡ setOf n w → Rows n (λ i j. v i j && w j) out) → IsRelation sheet n at e out ny
-    ending-relation o h rows x nx ny p q r =
+    pub ending-way : {all : ℕ} → Opened sheet n all → IsEnding e → (rows : List ℕ) (turned : Bool) (x nx ny : ℕ) → WayAt n text sheet (at + 1) rows turned nx → SetAt n text sheet nx all x ny
+        → ((v : Pairs) (w : Nodes) → Rows n (turn turned v) rows → x ≡ setOf n w → Rows n (turn turned (λ i j. v i j && w j)) out) → IsEitherWay sheet n at e out turned ny
+    ending-way o h rows turned x nx ny p q r =
         let a = p (h .A) (h .first) in let b = is-whole o (q (h .B) (h .second nx (a .ends))) in
         record { rows-are = rw (h .means (graphOf sheet)) (r _ _ (a .rows-are) (b .set)); ends = omega (arith, a .ends, b .ends, h .size) }
 
@@ -106,6 +112,23 @@ module _ (n : ℕ) (text : List ℕ) (at : ℕ) where
     pub leaf-combined : {k : ℕ} {P : Type 0} {w : Graph → Pairs} → Leaf text at k P w e → ((v : Pairs) → Rows n v old → Rows n (λ i j. arrowOperation c (v i j) (w (graphOf sheet) i j)) out) → IsCombined sheet n at c e old out (at + k)
     leaf-combined h r = record { rows-are = λ v p. rw (h .means (graphOf sheet)) (r v p); ends = omega (arith, h .size) }
 
-    pub apart-combined : (other : List ℕ) (nx : ℕ) → IsRelation sheet n at e other nx
-        → ((v w : Pairs) → Rows n v old → Rows n w other → Rows n (λ i j. arrowOperation c (v i j) (w i j)) out) → IsCombined sheet n at c e old out nx
-    apart-combined other nx a r = record { rows-are = λ v p. r v (value (graphOf sheet) e) p (a .rows-are); ends = a .ends }
+  module _ (sheet : List ℕ) (c : ℕ) (e : Expr arrow) (before : Bool) (old faced out : List ℕ) where
+    -- a leaf as the second, at p after its 12s
+    pub leaf-way : (turned : Bool) (p nx : ℕ) → IsTurned n text at e turned p → ((v : Pairs) → Rows n (turn before v) old → Rows n (turn turned v) faced)
+        → ((f : Expr arrow) → Stands (ranges n) text p f → IsCombined sheet n p c f faced out nx) → IsCombinedWay sheet n at c e before old out turned nx
+    leaf-way turned p nx t f q =
+        let g = graphOf sheet in let b = q (t .R) (t .stands) in
+        record {
+          rows-are = λ v h. rw (t .means g) (go turned v (value g (t .R)) (b .rows-are (turn turned v) (f v h)));
+          ends = omega (arith, t .ends, b .ends);
+        } where
+          go : (b : Bool) (v w : Pairs) → Rows n (λ i j. arrowOperation c (turn b v i j) (w i j)) out → Rows n (turn b (λ i j. arrowOperation c (v i j) (turn b w i j))) out
+          go true v w q = q
+          go false v w q = q
+
+    pub apart-way : (other : List ℕ) (turned : Bool) (nx : ℕ) → IsEitherWay sheet n at e other turned nx → ((v : Pairs) → Rows n (turn before v) old → Rows n (turn turned v) faced)
+        → ((v w : Pairs) → Rows n v faced → Rows n w other → Rows n (λ i j. arrowOperation c (v i j) (w i j)) out) → IsCombinedWay sheet n at c e before old out turned nx
+    apart-way other turned nx a f r = record { rows-are = λ v h. go turned v (value (graphOf sheet) e) (r _ _ (f v h) (a .rows-are)); ends = a .ends } where
+      go : (b : Bool) (v w : Pairs) → Rows n (λ i j. arrowOperation c (turn b v i j) (turn b w i j)) out → Rows n (turn b (λ i j. arrowOperation c (v i j) (w i j))) out
+      go true v w q = q
+      go false v w q = q

@@ -4,5 +4,6 @@ pub mod InUse
 pub mod ArrowCases
 pub mod NodeCases
 pub mod QuantifierSets
+pub mod RulesUpto
 pub mod RuleCases
 pub mod ReversedTurns

@@ -21,7 +21,7 @@ use Rattle.rows.specs.Operations.{quantified, quantifiedNodes, answered, least,
 use Rattle.rows.proofs.Quantifiers.{quantified-is}
 use Rattle.eval.specs.Evaluated.{Opened, Used, IsSetWithin, IsTurned}
 use Rattle.eval.proofs.ArrowCases.{as-kind}
-use Rattle.eval.proofs.EvaluatorPosts.{SetAt, RelationAt}
+use Rattle.eval.proofs.EvaluatorPosts.{SetAt, WayAt}
 use Rattle.eval.proofs.InUse.{in-use, among-all, part-whole}
 use Rattle.eval.proofs.NodeCases.{IsQuantifier}
 
@@ -38,6 +38,15 @@ nodes-there c m n nodes v w i u h = ap (u &&_) (go (eqb c 0x08) (quantified c m 
     go : (b q : Bool) → q ≡ cond b q (true && q)
     go true q = refl
     go false q = refl
+
+-- a relation turned over, and back
+turned-twice : (b : Bool) (v : Pairs) → turn b (turn b v) ≡ v
+turned-twice true v = refl
+turned-twice false v = refl
+
+among-turned : {all : ℕ} {v : Pairs} (b : Bool) → Among all v → Among all (turn b v)
+among-turned true h = record { starts = λ i j e. h .ends j i e; ends = λ i j e. h .starts j i e }
+among-turned false h = h
 
 module _ (n : ℕ) (text : List ℕ) (at : ℕ) (sheet : List ℕ) (all : ℕ) (o : Opened sheet n all) (within : ℕ) (u : Used sheet n within) (e : Expr node) where
   -- the nodes evaluated for that are quantified over v, turned or not
@@ -63,12 +72,12 @@ module _ (n : ℕ) (text : List ℕ) (at : ℕ) (sheet : List ℕ) (all : ℕ) (
         ends = omega (arith, d .ends, s, b .ends, h .size);
       }
 
-  pub quantifier-set : (k : ℕ) → IsQuantifier n text at (getD text at 0) k e → (turned : Bool) (next : ℕ) (rows : List ℕ) (x nx ny z : ℕ)
-      → ((f : Expr arrow) → Stands (ranges n) text (at + k) f → IsTurned n text (at + k) f turned next) → RelationAt n text sheet next rows nx
-      → SetAt n text sheet nx all x ny → ((v : Pairs) → Among all v → Rows n v rows → z ≡ Part k turned v x) → IsSetWithin sheet n at e within z ny
-  quantifier-set k h turned next rows x nx ny z t p q r =
-      let d = t (h .A) (h .first) in let a = p (d .R) (d .stands) in
-      quantifier-part k h turned next x nx ny z d (a .ends) q (r (value (graphOf sheet) (d .R)) (among-all o (value-in (graphOf sheet) (o .within) (d .R))) (a .rows-are))
+  pub quantifier-set : (k : ℕ) → IsQuantifier n text at (getD text at 0) k e → (turned : Bool) (rows : List ℕ) (x nx ny z : ℕ)
+      → WayAt n text sheet (at + k) rows turned nx → SetAt n text sheet nx all x ny → ((v : Pairs) → Among all v → Rows n v rows → z ≡ Part k turned v x) → IsSetWithin sheet n at e within z ny
+  quantifier-set k h turned rows x nx ny z p q r =
+      let a = p (h .A) (h .first) in let v = value (graphOf sheet) (h .A) in
+      quantifier-part k h false (at + k) x nx ny z (record { R = h .A; stands = h .first; means = λ g. refl; on = omega arith; ends = refl }) (a .ends) q
+      (r (turn turned v) (among-turned turned (among-all o (value-in (graphOf sheet) (o .within) (h .A)))) (a .rows-are) ∙ ap (λ (u : Pairs). Part k false u x) (turned-twice turned v))
 
   -- over 11, or 12 11
   pub quantifier-kind : (k : ℕ) → IsQuantifier n text at (getD text at 0) k e → (turned : Bool) (next x ny z : ℕ)

@@ -1,5 +1,5 @@
 -- The cases of a rule by its code byte, and when each holds.
-use mathlib.Core.Path.{_≡_, refl, sym, ap, ap₂, _∙_}
+use mathlib.Core.Path.{_≡_, refl, sym, ap, ap₂, _∙_, subst}
 use mathlib.Core.Bool.{Bool, true, false, not, _&&_, _||_, cond, and-true}
 use mathlib.Core.List.{List, [], _∷_}
 use Prim.Native.Nat.{ℕ, _+_, _≤_, _<_}
@@ -10,7 +10,7 @@ use lib.ListN.{length, getD}
 use Rattle.logic.specs.Syntax.{node, arrow, rule, Expr, subNodes, subArrows, nodeIn, pairIn, both, either, notRule}
 use Rattle.logic.specs.Graph.{Nodes, Pairs, isNode, allBelow, implies}
 use Rattle.logic.specs.Meaning.{value}
-use Rattle.logic.specs.Limits.{ranges, InRange}
+use Rattle.logic.specs.Limits.{Ranges, ranges, InRange}
 use Rattle.logic.proofs.Bools.{and-only}
 use Rattle.logic.proofs.Below.{all-cong}
 use Rattle.logic.proofs.Inside.{value-in}
@@ -19,9 +19,10 @@ use Rattle.bitset.proofs.SetLaws.{member-setOf}
 use Rattle.sheet.specs.Sheet.{graphOf, Rows}
 use Rattle.text.specs.Code.{code}
 use Rattle.text.specs.Stands.{Stands}
-use Rattle.eval.specs.Evaluated.{Opened, IsTruth, ruleOperation, decided}
-use Rattle.eval.proofs.EvaluatorPosts.{SetAt, RelationAt, TruthAt}
+use Rattle.eval.specs.Evaluated.{Opened, IsTruth, IsSettled, Upto, ruleOperation, decided}
+use Rattle.eval.proofs.EvaluatorPosts.{SetAt, RelationAt, SettledAt}
 use Rattle.eval.proofs.InUse.{part-whole}
+use Rattle.eval.proofs.RulesUpto.{upto-more}
 use Rattle.eval.proofs.CodePlaces.{first-number, second-number, codeByte, by-byte, below, above, One, Two, one-at, two-at}
 
 module _ (n : ℕ) (text : List ℕ) (at : ℕ) where
@@ -138,13 +139,20 @@ module _ (n : ℕ) (text : List ℕ) (at : ℕ) where
         record { truth = r n _ (h .range .0) (h .range .1) (s .rows-are) ∙ sym (h .means (graphOf sheet)); ends = omega (arith, s .ends, h .size) }
 
   module _ (sheet : List ℕ) (e : Expr rule) where
-    pub first-truth : IsTwo (getD text at 0) e → (x b : Bool) (nx ny : ℕ) → TruthAt n text sheet (at + 1) x nx
-        → ((f : Expr rule) → Stands (ranges n) text nx f → ny ≡ nx + length (code f)) → b ≡ decided (getD text at 0) x → b ≡ true → IsTruth sheet at e x ny
-    first-truth h x b nx ny p q r d =
-        let s = p (h .A) (h .first) in
+    pub leaf-settled : {b : Bool} {next : ℕ} → IsTruth sheet at e b next → IsSettled sheet n text at e b next 0
+    unfolding Upto
+    leaf-settled s = record { truth = s .truth; ends = s .ends }
+
+    abbrev EndsAt : (left next end : ℕ) → Type 0
+    EndsAt left next end = Upto (ranges n) text end left next
+
+    pub first-settled : IsTwo (getD text at 0) e → (x b : Bool) (nx left : ℕ) → SettledAt n text sheet (at + 1) x nx left
+        → b ≡ decided (getD text at 0) x → b ≡ true → IsSettled sheet n text at e x nx (left + 1)
+    first-settled h x b nx left p r d =
+        let s = p (h .A) (h .first) in let q : at + 1 + length (code (h .A)) + length (code (h .B)) ≡ at + length (code e) = omega (arith, h .size) in
         record {
           truth = rw (h .means (graphOf sheet), ← s .truth) (go (eqb (getD text at 0) 0x25) x (value (graphOf sheet) (h .B)) (sym r ∙ d));
-          ends = omega (arith, s .ends, q (h .B) (h .second nx (s .ends)), h .size);
+          ends = subst (EndsAt (left + 1) nx) q (upto-more _ _ _ (h .B) (h .second _ refl) left _ (s .ends));
         } where
           go : (c k l : Bool) → cond c (not k) k ≡ true → k ≡ cond c (k && l) (k || l)
           go true true l e = cc
@@ -152,17 +160,20 @@ module _ (n : ℕ) (text : List ℕ) (at : ℕ) where
           go false true l e = refl
           go false false l e = cc
 
-    pub second-truth : IsTwo (getD text at 0) e → (x y b : Bool) (nx ny : ℕ) → TruthAt n text sheet (at + 1) x nx → TruthAt n text sheet nx y ny
-        → b ≡ decided (getD text at 0) x → b ≡ false → IsTruth sheet at e y ny
-    second-truth h x y b nx ny p q r d =
-        let s = p (h .A) (h .first) in let t = q (h .B) (h .second nx (s .ends)) in
-        record { truth = rw (h .means (graphOf sheet), ← s .truth, ← t .truth) (go (eqb (getD text at 0) 0x25) x y (sym r ∙ d)); ends = omega (arith, s .ends, t .ends, h .size) } where
+    pub second-settled : IsTwo (getD text at 0) e → (x y b : Bool) (nx left second ny rest : ℕ) → SettledAt n text sheet (at + 1) x nx left
+        → ((l : Ranges) (end : ℕ) → Upto l text end left nx → second ≡ end) → SettledAt n text sheet second y ny rest
+        → b ≡ decided (getD text at 0) x → b ≡ false → IsSettled sheet n text at e y ny rest
+    second-settled h x y b nx left second ny rest p f q r d =
+        let s = p (h .A) (h .first) in let o = f _ _ (s .ends) in let t = q (h .B) (h .second second o) in
+        let z : second + length (code (h .B)) ≡ at + length (code e) = omega (arith, o, h .size) in
+        record { truth = rw (h .means (graphOf sheet), ← s .truth, ← t .truth) (go (eqb (getD text at 0) 0x25) x y (sym r ∙ d)); ends = subst (EndsAt rest ny) z (t .ends) } where
           go : (c k l : Bool) → cond c (not k) k ≡ false → l ≡ cond c (k && l) (k || l)
           go true true l e = refl
           go true false l e = cc
           go false true l e = cc
           go false false l e = refl
 
-    pub not-truth : IsNot e → (x : Bool) (nx : ℕ) → TruthAt n text sheet (at + 1) x nx → IsTruth sheet at e (not x) nx
-    not-truth h x nx p =
-        let s = p (h .A) (h .first) in record { truth = ap not (s .truth) ∙ sym (h .means (graphOf sheet)); ends = omega (arith, s .ends, h .size) }
+    pub not-settled : IsNot e → (x : Bool) (nx left : ℕ) → SettledAt n text sheet (at + 1) x nx left → IsSettled sheet n text at e (not x) nx left
+    not-settled h x nx left p =
+        let s = p (h .A) (h .first) in let z : at + 1 + length (code (h .A)) ≡ at + length (code e) = omega (arith, h .size) in
+        record { truth = ap not (s .truth) ∙ sym (h .means (graphOf sheet)); ends = subst (EndsAt left nx) z (s .ends) }

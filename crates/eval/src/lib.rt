@@ -4,14 +4,15 @@
 // Each level takes stack: tests/c/stack.c measures enter on carried rules of 255 levels.
 ghost use mathlib.Core.Path.{_≡_};
 ghost use mathlib.Core.Bool.{true};
-ghost use Prim.Native.Nat.{_<_, _≤_};
+ghost use Prim.Native.Nat.{ℕ, _<_, _≤_};
 ghost use lib.ListN.{length, getD, replicate};
 ghost use Rattle.logic.specs.Syntax.{Expr, «node», arrow, rule};
-ghost use Rattle.logic.specs.Limits.{ranges, maxNodes};
+ghost use Rattle.logic.specs.Limits.{Ranges, ranges, maxNodes};
+ghost use Rattle.logic.specs.Meaning.{value};
 ghost use Rattle.sheet.specs.Sheet.{graphOf};
 ghost use Rattle.sheet.specs.Questions.{Sound};
 ghost use Rattle.text.specs.Stands.{Stands, SomeStands};
-ghost use Rattle.eval.specs.Evaluated.{Opened, Used, IsSet, IsSetWithin, IsRelation, IsCombined, IsTruth, IsTurned, decided};
+ghost use Rattle.eval.specs.Evaluated.{Opened, Used, IsSet, IsSetWithin, IsRelation, IsEitherWay, IsCombined, IsCombinedWay, IsTruth, IsSettled, IsTurned, Upto, SomeUpto, decided};
 use logic::Arrow;
 use logic::Label;
 use logic::Node;
@@ -28,7 +29,14 @@ pub struct Truth {
     pub next: usize,
 }
 
-// The arrow expression after any leading 12s, and whether their number is odd.
+// Whether a rule holds, and how many rules are left to skip from `next` on to where it ends.
+struct Settled {
+    holds: bool,
+    next: usize,
+    left: usize,
+}
+
+// Whether an arrow expression is turned, as by leading 12s of an odd number, and where the text goes on.
 pub struct Turned {
     pub turned: bool,
     pub next: usize,
@@ -192,12 +200,97 @@ fn node_within(sheet: &[u8], n: usize, all: u64, within: u64, text: &[u8], at: u
             }
         } else {
             let mut rows = [0u64; 64];
-            let second = eval_arrow(sheet, n, all, text, p, &mut rows);
-            let e = node_within(sheet, n, all, all, text, second);
+            let r = either_way(sheet, n, all, text, at + k, &mut rows);
+            let e = node_within(sheet, n, all, all, text, r.next);
             NodeSet {
-                set: rows::over_rows::quantified(c, m, n, all, within, t.turned, &mut rows, e.set),
+                set: rows::over_rows::quantified(c, m, n, all, within, r.turned, &mut rows, e.set),
                 next: e.next,
             }
+        }
+    }
+}
+
+// The relation that an arrow expression means, in rows or, turned, in columns: 12 moves no bit, and rows and columns are exchanged only where two
+// relations of different orientation are combined.
+fn either_way(sheet: &[u8], n: usize, all: u64, text: &[u8], at: usize, out: &mut [u64]) -> Turned
+    requires { ⌜ Opened (now sheet) n all × SomeStands (ranges n) (now text) at arrow × (now out ≡ replicate 64 0) ⌝ }
+    ensures { λ r. ⌜ ((e : Expr arrow) → Stands (ranges n) (now (text .entry)) at e → IsEitherWay (now (sheet .entry)) n at e (now (out .exit)) (r .turned) (r .next)) × (length (now (out .exit)) ≡ 64) ⌝ }
+{
+    let c = text[at];
+    if c <= 0x11 {
+        let next = arrow_kind(sheet, n, all, text, at, out);
+        Turned {
+            turned: false,
+            next,
+        }
+    } else if c <= 0x12 {
+        let r = either_way(sheet, n, all, text, at + 1, out);
+        Turned {
+            turned: !r.turned,
+            next: r.next,
+        }
+    } else if c <= 0x15 {
+        let r = either_way(sheet, n, all, text, at + 1, out);
+        combine_arrow(c, sheet, n, all, text, r, out)
+    } else if c <= 0x16 {
+        let r = either_way(sheet, n, all, text, at + 1, out);
+        let e = node_within(sheet, n, all, all, text, r.next);
+        rows::relations::ending_rows(n, r.turned, out, e.set);
+        Turned {
+            turned: r.turned,
+            next: e.next,
+        }
+    } else {
+        let next = one_pair(sheet, n, all, text, at, out);
+        Turned {
+            turned: false,
+            next,
+        }
+    }
+}
+
+// 13, 14, 15: combines the relation that the second operand means with what the first one left in `out`; only an operand that is not a leaf needs
+// rows of its own. It is evaluated where it stands: the unread length fell when this function was called, not again here. So the measure is twice the
+// unread length, here plus one.
+fn combine_arrow(
+    c: u8,
+    sheet: &[u8],
+    n: usize,
+    all: u64,
+    text: &[u8],
+    first: Turned,
+    out: &mut [u64],
+) -> Turned
+    requires { ⌜ Opened (now sheet) n all × SomeStands (ranges n) (now text) (first .next) arrow × (length (now out) ≡ 64) ⌝ }
+    ensures { λ r. ⌜ ((e : Expr arrow) → Stands (ranges n) (now (text .entry)) (first .next) e
+        → IsCombinedWay (now (sheet .entry)) n (first .next) c e (first .turned) (now (out .entry)) (now (out .exit)) (r .turned) (r .next)) × (length (now (out .exit)) ≡ 64) ⌝ }
+{
+    let second = first.next;
+    let t = behind_turns(n, text, second);
+    let p = t.next;
+    let d = text[p];
+    if d <= 0x11 {
+        rows::relations::face_rows(n, first.turned, t.turned, out);
+        let next = combine_kind(c, sheet, n, text, p, out);
+        Turned {
+            turned: t.turned,
+            next,
+        }
+    } else if one_row(c, d) {
+        rows::relations::face_rows(n, first.turned, t.turned, out);
+        let next = combine_pair(c, sheet, n, all, text, p, out);
+        Turned {
+            turned: t.turned,
+            next,
+        }
+    } else {
+        let mut other = [0u64; 64];
+        let r = either_way(sheet, n, all, text, second, &mut other);
+        rows::relations::face_rows(n, first.turned, r.turned, out);
+        rows::relations::combine_rows(c, n, out, &other);
+        Turned {
+            turned: r.turned,
+            next: r.next,
         }
     }
 }
@@ -214,52 +307,9 @@ pub fn eval_arrow(
     requires { ⌜ Opened (now sheet) n all × SomeStands (ranges n) (now text) at arrow × (now out ≡ replicate 64 0) ⌝ }
     ensures { λ r. ⌜ ((e : Expr arrow) → Stands (ranges n) (now (text .entry)) at e → IsRelation (now (sheet .entry)) n at e (now (out .exit)) r) × (length (now (out .exit)) ≡ 64) ⌝ }
 {
-    let c = text[at];
-    if c <= 0x11 {
-        arrow_kind(sheet, n, all, text, at, out)
-    } else if c <= 0x12 {
-        let next = eval_arrow(sheet, n, all, text, at + 1, out);
-        rows::relations::reverse_rows(n, out);
-        next
-    } else if c <= 0x15 {
-        let second = eval_arrow(sheet, n, all, text, at + 1, out);
-        combine_arrow(c, sheet, n, all, text, second, out)
-    } else if c <= 0x16 {
-        let second = eval_arrow(sheet, n, all, text, at + 1, out);
-        let e = node_within(sheet, n, all, all, text, second);
-        rows::relations::end_rows(n, out, e.set);
-        e.next
-    } else {
-        one_pair(sheet, n, all, text, at, out)
-    }
-}
-
-// 13, 14, 15: combines the relation that the second operand means with the one in `out`; only an operand that is not a leaf needs rows of its own.
-// It is evaluated where it stands: the unread length fell when this function was called, not again here. So the measure is twice the unread length,
-// here plus one.
-fn combine_arrow(
-    c: u8,
-    sheet: &[u8],
-    n: usize,
-    all: u64,
-    text: &[u8],
-    at: usize,
-    out: &mut [u64],
-) -> usize
-    requires { ⌜ Opened (now sheet) n all × SomeStands (ranges n) (now text) at arrow × (length (now out) ≡ 64) ⌝ }
-    ensures { λ r. ⌜ ((e : Expr arrow) → Stands (ranges n) (now (text .entry)) at e → IsCombined (now (sheet .entry)) n at c e (now (out .entry)) (now (out .exit)) r) × (length (now (out .exit)) ≡ 64) ⌝ }
-{
-    let d = text[at];
-    if d <= 0x11 {
-        combine_kind(c, sheet, n, text, at, out)
-    } else if one_row(c, d) {
-        combine_pair(c, sheet, n, all, text, at, out)
-    } else {
-        let mut other = [0u64; 64];
-        let next = eval_arrow(sheet, n, all, text, at, &mut other);
-        rows::relations::combine_rows(c, n, out, &other);
-        next
-    }
+    let r = either_way(sheet, n, all, text, at, out);
+    rows::relations::face_rows(n, r.turned, false, out);
+    r.next
 }
 
 // The set that a node expression means.
@@ -348,38 +398,84 @@ fn decided(c: u8, k: bool) -> bool
     if c == 0x25 { !k } else { k }
 }
 
-// Whether a rule holds. Where the first rule of a 25 or 26 decides, the second is skipped.
+// The place after a number of rules that stand one after the other. Inner: the text was read before.
+fn past_rules(text: &[u8], at: usize, rules: usize) -> usize
+    requires { ⌜ SomeUpto (now text) rules at ⌝ }
+    ensures { λ r. ⌜ ((l : Ranges) (end : ℕ) → Upto l (now (text .entry)) end rules at → r ≡ end) ⌝ }
+{
+    let mut p = at;
+    let mut left = rules;
+    while 0 < left {
+        p = ends::past(text, p);
+        left -= 1;
+    }
+    p
+}
+
+// Whether a rule holds. Where the first rule of a 25 or 26 decides, the second is left, and skipped only if a later one is evaluated.
 // An answer is taken apart and put together again: passed on whole, it is copied with the bytes between its fields, which takes longer.
-pub fn eval_rule(sheet: &[u8], n: usize, all: u64, text: &[u8], at: usize) -> Truth
+fn settle_rule(sheet: &[u8], n: usize, all: u64, text: &[u8], at: usize) -> Settled
     requires { ⌜ Opened (now sheet) n all × SomeStands (ranges n) (now text) at rule ⌝ }
-    ensures { λ r. ⌜ ((e : Expr rule) → Stands (ranges n) (now (text .entry)) at e → IsTruth (now (sheet .entry)) at e (r .holds) (r .next)) ⌝ }
+    ensures { λ r. ⌜ ((e : Expr rule) → Stands (ranges n) (now (text .entry)) at e → IsSettled (now (sheet .entry)) n (now (text .entry)) at e (r .holds) (r .next) (r .left)) ⌝ }
 {
     let c = text[at];
     if c <= 0x24 {
         let k = leaf_rule(sheet, n, all, text, at);
-        Truth {
+        Settled {
             holds: k.holds,
             next: k.next,
+            left: 0,
         }
     } else if c <= 0x26 {
-        let k = eval_rule(sheet, n, all, text, at + 1);
+        let k = settle_rule(sheet, n, all, text, at + 1);
         if decided(c, k.holds) {
-            Truth {
+            Settled {
                 holds: k.holds,
-                next: ends::past(text, k.next),
+                next: k.next,
+                left: k.left + 1,
             }
         } else {
-            let l = eval_rule(sheet, n, all, text, k.next);
-            Truth {
+            let l = settle_rule(sheet, n, all, text, past_rules(text, k.next, k.left));
+            Settled {
                 holds: l.holds,
                 next: l.next,
+                left: l.left,
             }
         }
     } else {
-        let k = eval_rule(sheet, n, all, text, at + 1);
-        Truth {
+        let k = settle_rule(sheet, n, all, text, at + 1);
+        Settled {
             holds: !k.holds,
             next: k.next,
+            left: k.left,
         }
     }
+}
+
+// Whether a rule holds, and where the text goes on. A rule without a rule inside, as most are, is evaluated without a call between.
+pub fn eval_rule(sheet: &[u8], n: usize, all: u64, text: &[u8], at: usize) -> Truth
+    requires { ⌜ Opened (now sheet) n all × SomeStands (ranges n) (now text) at rule ⌝ }
+    ensures { λ r. ⌜ ((e : Expr rule) → Stands (ranges n) (now (text .entry)) at e → IsTruth (now (sheet .entry)) at e (r .holds) (r .next)) ⌝ }
+{
+    if text[at] <= 0x24 {
+        let k = leaf_rule(sheet, n, all, text, at);
+        return Truth {
+            holds: k.holds,
+            next: k.next,
+        };
+    }
+    let k = settle_rule(sheet, n, all, text, at);
+    Truth {
+        holds: k.holds,
+        next: past_rules(text, k.next, k.left),
+    }
+}
+
+// Whether a rule holds, for callers that do not go on after it.
+pub fn rule_holds(sheet: &[u8], n: usize, all: u64, text: &[u8], at: usize) -> bool
+    requires { ⌜ Opened (now sheet) n all × SomeStands (ranges n) (now text) at rule ⌝ }
+    ensures { λ r. ⌜ ((e : Expr rule) → Stands (ranges n) (now (text .entry)) at e → r ≡ value (graphOf (now (sheet .entry))) e) ⌝ }
+{
+    let k = settle_rule(sheet, n, all, text, at);
+    k.holds
 }

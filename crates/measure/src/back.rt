@@ -32,7 +32,7 @@ fn extra(op: u8) -> usize
 }
 
 // The level of a step's expression, where `d` is one level below the name.
-fn lower(op: u8, d: usize) -> usize
+fn lower(op: u8, d: u16) -> u16
     ensures { λ r. ⌜ r ≡ cond (eqb op 0x32) (capped (under d 2)) d ⌝ }
 {
     if op == 0x32 { numbers::deeper(d) } else { d }
@@ -40,7 +40,7 @@ fn lower(op: u8, d: usize) -> usize
 
 // Back over one step 31 to 34.
 // Inner: the text was read before.
-fn step_back(text: &[u8], at: usize, state: &mut [usize])
+fn step_back(text: &[u8], at: usize, state: &mut [u16])
     requires { ⌜ SomeEdit (now text) at × Held (now state) × (length (now text) ≤ longestText) × (getD (now text) at 0 ≡ 0x30 → ⊥) × (getD (now text) at 0 ≡ 0x35 → ⊥) ⌝ }
     ensures { λ r. ⌜ ((Z : Edit) → EditAt (now (text .entry)) at Z → (rules : ℕ) → StepMeasured rules Z (now (state .entry)) (now (state .exit))) ⌝ }
 {
@@ -50,10 +50,7 @@ fn step_back(text: &[u8], at: usize, state: &mut [usize])
     let d = numbers::deeper(state[numbers::DEEPEST + i]);
     state[numbers::DEEPEST + i] = d;
     let next = scan::scan(text, at + 2, w, lower(op, d), state);
-    state[numbers::LENGTH] = numbers::sum(
-        state[numbers::LENGTH],
-        w * (extra(op) + (next - (at + 2))),
-    );
+    numbers::lengthen(state, w as usize * (extra(op) + (next - (at + 2))));
 }
 
 // Puts the places of an edit's steps on a stack and returns its new top. A step takes at least a byte, so a stack as long as the text suffices.
@@ -74,13 +71,13 @@ fn push(text: &[u8], at: usize, stack: &mut [u16], top: usize) -> usize
 
 // Merges the two ways of a 35 with its rule at `at`, which stands twice for each rule of the book: 25 26 27 K T 26 K U.
 // Inner: the text was read before.
-fn choose_ways(text: &[u8], at: usize, rules: usize, t: &[usize], state: &mut [usize])
+fn choose_ways(text: &[u8], at: usize, rules: usize, t: &[u16], state: &mut [u16])
     requires { ⌜ Some (now text) at × (length (now text) ≤ longestText) × (rules ≤ mostRules) × (length (now t) ≡ numbers) × (length (now state) ≡ numbers) ⌝ }
     ensures { λ r. ⌜ ((K : Tree) → At (now (text .entry)) at K → ChoiceHeld rules K (now (t .entry)) (now (state .entry)) (now (state .exit))) ⌝ }
 {
     numbers::merge(t, state);
-    let next = scan::scan(text, at, 2 * rules, 4, state);
-    state[numbers::LENGTH] = numbers::sum(state[numbers::LENGTH], rules * (4 + 2 * (next - at)));
+    let next = scan::scan(text, at, (2 * rules) as u16, 4, state);
+    numbers::lengthen(state, rules * (4 + 2 * (next - at)));
 }
 
 // Back over one step: updates the numbers in `state`, and puts the step before what stands at `pos` unless it is idle.
@@ -90,7 +87,7 @@ fn one_back(
     rules: usize,
     spot: Spot,
     stack: &mut [u16],
-    state: &mut [usize],
+    state: &mut [u16],
     out: &mut [u8],
 ) -> usize
     requires { ⌜ StepRoom (now text) (spot .at) (spot .pos) × (getD (now text) (spot .at) 0 ≡ 0x30 → ⊥) × (spot .top ≤ spot .at) × (length (now text) ≤ length (now stack)) × (length (now text) ≤ longestText) × (rules ≤ mostRules) × Held (now state) × (spot .pos ≤ length (now out)) ⌝ }
@@ -104,7 +101,7 @@ fn one_back(
     }
     let first = ends::past(text, at + 1);
     let second = ends::end_of(text, first);
-    let mut other = [0usize; numbers::ALL];
+    let mut other = [0u16; numbers::ALL];
     numbers::copy(state, &mut other);
     let mut way = spot;
     way.at = second;
@@ -123,7 +120,7 @@ pub fn back(
     rules: usize,
     spot: Spot,
     stack: &mut [u16],
-    state: &mut [usize],
+    state: &mut [u16],
     out: &mut [u8],
 ) -> usize
     requires { ⌜ EditRoom (now text) (spot .at) (spot .pos) × (spot .top ≤ spot .at) × (length (now text) ≤ length (now stack)) × (length (now text) ≤ longestText) × (rules ≤ mostRules) × Held (now state) × (spot .pos ≤ length (now out)) ⌝ }

@@ -35,7 +35,7 @@ pub fn end_before(out: &mut [u8], pos: usize) -> usize
 
 // Puts one step 31 to 34 before what stands at `pos`, unless its name stands nowhere in what follows.
 // Inner: the edit was read before.
-pub fn keep_step(text: &[u8], at: usize, state: &[usize], out: &mut [u8], pos: usize) -> usize
+pub fn keep_step(text: &[u8], at: usize, state: &[u16], out: &mut [u8], pos: usize) -> usize
     requires { ⌜ StepRoom (now text) at pos × (getD (now text) at 0 ≡ 0x30 → ⊥) × (getD (now text) at 0 ≡ 0x35 → ⊥) × Held (now state) × (length (now text) ≤ longestText) × (pos ≤ length (now out)) ⌝ }
     ensures { λ r. ⌜ ((Z : Edit) → EditAt (now (text .entry)) at Z → (rules : ℕ) → Prefixed rules Z (now (state .entry)) (now (out .entry)) pos (now (out .exit)) r) ⌝ }
 {

@@ -1,6 +1,6 @@
 // Measuring a carried book without writing it: one walk back over the edit, which also writes the edit again without its idle steps.
 //
-// Stack: 1 kB of numbers and about 1.4 kB for each 35 inside a 35, of which there are at most 30: under 60 kB.
+// Stack: 260 bytes of numbers and about 650 bytes for each 35 inside a 35, of which there are at most 30: under 24 kB.
 ghost use mathlib.Core.Path.{_≡_};
 ghost use mathlib.Core.List.{List};
 ghost use Prim.Native.Nat.{_≤_};
@@ -42,7 +42,7 @@ pub fn size_of_book(book: &[u8], edit: &[u8], stack: &mut [u16], kept: &mut [u8]
             start: 0,
         };
     }
-    let mut state = [0usize; numbers::ALL];
+    let mut state = [0u16; numbers::ALL];
     let rules = book::add_book(book, &mut state);
     let spot = Spot {
         at: 0,
@@ -51,8 +51,8 @@ pub fn size_of_book(book: &[u8], edit: &[u8], stack: &mut [u16], kept: &mut [u8]
     };
     let start = back::back(edit, rules, spot, stack, &mut state, kept);
     BookSize {
-        len: state[numbers::LENGTH],
-        levels: state[numbers::LEVELS],
+        len: state[numbers::LENGTH] as usize,
+        levels: state[numbers::LEVELS] as usize,
         start: start,
     }
 }

@@ -11,7 +11,7 @@ use super::numbers;
 // Adds `w` copies of the expression at `at`, their first codes on level `v`, to the numbers, without their length; returns the place after it.
 // The last operand is reached in a loop: only the first of two is a call. A code above others does not raise the deepest level, so `rise` is for the last.
 // One body serves every code. Inner: the text was read before.
-pub fn scan(text: &[u8], at: usize, w: usize, v: usize, state: &mut [usize]) -> usize
+pub fn scan(text: &[u8], at: usize, w: u16, v: u16, state: &mut [u16]) -> usize
     requires { ⌜ Some (now text) at × (v ≤ beyond) × (length (now state) ≡ numbers) ⌝ }
     ensures { λ r. ⌜ ((t : Tree) → At (now (text .entry)) at t → Scanned at w v t r (now (state .entry)) (now (state .exit))) ⌝ }
 {

@@ -1,3 +1,4 @@
 pub mod OperationLaws
 pub mod MemberWalks
 pub mod Quantifiers
+pub mod ColumnLaws

@@ -19,7 +19,7 @@ Inside left x = (k : ℕ) → member left k ≡ true → member x k ≡ true
 abbrev pub gone : ℕ → ℕ → Nodes
 gone x left k = member x k && not (member left k)
 
-gone-all : (x k : ℕ) → gone x x k ≡ false
+pub gone-all : (x k : ℕ) → gone x x k ≡ false
 gone-all x k = go (member x k) where
   go : (b : Bool) → (b && not b) ≡ false
   go true = refl

@@ -1,6 +1,6 @@
 -- The operations on words and on rows of words are those on the sets and relations that they stand for.
-use mathlib.Core.Path.{_≡_, refl, sym, ap, ap₂, _∙_}
-use mathlib.Core.Bool.{Bool, true, false, not, _&&_, _||_, cond, and-true, and-false, or-false, Bool·not-not}
+use mathlib.Core.Path.{_≡_, refl, sym, ap, ap₂, _∙_, subst}
+use mathlib.Core.Bool.{Bool, true, false, not, _&&_, _||_, cond, and-true, and-false, or-false, Bool·not-not, Bool·beq}
 use mathlib.Core.List.{List, [], _∷_}
 use mathlib.Core.Logic.{⊎-elim}
 use Prim.Native.Nat.{ℕ, zero, suc, _+_, _/_, _%_, _^_, _<_, _≤_}
@@ -16,7 +16,7 @@ use Rattle.logic.proofs.Below.{none-outside}
 use Rattle.bitset.specs.Words.{digit, setOf, member, combined}
 use Rattle.bitset.proofs.SetLaws.{setOf-cong, setOf-empty, setOf-none, setOf-wide, member-of, member-setOf, combined-sets, common-sets}
 use Rattle.sheet.specs.Sheet.{Rows}
-use Rattle.rows.specs.Operations.{arrowOperation, Masked, Columns}
+use Rattle.rows.specs.Operations.{arrowOperation, Masked, Columns, turn}
 
 -- What a loop that changes the rows a in place has done up to row i: below i they are f, from i on they are still those of a.
 pub record Changed (i : ℕ) (a l : List ℕ) (f : ℕ → ℕ) : Type 0 where
@@ -85,6 +85,14 @@ rows-combined {n} {v = v} w c h e p q f =
 module _ {n : ℕ} {v : Pairs} {a r : List ℕ} where
   pub rows-ending : (w : Nodes) (e : ℕ) → n ≤ 64 → Rows n v a → e ≡ setOf n w → Masked n a e r → Rows n (λ i j. v i j && w j) r
   rows-ending w e h p q f = record { row = λ i l. f .row i l ∙ ap₂ (combined _&&_) (p .row i l) q ∙ combined-sets _&&_ refl n (v i) w h }
+
+  pub rows-starting : (w : Nodes) (e k : ℕ) → n ≤ k → Rows n v a → e ≡ setOf n w → Changed k a r (λ i. cond (member e i) (getD a i 0) 0) → Rows n (λ i j. v i j && w i) r
+  rows-starting w e k m p q f = record {
+    row = λ i l. f .row i (omega arith) ∙ ap₂ (λ (b : Bool) (x : ℕ). cond b x 0) (ap (λ (x : ℕ). member x i) q ∙ member-setOf n w i l) (p .row i l) ∙ go (w i) (v i);
+  } where
+    go : (b : Bool) (u : Nodes) → cond b (setOf n u) 0 ≡ setOf n (λ j. u j && b)
+    go true u = setOf-cong n u _ (λ j l. sym (and-true (u j)))
+    go false u = sym (setOf-cong n _ (λ j. false) (λ j l. and-false (u j)) ∙ setOf-none n)
 
   -- t has m columns of a as rows
   pub rows-reversed : (m : ℕ) (t : List ℕ) (e : ℕ) → n ≤ m → m ≤ 64 → Rows n v a → ((i : ℕ) → i < n → getD t i 0 ≡ setOf m (λ j. member (getD a j 0) i)) → e ≡ setOf 64 (λ j. ltb j n) → Masked n t e r → Rows n (λ i j. v j i) r
@@ -164,3 +172,30 @@ rows-paired c n nodes v a i j k x y d h len e small p f g = record { row = λ s 
   go s l false q =
       getD-set-other a k s y 0 (λ z. eqb-false s i q (z ∙ e)) ∙ p .row s l
       ∙ setOf-cong n _ _ (λ t z. stays (eqb c 0x13) (eqb c 0x14) (v s t) (ne-eqb c 0x14 d) ∙ ap (λ (u : Bool). arrowOperation c (v s t) (u && (nodes t && eqb t j))) (sym (ap (nodes s &&_) q ∙ and-false (nodes s))))
+
+-- A relation in rows or, turned, in columns.
+module _ {n : ℕ} {a : List ℕ} (b d : Bool) where
+  pub other-way : {r : List ℕ} → not (Bool·beq b d) ≡ true → ((u : Pairs) → Rows n u a → Rows n (λ i j. u j i) r) → (v : Pairs) → Rows n (turn b v) a → Rows n (turn d v) r
+  other-way {r} h f v p = subst (λ (u : Pairs). Rows n u r) (go b d h) (f (turn b v) p) where
+    go : (b d : Bool) → not (Bool·beq b d) ≡ true → (λ i j. turn b v j i) ≡ turn d v
+    go true true h = cc
+    go true false h = refl
+    go false true h = refl
+    go false false h = cc
+
+  pub same-way : not (Bool·beq b d) ≡ false → (v : Pairs) → Rows n (turn b v) a → Rows n (turn d v) a
+  same-way h v p = subst (λ (c : Bool). Rows n (turn c v) a) (go b d h) p where
+    go : (b d : Bool) → not (Bool·beq b d) ≡ false → b ≡ d
+    go true true h = refl
+    go true false h = cc
+    go false true h = cc
+    go false false h = refl
+
+module _ {n : ℕ} {a r : List ℕ} {e : ℕ} where
+  pub ending-turned : (b : Bool) → b ≡ true → ((u : Pairs) (w : Nodes) → Rows n u a → e ≡ setOf n w → Rows n (λ i j. u i j && w i) r)
+      → (v : Pairs) (w : Nodes) → Rows n (turn b v) a → e ≡ setOf n w → Rows n (turn b (λ i j. v i j && w j)) r
+  ending-turned b h f v w p q = subst (λ (b : Bool). Rows n (turn b v) a → Rows n (turn b (λ i j. v i j && w j)) r) (sym h) (λ p. f (turn true v) w p q) p
+
+  pub ending-straight : (b : Bool) → b ≡ false → ((u : Pairs) (w : Nodes) → Rows n u a → e ≡ setOf n w → Rows n (λ i j. u i j && w j) r)
+      → (v : Pairs) (w : Nodes) → Rows n (turn b v) a → e ≡ setOf n w → Rows n (turn b (λ i j. v i j && w j)) r
+  ending-straight b h f v w p q = subst (λ (b : Bool). Rows n (turn b v) a → Rows n (turn b (λ i j. v i j && w j)) r) (sym h) (λ p. f v w p q) p

@@ -1,9 +1,9 @@
 // Relations as rows: 11 to 17, and what 22 and 24 need of them.
 // Inner, all of them: n is a sheet's node count, i and j are node numbers, and there are 64 rows.
 ghost use mathlib.Core.Path.{_≡_};
-ghost use mathlib.Core.Bool.{_&&_};
+ghost use mathlib.Core.Bool.{true, _&&_, _||_, cond};
 ghost use Prim.Native.Nat.{ℕ, _<_, _≤_};
-ghost use lib.Dec.{eqb};
+ghost use lib.Dec.{eqb, ltb};
 ghost use mathlib.Core.List.{[], _∷_};
 ghost use lib.ListN.{length, getD, replicate};
 ghost use Rattle.logic.specs.Graph.{Nodes, Pairs, allBelow, implies};
@@ -11,7 +11,7 @@ ghost use Rattle.logic.specs.Limits.{maxNodes, arrowCount};
 ghost use Rattle.bitset.specs.Words.{setOf, member, combined};
 ghost use Rattle.sheet.specs.Sheet.{graphOf, Rows};
 ghost use Rattle.sheet.specs.Questions.{Sound};
-ghost use Rattle.rows.specs.Operations.{arrowOperation, Masked, Columns};
+ghost use Rattle.rows.specs.Operations.{arrowOperation, Masked, Columns, turn};
 use crate::index;
 use crate::node_in;
 use crate::nominal;
@@ -81,15 +81,47 @@ fn mask_rows(n: usize, rows: &mut [u64], e: u64)
     }
 }
 
-// 16: the arrows that end in e.
-pub fn end_rows(n: usize, rows: &mut [u64], e: u64)
+// The arrows that end in e.
+fn end_rows(n: usize, rows: &mut [u64], e: u64)
     requires { ⌜ (n ≤ maxNodes) × (length (now rows) ≡ 64) ⌝ }
     ensures { λ _. ⌜ ((v : Pairs) (w : Nodes) → Rows n v (now (rows .entry)) → e ≡ setOf n w → Rows n (λ i j. v i j && w j) (now (rows .exit))) × (length (now (rows .exit)) ≡ 64) ⌝ }
 {
     mask_rows(n, rows, e);
 }
 
-// Column j of three rows. Inner: j is a bit's number.
+// Row i where i is in e, otherwise nothing. Inner: i is below 64.
+fn kept_row(e: u64, i: usize, row: u64) -> u64
+    requires { ⌜ i < 64 ⌝ }
+    ensures { λ r. ⌜ r ≡ cond (member e i) row 0 ⌝ }
+{
+    if bitset::member(e, i) { row } else { 0 }
+}
+
+// The arrows that start in e.
+fn start_rows(n: usize, rows: &mut [u64], e: u64)
+    requires { ⌜ (n ≤ maxNodes) × (length (now rows) ≡ 64) ⌝ }
+    ensures { λ _. ⌜ ((v : Pairs) (w : Nodes) → Rows n v (now (rows .entry)) → e ≡ setOf n w → Rows n (λ i j. v i j && w i) (now (rows .exit))) × (length (now (rows .exit)) ≡ 64) ⌝ }
+{
+    let mut i = 0;
+    while i < n {
+        rows[i] = kept_row(e, i, rows[i]);
+        i += 1;
+    }
+}
+
+// 16 for a relation in rows or, turned, in columns.
+pub fn ending_rows(n: usize, turned: bool, rows: &mut [u64], e: u64)
+    requires { ⌜ (n ≤ maxNodes) × (length (now rows) ≡ 64) ⌝ }
+    ensures { λ _. ⌜ ((v : Pairs) (w : Nodes) → Rows n (turn turned v) (now (rows .entry)) → e ≡ setOf n w → Rows n (turn turned (λ i j. v i j && w j)) (now (rows .exit))) × (length (now (rows .exit)) ≡ 64) ⌝ }
+{
+    if turned {
+        start_rows(n, rows, e);
+    } else {
+        end_rows(n, rows, e);
+    }
+}
+
+// Column j of three rows. Inner: j is below 64.
 fn column(a: u64, b: u64, c: u64, j: usize) -> u64
     requires { ⌜ j < 64 ⌝ }
     ensures { λ r. ⌜ r ≡ setOf 3 (λ i. member (getD (a ∷ b ∷ c ∷ []) i 0) j) ⌝ }
@@ -110,6 +142,56 @@ fn reverse_three(rows: &mut [u64])
     rows[2] = column(a, b, c, 2);
 }
 
+// Copies the first n words of a list into another.
+fn copy_rows(n: usize, from: &[u64], rows: &mut [u64])
+    requires { ⌜ (n ≤ maxNodes) × (length (now from) ≡ 64) × (length (now rows) ≡ 64) ⌝ }
+    ensures { λ _. ⌜ ((i : ℕ) → i < n → getD (now (rows .exit)) i 0 ≡ getD (now (from .entry)) i 0) × (length (now (rows .exit)) ≡ 64) ⌝ }
+{
+    let mut i = 0;
+    while i < n {
+        rows[i] = from[i];
+        i += 1;
+    }
+}
+
+// Puts i into the sets of the members of a row. Inner: i is below 64.
+fn put_column(out: &mut [u64], row: u64, i: usize)
+    requires { ⌜ (i < 64) × (length (now out) ≡ 64) ⌝ }
+    ensures { λ _. ⌜ ((p : Pairs) → Rows 64 p (now (out .entry)) → Rows 64 (λ j k. p j k || (member row j && eqb k i)) (now (out .exit))) × (length (now (out .exit)) ≡ 64) ⌝ }
+{
+    let mut left = row;
+    while 0 < left {
+        let j = bitset::first(left);
+        out[j] = bitset::either(out[j], bitset::only(i));
+        left = bitset::but_first(left);
+    }
+}
+
+// How many pairs are moved one by one: this many take about as long as exchanging all rows and columns.
+const FEW: usize = 32;
+
+// The columns of rows that have few pairs. Where they have more it may give up and answer false, and `out` may then hold anything.
+fn few_columns(n: usize, rows: &[u64], out: &mut [u64]) -> bool
+    requires { ⌜ (n ≤ maxNodes) × (length (now rows) ≡ 64) × (now out ≡ replicate 64 0) ⌝ }
+    ensures { λ r. ⌜ (r ≡ true → Rows 64 (λ j k. ltb k n && member (getD (now (rows .entry)) k 0) j) (now (out .exit))) × (length (now (out .exit)) ≡ 64) ⌝ }
+{
+    let mut left = FEW;
+    let mut i = 0;
+    while i < n {
+        let row = rows[i];
+        if row != 0 {
+            let pairs = bitset::count_common(row, row) as usize;
+            if left < pairs {
+                return false;
+            }
+            left -= pairs;
+            put_column(out, row, i);
+        }
+        i += 1;
+    }
+    true
+}
+
 // 12: exchanges rows and columns. Rows from n on may hold anything, so as columns they are masked out.
 pub fn reverse_rows(n: usize, rows: &mut [u64])
     requires { ⌜ (n ≤ maxNodes) × (length (now rows) ≡ 64) ⌝ }
@@ -120,8 +202,23 @@ pub fn reverse_rows(n: usize, rows: &mut [u64])
         mask_rows(n, rows, bitset::lowest(n));
         return;
     }
+    let mut columns = [0u64; 64];
+    if few_columns(n, rows, &mut columns) {
+        copy_rows(n, &columns, rows);
+        return;
+    }
     bitset::transpose(rows);
     mask_rows(n, rows, bitset::lowest(n));
+}
+
+// A relation in rows or, turned, in columns is put into the orientation that is wanted.
+pub fn face_rows(n: usize, turned: bool, wanted: bool, rows: &mut [u64])
+    requires { ⌜ (n ≤ maxNodes) × (length (now rows) ≡ 64) ⌝ }
+    ensures { λ _. ⌜ ((v : Pairs) → Rows n (turn turned v) (now (rows .entry)) → Rows n (turn wanted v) (now (rows .exit))) × (length (now (rows .exit)) ≡ 64) ⌝ }
+{
+    if turned != wanted {
+        reverse_rows(n, rows);
+    }
 }
 
 // 22: whether each arrow of a is one of b.

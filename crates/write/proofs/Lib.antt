@@ -1,4 +1,5 @@
 pub mod WorkParts
+pub mod Notes
 pub mod Finding
 pub mod Laying
 pub mod Emitting

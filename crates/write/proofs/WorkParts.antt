@@ -5,6 +5,7 @@ use Prim.Native.Nat.{ℕ, _+_, _-_, _≤_, _<_}
 use native.Mathlib.Omega.{arith}
 use lib.ListN.{length, getD, set, take, drop, length-take, length-drop}
 use lib.Seq.{length-take-le, getD-drop, getD-take, drop-drop, take-at, drop-append-add, drop-set-add, drop-set-lt, take-set-lt, take-set-le}
+use Rattle.ends.specs.Kept.{Kept}
 use Rattle.write.specs.Work.{part, workLength, lastOf, stackOf, linksOf, behindOf}
 
 module _ (from n : ℕ) (work : List ℕ) where
@@ -42,6 +43,9 @@ last-first work = unfold part in refl
 
 pub names-long : (work : List ℕ) → length work ≡ workLength → length (take 64 work) ≡ 64
 names-long work l = length-take-le 64 work (omega arith)
+
+pub last-kept-as : (e w : List ℕ) → Kept 4844 e w → Kept 64 (lastOf e) (lastOf w)
+last-kept-as e w k = record { same = λ i r. part-at 0 64 w i i r (omega arith) ∙ k .same i (omega (arith, r)) ∙ sym (part-at 0 64 e i i r (omega arith)) }
 
 -- the parts of a work array, one by one
 pub record WorkIs (work last stack links behind : List ℕ) : Type 0 where

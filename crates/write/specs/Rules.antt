@@ -11,7 +11,7 @@ use Rattle.ends.specs.Books.{RuleAt, BookIs}
 use Rattle.write.specs.Laid.{Wrote}
 use Rattle.write.specs.Work.{stackOf, behindOf}
 use Rattle.write.specs.Links.{LinkedIn}
-use Rattle.write.specs.Ways.{SameWay}
+use Rattle.write.specs.Ways.{SameWay, Noted}
 
 -- some rule and some edit stand in their texts, and the carried rule fits a buffer of `room` bytes from `pos` on
 pub record SomeRuleFits (text : List ℕ) (at : ℕ) (edit : List ℕ) (from pos room : ℕ) : Type 0 where
@@ -27,6 +27,7 @@ pub record Started (edit : List ℕ) (from : ℕ) (work : List ℕ) (at h d : �
   pub low : 3 * h ≤ at
   pub low-behind : 2 * d ≤ at
   pub linked : LinkedIn edit work h
+  pub noted : Noted edit work
 
 -- some rule fits, from where such a walk rests
 pub record SomeRuleLeft (text : List ℕ) (place : ℕ) (edit work : List ℕ) (at h d pos room : ℕ) : Type 0 where

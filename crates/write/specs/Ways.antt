@@ -2,6 +2,7 @@
 use mathlib.Core.Path.{_≡_}
 use mathlib.Core.Bool.{Bool, true, false, cond}
 use mathlib.Core.List.{List, [], _∷_}
+use mathlib.Core.Logic.{_⊎_}
 use Prim.Native.Nat.{ℕ, _+_, _*_, _<_, _≤_}
 use lib.Dec.{eqb}
 use lib.ListN.{length, getD}
@@ -16,6 +17,7 @@ use Rattle.ends.specs.Kept.{Kept}
 use Rattle.ends.specs.Books.{RuleAt}
 use Rattle.write.specs.Laid.{Wrote}
 use Rattle.write.specs.Offsets.{StackIs}
+use Rattle.write.specs.Work.{notesStart, lastOf, stackOf, linksOf, behindOf}
 
 -- an edit, and then the edits that stand after the 35s around it, the innermost first
 unfoldable pub followed : Edit → List Edit → Edit
@@ -80,6 +82,22 @@ pub record SomeTwo (edit : List ℕ) (at : ℕ) : Type 0 where
   pub Q : Edit
   pub P-at : EditAt edit at P
   pub Q-at : EditAt edit (at + length (editCode P)) Q
+
+-- where the second way of a 35 stands, and what follows it, by where the first one does
+abbrev pub Ends : (edit : List ℕ) (first second next : ℕ) → Type 0
+Ends edit first second next = ((P : Edit) → EditAt edit first P → second ≡ first + length (editCode P)) × ((Q : Edit) → EditAt edit second Q → next ≡ second + length (editCode Q))
+
+-- what is noted of 35s: 64 notes of three numbers, each true, or none where the first number is 0
+pub record Noted (edit work : List ℕ) : Type 0 where
+  pub each : (i : ℕ) → i < 64 → (getD work (notesStart + 3 * i) 0 ≡ 0) ⊎ Ends edit (getD work (notesStart + 3 * i) 0) (getD work (notesStart + 3 * i + 1) 0) (getD work (notesStart + 3 * i + 2) 0)
+
+-- a note more, and nothing else changed
+pub record Renoted (edit work work′ : List ℕ) : Type 0 where
+  pub noted : Noted edit work′
+  pub last-same : lastOf work′ ≡ lastOf work
+  pub stack-same : stackOf work′ ≡ stackOf work
+  pub links-same : linksOf work′ ≡ linksOf work
+  pub behind-same : behindOf work′ ≡ behindOf work
 
 -- the parts of a 35 and where they stand
 pub record Chosen (edit : List ℕ) (at first second next : ℕ) (Z : Edit) : Type 0 where

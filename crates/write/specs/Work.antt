@@ -10,7 +10,7 @@ part from n work = take n (drop from work)
 abbrev pub mostSteps : ℕ
 mostSteps = 1366
 
--- where the second, third and fourth parts start, and the whole length
+-- where the other parts start, and the whole length
 abbrev pub stackStart : ℕ
 stackStart = 64
 
@@ -20,8 +20,11 @@ linksStart = 1430
 abbrev pub behindStart : ℕ
 behindStart = 2796
 
+abbrev pub notesStart : ℕ
+notesStart = 4844
+
 abbrev pub workLength : ℕ
-workLength = 4844
+workLength = 5036
 
 -- the last step of each of the 64 names
 abbrev pub lastOf : List ℕ → List ℕ

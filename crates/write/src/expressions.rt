@@ -44,7 +44,8 @@ fn put_not(op: u8, out: &mut [u8], pos: usize) -> usize
     pos
 }
 
-// Writes a name under steps of which the one below index j is the last that touches it. A step's expression of a single code, as most are, is written here.
+// Writes a name under steps of which the one below index j is the last that touches it. A step's expression of one code or of one name, as most are,
+// is written here.
 // Inner: the work array holds offsets of steps, with their links, and there is room; the room left falls with each call.
 fn name(edit: &[u8], work: &[u16], j: usize, of: Name, out: &mut [u8], pos: usize) -> usize
     requires { ⌜ (0 < j) × SomeName (now edit) (stackOf (now work)) j (of .code) (of .number) pos (length (now out)) × SomeLinks (now edit) (now work) j ⌝ }
@@ -63,9 +64,19 @@ fn name(edit: &[u8], work: &[u16], j: usize, of: Name, out: &mut [u8], pos: usiz
     }
     let q = put_not(op, out, p);
     let at = o + 2;
-    let s = ends::shape(edit[at]);
+    let code = edit[at];
+    let s = ends::shape(code);
     if s < 4 {
         return bytes::copy_code(edit, at, s, out, q);
+    }
+    if s >= 16 {
+        let number = edit[at + 1];
+        let whole = Name { code, number };
+        let i = names::find(edit, work, below, whole);
+        if i == 0 {
+            return bytes::put_two(code, number, out, q);
+        }
+        return name(edit, work, i, whole, out, q);
     }
     emit(edit, edit, work, below, out, Place { at, pos: q }).pos
 }

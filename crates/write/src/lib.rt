@@ -13,7 +13,8 @@ mod expressions;
 mod names;
 mod ways;
 
-// The parts of the work array: the last step of each of the 64 names, the offsets of the steps passed, the link of each, the offsets of the edits that follow.
+// The parts of the work array: the last step of each of the 64 names, the offsets of the steps passed, the link of each, the offsets of the edits that follow,
+// notes of the 35s passed before.
 // A step has at least three bytes, so an edit has at most 1,365.
 const STACK: usize = 64;
 
@@ -21,7 +22,9 @@ const LINKS: usize = 1430;
 
 const BEHIND: usize = 2796;
 
-pub const WORK: usize = 4844;
+const NOTES: usize = 4844;
+
+pub const WORK: usize = 5036;
 
 // Where reading and writing have come to.
 pub struct Place {
@@ -44,6 +47,7 @@ pub fn start(edit: &[u8], from: usize, work: &mut [u16]) -> Reached
 {
     let none = [0u16; 64];
     names::copy_last(&none, &mut work[..64]);
+    ways::clear_notes(work);
     ways::walk(
         edit,
         work,

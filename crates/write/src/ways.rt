@@ -1,8 +1,10 @@
 // A way through an edit, and a rule written along it. A 35 has two ways, and the rule is written along both.
 use crate::BEHIND;
+use crate::NOTES;
 use crate::Place;
 use crate::Reached;
 use crate::STACK;
+use crate::WORK;
 use crate::bytes;
 use crate::expressions::emit;
 use crate::names;
@@ -20,10 +22,10 @@ ghost use Rattle.ends.specs.Edits.{EditAt};
 ghost use Rattle.ends.specs.Books.{RuleAt};
 ghost use Rattle.ends.specs.Kept.{Kept};
 ghost use Rattle.write.specs.Laid.{Wrote};
-ghost use Rattle.write.specs.Work.{stackOf, linksOf, behindOf};
+ghost use Rattle.write.specs.Work.{stackOf, linksOf, behindOf, workLength};
 ghost use Rattle.write.specs.Offsets.{StackIs};
-ghost use Rattle.write.specs.Links.{SomeLinks, LinkedIn, Relinked, Fitting};
-ghost use Rattle.write.specs.Ways.{SomeWay, resting, Passed, Walked, SomeTwo, SomeCarried, WayWritten};
+ghost use Rattle.write.specs.Links.{SomeLinks, LinkedIn, Relinked, Fitting, Cleared};
+ghost use Rattle.write.specs.Ways.{SomeWay, resting, Passed, Walked, SomeTwo, Ends, Noted, Renoted, SomeCarried, WayWritten};
 ghost use Rattle.write.specs.Writing.{SomeShown};
 
 // Whether a walk rests here: at a 35, or at the end.
@@ -97,19 +99,43 @@ pub fn walk(edit: &[u8], work: &mut [u16], from: Reached) -> Reached
     here
 }
 
+// No note.
+// Inner: over the whole work array.
+pub fn clear_notes(work: &mut [u16])
+    requires { ⌜ length (now work) ≡ workLength ⌝ }
+    ensures { λ r. ⌜ Cleared (now (work .entry)) (now (work .exit)) workLength ⌝ }
+{
+    let mut i = NOTES;
+    while i < WORK {
+        work[i] = 0;
+        i += 1;
+    }
+}
+
 // Where the second way of a 35 stands, and what follows it.
 struct Ways {
     second: usize,
     next: usize,
 }
 
+// Every rule needs it for each 35 again, so what is found is noted, by the place of the first way: where branches are nested, finding it takes as long
+// as reading what they hold.
 // Inner: the first way stands there, and the second after it.
-fn ways_at(edit: &[u8], first: usize) -> Ways
-    requires { ⌜ SomeTwo (now edit) first ⌝ }
-    ensures { λ r. ⌜ ((P : Edit) → EditAt (now (edit .entry)) first P → r .second ≡ first + length (editCode P)) × ((Q : Edit) → EditAt (now (edit .entry)) (r .second) Q → r .next ≡ r .second + length (editCode Q)) ⌝ }
+fn ways_at(edit: &[u8], first: usize, work: &mut [u16]) -> Ways
+    requires { ⌜ SomeTwo (now edit) first × (0 < first) × Fitting (now edit) (now work) × Noted (now edit) (now work) ⌝ }
+    ensures { λ r. ⌜ Ends (now (edit .entry)) first (r .second) (r .next) × Renoted (now (edit .entry)) (now (work .entry)) (now (work .exit)) ⌝ }
 {
+    let i = NOTES + 3 * (first / 4 % 64);
+    if work[i] as usize == first {
+        let second = work[i + 1] as usize;
+        let next = work[i + 2] as usize;
+        return Ways { second, next };
+    }
     let second = ends::end_of(edit, first);
     let next = ends::end_of(edit, second);
+    work[i] = first as u16;
+    work[i + 1] = second as u16;
+    work[i + 2] = next as u16;
     Ways { second, next }
 }
 
@@ -145,8 +171,8 @@ pub fn write_way(
     out: &mut [u8],
     place: Place,
 ) -> Place
-    requires { ⌜ SomeCarried (now text) (place .at) (now edit) (stackOf (now work)) (behindOf (now work)) (from .at) (from .h) (from .d) (place .pos) (length (now out)) × Fitting (now edit) (now work) × LinkedIn (now edit) (now work) (from .h) ⌝ }
-    ensures { λ r. ⌜ WayWritten (now (text .entry)) (place .at) (now (edit .entry)) (stackOf (now (work .entry))) (behindOf (now (work .entry))) (from .at) (from .h) (from .d) (now (out .entry)) (place .pos) (r .pos) (stackOf (now (work .exit))) (behindOf (now (work .exit))) (now (out .exit)) × Kept (from .h) (linksOf (now (work .entry))) (linksOf (now (work .exit)))
+    requires { ⌜ SomeCarried (now text) (place .at) (now edit) (stackOf (now work)) (behindOf (now work)) (from .at) (from .h) (from .d) (place .pos) (length (now out)) × Fitting (now edit) (now work) × LinkedIn (now edit) (now work) (from .h) × Noted (now edit) (now work) ⌝ }
+    ensures { λ r. ⌜ WayWritten (now (text .entry)) (place .at) (now (edit .entry)) (stackOf (now (work .entry))) (behindOf (now (work .entry))) (from .at) (from .h) (from .d) (now (out .entry)) (place .pos) (r .pos) (stackOf (now (work .exit))) (behindOf (now (work .exit))) (now (out .exit)) × Kept (from .h) (linksOf (now (work .entry))) (linksOf (now (work .exit))) × Noted (now (edit .entry)) (now (work .exit))
         × ((K : Expr rule) → RuleAt (now (text .entry)) (place .at) K → r .at ≡ place .at + length (code K)) ⌝ }
 {
     let rest = walk(edit, work, from);
@@ -156,7 +182,7 @@ pub fn write_way(
     }
     let k = open_first(edit, work, rest, out, place.pos);
     let a = k.pos;
-    let ways = ways_at(edit, k.at);
+    let ways = ways_at(edit, k.at, work);
     let top = BEHIND + rest.d;
     let saved = work[top];
     work[top] = ways.next as u16;

@@ -24,8 +24,8 @@ abbrev μ-loop : tie.MeasureT-loop
 μ-loop sheet book edit from work₀ scratch₀ n all rest at₀ i₀ work scratch at i = length book - at
 
 -- what the evaluator requires of the sheet, and the rule that was written
-eval-rule-requires : tie.Need-eval-rule-requires Inv-loop μ-loop
-eval-rule-requires c κs =
+rule-holds-requires : tie.Need-rule-holds-requires Inv-loop μ-loop
+rule-holds-requires c κs =
     let w = c .before .before .before .before .before in
     let s = w .before .before .before .before .before .before .before .before .before .before .before .before .before .before .before .before in
     let i = w .before .before .before .before .loop .inv in
@@ -46,20 +46,20 @@ write-rule-requires c κs =
 
 broken-returns : tie.Need-returns Inv-loop μ-loop
 broken-returns c rules Z f =
-    let w = c .before .before .before .before .before .before .before .before in let i = w .before .before .before .before .loop .inv in
+    let w = c .before .before .before .before .before .before .before in let i = w .before .before .before .before .loop .inv in
     let q = next-rule _ _ _ _ _ _ (i .4 rules Z f) (w .before .before .before .loop-test .taken) in let r = w .write-rule .ensures _ (i .3) .0 in
-    let v = sym (c .before .before .eval-rule .ensures _ (stands-there _ _ _ _ _ _ q r) .truth) ∙ not-is _ _ (c .if1 .taken) in
+    let v = sym (c .before .rule-holds .ensures _ (stands-there _ _ _ _ _ _ q r)) ∙ not-is _ _ (c .if1 .taken) in
     record { answer-is = sym (q .broken-answer v); scratch-is = written _ _ _ _ _ _ q r ∙ sym (q .broken-scratch v) }
 
 loop-less : tie.Need-loop-less Inv-loop μ-loop
 loop-less c =
-    let w = c .before .before .before .before .before .before .before .before in let i = w .before .before .before .before .loop .inv in
+    let w = c .before .before .before .before .before .before .before in let i = w .before .before .before .before .loop .inv in
     let q = next-rule _ _ _ _ _ _ (i .4 _ _ (w .before .before .before .before .before .before .before .before .before .before .before .before .before .before .before .before .pre .1 .each)) (w .before .before .before .loop-test .taken) in
     omega (arith, read _ _ _ _ _ _ q (w .write-rule .ensures _ (i .3) .0), q .inside, q .some)
 
 loop-again : tie.Need-loop-again Inv-loop μ-loop
 loop-again c =
-    let w = c .before .before .before .before .before .before .before .before in let i = w .before .before .before .before .loop .inv in
+    let w = c .before .before .before .before .before .before .before in let i = w .before .before .before .before .loop .inv in
     let l = w .before .before .before .loop-test .taken in let y = w .write-rule .ensures _ (i .3) in
     let q = next-rule _ _ _ _ _ _ (i .4 _ _ (w .before .before .before .before .before .before .before .before .before .before .before .before .before .before .before .before .pre .1 .each)) l in (
       omega (arith, read _ _ _ _ _ _ q (y .0), q .some, i .0),
@@ -67,7 +67,7 @@ loop-again c =
       w .write-rule .kept .1 .1 .1 .1 .0 ∙ i .2,
       y .1,
       λ rules Z f. let q = next-rule _ _ _ _ _ _ (i .4 rules Z f) l in
-          let v = sym (c .before .before .eval-rule .ensures _ (stands-there _ _ _ _ _ _ q (y .0)) .truth) ∙ not-is _ _ (c .if1 .left) in
+          let v = sym (c .before .rule-holds .ensures _ (stands-there _ _ _ _ _ _ q (y .0))) ∙ not-is _ _ (c .if1 .left) in
           q .more _ _ (read _ _ _ _ _ _ q (y .0)) (written _ _ _ _ _ _ q (y .0)) v,
     )
 
@@ -81,11 +81,11 @@ judge-each-spec = tie.close (tie.spec
     Inv-loop μ-loop (λ c κs. search needs) (λ c κs. search needs)
     (λ c κs. let p = c .before .before .before .before .before .before .before .before .pre in (record { what = p .1 .each .what; stands = p .1 .each .what-at }, p .2))
     (λ c. (search needs, refl, refl, c .before .before .start .ensures, λ rules Z f. reached-start _ _ _ _ _ _ _ rules Z (c .before .before .before .before .before .node-count .ensures .0) f))
-    write-rule-requires eval-rule-requires
-    (λ c. let w = c .before .before .before .before .before .before .before .before in w .write-rule .kept .1 .1 .1 .0 ∙ w .before .before .before .before .loop .inv .1 ∙ w .before .before .before .before .before .before .before .start .kept .1 .1 .0)
-    (λ c. let w = c .before .before .before .before .before .before .before .before in w .write-rule .kept .1 .1 .1 .1 .0 ∙ w .before .before .before .before .loop .inv .2)
+    write-rule-requires rule-holds-requires
+    (λ c. let w = c .before .before .before .before .before .before .before in w .write-rule .kept .1 .1 .1 .0 ∙ w .before .before .before .before .loop .inv .1 ∙ w .before .before .before .before .before .before .before .start .kept .1 .1 .0)
+    (λ c. let w = c .before .before .before .before .before .before .before in w .write-rule .kept .1 .1 .1 .1 .0 ∙ w .before .before .before .before .loop .inv .2)
     broken-returns
-    (λ c. let w = c .before .before .before .before .before .before .before .before in
+    (λ c. let w = c .before .before .before .before .before .before .before in
     omega (arith, w .before .before .before .before .loop .inv .0, w .before .before .before .loop-test .taken, w .before .before .before .before .before .before .before .before .before .before .before .before .before .before .before .before .good .1 .0))
     loop-less loop-again
     (λ c. c .before .loop .inv .1 ∙ c .before .before .before .before .start .kept .1 .1 .0)

@@ -24,7 +24,12 @@ size-of-book-spec = tie.close (tie.spec
     (λ c κs. let b = added c in let p = start b .pre in let e = p .1 in let a = b .add-book .ensures (p .0 .what) (p .0 .is) in
     let h : Held _ = record { long = b .add-book .kept .1 .0; M = measures (p .0 .what); holds = a .holds } in
     (record { what = e .what; stands = e .stands; room = omega (arith, edit-long _ _ (e .what) (e .stands), p .2) }, omega arith, p .3, p .2, omega (arith, a .number-is, p .0 .is .few), h, omega (arith, p .4)))
-    (λ c. search needs) (λ c. search needs)
+    (λ c. search needs)
+    (λ c. let k = c .before .before .before .before .before in let p = start (added (k .before)) .pre in let a = added (k .before) .add-book .ensures (p .0 .what) (p .0 .is) in
+    omega (arith, k .back .ensures .0 (p .1 .what) (p .1 .stands) .holds _ (a .holds) .len-at))
+    (λ c. search needs)
+    (λ c. let k = c .before .before .before .before .before in let p = start (added (k .before)) .pre in let a = added (k .before) .add-book .ensures (p .0 .what) (p .0 .is) in
+    omega (arith, k .back .ensures .0 (p .1 .what) (p .1 .stands) .holds _ (a .holds) .tall-at))
     (λ c. c .before .before .before .before .before .back .kept .1 .1 .1 .0)
     (λ c. c .before .before .before .before .before .back .kept .1 .1 .1 .1 .1 .0)
     (λ c. λ rules Z h g.

@@ -22,7 +22,7 @@ write-rule-spec = tie.close (tie.spec
     (λ c. let s = c .before .before .before .before .before in omega (arith, names-long (now (s .args .work)) (s .pre .1 .long)))
     (λ c. search needs)
     (λ c κs. let s = c .before .before .before .before .before .before in (names-long (now (s .args .work)) (s .pre .1 .long), refl))
-    (λ c κs. let p = c .before .before .before .before .before .before .before .before .before .before .pre in (rest-some (p .0), p .1, p .0 .started .linked))
+    (λ c κs. let p = c .before .before .before .before .before .before .before .before .before .before .pre in (rest-some (p .0), p .1, p .0 .started .linked, p .0 .started .noted))
     (λ c. search needs)
     (λ c. let w = c .before .before .before .before .before in omega (arith, start w .pre .1 .long, w .write-way .kept .1 .1 .0))
     (λ c. omega (arith, names-after (c .before .before .before .before .before .before)))
@@ -31,5 +31,5 @@ write-rule-spec = tie.close (tie.spec
     (λ c. search needs)
     (λ c. λ from s.
     let d = c .before .before .before .before .before .before .before .before .before in let w = d .write-way in let k = c .before .before .copy-last2 in
-    let a = again (w .last .1 .1 .0) (s .linked) (start d .pre .1) (w .kept .1 .1 .0) (w .ensures .0) (w .ensures .1) (d .before .before .before .before .copy-last .ensures) (k .ensures) (k .kept .1 .0) in
-    (rule-written s a (w .ensures .2), still-started s a)))
+    let a = again (w .last .1 .1 .0) (s .linked) (start d .pre .1) (w .kept .1 .1 .0) (w .ensures .0) (w .ensures .1) (d .before .before .before .before .copy-last .ensures) (k .ensures) (k .kept .1 .0) (w .ensures .2) in
+    (rule-written s a (w .ensures .3), still-started s a)))

@@ -2,7 +2,7 @@ use mathlib.Core.Bool.{Bool}
 use lib.Dec.{eqb}
 use lib.ListN.{length, getD, set, length-set}
 use denote.Ref.{now}
-use mathlib.Core.Path.{_≡_, refl, _∙_}
+use mathlib.Core.Path.{_≡_, refl, sym, _∙_}
 use Prim.Native.Nat.{_≤_, _<_, _-_, _+_}
 use native.Mathlib.Omega.{arith}
 use native.Mathlib.Nat.{mul-le-mul}
@@ -60,7 +60,7 @@ step-back-spec = tie.close (tie.spec
     (λ c κs. search needs)
     (λ c κs. let d = c .before .before in let s = start (found d) in
     (record { what = editTree (s .pre .0 .what); stands = q s .what }, low-level (two s) _ _ _ (d .deeper .ensures) (c .before .lower .ensures), long d))
-    (λ c. let a = c .before .before .before in omega (arith, a .scan .kept .1 .1 .1 .1 .0, long (lowered a)))
+    (λ c. let f = c .before .before .before .before .before .before .before .before .before in let s = start f in omega (arith, step-fits _ _ _ (q s) _ _ _ (s .pre .1) (cell-is f) refl))
     (λ c κs. search needs)
     (λ c. omega (arith, span (c .before .before .before .before)))
     (λ c. omega (arith, span (c .before .before .before .before)))
@@ -68,10 +68,9 @@ step-back-spec = tie.close (tie.spec
     (λ c. let a = c .before .before .before .before in let f = found (lowered a) in let s = start f in
     let m : c .extra .result + (a .scan .result - (s .args .at + 2)) ≤ 4098 = omega (arith, few (two s) _ (c .extra .ensures), span a .1) in
     omega (arith, mul-le-mul (step-fits _ _ _ (q s) _ _ _ (s .pre .1) (cell-is f) refl) m))
-    (λ c κs. search needs)
-    (λ c. let a = c .before .before .before .before .before in omega (arith, a .scan .kept .1 .1 .1 .1 .0, long (lowered a)))
-    (λ c. let a = c .before .before .before .before .before in simp length-set (a .scan .kept .1 .1 .1 .1 .0 ∙ simp length-set))
-    (λ c. λ Z h. let a = c .before .before .before .before .before in
+    (λ c κs. let a = c .before .before .before .before in a .scan .kept .1 .1 .1 .1 .0 ∙ long (lowered a))
+    (λ c. let a = c .before .before .before .before .before .before .before in c .before .before .lengthen .kept .0 ∙ a .scan .kept .1 .1 .1 .1 .0 ∙ long (lowered a) ∙ sym (start (found (lowered a)) .pre .1 .long))
+    (λ c. λ Z h. let a = c .before .before .before .before .before .before .before in
     let d = lowered a in let f = found d in let s = start f in
     step-measured _ _ Z (as-step _ _ Z h (s .pre .3) (s .pre .4)) _ _ _ _ _ _ _ _ _ _ _ _ (s .pre .1 .long) (a .scan .kept .1 .1 .1 .1 .0 ∙ long d)
-    (f .before .before .name-code .ensures) (f .cell-of .ensures) (d .deeper .ensures) refl refl (a .before .before .lower .ensures) (a .scan .ensures) (c .before .extra .ensures) (c .sum .ensures) refl))
+    (f .before .before .name-code .ensures) (f .cell-of .ensures) (d .deeper .ensures) refl refl (a .before .before .lower .ensures) (a .scan .ensures) (c .before .before .before .extra .ensures) refl (c .before .before .lengthen .ensures)))

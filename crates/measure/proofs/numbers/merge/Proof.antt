@@ -23,7 +23,7 @@ merge-spec = tie.close (tie.spec
     (λ c. let m = c .before .before in let t = m .before .before .loop-test .taken in let i = m .before .before .before .loop .inv in
     (omega (arith, t), m .merge-one .kept .1 .0 ∙ i .1, merging-more _ _ _ _ _ (i .1) t (i .2) (m .merge-one .ensures)))
     (λ c. omega (arith, c .before .loop .inv .1))
-    (λ c. let l = c .before .loop in omega (arith, l .inv .1, length-set (l .state) 128 (c .before .before .before .before .before .before .sum .result)))
+    (λ c. let l = c .before .loop in omega (arith, l .inv .1, length-set (l .state) 128 (c .before .before .before .before .before .before .add .result)))
     (λ c. let l = c .before .loop in simp length-set (l .inv .1 ∙ sym (c .before .before .before .before .before .before .before .before .before .before .before .pre .1)))
     (λ c. let l = c .before .loop in
-    merging-end _ _ _ _ _ _ (l .inv .1) (c .loop-test .left) (l .inv .2) (c .before .before .before .before .before .before .sum .ensures) (c .before .before .sum2 .ensures ∙ ap (λ (u : ℕ). capped (u + 2)) (c .before .before .before .larger .ensures))))
+    merging-end _ _ _ _ _ _ (l .inv .1) (c .loop-test .left) (l .inv .2) (c .before .before .before .before .before .before .add .ensures) (c .before .before .add2 .ensures ∙ ap (λ (u : ℕ). capped (u + 2)) (c .before .before .before .larger .ensures))))

@@ -9,6 +9,6 @@ pub touch-spec : {M : Type 1} → statement M
 touch-spec = tie.close (tie.spec
     (λ c. search needs) (λ c. search needs) (λ c κs. search needs) (λ c. search needs) (λ c. search needs) (λ c. search needs)
     (λ c κs. search needs) (λ c. search needs) (λ c. search needs) (λ c. search needs) (λ c. search needs)
-    (λ c. let s = c .before .before .before .before .before in omega (arith, s .pre .0, s .pre .1, length-set (now (s .args .state)) (s .args .i) (c .before .before .sum .result)))
+    (λ c. let s = c .before .before .before .before .before in omega (arith, s .pre .0, s .pre .1, length-set (now (s .args .state)) (s .args .i) (c .before .before .add .result)))
     (λ c. search needs)
-    (λ c. simp (c .before .before .sum .ensures, c .larger .ensures)))
+    (λ c. simp (c .before .before .add .ensures, c .larger .ensures)))

@@ -64,7 +64,7 @@ module _ (t : ℕ) where
   emit-claims = (shape.Asked, shape.Learnt, find.Asked, find.Learnt, put-two.Asked, put-two.Learnt, name-below, name.Post, copy-code.Asked, copy-code.Learnt)
 
   abbrev name-claims : name-lts.Claims
-  name-claims = (lead.Asked, lead.Learnt, put-two.Asked, put-two.Learnt, name-below, name.Post, put-not.Asked, put-not.Learnt, shape.Asked, shape.Learnt, copy-code.Asked, copy-code.Learnt, emit-below, emit.Post)
+  name-claims = (lead.Asked, lead.Learnt, put-two.Asked, put-two.Learnt, name-below, name.Post, put-not.Asked, put-not.Learnt, shape.Asked, shape.Learnt, copy-code.Asked, copy-code.Learnt, find.Asked, find.Learnt, emit-below, emit.Post)
 
   -- `emit`: the code's shape is known; from there to the loop, and to the start
   abbrev looped : emit-lts.After-shape emit-claims emit-at emit.Post emit-Inv-loop emit-μ-loop → emit-lts.At-loop emit-claims emit-at emit.Post emit-Inv-loop emit-μ-loop
@@ -88,7 +88,7 @@ module _ (t : ℕ) where
   step-there : (s : name-lts.Start name-claims name-at name.Post) → let a = s .args in StepAt (now (a .edit)) (getD (now (a .work)) (64 + (a .j - 1)) 0) (hit s .s)
   step-there s = hit-at (s .pre .1 .2) (s .pre .1 .0) (hit s)
 
-  low : (s : name-lts.Start name-claims name-at name.Post) → (0 < s .args .j) × (s .args .j ≤ 1366) × (length (now (s .args .work)) ≡ 4844)
+  low : (s : name-lts.Start name-claims name-at name.Post) → (0 < s .args .j) × (s .args .j ≤ 1366) × (length (now (s .args .work)) ≡ 5036)
   low s = let p = s .pre .1 in (p .0, omega (arith, p .2 .high, p .2 .room), p .2 .long)
 
   room : (s : name-lts.Start name-claims name-at name.Post) → let a = s .args in let H = hit s in
@@ -129,6 +129,18 @@ module _ (t : ℕ) where
       let H = found-as e i .some (s .args .j - 1) (omega (arith, p .0)) in let A = hit-at (p .2) (p .0) H in
       parts.hit-wrote H _ (A .op-is) (c .before .before .before .before .lead .ensures) (older (c .before .before) .each (H .below) (hit-older (p .2) e (p .0) H .0) (H .stands)) (c .put-not .ensures)
       (w (H .below) (H .s .what) (H .len) (H .stands) (A .what-at))
+
+  -- where the expression is a name
+  sole : (c : name-lts.Then3 name-claims name-at name.Post) → let n = c .before .before .before .before .before .before in let a = n .before .before .before .before .before .before .before .before .before .before .args in
+      parts.NameAt (now (a .edit)) (now (a .edit)) (stackOf (now (a .work))) (getD (now (a .work)) (64 + (a .j - 1)) 0 + 2) (a .j - 1) (n .put-not .result) (n .put-not .result) (length (n .put-not .last .1 .0))
+  sole c = parts.name-at (parts.showing-first _ _ _ _ _ [] _) (omega arith) _ (c .before .before .shape .ensures) (c .if3 .taken) (there (c .before .before .before .before .before .before))
+
+  sole-wrote : (c : name-lts.Then3 name-claims name-at name.Post) → {i r : ℕ} {o : List ℕ} → let n = c .before .before .before .before .before .before in let a = n .before .before .before .before .before .before .before .before .before .before .args in
+      let p = getD (now (a .work)) (64 + (a .j - 1)) 0 + 2 in
+      i ≡ lastIn (now (a .edit)) (stackOf (now (a .work))) (a .j - 1) (getD (now (a .edit)) p 0) (getD (now (a .edit)) (p + 1) 0)
+      → parts.NameWrote (now (a .edit)) (stackOf (now (a .work))) i (getD (now (a .edit)) p 0) (getD (now (a .edit)) (p + 1) 0) (n .put-not .last .1 .0) (n .put-not .result) r o
+      → (σ : List Substitution) (x : Tree) → a .j - 1 ≡ length σ → StackIs (now (a .edit)) (stackOf (now (a .work))) σ → At (now (a .edit)) p x → Wrote (n .put-not .last .1 .0) (n .put-not .result) (treeCode (graft (env σ) x)) r o
+  sole-wrote c e w σ x l i a = parts.showing-end (parts.name-shown (parts.showing-first _ _ _ _ _ _ _) (omega arith) _ (c .before .before .shape .ensures) (c .if3 .taken) e w) (omega arith) σ x l i a .0
 
 pub +emit+name-spec : {M : Type 1} → statement M
 +emit+name-spec = close μ-emit μ-name
@@ -182,8 +194,22 @@ pub +emit+name-spec : {M : Type 1} → statement M
     (λ c. c .before .before .copy-code .kept .1 .1 .1 .0 ∙ wide t (c .before .before .before .before .before .before .before .before .before))
     (λ c. let k = c .before .before .copy-code in let d = c .before .before .before .before .before in
     put t (d .before .before .before .before) (parts.leaf-shown _ _ _ _ _ _ _ (d .shape .ensures) (c .before .before .before .before .if2 .taken) (k .ensures) (k .kept .1 .1 .1 .0)))
-    (λ c κs. let n = c .before .before .before .before .before .before in let s = n .before .before .before .before .before .before .before .before .before .before in
+    (λ c. omega (arith, sole t c .in-text, c .before .before .before .before .before .before .before .before .before .before .before .before .before .before .before .before .good .0 .0)) (λ c. omega (arith, sole t (c .before) .in-text))
+    (λ c κs. (links-lower (omega arith) (c .before .before .before .before .before .before .before .before .before .before .before .before .before .before .before .before .before .pre .1 .2), sole t (c .before) .is-named))
+    (λ c κs. parts.bare-room (sole t (c .before .before .before .before) .some _ (c .before .before .find .ensures .0)) (c .before .if4 .taken))
+    (λ c. c .before .before .put-two2 .kept .1 .1 .0 ∙ wide t (c .before .before .before .before .before .before .before .before .before .before .before .before .before))
+    (λ c. let k = c .before .before .put-two2 in let f = c .before .before .before .before .before in
+    put t (f .before .before .before .before .before .before .before .before) (sole-wrote t (f .before .before) (f .find .ensures .0) (parts.bare-wrote (c .before .before .before .before .if4 .taken) (k .ensures) (k .kept .1 .1 .0))))
+    (λ c κs. let n = c .before .before .before .before .before .before .before .before .before .before in let s = c .before .before .before .before .before .before .before .before .before .before .before .before .before .before .before .before .before .before .before .before in
+    let e = c .before .before .find .ensures in (
+      omega (arith, s .pre .0, wide t n, room t s, older-count t (n .before .before), n .put-not .ensures .counted),
+      (omega (arith, c .before .if4 .left), sole t (c .before .before .before .before) .some _ (e .0), links-lower (omega (arith, e .1)) (s .pre .1 .2)),
+    ))
+    (λ c. c .before .before .name2 .kept .1 .1 .1 .1 .0 ∙ wide t (c .before .before .before .before .before .before .before .before .before .before .before .before .before))
+    (λ c. let k = c .before .before .name2 in let f = c .before .before .before .before .before in
+    put t (f .before .before .before .before .before .before .before .before) (sole-wrote t (f .before .before) (f .find .ensures .0) (record { each = k .ensures; long = k .kept .1 .1 .1 .1 .0 })))
+    (λ c κs. let n = c .before .before .before .before .before .before .before in let s = n .before .before .before .before .before .before .before .before .before .before in
     (omega (arith, s .pre .0, wide t n, room t s, older-count t (n .before .before), n .put-not .ensures .counted), (there t n, links-lower (omega arith) (s .pre .1 .2))))
-    (λ c. c .before .before .emit .kept .1 .1 .1 .1 .0 ∙ wide t (c .before .before .before .before .before .before .before .before .before))
-    (λ c. put t (c .before .before .before .before .before .before .before .before .before) (λ σ x e i a. c .before .before .emit .ensures σ x e i a .0))
+    (λ c. c .before .before .emit .kept .1 .1 .1 .1 .0 ∙ wide t (c .before .before .before .before .before .before .before .before .before .before))
+    (λ c. put t (c .before .before .before .before .before .before .before .before .before .before) (λ σ x e i a. c .before .before .emit .ensures σ x e i a .0))
     )

@@ -1,4 +1,4 @@
-use lib.ListN.{length, set, take, drop, length-set}
+use lib.ListN.{length, getD, set, take, drop, length-set}
 use Rattle.write.proofs.WorkParts.{names-long}
 use denote.Ref.{now}
 use mathlib.Core.Path.{_≡_, refl, sym, _∙_}
@@ -9,7 +9,9 @@ use borrow.Author.Needs.{needs}
 use Rattle.write.specs.Work.{stackOf, behindOf}
 use Rattle.write.specs.Links.{SomeLinks}
 use Rattle.write.specs.Ways.{SomeCarried}
-use Rattle.ends.proofs.FirstSteps.{edit-inside}
+use Rattle.tree.specs.Tree.{tree}
+use Rattle.ends.proofs.FirstSteps.{edit-inside, as-choose}
+use Rattle.write.proofs.Notes.{notes-set, noted-same}
 use Rattle.write.proofs.Finding.{kept-all}
 use Rattle.ends.proofs.Kept.{kept-more}
 use Rattle.write.proofs.Walking.{at-end, at-choice, way-low}
@@ -48,10 +50,10 @@ module _ (t : ℕ) where
   start c = c .before .before .before .before .before .before
 
   abbrev walked : write-way-lts.After-ways-at claims write-way-at write-way.Post → write-way-lts.After-walk claims write-way-at write-way.Post
-  walked c = c .before .before .before .before .before .before .before .before .before .before
+  walked c = c .before .before .before .before .before .before .before .before .before .before .before
 
   abbrev found : write-way-lts.After-write-way claims write-way-at write-way.Post → write-way-lts.After-ways-at claims write-way-at write-way.Post
-  found c = c .before .before .before .before .before .before .before .before .before .before .before
+  found c = c .before .before .before .before .before .before .before .before .before .before .before .before .before
 
   abbrev first-done : write-way-lts.After-copy-last2 claims write-way-at write-way.Post → write-way-lts.After-write-way claims write-way-at write-way.Post
   first-done c = c .before .before .before .before .before .before .before
@@ -61,7 +63,7 @@ module _ (t : ℕ) where
       SomeCarried (now (a .text)) (a .place .at) (now (a .edit)) (stackOf (c .walk .last .1 .0)) (behindOf (now (a .work))) (r .at) (r .h) (r .d) (a .place .pos) (length (now (a .out)))
   rest c = rested (start c .pre .1 .0) (c .walk .ensures .0)
 
-  deep : (c : write-way-lts.After-walk claims write-way-at write-way.Post) → (c .walk .result .h < 1366) × (c .walk .result .d < 2048) × (length (c .walk .last .1 .0) ≡ 4844)
+  deep : (c : write-way-lts.After-walk claims write-way-at write-way.Post) → (c .walk .result .h < 1366) × (c .walk .result .d < 2048) × (length (c .walk .last .1 .0) ≡ 5036)
   deep c = let p = start c .pre .1 .1 in let l = way-low (rest c .way) (p .short) in (l .0, l .1, c .walk .kept .1 .0 ∙ p .long)
 
   links : (c : write-way-lts.After-walk claims write-way-at write-way.Post) → SomeLinks (now (start c .args .edit)) (c .walk .last .1 .0) (c .walk .result .h)
@@ -69,26 +71,27 @@ module _ (t : ℕ) where
 
   -- the work array for the ways of a 35, once they are found
   abbrev work : write-way-lts.After-ways-at claims write-way-at write-way.Post → List ℕ
-  work c = let k = walked c .walk in set (k .last .1 .0) (2796 + k .result .d) (c .ways-at .result .next)
+  work c = let k = walked c .walk in set (c .ways-at .last .1 .1 .0) (2796 + k .result .d) (c .ways-at .result .next)
 
   -- the first way
-  forked : (c : write-way-lts.After-ways-at claims write-way-at write-way.Post) → let s = start (walked c) .args in let r = walked c .walk .result in let u = c .before .before .before .open-first in
+  forked : (c : write-way-lts.After-ways-at claims write-way-at write-way.Post) → let s = start (walked c) .args in let r = walked c .walk .result in let u = c .before .before .before .before .open-first in
       Branch (now (s .text)) (s .place .at) (now (s .edit)) (now (s .work)) (s .from .at) (s .from .h) (s .from .d) (now (s .out)) (s .place .pos) (work c)
       (r .at) (r .h) (r .d) (u .result .at) (c .ways-at .result .second) (c .ways-at .result .next) (u .result .pos) (u .last .1 .1 .1 .0)
   forked c =
       let p = start (walked c) .pre .1 in let k = walked c .walk in
-      branch (p .0) (p .1) (k .kept .1 .0) (k .ensures .0) (k .ensures .1) (c .before .before .before .before .before .before .if1 .left) (c .before .before .before .open-first .ensures) (c .ways-at .ensures .0) (c .ways-at .ensures .1)
+      branch (p .0) (p .1) (k .kept .1 .0) (k .ensures .0) (k .ensures .1) (c .before .before .before .before .before .before .before .if1 .left) (c .before .before .before .before .open-first .ensures)
+      (c .ways-at .ensures .0 .0) (c .ways-at .ensures .0 .1) (c .ways-at .ensures .1) (c .ways-at .kept .1 .1 .0)
 
   -- and the second, once the first is written
-  renewed : (c : write-way-lts.After-copy-last2 claims write-way-at write-way.Post) → let w = first-done c in let f = found w in let s = start (walked f) .args in let r = walked f .walk .result in let u = f .before .before .before .open-first in
+  renewed : (c : write-way-lts.After-copy-last2 claims write-way-at write-way.Post) → let w = first-done c in let f = found w in let s = start (walked f) .args in let r = walked f .walk .result in let u = f .before .before .before .before .open-first in
       Again (now (s .text)) (s .place .at) (now (s .edit)) (work f) (u .result .at) (r .h) (r .d + 1) (u .last .1 .1 .1 .0) (u .result .pos)
       (w .write-way .result .pos) (c .copy-last2 .last .1 .0 ++ drop 64 (w .write-way .last .1 .1 .0)) (w .write-way .last .1 .1 .1 .1 .0)
   renewed c =
       let w = first-done c in let b = forked (found w) in let v = w .write-way in
-      again (v .last .1 .1 .0) (b .linked) (b .fits) (v .kept .1 .1 .0) (v .ensures .0) (v .ensures .1) (w .before .before .before .before .before .copy-last .ensures) (c .copy-last2 .ensures) (c .copy-last2 .kept .1 .0)
+      again (v .last .1 .1 .0) (b .linked) (b .fits) (v .kept .1 .1 .0) (v .ensures .0) (v .ensures .1) (w .before .before .before .before .before .copy-last .ensures) (c .copy-last2 .ensures) (c .copy-last2 .kept .1 .0) (v .ensures .2)
 
   wide : (c : write-way-lts.After-write-way claims write-way-at write-way.Post) → length (c .write-way .last .1 .1 .1 .1 .0) ≡ length (now (start (walked (found c)) .args .out))
-  wide c = c .write-way .kept .1 .1 .1 .1 .0 ∙ found c .before .before .before .open-first .kept .1 .1 .1 .0
+  wide c = c .write-way .kept .1 .1 .1 .1 .0 ∙ found c .before .before .before .before .open-first .kept .1 .1 .1 .0
 
 pub +write-way-spec : {M : Type 1} → statement M
 +write-way-spec = close μ-write-way
@@ -104,28 +107,34 @@ pub +write-way-spec : {M : Type 1} → statement M
     let e = c .before .before .emit .ensures in (
       rw (w .1 .behind-same) (end-carried (w .0) m (at-end _ _ (w .0 .rests) m) (λ σ x l i a. e σ x l i a .0)),
       w .1 .kept,
+      noted-same (w .1 .notes-same) (start t k .pre .1 .3),
       end-read (rest t k) (λ σ x l i a. e σ x l i a .1),
     ))
     (λ c κs. let k = c .before .before .before .before .before .before in (first-shown (rest t k) (at-choice _ _ (k .walk .ensures .0 .rests) (c .before .before .if1 .left)), links t k))
-    (λ c κs. let k = c .before .before .before .before .before .before .before .before .before in
-    ways-some (rest t k) (at-choice _ _ (k .walk .ensures .0 .rests) (c .before .before .before .before .before .if1 .left)) (λ σ x e i a. c .before .before .open-first .ensures σ x e i a .1))
-    (λ c. omega (arith, deep t (walked t (c .before)) .1)) (λ c. omega (arith, deep t (walked t (c .before)) .1))
-    (λ c. omega (arith, deep t (walked t (c .before .before))))
-    (λ c. let f = c .before .before .before in let v = rest t (walked t f) .way in let q = forked t f .chosen (v .what) (v .way .here) in
+    (λ c κs. let k = c .before .before .before .before .before .before .before .before .before .before in let m = at-choice _ _ (k .walk .ensures .0 .rests) (c .before .before .before .before .before .before .if1 .left) in let u = c .before .before .before .open-first .ensures in
+    let y = rest t k .way in let q = as-choose _ _ (y .what) (y .way .here) m in let p = start t k .pre .1 in (
+      ways-some (rest t k) m (λ σ x e i a. u σ x e i a .1),
+      omega (arith, u (y .steps) (tree (q .K)) (y .way .steps-passed) (y .way .steps) (q .what) .1),
+      record { short = p .1 .short; long = deep t k .2 },
+      noted-same (k .walk .ensures .1 .notes-same) (p .3),
+    ))
+    (λ c. omega (arith, deep t (walked t (c .before .before .before)) .1)) (λ c. omega (arith, deep t (walked t (c .before .before .before)) .1))
+    (λ c. let f = c .before .before .before .before in omega (arith, deep t (walked t f), f .ways-at .kept .1 .1 .0))
+    (λ c. let f = c .before .before .before .before .before in let v = rest t (walked t f) .way in let q = forked t f .chosen (v .what) (v .way .here) in
     omega (arith, edit-inside _ _ (q .W) (q .next-at), start t (walked t f) .pre .1 .1 .short))
-    (λ c. omega (arith, deep t (walked t (c .before .before .before)))) (λ c. omega (arith, deep t (walked t (c .before .before .before))))
-    (λ c. omega (arith, forked t (c .before .before .before) .fits .long)) (λ c. let f = c .before .before .before .before in omega (arith, names-long (work t f) (forked t f .fits .long)))
-    (λ c. search needs) (λ c κs. let f = c .before .before .before .before .before in (names-long (work t f) (forked t f .fits .long), refl))
-    (λ c. omega (arith, deep t (walked t (c .before .before .before .before .before .before .before .before)) .1))
-    (λ c κs. let d = c .before .before .before .before .before .before .before .before .before .before in let b = forked t d in
-    let o = d .before .before .before .open-first .kept .1 .1 .1 .0 in let f = first-further (b .chosen) (b .low) (b .some) (b .opened) (b .behind) o in
-    (omega (arith, start t (walked t d) .pre .0, f .on, f .inside, o), (f .some, b .fits, b .linked)))
+    (λ c. omega (arith, deep t (walked t (c .before .before .before .before .before)))) (λ c. let f = c .before .before .before .before .before in omega (arith, deep t (walked t f), f .ways-at .kept .1 .1 .0))
+    (λ c. omega (arith, forked t (c .before .before .before .before .before) .fits .long)) (λ c. let f = c .before .before .before .before .before .before in omega (arith, names-long (work t f) (forked t f .fits .long)))
+    (λ c. search needs) (λ c κs. let f = c .before .before .before .before .before .before .before in (names-long (work t f) (forked t f .fits .long), refl))
+    (λ c. omega (arith, deep t (walked t (c .before .before .before .before .before .before .before .before .before .before)) .1))
+    (λ c κs. let d = c .before .before .before .before .before .before .before .before .before .before .before .before in let b = forked t d in
+    let o = d .before .before .before .before .open-first .kept .1 .1 .1 .0 in let f = first-further (b .chosen) (b .low) (b .some) (b .opened) (b .behind) o in
+    (omega (arith, start t (walked t d) .pre .0, f .on, f .inside, o), (f .some, b .fits, b .linked, b .noted)))
     (λ c. search needs)
     (λ c. let w = c .before .before .before .before .before in omega (arith, forked t (found t w) .fits .long, w .write-way .kept .1 .1 .0))
     (λ c. let w = c .before .before .before .before .before .before in omega (arith, names-long (w .write-way .last .1 .1 .0) (w .write-way .kept .1 .1 .0 ∙ forked t (found t w) .fits .long)))
     (λ c κs. let w = c .before .before .before .before .before .before in (w .before .before .before .before .before .copy-last .kept .1 .0, names-long (w .write-way .last .1 .1 .0) (w .write-way .kept .1 .1 .0 ∙ forked t (found t w) .fits .long)))
     (λ c. let k = walked t (found t (first-done t (c .before .before .before))) in
-    let d = c .before .before .before .before .before .before .before .before .before .before .before .before .before .before .before .before .before .before .before .before .before .before .before .before .before .before .before in
+    let d = c .before .before .before .before .before .before .before .before .before .before .before .before .before .before .before .before .before .before .before .before .before .before .before .before .before .before .before .before .before .before in
     omega (arith, first-shown (rest t k) (at-choice _ _ (k .walk .ensures .0 .rests) (d .if1 .left)) .fits, start t k .good .1 .1 .1 .1 .0 .0))
     (λ c. let b = forked t (found t (first-done t (c .before .before .before .before))) in omega (arith, first-long (b .chosen) (b .low) (b .some) (b .opened) (b .behind)))
     (λ c κs. let w = first-done t (c .before .before .before .before) in let b = forked t (found t w) in
@@ -133,7 +142,7 @@ pub +write-way-spec : {M : Type 1} → statement M
     (λ c κs. let o = c .before .before .before .before .open-second in
     let r = c .before .before .before .before .before .before .before .before .before in let w = first-done t r in let b = forked t (found t w) in let a = renewed t r in
     let f = second-further (b .chosen) (b .low) (b .some) (b .opened) (b .behind) (a .written) refl (o .ensures) (o .kept .0 ∙ wide t w) in
-    (omega (arith, start t (walked t (found t w)) .pre .0, f .on, f .inside, o .kept .0 ∙ wide t w), (f .some, a .fits, a .linked)))
+    (omega (arith, start t (walked t (found t w)) .pre .0, f .on, f .inside, o .kept .0 ∙ wide t w), (f .some, a .fits, a .linked, a .noted)))
     (λ c. omega (arith, deep t (walked t (found t (first-done t (c .before .before .before .before .before .before .before .before .before .before .before .before .before .before)))) .1))
     (λ c. let r = c .before .before .before .before .before .before .before .before .before .before .before .before .before .before in
     omega (arith, deep t (walked t (found t (first-done t r))) .1, renewed t r .fits .long, c .before .before .before .before .write-way2 .kept .1 .1 .0))
@@ -144,8 +153,8 @@ pub +write-way-spec : {M : Type 1} → statement M
     let r = c .before .before .before .before .before .before .before .before .before .before .before .before .before .before in
     let f = found t (first-done t r) in let s = start t (walked t f) in let k = walked t f .walk in let b = forked t f in let a = renewed t r in
     let o = second-opened (b .chosen) (b .low) (b .some) (b .opened) (b .behind) (a .written) refl (c .before .before .before .before .before .before .before .before .before .open-second .ensures) in
-    let z = stored-back (now (s .args .work)) (k .last .1 .0) (c .before .before .before .before .write-way2 .last .1 .1 .0) (b .low) (s .pre .1 .1 .long) (k .ensures .1 .behind-same)
+    let z = stored-back (now (s .args .work)) (f .ways-at .last .1 .1 .0) (c .before .before .before .before .write-way2 .last .1 .1 .0) (b .low) (s .pre .1 .1 .long) (f .ways-at .ensures .1 .behind-same ∙ k .ensures .1 .behind-same)
     (λ y d. choice-carried (b .chosen) (b .low) (b .walked) (b .opened) (b .behind) (a .written) o (e .0) d)
     (kept-more (omega arith) (kept-more (b .walked .up) (b .kept) (a .kept)) (kept-more (b .walked .up) kept-all (e .1))) in
-    (z .0, z .1, e .2))
+    (z .0, z .1, noted-same (notes-set (c .before .before .before .before .write-way2 .last .1 .1 .0) (2796 + k .result .d) (getD (f .ways-at .last .1 .1 .0) (2796 + k .result .d) 0) (omega (arith, deep t (walked t f) .1))) (e .2), e .3))
     )

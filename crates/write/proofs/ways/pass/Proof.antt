@@ -12,7 +12,7 @@ use Rattle.write.proofs.Walking.{way-low, step-passed, end-passed, not-
 use Rattle.write.proofs.ways.pass.Statement.{statement}
 use Rattle.write.proofs.ways.pass.Tie as tie
 
-low : (s : tie.Start) → (s .args .from .h < 1366) × (s .args .from .d < 2048) × (length (now (s .args .work)) ≡ 4844)
+low : (s : tie.Start) → (s .args .from .h < 1366) × (s .args .from .d < 2048) × (length (now (s .args .work)) ≡ 5036)
 low s = let l = way-low (s .pre .0) (s .pre .2 .short) in (l .0, l .1, s .pre .2 .long)
 
 -- at a step, not the end
