@@ -24,7 +24,7 @@ use Rattle.apply.specs.Apply.{appliedSheet}
 use Rattle.runs.specs.Enter.{enterSheet}
 use Rattle.bitset.specs.Words.{Bytes}
 use Rattle.judge.proofs.QuestionLaws.{hold-asked, asked-hold}
-use Rattle.game.specs.Game.{Side, dispatcher, disruption, Game, Move, pass, edit, editsOf, leaves, mayLeave, canMake, legal, Outcome, answer}
+use Rattle.game.specs.Game.{Side, dispatcher, disruption, Game, Move, pass, edit, editsOf, leaves, mayLeave, canMake, legal, Outcome, cannot, first, answer}
 use Rattle.game.specs.Strategies.{Strategy, continued, Replies, Course, ended, wrong, course, Legal, Won, Broken, Wins, AlwaysLegal, SomeBreaks, Begins, Right}
 use Rattle.logic.proofs.Bools.{both-so, so-both, true-false, so, is-true, is-false}
 use Rattle.game.proofs.Search.{edit-below}
@@ -254,8 +254,20 @@ module _ (sheet goal : List ℕ) (l : Lent) (G : Game) (o : OverBytes sheet goal
   begins-by-calls : (x : Move) → Begins G m (graphOf sheet) x → BeginsByCalls l (suc m) sheet goal x
   begins-by-calls x (p, e, w) = (p, e, o .wins (suc m) p .1 w)
 
+  -- Every outcome but "cannot" names a move with which some strategy that wins begins.
+  some-wins : (x : Outcome) → x ≡ answer G m (graphOf sheet) → Right G m (graphOf sheet) → ¬ (x ≡ cannot) → (p : Strategy) × WinsByCalls l (suc m) sheet goal p
+  some-wins cannot is r n = absurd (n refl)
+  some-wins (first pass) is r n = let (p, e, w) = begins-by-calls pass (r .first-pass .0 (sym is)) in (p, w)
+  some-wins (first (edit i)) is r n = let (p, e, w) = begins-by-calls (edit i) (r .first-edit i .0 (sym is) .0) in (p, w)
+
   stated-right : (x : Outcome) → x ≡ answer G m (graphOf sheet) → Right G m (graphOf sheet) → StatedByCalls sheet goal l (suc m) x
   stated-right x is r = record {
+    can-when = (
+      some-wins x is r,
+      (λ (p, w) e.
+          let (q, last, c, b) = o .broken (suc m) p .1 (r .cannot-when .0 (sym is ∙ e) p (o .follows (suc m) p .0 (w .follows))) in
+          refused-not-passed (sym b ∙ w .wins q last c)),
+    );
     first-edit = λ i. (
       (λ e. let (b, lowest) = r .first-edit i .0 (sym is ∙ e) in (begins-by-calls (edit i) b, λ j h c. lowest j h (begins (edit j) c))),
       (λ (b, lowest). is ∙ r .first-edit i .1 (begins (edit i) b, λ j h c. lowest j h (begins-by-calls (edit j) c))),

@@ -79,7 +79,9 @@ BeginsByCalls l m sheet goal x = (p : Strategy) × (p [] ≡ x) × WinsByCalls l
 
 -- An outcome with m moves, by calls.
 pub record StatedByCalls (sheet goal : List ℕ) (l : Lent) (m : ℕ) (x : Outcome) : Type 0 where
-  -- "State whether a win can be forced, and if so the lowest-numbered first edit, from 0, that forces it,
+  -- "State whether a win can be forced": the outcome is not can't exactly when some strategy wins;
+  pub can-when : (¬ (x ≡ cannot)) ↔ ((p : Strategy) × WinsByCalls l m sheet goal p)
+  -- "and if so the lowest-numbered first edit, from 0, that forces it,
   pub first-edit : (i : ℕ) → (x ≡ first (edit i)) ↔ (BeginsByCalls l m sheet goal (edit i) × ((j : ℕ) → j < i → ¬ BeginsByCalls l m sheet goal (edit j)))
   -- or a pass;
   pub first-pass : (x ≡ first pass) ↔ BeginsByCalls l m sheet goal pass

@@ -7,10 +7,12 @@ use lib.ListN.{length}
 use Rattle.answer.specs.Asked.{refused}
 use Rattle.sheet.specs.Questions.{askSheet, Sound, askLabelBit, askArrowBit}
 use Rattle.sheet.specs.Noticed.{AsksSheetFirst}
+use Rattle.node_sets.specs.NodeSets.{askNodes, askLabelSet, askRowSet}
 use Rattle.pages.specs.Print.{askPrintArrow, askPrintLabels}
 use Rattle.pages.specs.Typed.{askType}
 use Rattle.join_sheets.specs.Joined.{askJoin}
 use Rattle.judge.specs.Questions.{askJudge}
+use Rattle.witness.specs.Witnessed.{askWitness}
 use Rattle.apply.specs.Apply.{askApply, appliedSheet}
 use Rattle.carry.specs.Carrying.{carryAnswer, carryOutput}
 use Rattle.runs.specs.Enter.{enterAnswer}
@@ -25,7 +27,11 @@ pub record SheetFirst : Type 0 where
   pub check : AsksSheetFirst askSheet
   pub label-bit : (k i : ℕ) → AsksSheetFirst (λ sheet. askLabelBit sheet k i)
   pub arrow-bit : (a i j : ℕ) → AsksSheetFirst (λ sheet. askArrowBit sheet a i j)
+  pub nodes : AsksSheetFirst askNodes
+  pub label-set : (k : ℕ) → AsksSheetFirst (λ sheet. askLabelSet sheet k)
+  pub row-set : (a i : ℕ) → AsksSheetFirst (λ sheet. askRowSet sheet a i)
   pub judge : (book : List ℕ) → AsksSheetFirst (λ sheet. askJudge sheet book)
+  pub witness : (text : List ℕ) → AsksSheetFirst (λ sheet. askWitness sheet text)
   pub apply : (edit : List ℕ) → AsksSheetFirst (λ sheet. askApply sheet edit)
   pub enter : (book edit : List ℕ) (room : ℕ) → AsksSheetFirst (λ sheet. enterAnswer sheet book edit room)
   pub print-arrow : (a room : ℕ) → AsksSheetFirst (λ sheet. askPrintArrow sheet a room)

@@ -9,6 +9,7 @@ use Rattle.bitset.specs.Words.{Bytes}
 use Rattle.runs.specs.Run.{Keeps, Call}
 use Rattle.runs.specs.Demand3.{RunRight}
 use Rattle.logic.specs.Lists.{All}
+use Rattle.promises.specs.Plans.{PlanEvent, State, PlannedRight}
 use Rattle.promises.specs.StoreCalls.{StoreCall, blank, KeepsBytes, nothing, heldIn, GivesBack}
 
 pub record Item7 : Type 0 where
@@ -20,3 +21,7 @@ pub record Item7 : Type 0 where
   -- "and a new run opens there": the sheet keeps the book passed to the return, whatever the sheet before, and demand 3 holds for every run from it.
   pub run-opens : (sheet store : List ℕ) (name : ℕ) (book : List ℕ) → Bytes store → askReturn sheet store name book ≡ passed tt
       → Keeps book (returnedSheet sheet store name book) × ((calls : List Call) → RunRight (returnedSheet sheet store name book) book calls)
+  -- "A planner tries three variants of a holiday weekend and returns to the best": over every list of enter, close, open, keep, return and drop calls under one book,
+  -- from a sheet that keeps it and a store of any bytes, the sheet keeps the book after each call; "a new run opens there" after each return that is done, and each run
+  -- has what demand 3 says.
+  pub planned : (book : List ℕ) (x : State) (calls : List PlanEvent) → Bytes (x .sheet) → Bytes (x .store) → Keeps book (x .sheet) → PlannedRight book x calls

@@ -1,6 +1,7 @@
 -- What we promise: the buyer's three demands, the thirteen requests of document 02, what a witness says, what an edit's blocks of a log hold, and books
--- and edits in words: each a record with a field for each sentence. proofs/Promises proves them all, by citation; every call meets its contract, and the
--- contracts cite the definitions that these records speak of.
+-- and edits in words: each a record with a field for each sentence that is more than a definition. The other sentences are definitions, which the
+-- contracts cite: questions, numbers, forms of bytes. proofs/Promises proves the records, by citation; every call meets its contract, and these records
+-- speak of the definitions that the contracts cite.
 use Rattle.runs.specs.Demand3.{Demand3}
 use Rattle.promises.specs.Demand1.{Demand1}
 use Rattle.promises.specs.Demand2.{Demand2}
