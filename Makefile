@@ -6,7 +6,7 @@ CFLAGS = -std=c11 -Wall -Wextra -O2
 
 sources := crates.txt $(shell find crates -type f)
 archive := target/staticlib/libsuite.a
-# another archive, built elsewhere, is taken as it is, and what is linked with it stands apart; its name may have a blank
+# another archive, built elsewhere, is used as it is, and what is linked with it is kept apart; its name may have a blank
 ARCHIVE ?= $(archive)
 linked := $(if $(filter-out $(archive),$(ARCHIVE)),target/given,target)
 made := $(if $(filter-out $(archive),$(ARCHIVE)),given,$(archive))
@@ -25,7 +25,7 @@ extension := $(if $(wildcard sql/sqlite.c),$(if $(has_sqlite),$(linked)/lib/zami
 
 # stops where a tool is missing, with what it is for: $(call needs,TOOL,what it does,what works without it)
 needs = @command -v $(firstword $(1)) >/dev/null || { echo "$(firstword $(1)) is not found: it $(2). Without it: $(3)." >&2; exit 1; }
-# the same of SQLite's header, with what is done then: $(call needs_sqlite,COMMAND)
+# the same for SQLite's header, with what is done then: $(call needs_sqlite,COMMAND)
 needs_sqlite = @[ -n "$(has_sqlite)" ] || { echo "sqlite3ext.h is not found (Debian: libsqlite3-dev): it declares what the extension for SQLite calls. Without it: all but that extension, tests/database and bench/database." >&2; $(1); }
 needs_cc = $(call needs,$(CC),compiles the examples and links the shared library,make and make replay)
 
@@ -40,7 +40,7 @@ help:
 	@echo "make replay      proves and builds the program replay, and runs the example station's week of edits again through it"
 	@echo "make test        the gate: proves every crate from nothing, tries the must-fail edits, runs all tests"
 	@echo "make bench       times and instructions of each call, and of a region of sheets, beside plain Rust on the same inputs (needs rustc and valgrind)"
-	@echo "make install     command, manual page, archive, shared library, extension for SQLite, header, pkg-config file, bindings and examples, under PREFIX or prefix ($(PREFIX)); DESTDIR is put before it;"
+	@echo "make install     command, manual page, archive, shared library, extension for SQLite with its schema, header, pkg-config file, guides, bindings and examples, under PREFIX or prefix ($(PREFIX)); DESTDIR is put before it;"
 	@echo "                 ARCHIVE=FILE takes a built archive, and nothing is proved"
 	@echo "make uninstall   removes these"
 	@echo "make dist        a tar file of them and of the programs, target/$(package).tar.gz, which installs without the kit"

@@ -1,5 +1,5 @@
 #!/bin/sh
-# Installs what stands beside this script; needs no kit and no compiler.
+# Installs what is next to this script; needs no kit and no compiler.
 #
 #   ./install.sh PREFIX             under PREFIX; the variable DESTDIR is put before it
 #   ./install.sh --remove PREFIX    removes what it installed there
@@ -11,7 +11,7 @@ usage() {
     exit 2
 }
 
-# Each file: its mode, where it stands and where it goes. `enter` and `replay` are common words, so they get a longer name.
+# Each file: its mode, where it is and where it goes. `enter` and `replay` are common words, so they get a longer name.
 files() {
     echo "644 lib/libzamiathen.a lib/libzamiathen.a"
     echo "755 $shared $shared"
@@ -23,7 +23,7 @@ files() {
     [ ! -f bin/zamiathen ] || echo "755 bin/zamiathen bin/zamiathen"
     [ ! -f man/zamiathen.1 ] || echo "644 man/zamiathen.1 share/man/man1/zamiathen.1"
     [ ! -f PROVED ] || echo "644 PROVED share/zamiathen/PROVED"
-    find bindings examples sql -type f | sort | while read -r file; do
+    find bindings doc examples sql -type f | sort | while read -r file; do
         echo "644 $file share/zamiathen/$file"
     done
 }
@@ -35,7 +35,7 @@ put() {
     mv -f "$3.new" "$3"
 }
 
-# The pkg-config file, in which a blank of the prefix stands behind a backslash.
+# The pkg-config file, in which a blank of the prefix follows a backslash.
 configured() {
     while IFS= read -r line; do
         case $line in
