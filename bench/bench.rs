@@ -1,4 +1,4 @@
-//! The proved library beside plain Rust written for speed (`bench/fast`): times and instructions of each call. Run by
+//! The proved library compared with plain Rust written for speed (`bench/fast`): times and instructions of each call. Run by
 //! `bench/run`.
 
 mod calls;
@@ -42,23 +42,28 @@ fn compare_all(rows: &mut [Row]) -> Result<(), String> {
     Ok(())
 }
 
-/// The best time of each side in microseconds, over rounds in which both take turns, and the number of rounds.
-fn best_times(row: &mut Row, rounds: usize) -> ([f64; 2], usize) {
-    let mut best = [Duration::MAX; 2];
+/// The median time of each side in microseconds, over rounds in which both are called and the first changes, and the number
+/// of rounds.
+fn median_times(row: &mut Row, rounds: usize) -> ([f64; 2], usize) {
+    let mut times = [vec![], vec![]];
     let start = Instant::now();
-    let mut done = 0;
-    while done < rounds && (done < 20 || start.elapsed() < Duration::from_millis(1000)) {
-        for (best, call) in best.iter_mut().zip(row.sides) {
-            *best = timed(&mut row.buffers, call).0.min(*best);
+    while times[0].len() < rounds && (times[0].len() < 21 || start.elapsed() < Duration::from_millis(1000)) {
+        let first = times[0].len() % 2;
+        for side in [first, 1 - first] {
+            times[side].push(timed(&mut row.buffers, row.sides[side]).0);
         }
-        done += 1;
     }
-    (best.map(|time| time.as_nanos() as f64 / 1000.0), done)
+    let done = times[0].len();
+    let median = times.map(|mut times| {
+        times.sort_unstable();
+        times[done / 2].as_nanos() as f64 / 1000.0
+    });
+    (median, done)
 }
 
 fn print_head(rounds: usize) {
-    println!("Both sides answered and left the same in every row. Times are the best of up to {rounds} rounds");
-    println!("(at least 20, about a second each), both sides in turn; before each call, outside the time, the sheet");
+    println!("Both sides answered and left the same in every row. Times are medians of up to {rounds} rounds");
+    println!("(at least 21, about a second each), both sides in each, either first; before each call, outside the time, the sheet");
     println!("is copied anew and the 16,384 bytes of scratch or output are filled. Instructions are those of one");
     println!("call, by callgrind, all of them and without those that clear memory (memset). The sheets of the");
     println!("region are checked one after the other: the time is that of them all, the instructions are those of");
@@ -78,7 +83,7 @@ fn print_row(row: &mut Row, counts: [Count; 2], rounds: usize) -> Result<(), Str
     let [number, place, ..] = compare(&mut row.buffers, row.sides)?;
     let calls = row.sheets().max(1) as u64;
     let answer = if row.sheets() == 0 { format!("{number:02} {place:05}") } else { format!("{number} done") };
-    let ([ours, theirs], done) = best_times(row, rounds);
+    let ([ours, theirs], done) = median_times(row, rounds);
     let times = format!("{ours:>10.2} {theirs:>10.2} {:>7.2} {done:>7}", ours / theirs);
     let all = beside(counts.map(|count| count.all / calls));
     let uncleared = beside(counts.map(|count| (count.all - count.clearing) / calls));

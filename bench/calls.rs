@@ -34,7 +34,7 @@ impl Buffers {
         Buffers::new(sheet.to_vec(), book.to_vec(), edit.to_vec())
     }
 
-    /// The scratch is filled with a byte of its own, so that what a call should leave is seen to be left.
+    /// The scratch is filled with a byte that nothing else uses, which shows whether a call leaves what it should leave.
     pub fn set(&mut self) {
         self.sheet.copy_from_slice(&self.opening);
         self.scratch.fill(0xA5);
@@ -46,7 +46,7 @@ fn sized(bytes: &[u8]) -> (&[u8], &[u8]) {
     bytes[2..].split_at(usize::from(u16::from_le_bytes([bytes[0], bytes[1]])))
 }
 
-/// Number, place and what the call answers besides.
+/// Number, place and what else the call answers.
 pub type Outcome = [usize; 4];
 pub type Call = fn(&mut Buffers) -> Outcome;
 
@@ -95,7 +95,7 @@ pub fn rows() -> Vec<Row> {
         Row::new("apply", on_station("sheet", "move"), APPLY),
     ];
     rows.extend(words::rows());
-    for number in 0..29 {
+    for number in 0..32 {
         let file = format!("bench/data/{number:02}.in");
         rows.push(Row::new(&format!("enter, {file}"), Buffers::from_input(&load(&file)), ENTER));
     }

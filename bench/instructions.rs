@@ -11,7 +11,7 @@ use std::process::Command;
 /// Where callgrind writes: parts.1, parts.2 and so on.
 const FOLDER: &str = "target/bench/callgrind";
 
-/// A few dozen instructions are counted besides those of the call itself.
+/// A few dozen instructions are counted in addition to those of the call.
 #[no_mangle]
 #[inline(never)]
 fn counted_call(call: Call, buffers: &mut Buffers) -> Outcome {
@@ -72,7 +72,7 @@ fn read(part: usize) -> Result<Count, String> {
 }
 
 /// What the functions called memset count themselves. A line of costs begins with a place, in full or by its distance,
-/// and ends with the count; the one behind `calls=` is that of the function called.
+/// and ends with the count; the one after `calls=` is that of the function called.
 fn clearing(text: &str) -> u64 {
     let (mut total, mut clears, mut called) = (0, false, false);
     for line in text.lines() {

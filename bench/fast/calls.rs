@@ -30,7 +30,7 @@ fn judged(sheet: &[u8], book: &[u8]) -> Result<Option<(usize, usize, usize)>, An
     Ok(first_broken(sheet, book))
 }
 
-/// The answer and the length. Only done writes, and only so many bytes.
+/// The answer and the length. Only done writes, and only that many bytes.
 pub fn carry_back(book: &[u8], edit: &[u8], out: &mut [u8]) -> (Answer, usize) {
     match carried(book, edit, MOST_NODES, &mut EditIndex::new(), out) {
         Ok(length) => (DONE, length),

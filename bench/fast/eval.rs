@@ -1,6 +1,6 @@
 //! The values of expressions and the truth of rules, from the bytes of a text that was read before.
 //!
-//! A node expression is asked about candidates only: its value is the candidates that it has. 12 is not made but passed
+//! A node expression is evaluated at candidates only: its value is the candidates that it contains. 12 is not made but passed
 //! down to the arrows of the sheet, and a count over a reversed arrow counts columns.
 
 use crate::reader::past;

@@ -24,7 +24,7 @@ impl<T: Copy, const N: usize> FixedVec<T, N> {
         self.length += 1;
     }
 
-    /// So many entries more, all alike. Panics when there is no room.
+    /// Adds this many equal entries. Panics when there is no room.
     #[inline(always)]
     pub fn fill(&mut self, entry: T, count: usize) {
         for place in &mut self.entries[self.length..self.length + count] {

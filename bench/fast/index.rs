@@ -42,7 +42,7 @@ impl BookIndex {
     }
 }
 
-/// Where a step is wanted and there is none.
+/// Stands for a step where there is none.
 pub const NO_STEP: u16 = u16::MAX;
 
 /// Steps are known by their number in the order of the text. P, Q and the whole edit are lists of steps.
@@ -61,7 +61,7 @@ pub struct Step {
     pub end: u16,
     pub names: u16,
     pub names_end: u16,
-    /// The 35 whose P or Q has this step, and the steps beside it there.
+    /// The 35 whose P or Q has this step, and the other steps of that branch.
     pub parent: u16,
     pub previous: u16,
     pub next: u16,

@@ -27,7 +27,7 @@ struct Size {
 
 /// Questions 31 to 33; answers the length. In the index it is noted which steps are shown.
 pub fn measure(book: &[u8], book_index: &BookIndex, edit_index: &mut EditIndex, room: usize) -> Result<usize, Answer> {
-    // An empty book is carried to nothing, whatever the steps are.
+    // An empty book is carried to nothing, for all steps.
     if book_index.rules == 0 {
         return Ok(0);
     }
@@ -123,7 +123,7 @@ fn back(index: &mut EditIndex, last: u16, rules: u32, size: &mut Size) {
     }
 }
 
-/// What is made after a step stands behind it, so one pass from the end is enough.
+/// What is made after a step is stored after it, so one pass from the end is enough.
 fn link_shown(index: &mut EditIndex) {
     for s in (0..index.steps.len()).rev() {
         index.steps[s].next_shown = index.first_shown(index.steps[s].then);

@@ -130,7 +130,7 @@ fn transpose(rows: &mut [u64; 64]) {
 /// The rows of an arrow's block reversed, bit by bit if there are few.
 fn reversed(block: &Block) -> Rows {
     let mut out = [0; MOST_NODES];
-    // So many bits take about as long as a transposition.
+    // This many bits take about as long as a transposition.
     let mut left = 72i32;
     for i in 0..MOST_NODES {
         for_each_node(word(block, i), |j| {
@@ -153,7 +153,7 @@ fn transposed(block: &Block) -> Rows {
     *rows.first_chunk().unwrap()
 }
 
-/// The arrows of the sheet as it now is, reversed; each is made when it is first asked for.
+/// The arrows of the sheet as it now is, reversed; each is made when it is first needed.
 pub struct Reversed {
     made: u16,
     /// Where arrow a is in `rows`.

@@ -48,7 +48,7 @@ pub fn all_rows(block: &Block) -> impl Iterator<Item = u64> + '_ {
     words(block)[2..2 + MOST_NODES].iter().map(|row| u64::from_le_bytes(*row))
 }
 
-/// The word of block 0 behind the labels: the nodes in use.
+/// The word of block 0 after the labels: the nodes in use.
 const USE: usize = 48;
 
 /// The nodes in use of a sound sheet.
@@ -75,7 +75,7 @@ fn head_sums(head: [u8; 3]) -> (u32, u32) {
     (a + b + c, 508 * a + 507 * b + 506 * c)
 }
 
-/// Half of the vectors of two rows that a block has: in a column of so many bytes, its totals up to each byte add up to
+/// Half of the vectors of two rows that a block has: in a column of this many bytes, its totals up to each byte add up to
 /// less than 2^15.
 const HALF: usize = 15;
 
@@ -117,7 +117,7 @@ fn row_sums(block: &Block, halves: usize) -> (u32, u32, __m128i) {
         let (mut s, mut t, mut any) = (none, none, none);
         for (half, weights) in vectors(block)[1..31].as_chunks::<HALF>().0.iter().zip(&WEIGHTS).take(halves) {
             // Totals of two columns of bytes, the high one 256 times, and of the high one alone; what they were at
-            // each vector, added up, has a vector's bytes once for each vector behind it.
+            // each vector, added up, has a vector's bytes once for each vector after it.
             let (mut pairs, mut odd, mut pairs_before, mut odd_before) = (none, none, none, none);
             for vector in half {
                 let v = load(vector);
@@ -157,7 +157,7 @@ pub fn seal(block: &mut Block) {
     block[508..].copy_from_slice(&reduced(head_s + s, head_t + t).to_le_bytes());
 }
 
-/// All bits behind the first rows but the check bytes, and those of bytes 3 to 15.
+/// All bits after the first rows except the check bytes, and those of bytes 3 to 15.
 #[inline(always)]
 fn outside(block: &Block, rows: usize) -> __m128i {
     // SAFETY: SSE2 is part of x86_64.
@@ -227,7 +227,7 @@ fn fault(block: &Block, head_right: bool, place: usize) -> Answer {
     refused(number, place)
 }
 
-/// Questions 2 to 4 of each block in turn; answers n.
+/// Questions 2 to 4 of each block, one by one; answers n.
 pub fn ask(sheet: &Blocks) -> Result<usize, Answer> {
     let n = usize::from(sheet[0][2]);
     let head = [1, 0, sheet[0][2]];

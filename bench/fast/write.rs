@@ -43,7 +43,7 @@ impl Writer<'_> {
         self.at += 1;
     }
 
-    /// Copies a part of a text. A short one is copied as 16 bytes where both have so many: what stands behind it in
+    /// Copies a part of a text. A short one is copied as 16 bytes where both have that many: what follows it in
     /// `out` is written later.
     #[inline(always)]
     fn copy(&mut self, text: &[u8], start: usize, end: usize) {
