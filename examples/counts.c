@@ -1,4 +1,4 @@
-/* What an edit does to every small sheet, as a table: for whoever writes rules.
+/* What an edit does to every small sheet, as a table: for authors of rules.
  *
  *   counts BOOK EDIT      two files of bytes, such as examples/small/book.bin and edit.bin
  */

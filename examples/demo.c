@@ -17,9 +17,10 @@ typedef zamiathen_length read_words(const uint8_t *, size_t, const uint8_t *, si
 
 static const char *directory;
 static uint8_t names[16384], sheet[ZAMIATHEN_SHEET_BYTES], scratch[ZAMIATHEN_CARRIED_BYTES], store[ZAMIATHEN_STORE_BYTES];
-static size_t names_length;
+static size_t names_length, sheet_length;
 static struct text book;
 
+/* Reads a whole file, and stops where it has more bytes than there is room for. */
 static size_t load(const char *name, uint8_t *bytes, size_t room) {
     char path[1024];
     snprintf(path, sizeof path, "%s/%s", directory, name);
@@ -29,6 +30,10 @@ static size_t load(const char *name, uint8_t *bytes, size_t room) {
         exit(2);
     }
     size_t length = fread(bytes, 1, room, file);
+    if (fgetc(file) != EOF || ferror(file)) {
+        fprintf(stderr, "%s cannot be read, or has more than %zu bytes\n", path, room);
+        exit(2);
+    }
     fclose(file);
     return length;
 }
@@ -65,10 +70,10 @@ static const char *node_name(size_t node) {
     return name;
 }
 
-/* The rule that is broken, and who breaks it on the sheet; of a carried rule, who would break the rule after the edit. */
+/* The broken rule, and who breaks it on the sheet; for a carried rule, who would break the rule after the edit. */
 static void print_broken(size_t rule, const uint8_t *judged, size_t length) {
     size_t start = zamiathen_rule_start(book.bytes, book.length, ZAMIATHEN_MAX_NODES, rule);
-    zamiathen_witnessed who = zamiathen_witness(sheet, sizeof sheet, judged, length);
+    zamiathen_witnessed who = zamiathen_witness(sheet, sheet_length, judged, length);
     printf("  %s\n", in_words(book.bytes + start, book.length - start));
     if (who.kind == ZAMIATHEN_WITNESS_NODE || who.kind == ZAMIATHEN_WITNESS_PAIR)
         printf("  broken by %s", node_name(who.first));
@@ -78,8 +83,8 @@ static void print_broken(size_t rule, const uint8_t *judged, size_t length) {
 }
 
 static void judge(const char *name) {
-    load(name, sheet, sizeof sheet);
-    zamiathen_judged answer = zamiathen_judge(sheet, sizeof sheet, book.bytes, book.length);
+    sheet_length = load(name, sheet, sizeof sheet);
+    zamiathen_judged answer = zamiathen_judge(sheet, sheet_length, book.bytes, book.length);
     print_answer("judge", name, answer.number, answer.place);
     if (answer.number == ZAMIATHEN_RULE_BROKEN)
         print_broken(answer.place, book.bytes + answer.start, answer.length);
@@ -89,7 +94,7 @@ static void judge(const char *name) {
 static void enter(const char *name) {
     struct text edit = from_words(zamiathen_edit_from_words, name);
     zamiathen_answer answer =
-        zamiathen_enter(sheet, sizeof sheet, book.bytes, book.length, edit.bytes, edit.length, scratch, sizeof scratch);
+        zamiathen_enter(sheet, sheet_length, book.bytes, book.length, edit.bytes, edit.length, scratch, sizeof scratch);
     print_answer("enter", name, answer.number, answer.place);
     if (answer.number == ZAMIATHEN_RULE_BROKEN) {
         print_broken(answer.place, scratch, sizeof scratch);
@@ -98,11 +103,11 @@ static void enter(const char *name) {
 }
 
 static void close_node(size_t node) {
-    zamiathen_answer answer = zamiathen_close(sheet, sizeof sheet, book.bytes, book.length, node);
+    zamiathen_answer answer = zamiathen_close(sheet, sheet_length, book.bytes, book.length, node);
     print_answer("close", node_name(node), answer.number, answer.place);
 }
 
-/* Can the dispatcher, who has the first two edits, keep T34 at an open berth, whatever the disruption does? */
+/* Can the dispatcher, who has the first two edits, keep T34 at an open berth against every move of the disruption? */
 static void play(size_t moves) {
     const char *files[4] = {"move_back.words", "move.words", "fault_s1.words", "fault_s2.words"};
     struct text goal = from_words(zamiathen_book_from_words, "goal.words");
@@ -112,9 +117,13 @@ static void play(size_t moves) {
         struct text edit = from_words(zamiathen_edit_from_words, files[i]);
         memcpy(edits + end, edit.bytes, lengths[i] = edit.length);
     }
-    zamiathen_played played = zamiathen_play(sheet, sizeof sheet, book.bytes, book.length, goal.bytes, goal.length, edits, end,
+    zamiathen_played played = zamiathen_play(sheet, sheet_length, book.bytes, book.length, goal.bytes, goal.length, edits, end,
                                              lengths, 4, 2, moves);
-    printf("play %zu moves: %s\n", moves, played.outcome == ZAMIATHEN_PLAY_EDIT ? files[played.edit] : "no win can be forced");
+    if (played.outcome == ZAMIATHEN_PLAY_REFUSED)
+        print_answer("play", files[played.edit], played.number, played.place);
+    else
+        printf("play %zu moves: %s\n", moves, played.outcome == ZAMIATHEN_PLAY_EDIT ? files[played.edit]
+                                             : played.outcome == ZAMIATHEN_PLAY_PASS ? "pass" : "no win can be forced");
 }
 
 int main(int count, char **words) {
@@ -132,10 +141,10 @@ int main(int count, char **words) {
     enter("retire.words");
     close_node(58);
     zamiathen_store_blank(store, sizeof store);
-    zamiathen_answer kept = zamiathen_keep(sheet, sizeof sheet, store, sizeof store, 1);
+    zamiathen_answer kept = zamiathen_keep(sheet, sheet_length, store, sizeof store, 1);
     print_answer("keep", "1", kept.number, kept.place);
     enter("swap.words");
-    zamiathen_answer back = zamiathen_return(sheet, sizeof sheet, store, sizeof store, 1, book.bytes, book.length);
+    zamiathen_answer back = zamiathen_return(sheet, sheet_length, store, sizeof store, 1, book.bytes, book.length);
     print_answer("return", "1", back.number, back.place);
     play(3);
     play(4);

@@ -1,11 +1,11 @@
 #!/bin/sh
 # Writes the input of the program enter: the sheet, then book and edit, each with its length before it; or that of replay: the
-# sheet, the book with its length before it, then a log. For the command zamiathen none of this is needed.
+# sheet, the book with its length before it, then a log. The command zamiathen needs none of this.
 #
 #   examples/pack.sh SHEET BOOK EDIT | target/bin/enter | head -n 1
 #   examples/pack.sh SHEET BOOK --log LOG | target/bin/replay | head -n 1
 #
-# Book and edit are codes (zamiathen codes makes them of words). A log that is - comes from standard input. A fault is one line on
+# Book and edit are codes (zamiathen codes makes them from words). A log that is - comes from standard input. A fault is one line on
 # standard error, and nothing is written.
 set -u
 

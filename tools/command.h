@@ -25,7 +25,7 @@ typedef struct {
     size_t length;
 } file;
 
-/* Memory that is given back when the command is done. */
+/* Memory that is freed when the command is done. */
 typedef struct kept {
     struct kept *next;
     void *bytes;
@@ -43,7 +43,7 @@ typedef struct {
     int lock; /* the file that is held, opened, or -1 */
     file names;
     kept *memory;
-    /* names that the library has said, labels first, then arrows, then nodes */
+    /* names that the library has given: labels first, then arrows, then nodes */
     char said[ZAMIATHEN_LABELS + ZAMIATHEN_ARROWS + ZAMIATHEN_MAX_NODES][LONGEST_NAME + 1];
 } request;
 
@@ -51,14 +51,14 @@ typedef struct {
  * files.c
  */
 
-/* Memory for the time of the command; there is always some, or the command ends. */
+/* Memory that lasts as long as the command; where there is none left, the command ends. */
 void *take(request *r, size_t size);
 void give_back(request *r);
 
 /* A copy, for a call that may change it. */
 uint8_t *copy_of(request *r, const uint8_t *bytes, size_t length);
 
-/* Says what is wrong with the usage or a file, and answers WRONG. */
+/* Says what is wrong with the usage or a file, and returns WRONG. */
 int wrong(const char *format, ...);
 
 /* A colour of the terminal, if the output goes there. */
@@ -67,6 +67,9 @@ const char *ink(const request *r, const char *code);
 #define RED "\033[31m"
 #define GREEN "\033[32m"
 #define PLAIN "\033[0m"
+
+/* A number as sentences write it: 4,096. */
+const char *figure(request *r, size_t number);
 
 /* Prints bytes of a file. Those that would steer a terminal become question marks. */
 void print_bytes(FILE *to, const uint8_t *bytes, size_t length);
@@ -100,7 +103,7 @@ int write_file(request *r, const char *path, const uint8_t *bytes, size_t length
 int create_file(request *r, const char *path, const uint8_t *bytes, size_t length, bool *is_there);
 
 /* Waits until no other call holds a file, and holds it until this one is done: so a file that is read and then replaced loses
- * no change. What is no plain file, is not there or cannot be opened is not held. */
+ * no change. A path that is not a plain file, does not exist or cannot be opened is not held. */
 int lock_file(request *r, const char *path);
 
 /*
@@ -125,12 +128,12 @@ bool ends_in(const char *path, const char *end);
 /* Reads the table of names, by default station.names in the folder of a file. */
 int read_names(request *r, const char *beside);
 
-/* The number that a word is a name of: of a label (sort l), an arrow (a) or a node (i); of a typed one, or a message. */
+/* The number that a word names: of a label (sort l), an arrow (a) or a node (i); for a typed word, that number or a message. */
 bool number_of(request *r, char sort, word name, size_t *number);
 int typed_number(request *r, char sort, const char *name, size_t *number);
 
-/* A number that was typed, or a message that it is no such thing. */
-int typed_count(const char *typed, const char *thing, size_t *number);
+/* A number that was typed, or a message that it is not one, with what is wanted. */
+int typed_count(const char *typed, const char *wanted, size_t *number);
 
 const char *label_name(request *r, size_t label);
 const char *arrow_name(request *r, size_t arrow);
@@ -167,13 +170,13 @@ int read_sheet(request *r, const char *path, file *f);
 int sheet_fault(request *r, const file *f, size_t number, size_t place);
 graph *graph_of(request *r, const uint8_t *sheet);
 
-/* Prints what one sheet has and the other has not, and says how many lines that were. */
+/* Prints what one sheet has and the other does not, and returns how many lines that were. */
 size_t print_changes(request *r, const uint8_t *old_sheet, const uint8_t *new_sheet);
 
-/* Says which rule is broken and who breaks it, and answers REFUSED. */
+/* Says which rule is broken and who breaks it, and returns REFUSED. */
 int print_refusal(request *r, const text *book, size_t rule, const char *how, zamiathen_witnessed who);
 
-/* Says what is wrong by an answer of enter that is neither done nor 41. */
+/* Says what is wrong, from an answer of enter that is neither done nor 41. */
 int answer_fault(request *r, const file *sheet, const text *book, const text *edit, zamiathen_answer answer);
 
 /*

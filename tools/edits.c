@@ -18,8 +18,8 @@ static int chain_fault(request *r, const text *p, const text *q, size_t number) 
         if (alone.number != ZAMIATHEN_DONE)
             return codes_fault(r, both[i], alone.number, alone.place, ZAMIATHEN_MAX_NODES);
     }
-    fprintf(stderr, "%s, %s: %zu: %s\nTogether they have %zu.\n", p->source.path, q->source.path, number, zamiathen_text(number),
-            p->length + q->length - 1);
+    fprintf(stderr, "%s, %s: %zu: %s\nTogether they have %s.\n", p->source.path, q->source.path, number, zamiathen_text(number),
+            figure(r, p->length + q->length - 1));
     return REFUSED;
 }
 
@@ -72,7 +72,7 @@ int run_count(request *r) {
     size_t n = 0;
     int status = read_names(r, r->operands[1]);
     if (status == DONE)
-        status = typed_count(r->operands[0], "number of nodes of small sheets, which is from 1 to 3", &n);
+        status = typed_count(r->operands[0], "N is a number from 1 to 3", &n);
     if (status == DONE)
         status = read_text(r, r->operands[1], false, &book);
     if (status == DONE)
@@ -118,7 +118,7 @@ static int read_edits(request *r, edit_list *list) {
     return DONE;
 }
 
-/* Says what play did not take; whether the book or the goal is meant is told by judging the book. */
+/* Says what play did not take; judging the book shows whether the book or the goal is meant. */
 static int play_fault(request *r, const file *sheet, const text *book, const text *goal, const edit_list *list, zamiathen_played played) {
     zamiathen_answer answer = {played.number, played.place};
     if (played.number == ZAMIATHEN_GAME_RANGE) {
@@ -158,7 +158,7 @@ int run_play(request *r) {
     if (status == DONE)
         status = read_text(r, r->operands[2], false, &goal);
     if (status == DONE)
-        status = typed_count(r->operands[3], "number of moves, which is from 1 to 6", &moves);
+        status = typed_count(r->operands[3], "MOVES is a number from 1 to 6", &moves);
     if (status == DONE)
         status = read_edits(r, &list);
     if (status != DONE)

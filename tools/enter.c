@@ -6,7 +6,7 @@
 
 static int blank_sheet(request *r, uint8_t **sheet) {
     size_t n = 0;
-    int status = typed_count(r->operands[0], "number of nodes, which is from 1 to 60", &n);
+    int status = typed_count(r->operands[0], "N is a number from 1 to 60", &n);
     if (status != DONE)
         return status;
     *sheet = take(r, ZAMIATHEN_SHEET_BYTES);
@@ -26,11 +26,11 @@ int run_new(request *r) {
 int run_make(request *r) {
     uint8_t *sheet;
     text opening;
-    int status = read_names(r, r->operands[1]);
+    int status = blank_sheet(r, &sheet);
+    if (status == DONE)
+        status = read_names(r, r->operands[1]);
     if (status == DONE)
         status = read_text(r, r->operands[1], true, &opening);
-    if (status == DONE)
-        status = blank_sheet(r, &sheet);
     if (status != DONE)
         return status;
     zamiathen_answer answer = zamiathen_apply(sheet, ZAMIATHEN_SHEET_BYTES, opening.codes, opening.length);

@@ -111,6 +111,19 @@ void add_word(string *s, const char *word) {
     add(s, word);
 }
 
+/* A number with a comma before each three digits. */
+const char *figure(request *r, size_t number) {
+    char digits[32];
+    int count = snprintf(digits, sizeof digits, "%zu", number);
+    string s = empty_string(r);
+    for (int i = 0; i < count; i++) {
+        if (i > 0 && (count - i) % 3 == 0)
+            add(&s, ",");
+        add_bytes(&s, digits + i, 1);
+    }
+    return s.bytes;
+}
+
 /* Adds what is formatted, a few numbers and short words. */
 void add_format(string *s, const char *format, ...) {
     char line[512];
@@ -154,7 +167,7 @@ int read_file(request *r, const char *path, file *f) {
     return status;
 }
 
-/* Writes all bytes and brings them to the disk. */
+/* Writes all bytes and flushes them to the disk. */
 static bool write_all(int to, const uint8_t *bytes, size_t length) {
     while (length > 0) {
         ssize_t written = write(to, bytes, length);
@@ -178,7 +191,7 @@ static mode_t mode_of(const char *path) {
     return 0666 & ~mask;
 }
 
-/* Brings a folder's entries to the disk, as far as the system does that. */
+/* Flushes a folder's entries to the disk, as far as the system can. */
 static void sync_folder(request *r, const char *path) {
     const char *slash = strrchr(path, '/');
     string folder = empty_string(r);
@@ -193,7 +206,7 @@ static void sync_folder(request *r, const char *path) {
     }
 }
 
-/* Gives a whole file beside a path that path's name: in place of the file that is there, or only where there is none. */
+/* Renames a finished file, written next to a path, to that path: in place of the file there, or only where there is none. */
 static bool rename_to(const char *beside, const char *path, bool only_new) {
     if (only_new && link(beside, path) == 0) {
         (void)unlink(beside);
@@ -204,7 +217,7 @@ static bool rename_to(const char *beside, const char *path, bool only_new) {
     return rename(beside, path) == 0;
 }
 
-/* Writes a new file beside a path, and gives it that path's name when it is whole. */
+/* Writes a new file next to a path, and renames it to that path when it is whole. */
 static bool replace_file(request *r, const char *path, bool only_new, const uint8_t *bytes, size_t length) {
     string beside = empty_string(r);
     add(&beside, path);
@@ -236,7 +249,7 @@ int write_file(request *r, const char *path, const uint8_t *bytes, size_t length
     struct stat status;
     int result = DONE;
     if (stat(target, &status) == 0 && !S_ISREG(status.st_mode))
-        result = wrong("%s cannot be written: it is no plain file", path);
+        result = wrong("%s cannot be written: it is not a plain file", path);
     else if ((meant != NULL && access(target, W_OK) != 0) || !replace_file(r, target, false, bytes, length))
         result = wrong("%s cannot be written: %s", path, strerror(errno));
     free(meant);
@@ -254,7 +267,7 @@ int create_file(request *r, const char *path, const uint8_t *bytes, size_t lengt
     return *is_there ? DONE : wrong("%s cannot be written: %s", path, strerror(reason));
 }
 
-/* Opens a file to lock it: for writing if that is allowed, since some file systems lock no others. */
+/* Opens a file to lock it: for writing if that is allowed, since some file systems lock only such files. */
 static int open_to_lock(const char *path) {
     int opened = open(path, O_RDWR | O_CLOEXEC | O_NOCTTY | O_NONBLOCK);
     return opened >= 0 ? opened : open(path, O_RDONLY | O_CLOEXEC | O_NOCTTY | O_NONBLOCK);

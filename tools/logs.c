@@ -15,18 +15,19 @@ enum { BLOCK = 512, MOST_BLOCKS = 65535, LINE = 9 };
  * Recording
  */
 
-/* A log as it would be with an edit more. */
+/* The log with one edit more. */
 static int longer_log(request *r, const text *edit, file *log) {
     uint8_t *blocks = take(r, ZAMIATHEN_LOG_BYTES);
     zamiathen_length made = zamiathen_log_edit(edit->codes, edit->length, blocks, ZAMIATHEN_LOG_BYTES);
     if (made.number != ZAMIATHEN_DONE)
         return codes_fault(r, edit, made.number, made.place, ZAMIATHEN_MAX_NODES);
     if (log->length % BLOCK != 0) {
-        fprintf(stderr, "%s: It has %zu bytes, and a log is blocks of %d: take a copy from before.\n", log->path, log->length, BLOCK);
+        fprintf(stderr, "%s: It has %s bytes, and a log is blocks of %d: take an earlier copy.\n", log->path, figure(r, log->length), BLOCK);
         return REFUSED;
     }
     if (log->length + made.length > (size_t)BLOCK * MOST_BLOCKS) {
-        fprintf(stderr, "%s: It has %zu blocks, and a log has at most %d: begin another.\n", log->path, log->length / BLOCK, MOST_BLOCKS);
+        fprintf(stderr, "%s: It has %s blocks, and a log has at most %s: begin another.\n", log->path, figure(r, log->length / BLOCK),
+                figure(r, MOST_BLOCKS));
         return REFUSED;
     }
     uint8_t *longer = take(r, log->length + made.length);
@@ -38,7 +39,7 @@ static int longer_log(request *r, const text *edit, file *log) {
     return DONE;
 }
 
-/* Records an edit in a log, which is a new one if there is none. A log that comes in between is made longer after all. */
+/* Records an edit in a log, or in a new one if there is none. A log that another call creates in the meantime is extended. */
 static int record(request *r, const text *edit, file *log, size_t *before, bool *again) {
     bool is_new = access(log->path, F_OK) != 0;
     log->length = 0;
@@ -113,7 +114,7 @@ static const char *on_path(request *r, const char *program) {
     return NULL;
 }
 
-/* Starts a program with an input and an output of its own: 0, or the number of what went wrong. */
+/* Starts a program with its own input and output: returns 0, or the number of what went wrong. */
 static int start(const char *path, int input, int output, pid_t *child) {
     char *words[] = {(char *)path, NULL}, *none[] = {NULL};
     posix_spawn_file_actions_t actions;
@@ -185,7 +186,7 @@ static FILE *replay_input(const file *sheet, const text *book, const file *log) 
     return input;
 }
 
-/* Runs the program replay, and looks whether it wrote lines and a sheet. */
+/* Runs the program replay, and checks that it wrote lines and a sheet. */
 static int call_replay(request *r, const file *sheet, const text *book, const file *log, file *written) {
     /* installed it has a longer name */
     const char *path = beside_command(r, "zamiathen-replay");
@@ -196,7 +197,7 @@ static int call_replay(request *r, const file *sheet, const text *book, const fi
     if (path == NULL)
         path = on_path(r, "replay");
     if (path == NULL)
-        return wrong("there is no program replay beside this command, and none on the PATH");
+        return wrong("there is no program replay in this command's folder, and none on the PATH");
     FILE *input = replay_input(sheet, book, log);
     if (input == NULL)
         return wrong("the input of %s cannot be written: %s", path, strerror(errno));
@@ -221,7 +222,7 @@ static size_t digits(const uint8_t *at, size_t count) {
     return number;
 }
 
-/* Prints a line of replay with its sentence; of a broken rule the sentence and the words, too. Says whether the log goes on. */
+/* Prints a line of replay with its sentence; for a broken rule also its sentence and its words. Returns whether the log goes on. */
 static bool print_line(request *r, const text *book, const uint8_t *line, size_t edit) {
     size_t number = digits(line, 2), place = digits(line + 3, 5);
     bool bad_log = number == ZAMIATHEN_LOG_SUMS || number == ZAMIATHEN_LOG_BLOCK;

@@ -1,4 +1,4 @@
-/* The commands join and convert, that make sheets of others, and page and type, for the wall. */
+/* The commands join and convert, which make sheets from others, and page and type, for the wall. */
 #include "command.h"
 
 #include <string.h>
@@ -40,11 +40,11 @@ int run_join(request *r) {
     return REFUSED;
 }
 
-/* Says why a file is no card of either form. */
-static int card_fault(const file *card, zamiathen_answer of_255, zamiathen_answer of_257) {
+/* Says why a file is not a card of either form. */
+static int card_fault(request *r, const file *card, zamiathen_answer of_255, zamiathen_answer of_257) {
     if (of_255.number == ZAMIATHEN_SHEET_LENGTH) {
-        fprintf(stderr, "%s: %zu: %s\nIt has %zu, and a card has as many as a sheet. Take another file.\n", card->path,
-                of_255.number, zamiathen_text(of_255.number), card->length);
+        fprintf(stderr, "%s: %zu: %s\nIt has %s, and a card has as many as a sheet. Take another file.\n", card->path,
+                of_255.number, zamiathen_text(of_255.number), figure(r, card->length));
         return REFUSED;
     }
     fprintf(stderr, "%s: as a card of version 1: %zu, block %zu: %s\n", card->path, of_255.number, of_255.place,
@@ -67,7 +67,7 @@ int run_convert(request *r) {
     if (of_255.number != ZAMIATHEN_DONE)
         of_257 = zamiathen_convert_257(sheet, card.length);
     if (of_257.number != ZAMIATHEN_DONE)
-        return card_fault(&card, of_255, of_257);
+        return card_fault(r, &card, of_255, of_257);
     status = write_file(r, r->operands[1], sheet, card.length);
     if (status == DONE)
         printf("%sconverted%s: a card of version %s, %zu nodes\n", ink(r, GREEN), ink(r, PLAIN),
@@ -96,7 +96,7 @@ int run_page(request *r) {
     return put(r, page, printed.length);
 }
 
-/* The first byte of a line that no page of the sheet has there: with those from it on as the sheet prints them, the line would do. */
+/* The first byte of a line that no page of the sheet has there: with the bytes from there on as the sheet prints them, the line would be right. */
 static size_t wrong_byte(request *r, const file *sheet, const file *page, size_t line, const uint8_t *printed) {
     uint8_t *mended = copy_of(r, page->bytes, page->length), *typed = take(r, sheet->length);
     size_t at = ZAMIATHEN_LINE_BYTES;
@@ -140,8 +140,8 @@ static int page_fault(request *r, const file *sheet, const file *page, size_t li
     size_t n = zamiathen_nodes(sheet->bytes, sheet->length).count;
     if (line == 0) {
         fprintf(stderr, "%s:1: %d: %s\n", page->path, ZAMIATHEN_PAGE, zamiathen_text(ZAMIATHEN_PAGE));
-        fprintf(stderr, "wanted: lines of 64 bytes, %zu of them with the head A00 to A15, or 50 with the head L%02zu\nIt has %zu bytes.\n",
-                n + 1, n, page->length);
+        fprintf(stderr, "wanted: lines of 64 bytes, %zu of them with the head A00 to A15, or 50 with the head L%02zu\nIt has %s bytes.\n",
+                n + 1, n, figure(r, page->length));
         return REFUSED;
     }
     size_t at = wrong_byte(r, sheet, page, line, same_page(r, sheet, page));

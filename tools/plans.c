@@ -8,13 +8,13 @@
  * Nodes
  */
 
-/* The steps that take off a node what it has. */
+/* The steps that remove a node's labels and arrows. */
 static void say_clearing(request *r, const graph *g, size_t node) {
     if (g->in_use == (uint64_t)1 << node) {
         fputs("It is the only node in use.\n", stderr);
         return;
     }
-    fputs("Steps that take off it what it has:\n", stderr);
+    fputs("Steps that take off what it has:\n", stderr);
     for (size_t label = 0; label < ZAMIATHEN_LABELS; label++)
         if (has(g->labels[label], node))
             fprintf(stderr, "  unmark(%s, %s)\n", label_name(r, label), node_name(r, node));
@@ -25,7 +25,7 @@ static void say_clearing(request *r, const graph *g, size_t node) {
                     fprintf(stderr, "  take(%s, pair(%s, %s))\n", arrow_name(r, arrow), node_name(r, from), node_name(r, to));
 }
 
-/* Every answer of close and open but done and 41. */
+/* Every answer of close and open except done and 41. */
 static int node_fault(request *r, const file *sheet, const text *book, size_t node, zamiathen_answer answer) {
     size_t n = zamiathen_nodes(sheet->bytes, sheet->length).count;
     if (answer.number >= ZAMIATHEN_BOOK_LENGTH && answer.number <= ZAMIATHEN_BOOK_RULES)
@@ -87,7 +87,7 @@ int run_open(request *r) {
  */
 
 static int plan_number(const char *typed, size_t *plan) {
-    return typed_count(typed, "name of a plan, which is from 1 to 7", plan);
+    return typed_count(typed, "NAME is a number from 1 to 7", plan);
 }
 
 /* Prints the names that a store has filled: those that could be dropped. */
@@ -105,15 +105,15 @@ static void print_filled(request *r, FILE *to, const uint8_t *store) {
 static int store_fault(request *r, const file *store, size_t number) {
     fprintf(stderr, "%s: %zu: %s\n", store->path, number, zamiathen_text(number));
     if (number == ZAMIATHEN_STORE && store->length != ZAMIATHEN_STORE_BYTES)
-        fprintf(stderr, "It has %zu bytes, and a store has %d. Take another file.\n", store->length, ZAMIATHEN_STORE_BYTES);
+        fprintf(stderr, "It has %s bytes, and a store has %s. Take another file.\n", figure(r, store->length), figure(r, ZAMIATHEN_STORE_BYTES));
     else if (number == ZAMIATHEN_STORE)
-        fputs("The file has changed since it was written, or is no store: take a copy from before.\n", stderr);
+        fputs("The file has changed since it was written, or is not a store: take an earlier copy.\n", stderr);
     else if (number == ZAMIATHEN_PLAN_UNFILLED)
         print_filled(r, stderr, store->bytes);
     return REFUSED;
 }
 
-/* Keeps a sheet in a store, which is a new one if there is none. A store that comes in between is kept in after all. */
+/* Keeps a sheet in a store, or in a new one if there is none. A store that another call creates in the meantime is used. */
 static int keep_in(request *r, const file *sheet, file *store, size_t plan, bool *again) {
     bool is_new = access(store->path, F_OK) != 0;
     int status = is_new ? DONE : read_file(r, store->path, store);
@@ -154,7 +154,7 @@ int run_keep(request *r) {
     return DONE;
 }
 
-/* Every answer of return but done. After 41 the kept sheet stands in the store. */
+/* Every answer of return except done. After 41 the kept sheet is still in the store. */
 static int return_fault(request *r, const file *sheet, const file *store, const text *book, size_t plan, zamiathen_answer answer) {
     if (answer.number <= ZAMIATHEN_SHEET_ZEROS)
         return sheet_fault(r, sheet, answer.number, answer.place);

@@ -11,14 +11,14 @@
 int sheet_fault(request *r, const file *f, size_t number, size_t place) {
     fprintf(stderr, "%s: %zu: %s\n", f->path, number, zamiathen_text(number));
     if (number == ZAMIATHEN_SHEET_LENGTH) {
-        fprintf(stderr, "It has %zu bytes: this is no sheet, or a part of one. Take another file.\n", f->length);
+        fprintf(stderr, "It has %s bytes: this is not a sheet, or only a part of one. Take another file.\n", figure(r, f->length));
         return REFUSED;
     }
     if (place == 0)
         fputs("Block 0: the labels.\n", stderr);
     else
         fprintf(stderr, "Block %zu: the arrows %s.\n", place, arrow_name(r, place - 1));
-    fprintf(stderr, "%s: take a copy from before.\nA card from before version 4 is converted first.\n",
+    fprintf(stderr, "%s: take an earlier copy.\nA card from before version 4 is converted first.\n",
             number == ZAMIATHEN_SHEET_SUMS ? "The file has changed since it was written" : "It was not written by this library");
     return REFUSED;
 }
@@ -94,7 +94,7 @@ static size_t print_label_changes(request *r, const graph *before, const graph *
     return count;
 }
 
-/* The arrows of a kind from a node: one that goes elsewhere now is one change, else each counts. */
+/* The arrows of a kind from a node: one that now goes elsewhere is one change, otherwise each counts. */
 static size_t print_row_changes(request *r, size_t arrow, size_t from, uint64_t before, uint64_t after) {
     size_t gone = only_node(before & ~after), come = only_node(after & ~before), count = 0;
     if (gone < ZAMIATHEN_MAX_NODES && come < ZAMIATHEN_MAX_NODES) {
@@ -111,7 +111,7 @@ static size_t print_row_changes(request *r, size_t arrow, size_t from, uint64_t 
     return count;
 }
 
-/* Prints what one sheet has and the other has not, and says how many lines that were. */
+/* Prints what one sheet has and the other does not, and returns how many lines that were. */
 size_t print_changes(request *r, const uint8_t *old_sheet, const uint8_t *new_sheet) {
     const graph *before = graph_of(r, old_sheet), *after = graph_of(r, new_sheet);
     size_t count = before->n != after->n;
@@ -163,7 +163,7 @@ int print_refusal(request *r, const text *book, size_t rule, const char *how, za
     return REFUSED;
 }
 
-/* Every answer of enter but done and 41. */
+/* Every answer of enter except done and 41. */
 int answer_fault(request *r, const file *sheet, const text *book, const text *edit, zamiathen_answer answer) {
     size_t n = zamiathen_nodes(sheet->bytes, sheet->length).count;
     if (answer.number <= ZAMIATHEN_SHEET_ZEROS)

@@ -68,7 +68,7 @@ static void print_grid(const grid *g) {
         puts(g->note[note].bytes);
 }
 
-/* How many bytes the character has that begins here, as a picture's text can hold it: 0 if it is none. */
+/* How many bytes the character that begins here has, if a picture's text can hold it; else 0. */
 static size_t character_length(const uint8_t *at) {
     size_t length = at[0] < 0x20 ? 0 : at[0] < 0x80 ? 1 : at[0] >= 0xC2 && at[0] < 0xE0 ? 2 : at[0] >= 0xE0 && at[0] < 0xF0 ? 3
         : at[0] >= 0xF0 && at[0] < 0xF5 ? 4 : 0;
@@ -167,7 +167,7 @@ static int draw_grid(request *r, const grid *g, const char *path) {
     return write_file(r, path, (const uint8_t *)s.bytes, s.length);
 }
 
-/* Prints a grid, and draws it if that was asked. */
+/* Prints a grid, and draws it if that was wanted. */
 static int put_grid(request *r, const grid *g) {
     print_grid(g);
     return r->picture_path == NULL ? DONE : draw_grid(r, g, r->picture_path);
@@ -229,7 +229,7 @@ static void lay_out(request *r, grid *g, uint64_t rows, uint64_t columns) {
     memset(g->squares, 0, (g->rows * g->columns + 1) * sizeof *g->squares);
 }
 
-/* The square of two nodes: how many of the sets come before each. */
+/* The square of two nodes: how many nodes of its set come before each. */
 static square *square_at(const grid *g, uint64_t rows, uint64_t columns, size_t row, size_t column) {
     size_t above = size_of(rows & (((uint64_t)1 << row) - 1)), left = size_of(columns & (((uint64_t)1 << column) - 1));
     return &g->squares[above * g->columns + left];
@@ -287,7 +287,7 @@ typedef struct {
     uint64_t rows, columns, outside; /* outside: the cells without a square */
 } board;
 
-/* Who is counted as nowhere: of the labels that all have who stand somewhere and others too, the one of the fewest. */
+/* Who counts as nowhere: of the labels that all nodes standing somewhere have, and others too, the one with the fewest nodes. */
 static uint64_t kin_of(const graph *g, uint64_t standing) {
     uint64_t kin = 0;
     for (size_t label = 0; label < ZAMIATHEN_LABELS && standing != 0; label++) {
@@ -312,7 +312,7 @@ static void add_signed(string *s, bool was, bool is, const char *name) {
     add(s, name);
 }
 
-/* Writes into a square whoever stands at a cell. */
+/* Writes into a square the nodes that stand at a cell. */
 static void fill_square(request *r, const board *b, size_t cell, square *s) {
     bool broken = has(b->broken, cell);
     if (s->mark == NO_SQUARE) {
@@ -435,7 +435,7 @@ static int put_board(request *r, board *b, size_t rule) {
     return put_grid(r, &g);
 }
 
-/* Who is named by a witness, as a set. */
+/* The nodes that a witness names, as a set. */
 static uint64_t broken_by(zamiathen_witnessed who) {
     if (who.kind == ZAMIATHEN_WITNESS_PAIR)
         return (uint64_t)1 << who.first | (uint64_t)1 << who.second;

@@ -268,7 +268,7 @@ static void say_wanted(const context *c, const file *f, size_t shown) {
  * Names
  */
 
-/* The number that a word is a name of: of a label (sort l), an arrow (a) or a node (i). The library reads it in a rule. */
+/* The number that a word names: of a label (sort l), an arrow (a) or a node (i). The library reads it in a rule. */
 bool number_of(request *r, char sort, word name, size_t *number) {
     uint8_t codes[8];
     string rule = empty_string(r);
@@ -291,17 +291,17 @@ bool number_of(request *r, char sort, word name, size_t *number) {
     return sort == 'i' || codes[1] == (sort == 'a' ? 0x11 : 0x03);
 }
 
-int typed_count(const char *typed, const char *thing, size_t *number) {
+int typed_count(const char *typed, const char *wanted, size_t *number) {
     char *end;
     errno = 0;
     unsigned long long found = strtoull(typed, &end, 10);
     if (typed[0] < '0' || typed[0] > '9' || *end != 0 || errno != 0 || found > SIZE_MAX)
-        return wrong("%s is no %s", typed, thing);
+        return wrong("%s, not %s", wanted, typed);
     *number = (size_t)found;
     return DONE;
 }
 
-/* The name of a number, cut out of a rule that the library prints: the name stands between so many bytes. */
+/* The name of a number, cut out of a rule that the library prints: the name stands between this many bytes before and after. */
 static const char *said_name(request *r, size_t slot, const uint8_t *rule, size_t length, size_t before, size_t after) {
     uint8_t printed[4 * LONGEST_NAME];
     char *name = r->said[slot];
@@ -332,7 +332,7 @@ const char *node_name(request *r, size_t node) {
     return said_name(r, ZAMIATHEN_LABELS + ZAMIATHEN_ARROWS + node, rule, sizeof rule, strlen("is("), strlen(", all)\n"));
 }
 
-/* Of a token such as label:3 that is not read because the label has a name: that name. */
+/* For a token such as label:3, which is not read because the label has a name: that name. */
 static const char *name_instead(request *r, word plain) {
     static const char *const prefixes[] = {"label:", "arrow:", "node:"};
     for (size_t sort = 0; sort < 3; sort++) {
@@ -353,6 +353,26 @@ static const char *name_instead(request *r, word plain) {
     return NULL;
 }
 
+/* For a token such as label:48, whose number is out of range: what the numbers of its sort are. */
+static const char *numbers_instead(word plain) {
+    static const struct {
+        const char *prefix, *numbers;
+        size_t count;
+    } sorts[] = {{"label:", "labels are 0 to 47", ZAMIATHEN_LABELS},
+                 {"arrow:", "arrows are 0 to 15", ZAMIATHEN_ARROWS},
+                 {"node:", "nodes are 0 to 59", ZAMIATHEN_MAX_NODES}};
+    for (size_t sort = 0; sort < sizeof sorts / sizeof *sorts; sort++) {
+        size_t length = strlen(sorts[sort].prefix), number = 0, i = length;
+        if (plain.length <= length || memcmp(plain.bytes, sorts[sort].prefix, length) != 0)
+            continue;
+        for (; i < plain.length && plain.bytes[i] >= '0' && plain.bytes[i] <= '9'; i++)
+            if (number < sorts[sort].count)
+                number = 10 * number + (plain.bytes[i] - '0');
+        return i == plain.length && number >= sorts[sort].count ? sorts[sort].numbers : NULL;
+    }
+    return NULL;
+}
+
 /* The number of a name that was typed, or a message. */
 int typed_number(request *r, char sort, const char *name, size_t *number) {
     word typed = {(const uint8_t *)name, strlen(name)};
@@ -361,20 +381,36 @@ int typed_number(request *r, char sort, const char *name, size_t *number) {
     const char *kind = sort == 'a' ? "arrow" : sort == 'i' ? "node" : "label", *instead = name_instead(r, typed);
     if (instead != NULL && strncmp(name, kind, strlen(kind)) == 0)
         return wrong("%s is written %s, by the names of %s", name, instead, r->names.path);
+    const char *numbers = numbers_instead(typed);
+    if (numbers != NULL && strncmp(name, kind, strlen(kind)) == 0)
+        return wrong("there is no %s: %s", name, numbers);
+    if (r->names.bytes == NULL)
+        return wrong("%s is the name of no %s: there is no table of names %s", name, kind, r->names.path);
     return wrong("%s is the name of no %s in %s", name, kind, r->names.path);
 }
 
+/* Does a file begin with a byte order mark, and is this its first token? */
+static bool has_order_mark(const file *f, token t) {
+    return t.start == 0 && t.end >= 3 && memcmp(f->bytes, "\xEF\xBB\xBF", 3) == 0;
+}
+
+static const char order_mark[] = "the file begins with a byte order mark: save it without\n";
+
 /* What a word is that was not wanted: one of the notation, a name of which sort, or none. */
-static void say_name(request *r, const file *f, token t) {
+static void say_name(request *r, const file *f, token t, char wanted) {
     word name = {f->bytes + t.start, t.end - t.start};
     const shape *found = shape_of(f, t);
     size_t number;
     if (name.length == 0 || is_mark(name.bytes[0]) || (name.bytes[0] >= '0' && name.bytes[0] <= '9'))
         return;
-    if (found != NULL && found->begins == '=')
+    if (has_order_mark(f, t))
+        fputs(order_mark, stderr);
+    else if (wanted == 'R' && token_is(f, t, "not"))
+        fputs("not is for nodes and rules; for arrows write without(R, S)\n", stderr);
+    if (has_order_mark(f, t) || (found != NULL && found->begins == '='))
         return;
     print_bytes(stderr, name.bytes, name.length < WINDOW ? name.length : WINDOW);
-    const char *instead = found == NULL ? name_instead(r, name) : NULL;
+    const char *instead = found == NULL ? name_instead(r, name) : NULL, *numbers = numbers_instead(name);
     if (found != NULL)
         fprintf(stderr, " %s %s\n", found->operands[0] == 0 ? "is" : "begins", sort_text(found->begins));
     else if (number_of(r, 'l', name, &number))
@@ -385,8 +421,12 @@ static void say_name(request *r, const file *f, token t) {
         fputs(" is a node's name\n", stderr);
     else if (instead != NULL)
         fprintf(stderr, " has a name, and is written %s\n", instead);
+    else if (numbers != NULL)
+        fprintf(stderr, " does not exist: %s\n", numbers);
+    else if (r->names.bytes == NULL)
+        fprintf(stderr, " is not a word of the notation, and there is no table of names %s\n", r->names.path);
     else
-        fprintf(stderr, " is no word of the notation, and no name in %s\n", r->names.path);
+        fprintf(stderr, " is not a word of the notation, nor a name in %s\n", r->names.path);
 }
 
 /* What a table of names wants as the first, second or third token of a name. */
@@ -427,13 +467,15 @@ static int names_fault(const file *f, zamiathen_answer answer) {
         t = (token){last_end, last_end};
     point_at(f, t, answer.number);
     say_wanted_entry(f, count % 3, sort);
+    if (has_order_mark(f, t))
+        fputs(order_mark, stderr);
     if (t.end > t.start && shape_of(f, t) != NULL)
         fputs("this is a word of the notation\n", stderr);
     say_earlier(f, count % 3, t, sort);
     return REFUSED;
 }
 
-/* Reads the table of names, by default station.names in the folder of a file. Without a file there is no name. */
+/* Reads the table of names, by default station.names in the folder of a file. Without that file there are no names. */
 int read_names(request *r, const char *beside) {
     const char *path = r->names_path;
     if (path == NULL) {
@@ -457,11 +499,39 @@ int read_names(request *r, const char *beside) {
  * Books and edits
  */
 
+static bool has_two_alike(const frame *f) {
+    return strcmp(f->shape->operands, "==") == 0;
+}
+
+/* Of a third operand of and(…) or or(…): how to write it. */
+static void say_third_operand(const context *c, const file *f, token here) {
+    if (c->depth == 0 || c->state != AFTER_OPERAND || !token_is(f, here, ","))
+        return;
+    const frame *last = &c->open[c->depth - 1];
+    const char *word = last->shape->word;
+    if (has_two_alike(last) && last->operand == 1)
+        fprintf(stderr, "%s(…) has two operands; write %s(A, %s(B, C))\n", word, word, word);
+}
+
+/* Of too many levels: how to nest a row of and(…) or or(…), if there is one. */
+static void say_levels(const context *c) {
+    fputs("wanted: at most 32 levels\n", stderr);
+    for (size_t depth = c->depth; depth > 1; depth--) {
+        const frame *inner = &c->open[depth - 1], *outer = &c->open[depth - 2];
+        if (!has_two_alike(inner) || inner->shape != outer->shape)
+            continue;
+        const char *word = inner->shape->word;
+        fprintf(stderr, "nest evenly, %s(%s(A, B), %s(C, D))%s\n", word, word, word,
+                inner->sort == 'E' ? ", or give the nodes a label" : "");
+        return;
+    }
+}
+
 /* A fault of words: 64 to 70. */
 static int words_fault(request *r, const text *t, size_t number, size_t place) {
     const file *f = &t->source;
     if (number == ZAMIATHEN_WORDS_LENGTH) {
-        fprintf(stderr, "%s: %zu: %s\nThey stand for %zu bytes.\n", f->path, number, zamiathen_text(number), place);
+        fprintf(stderr, "%s: %zu: %s\nThey stand for %s bytes.\n", f->path, number, zamiathen_text(number), figure(r, place));
         return REFUSED;
     }
     context c = {.is_edit = t->is_edit};
@@ -471,13 +541,15 @@ static int words_fault(request *r, const text *t, size_t number, size_t place) {
         here = (token){c.last_end, c.last_end};
     point_at(f, here, number);
     if (number == ZAMIATHEN_WORDS_LEVEL)
-        fputs("wanted: at most 32 levels\n", stderr);
+        say_levels(&c);
     else if (number == ZAMIATHEN_WORDS_RULES)
         fputs("wanted: the end of the book; two rules can be one, and(K, L)\n", stderr);
     else
         say_wanted(&c, f, here.start);
+    if (number == ZAMIATHEN_WORDS_MARK)
+        say_third_operand(&c, f, here);
     if (number == ZAMIATHEN_WORDS_START || number == ZAMIATHEN_WORDS_NUMBER)
-        say_name(r, f, here);
+        say_name(r, f, here, wanted_sort(&c));
     return REFUSED;
 }
 
@@ -503,7 +575,18 @@ int read_text(request *r, const char *path, bool is_edit, text *t) {
     return DONE;
 }
 
-/* A fault of codes, 11 to 16 or 21 to 26; words that could be read may still name a node that the sheet has not. */
+/* Do the bytes of a file look like text? Then they have small letters, and none that steers a terminal. */
+static bool looks_like_text(const file *f) {
+    bool letters = false;
+    for (size_t i = 0; i < f->length; i++) {
+        if ((f->bytes[i] < ' ' && !is_blank(f->bytes[i])) || f->bytes[i] == 0x7F)
+            return false;
+        letters = letters || (f->bytes[i] >= 'a' && f->bytes[i] <= 'z');
+    }
+    return letters;
+}
+
+/* A fault of codes, 11 to 16 or 21 to 26; words that could be read may still name a node that the sheet does not have. */
 int codes_fault(request *r, const text *t, size_t number, size_t place, size_t n) {
     bool range = number == ZAMIATHEN_BOOK_NUMBER || number == ZAMIATHEN_EDIT_NUMBER;
     fprintf(stderr, "%s: %zu: %s\n", t->source.path, number, zamiathen_text(number));
@@ -513,11 +596,13 @@ int codes_fault(request *r, const text *t, size_t number, size_t place, size_t n
         return REFUSED;
     }
     if (number == ZAMIATHEN_BOOK_LENGTH || number == ZAMIATHEN_EDIT_LENGTH)
-        fprintf(stderr, "It has %zu.\n", t->length);
+        fprintf(stderr, "It has %s.\n", figure(r, t->length));
     else if (place < t->length)
         fprintf(stderr, "Byte %zu, counted from 0, is %02X.\n", place, t->codes[place]);
     else
-        fprintf(stderr, t->in_words ? "It stands for %zu bytes.\n" : "It has %zu bytes.\n", t->length);
+        fprintf(stderr, t->in_words ? "It stands for %s bytes.\n" : "It has %s bytes.\n", figure(r, t->length));
+    if (!t->in_words && looks_like_text(&t->source))
+        fprintf(stderr, "%s is read as codes, because its name does not end in .words.\n", t->source.path);
     return REFUSED;
 }
 
@@ -568,7 +653,7 @@ static bool comment_above(const file *f, size_t line, size_t *above) {
     return at < line && f->bytes[at] == '#';
 }
 
-/* A rule's sentence: the comment beside its first line, else the comment lines directly above it. */
+/* A rule's sentence: the comment on its first line, else the comment lines directly above it. */
 static void print_sentence(const file *f, size_t place) {
     spot s = spot_of(f, place);
     for (size_t i = place; i < s.end; i++)
@@ -589,7 +674,7 @@ static void print_sentence(const file *f, size_t place) {
         }
 }
 
-/* Where a rule stands, and its sentence; of codes nothing is said. */
+/* Where a rule stands, and its sentence; nothing is printed for codes. */
 void print_place(request *r, const text *book, size_t rule, const char *before) {
     const file *f = &book->source;
     if (!book->in_words)

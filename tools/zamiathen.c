@@ -1,8 +1,8 @@
 /* zamiathen: the command for those who write a railway's rules and those who plan by them.
  *
- * It reads and writes files, finds lines and sentences, and lays out what it prints. Whatever is said about sheets,
+ * It reads and writes files, finds lines and sentences, and lays out what it prints. All that is said about sheets,
  * books, edits and names comes from calls of zamiathen.h. The exit status is 0 for done, 1 for refused, 2 for wrong usage or
- * a file that cannot be read or written. A file is never half written: a new one is written beside it and renamed.
+ * a file that cannot be read or written. A file is never half written: a new one is written next to it and renamed.
  *
  *   cd tools && cc -std=c11 -I../include *.c ../target/staticlib/libsuite.a -o zamiathen
  *
@@ -16,7 +16,7 @@
 
 static int run_help(request *r);
 
-/* A command: its operands, how many there are, the options that it takes, and its help. Of the options n is --names, t
+/* A command: its operands, how many there are, the options that it takes, and its help. Among the options n is --names, t
  * --try, e --try EDIT, b --book, s --svg, c --closed, w --who, g --against. */
 typedef struct {
     const char *name, *operands, *options;
@@ -27,25 +27,27 @@ typedef struct {
 
 static const command commands[] = {
     {"new", "N OUT", "", 2, 2, run_new, "writes a blank sheet of N nodes",
-     "Writes a sheet of N nodes, 1 to 60, all in use, without labels and arrows.\n"
+     "Writes a sheet of N nodes, 1 to 60, all in use, without labels and arrows. A file OUT that exists is replaced.\n"
      "  zamiathen new 60 sheet.bin\n"},
     {"make", "N OPENING OUT", "n", 3, 3, run_make, "writes a blank sheet with an edit carried out",
-     "Carries out the edit OPENING on a blank sheet of N nodes and writes the sheet. No book is judged. So a station is\n"
-     "described: by its names and by an edit that marks the nodes and adds the arrows.\n"
+     "Carries out the edit OPENING on a blank sheet of N nodes, 1 to 60, and writes the sheet. No book is judged. A file OUT\n"
+     "that exists is replaced. This is how a station is described: by its names and by an edit that marks the nodes and\n"
+     "adds the arrows.\n"
      "  zamiathen make 60 opening.words sheet.bin\n"},
     {"codes", "book|edit FILE [OUT]", "n", 2, 3, run_codes, "makes codes of words",
-     "Writes the codes of a book or an edit, to OUT or to the output. A file of codes is looked over and written as it is.\n"
+     "Writes the codes of a book or an edit, to OUT or to the output. A file of codes is checked and written as it is.\n"
      "  zamiathen codes book book.words book.bin\n"},
     {"words", "book|edit|rule FILE [OUT]", "n", 2, 3, run_words, "makes words of codes",
      "Writes a book, an edit or the first rule of a file in words, one rule or step a line, to OUT or to the output. Words\n"
      "are written as they were read, without comments. A rule may be a carried one.\n"
      "  zamiathen words edit move.bin\n"},
     {"list", "BOOK", "n", 1, 1, run_list, "lists the rules as they were understood",
-     "For each rule its number, its line, its sentence and its words as they were read. The sentence is the comment beside\n"
-     "the first line of the rule, or the comment lines directly above it; a comment that ends in a blank line is a title.\n"
+     "For each rule its number, its line, its sentence and its words as they were read. The sentence is the comment on\n"
+     "the first line of the rule, or the comment lines directly above it; a comment followed by a blank line is a title.\n"
      "  zamiathen list book.words\n"},
     {"judge", "SHEET BOOK", "n", 2, 2, run_judge, "says whether a sheet keeps a book",
-     "Prints \"kept\", or the first rule that is broken, with its line, its sentence and who breaks it.\n"
+     "Prints \"kept\", or the first rule that is broken, with its line, its sentence and who breaks it. Rules after it are\n"
+     "not shown.\n"
      "  zamiathen judge sheet.bin book.words\n"},
     {"enter", "SHEET BOOK EDIT [--try]", "nt", 3, 3, run_enter, "enters an edit, whole or not at all",
      "Enters the edit if the sheet then keeps the book, and prints what changed. Else prints the first rule that would be\n"
@@ -58,21 +60,21 @@ static const command commands[] = {
      "  zamiathen why sheet.bin book.words crowd.words\n"},
     {"show", "SHEET [ARROW] [--svg OUT]", "ns", 1, 2, run_show, "shows labels and arrows by names",
      "Prints the labels and arrows of a sheet. With an arrow's name: a squared sheet of it, # for an arrow from the node of\n"
-     "the row to that of the column, and a picture if that is asked.\n"
+     "the row to that of the column, and a picture with --svg.\n"
      "  zamiathen show sheet.bin connects-to --svg connections.svg\n"},
     {"table", "SHEET CELL ROW COLUMN IN [--try EDIT [--book BOOK]] [--closed LABEL] [--who LABEL] [--svg OUT]", "nebscw", 5, 5,
      run_table, "shows who stands where, in a squared sheet",
      "A square for each node with the label CELL, in the row and the column to which its arrows ROW and COLUMN go; in the\n"
-     "square whoever has an arrow IN to it. A square with the label closed, or that of --closed, is closed. Below: who\n"
-     "stands nowhere, of those with the label --who, else with a label that all have who stand somewhere. With --try: what\n"
-     "the edit would change, + and -, and with --book who would break a rule, !.\n"
+     "square the nodes with an arrow IN to it. A square with the label closed, or that of --closed, is closed. Below:\n"
+     "which nodes stand nowhere, of those with the label --who, or else with a label that all have that stand somewhere. With\n"
+     "--try: what the edit would change, + and -, and with --book who would break a rule, !.\n"
      "  zamiathen table sheet.bin berth has-platform has-slot stands-at --svg table.svg\n"},
     {"diff", "SHEET SHEET", "n", 2, 2, run_diff, "says what differs between two sheets",
-     "Prints what the second sheet has and the first has not (+), and the other way round (-).\n"
+     "Prints what only the second sheet has (+) and what only the first has (-).\n"
      "  zamiathen diff sheet.bin sheet_after.bin\n"},
     {"close", "SHEET BOOK NODE", "n", 3, 3, run_close, "closes a node that has nothing",
      "Closes a node that has no label and no arrow, if the sheet without it keeps the book. Else prints the rule that would\n"
-     "be broken, or the steps that take off the node what it has.\n"
+     "be broken, or the steps that take off what the node has.\n"
      "  zamiathen close sheet.bin book.words P6\n"},
     {"open", "SHEET BOOK NODE", "n", 3, 3, run_open, "opens a closed node",
      "Opens a closed node, which then has no label and no arrow, if the sheet with it keeps the book.\n"
@@ -112,16 +114,16 @@ static const command commands[] = {
      "  zamiathen count 2 book.words edit.words\n"},
     {"play", "SHEET BOOK GOAL MOVES EDIT... [--against EDIT...]", "ng", 5, 4 + ZAMIATHEN_MAX_EDITS, run_play,
      "plays a game against disruptions",
-     "Can the dispatcher, who enters an edit or passes, then by turns with a disruption, which makes an edit of those after\n"
-     "--against whatever the book says, force that the rule GOAL holds after so many MOVES? Says which edit is first. The\n"
-     "exit status is 1 if no win can be forced.\n"
+     "Says whether the dispatcher, who moves first and enters one of the edits, can force the rule GOAL to hold after MOVES\n"
+     "moves, and by which edit first. The disruption moves by turns with the dispatcher and makes one of the edits after\n"
+     "--against, whatever the book says. The exit status is 1 if no win can be forced.\n"
      "  zamiathen play sheet.bin book.words goal.words 3 move.words swap.words --against fault_s1.words fault_s2.words\n"},
     {"log", "EDIT LOG", "n", 2, 2, run_log, "records an edit in a log",
-     "Puts the edit behind those that the log has. A log that is not there is made.\n"
+     "Appends the edit to the log. A log that is not there is made.\n"
      "  zamiathen log move.words week.log\n"},
     {"replay", "SHEET BOOK LOG [OUT]", "n", 3, 4, run_replay, "runs the edits of a log again",
-     "Runs the program replay, the one beside this command or else on the PATH, and prints its line for each edit with a\n"
-     "sentence, and what has changed in the end. The sheet is not written, but to OUT the one that the log ends in.\n"
+     "Runs the program replay, from this command's folder or else from the PATH, and prints its line for each edit with a\n"
+     "sentence, and what has changed in the end. The sheet stays as it is; the one that the log ends in is written to OUT.\n"
      "  zamiathen replay sheet.bin book.words week.log\n"},
     {"help", "[COMMAND]", "", 0, 1, run_help, "says what a command does",
      "Prints the commands, or what one of them does, with an example.\n"
@@ -131,10 +133,10 @@ static const command commands[] = {
 enum { COMMANDS = sizeof commands / sizeof *commands };
 
 static const char shared_help[] =
-    "\nFiles that end in .words are words, all others codes. --names FILE says the names; by default they are in\n"
-    "station.names in the folder of the first file. A file is replaced as a whole or not at all, and of two calls that change\n"
-    "it one waits for the other. The exit status is 0 for done, 1 for refused, 2 for wrong usage or a file that cannot be\n"
-    "read or written.\n";
+    "\nFiles that end in .words are words, all others codes. The names are in station.names in the folder of the first file\n"
+    "of a command, mostly the sheet; --names FILE names another table. A file is replaced as a whole or not at all, and of two\n"
+    "calls that change it one waits for the other. The exit status is 0 for done, 1 for refused, 2 for wrong usage or a file\n"
+    "that cannot be read or written.\n";
 
 static const command *command_of(const char *name) {
     for (size_t i = 0; i < COMMANDS; i++)
@@ -196,6 +198,8 @@ static int read_words(request *r, const command *c, int count, char **words) {
             against = true;
         } else if (options && strncmp(words[i], "--", 2) == 0) {
             const char **place = option_place(r, c, words[i]);
+            if (place == NULL)
+                fprintf(stderr, "zamiathen: %s has no option %s\n", c->name, words[i]);
             if (place == NULL || *place != NULL || i + 1 == count)
                 return usage(c);
             *place = words[++i];

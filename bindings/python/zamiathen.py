@@ -9,13 +9,13 @@
     except zamiathen.Refused as refused:
         print(refused.text, refused.place, refused.witness)
 
-Sheets, books, edits and stores are held as `bytes` and never change: a call that changes a sheet gives back another one,
-and a call that is refused raises Refused. What a caller lends is copied, and no writable view of it is handed out.
-Whoever wants to know what a call asks, and in which order, reads its paragraph in the header.
+Sheets, books, edits and stores are held as `bytes` and never change: a call that changes a sheet returns a new one, and
+a call that is refused raises Refused. What a caller passes is copied, and no writable view of it is handed out. The
+header lists the questions of each call, in the order in which it asks them.
 
-The library is the file that the environment variable ZAMIATHEN_LIBRARY names, else libzamiathen.so.6 beside this module,
-else that of the system. Calls may run in any number of threads; a call needs STACK_BYTES of stack below Python's own,
-which a thread has unless `threading.stack_size` says otherwise.
+The library is the file that the environment variable ZAMIATHEN_LIBRARY names, otherwise libzamiathen.so.6 next to this
+module, otherwise that of the system. Calls may run in any number of threads. A call needs STACK_BYTES of stack below
+Python's own frames, which a thread has unless `threading.stack_size` says otherwise.
 """
 from __future__ import annotations
 
@@ -26,7 +26,7 @@ import os
 from ctypes import POINTER, c_char, c_char_p, c_size_t, c_uint64
 from typing import Any, NamedTuple, NoReturn, Optional, Sequence, Tuple, Type, TypeVar, Union
 
-# The header's version: the library's first number must be this one, its second may be later.
+# The version of the header: the library must have this first number, and its second may be later.
 VERSION_FIRST = 6
 VERSION_SECOND = 2
 VERSION = 1000 * VERSION_FIRST + VERSION_SECOND
@@ -130,18 +130,18 @@ _TEXTS = {
     53: "A block of the log is wrong or cut short, or the log ends inside an edit.",
     54: "The node has a label or an arrow, or is the only one in use.",
     55: "The store, or a sheet kept in it, is not sound.",
-    56: "The name of a plan is from 1 to 7.",
+    56: "A plan's name is a number from 1 to 7.",
     57: "Nothing is kept under this name.",
     58: "The two sheets have more than 60 nodes together.",
     59: "A step is cut, its law is unknown, or it does not fit.",
     60: "The text that the steps make is not the one sent.",
-    61: "Small sheets have 1 to 3 nodes, and name no other label and arrow than 0.",
+    61: "Small sheets have 1 to 3 nodes; book and edit may name only label 0 and arrow 0.",
     62: "The lists of edits, their lengths or the number of moves are out of range.",
     63: "The table of names is wrong here.",
     64: "The words end where more is wanted.",
-    65: "No rule, expression or step that is wanted here begins so.",
+    65: "This does not begin a rule, expression or step of the sort wanted here.",
     66: "Another mark, one of ( ) and the comma, is wanted here.",
-    67: "No name or count of the sort that is wanted here.",
+    67: "This is not a name or count of the sort wanted here.",
     68: "The words are nested too deep here.",
     69: "The book has more than 32 rules.",
     70: "The words stand for more than 4,096 bytes.",
@@ -154,7 +154,7 @@ def text(number: int) -> str:
 
 
 class WitnessKind(enum.IntEnum):
-    """What is named of those who break a rule."""
+    """What a witness says: the rule holds, a node or a pair breaks it, or it is broken and none is named."""
 
     HOLDS = 0
     NODE = 1
@@ -163,7 +163,7 @@ class WitnessKind(enum.IntEnum):
 
 
 class Outcome(enum.IntEnum):
-    """What play states."""
+    """The outcome of a game."""
 
     CANNOT = 0
     EDIT = 1
@@ -172,19 +172,19 @@ class Outcome(enum.IntEnum):
 
 
 class NodeSet(NamedTuple):
-    """A set of nodes, bit i for node i, and a count: of nodes() it is n, else how many the set has."""
+    """A set of nodes, bit i for node i, and a count: n in the answer of nodes(), otherwise the size of the set."""
 
     count: int
     bits: int
 
     @property
     def nodes(self) -> Tuple[int, ...]:
-        """The nodes of the set, the lowest first."""
+        """The nodes of the set, lowest first."""
         return _members(self.bits)
 
 
 class Witness(NamedTuple):
-    """Who breaks a rule: by kind the lowest node and the bits of all, or the lowest pair."""
+    """Who breaks a rule, by kind: the lowest node and the bits of all such nodes, or the lowest pair."""
 
     kind: WitnessKind
     first: int
@@ -193,12 +193,12 @@ class Witness(NamedTuple):
 
     @property
     def nodes(self) -> Tuple[int, ...]:
-        """All nodes that break the rule, where the kind is NODE."""
+        """All nodes that break the rule, if the kind is NODE."""
         return _members(self.bits)
 
 
 class Counts(NamedTuple):
-    """How many small sheets keep the book before the edit and after it, only before, only after, and neither."""
+    """How many small sheets keep the book before and after the edit, only before, only after, and neither."""
 
     kept_kept: int
     kept_broken: int
@@ -207,18 +207,18 @@ class Counts(NamedTuple):
 
 
 class Played(NamedTuple):
-    """Whether a win can be forced, and by which edit first (its place among all, from 0; 0 if none is named)."""
+    """Whether a win can be forced, and with which edit first (its place in the list, from 0; 0 if none is meant)."""
 
     outcome: Outcome
     edit: int
 
 
 class Refused(Exception):
-    """A call answered another number than done, and nothing has changed.
+    """A call was refused: its number is not done, and nothing has changed.
 
-    number and place are the answer's, text is its sentence. witness says after a 41 of enter, judge and returned who
-    breaks the rule, or would. start and length say after a 41 of judge where the rule stands in the book. edit says
-    after a refusal of play which edit is meant.
+    number and place are those of the answer, text is its sentence. After a 41 of enter, judge and returned, witness
+    says who breaks the rule, or would break it after the edit. After a 41 of judge, start and length say where the rule
+    stands in the book. After a refusal of play, edit says which edit is meant.
     """
 
     def __init__(self, number: int, place: int, witness: Optional[Witness] = None, *, start: int = 0, length: int = 0,
@@ -240,7 +240,7 @@ def _members(bits: int) -> Tuple[int, ...]:
     return tuple(node for node in range(MAX_NODES) if bits >> node & 1)
 
 
-# The structures of the header, and its functions: tests/bindings compares both with it.
+# The structures and functions of the header: tests/bindings compares both with it.
 
 
 class _Answer(ctypes.Structure):
@@ -288,7 +288,7 @@ _STRUCTURES = {
     "zamiathen_played": _Played,
 }
 
-_READ = [c_char_p, c_size_t]  # bytes that are only read: they are lent as they are
+_READ = [c_char_p, c_size_t]  # bytes that are only read: they are passed as they are
 _WRITE = [POINTER(c_char), c_size_t]  # a buffer of this module
 _SIZES = [POINTER(c_size_t), c_size_t]
 _NUMBER = [c_size_t]
@@ -338,7 +338,7 @@ _FUNCTIONS = {
 
 
 def _load() -> ctypes.CDLL:
-    """The library, with its version asked before any of its calls is looked up."""
+    """The library. Its version is checked before any of its calls is looked up."""
     name = f"libzamiathen.so.{VERSION_FIRST}"
     beside = os.path.join(os.path.dirname(os.path.abspath(__file__)), name)
     path = os.environ.get("ZAMIATHEN_LIBRARY") or (beside if os.path.exists(beside) else name)
@@ -407,7 +407,7 @@ Words = Union[str, bytes]
 
 
 def _copied(data: Bytes) -> bytes:
-    """The bytes of what is lent; a whole number, of which `bytes` would make zeros, is refused."""
+    """The bytes of what is passed. A whole number, which `bytes` would turn into zeros, is refused."""
     if type(data) is bytes:
         return data
     if isinstance(data, _Held):
@@ -418,7 +418,7 @@ def _copied(data: Bytes) -> bytes:
 
 
 def _encoded(words: Words) -> bytes:
-    """Words as bytes. Names may hold bytes that are no UTF-8; they go through `str` and come back."""
+    """Words as bytes. Names may hold bytes that are not UTF-8; they go through `str` and come back."""
     return words.encode("utf-8", "surrogateescape") if isinstance(words, str) else _copied(words)
 
 
@@ -432,13 +432,13 @@ def _room(length: int) -> ctypes.Array[c_char]:
 
 
 def _changed(data: Bytes) -> ctypes.Array[c_char]:
-    """A buffer of this module with a copy of the bytes, to be changed by a call."""
+    """A buffer of this module with a copy of the bytes, for a call to change."""
     copied = _copied(data)
     return (c_char * len(copied)).from_buffer_copy(copied)
 
 
 def _number(value: int) -> int:
-    """A number for size_t: ctypes would take another one modulo 2 to the 64."""
+    """A number that fits size_t: ctypes would take any other modulo 2 to the 64."""
     number = operator.index(value)
     if not 0 <= number <= c_size_t(-1).value:
         raise OverflowError(f"{number} is not from 0 to {c_size_t(-1).value}")
@@ -446,7 +446,7 @@ def _number(value: int) -> int:
 
 
 def _call(name: str, *values: Any) -> Any:
-    """Calls a function of the header: bytes, buffers and sizes get their length after them."""
+    """Calls a function of the header. Bytes, buffers and sizes are followed by their length."""
     lent: list[Any] = []
     for value in values:
         if hasattr(value, "__index__"):
@@ -458,7 +458,7 @@ def _call(name: str, *values: Any) -> Any:
 
 
 def _asked(name: str, *values: Any) -> Any:
-    """The answer of a call that is done; any other raises Refused."""
+    """The answer of a call that is done; any other answer raises Refused."""
     answer = _call(name, *values)
     if answer.number != Number.DONE:
         raise Refused(answer.number, answer.place)
@@ -478,13 +478,13 @@ def version() -> int:
 
 
 class Edit(_Held):
-    """An edit, in codes. Any bytes may be held: the calls ask whether they are an edit."""
+    """An edit, in codes. It may hold any bytes: the calls check that they are an edit."""
 
     __slots__ = ()
 
     @classmethod
     def from_words(cls, words: Words, names: Words = "") -> Edit:
-        """The edit that the words stand for. The place of a refusal counts bytes of UTF-8."""
+        """The edit that the words stand for. The place of a refusal counts UTF-8 bytes."""
         return cls(_written("zamiathen_edit_from_words", TEXT_BYTES, _encoded(names), _encoded(words)))
 
     def to_words(self, names: Words = "") -> str:
@@ -501,13 +501,13 @@ class Edit(_Held):
 
 
 class Book(_Held):
-    """A book of rules, in codes, carried back or not. Any bytes may be held: the calls ask whether they are a book."""
+    """A book of rules, in codes, carried back or not. It may hold any bytes: the calls check that they are a book."""
 
     __slots__ = ()
 
     @classmethod
     def from_words(cls, words: Words, names: Words = "") -> Book:
-        """The book that the words stand for. The place of a refusal counts bytes of UTF-8."""
+        """The book that the words stand for. The place of a refusal counts UTF-8 bytes."""
         return cls(_written("zamiathen_book_from_words", TEXT_BYTES, _encoded(names), _encoded(words)))
 
     def to_words(self, names: Words = "") -> str:
@@ -515,20 +515,23 @@ class Book(_Held):
         return _decoded(_written("zamiathen_book_to_words", BOOK_WORDS_BYTES, _encoded(names), self))
 
     def carry_back(self, edit: Bytes) -> Book:
-        """The conditions on a sheet before the edit for this book to hold after it."""
+        """The book carried back: it holds on a sheet before the edit exactly when this book holds after it.
+
+        It may be too long or too deep for judge.
+        """
         return Book(_written("zamiathen_carry_back", CARRIED_BYTES, self, edit))
 
     def rewrite(self) -> Book:
-        """A stored book with any counts as one whose counts are in range."""
+        """The book, which may have any counts, as one whose counts are in range."""
         return Book(_written("zamiathen_rewrite", TEXT_BYTES, self))
 
     def rule_start(self, rule: int, n: int = MAX_NODES) -> int:
-        """Where a rule starts, from 0, on a sheet of n nodes; the book's length where there is no such rule."""
+        """Where a rule, counted from 0, starts on a sheet of n nodes; the book's length if there is no such rule."""
         return _call("zamiathen_rule_start", self, n, rule)
 
 
 class Sheet(_Held):
-    """A station sheet. Any bytes may be held: each call asks whether they are a sound sheet."""
+    """A station sheet. It may hold any bytes: each call checks that they are a sound sheet."""
 
     __slots__ = ()
 
@@ -550,13 +553,13 @@ class Sheet(_Held):
         return cls(card)._after("zamiathen_convert_257")
 
     def _after(self, name: str, *values: Any) -> Sheet:
-        """The sheet that a call leaves which changes it."""
+        """The sheet after a call that changes it."""
         sheet = _changed(self)
         _asked(name, sheet, *values)
         return Sheet(sheet.raw)
 
     def check(self) -> None:
-        """Is the sheet sound?"""
+        """Checks whether the sheet is sound."""
         _asked("zamiathen_check", self)
 
     def join(self, second: Bytes) -> Sheet:
@@ -572,7 +575,7 @@ class Sheet(_Held):
         return bool(_asked("zamiathen_arrow_bit", self, arrow, start, end).bit)
 
     def nodes(self) -> NodeSet:
-        """n, as count, and the nodes in use."""
+        """The nodes in use, with n as the count."""
         answer = _asked("zamiathen_nodes", self)
         return NodeSet(answer.count, answer.set)
 
@@ -595,11 +598,11 @@ class Sheet(_Held):
         return _written("zamiathen_print_labels", PAGE_BYTES, self)
 
     def type_page(self, page: Bytes) -> Sheet:
-        """The sheet with the page in place of the block that its head names."""
+        """The sheet with the page in place of the block that the page's head names."""
         return self._after("zamiathen_type_page", page)
 
     def judge(self, book: Bytes) -> None:
-        """Does each rule of the book hold on the sheet?"""
+        """Checks whether each rule of the book holds on the sheet."""
         judged = _call("zamiathen_judge", self, book)
         if judged.number != Number.DONE:
             witness = None
@@ -617,7 +620,7 @@ class Sheet(_Held):
         return self._after("zamiathen_apply", edit)
 
     def enter(self, book: Bytes, edit: Bytes) -> Sheet:
-        """The sheet after the edit, if each rule of the book holds on it."""
+        """The sheet after the edit, if each rule of the book holds on that sheet."""
         sheet, scratch = _changed(self), _room(CARRIED_BYTES)
         answer = _call("zamiathen_enter", sheet, book, edit, scratch)
         if answer.number != Number.DONE:
@@ -626,16 +629,16 @@ class Sheet(_Held):
         return Sheet(sheet.raw)
 
     def close(self, book: Bytes, node: int) -> Sheet:
-        """The sheet with the node closed, if each rule of the book holds on it."""
+        """The sheet with the node closed, if each rule of the book holds on that sheet."""
         return self._after("zamiathen_close", book, node)
 
     def open(self, book: Bytes, node: int) -> Sheet:
-        """The sheet with the node in use, if each rule of the book holds on it."""
+        """The sheet with the node in use, if each rule of the book holds on that sheet."""
         return self._after("zamiathen_open", book, node)
 
     def play(self, book: Bytes, goal: Bytes, dispatcher: Sequence[Bytes], disruption: Sequence[Bytes],
              moves: int) -> Played:
-        """Can the dispatcher force the goal against the disruption, and by which edit first?"""
+        """Can the dispatcher force the goal against the disruption, and with which edit first?"""
         edits = [_copied(edit) for edit in [*dispatcher, *disruption]]
         lengths = (c_size_t * len(edits))(*map(len, edits))
         played = _call("zamiathen_play", self, book, goal, b"".join(edits), lengths, len(dispatcher), moves)
@@ -645,7 +648,7 @@ class Sheet(_Held):
 
 
 class Store(_Held):
-    """A store, which keeps sheets under the names 1 to 7. Any bytes may be held: each call asks whether they are one."""
+    """A store: it keeps sheets under the names 1 to 7. It may hold any bytes: each call checks that they are one."""
 
     __slots__ = ()
 
@@ -663,7 +666,7 @@ class Store(_Held):
         return Store(store.raw)
 
     def returned(self, sheet: Bytes, name: int, book: Bytes) -> Sheet:
-        """The sheet kept under a name, if each rule of the book holds on it; the sheet that is lent must be sound."""
+        """The sheet kept under a name, if each rule of the book holds on it. The sheet passed must be sound."""
         returned = _changed(sheet)
         answer = _call("zamiathen_return", returned, self, name, book)
         if answer.number != Number.DONE:
@@ -686,31 +689,31 @@ class Store(_Held):
 
 
 def first_rule(rules: Bytes) -> int:
-    """Where the first rule of a text ends."""
+    """The length of the first rule of a text."""
     return _asked("zamiathen_first_rule", rules).length
 
 
 def check_steps(rule: Bytes, steps: Bytes, sent: Bytes) -> None:
-    """Is the text sent what the steps make of the carried rule?"""
+    """Checks whether the steps, made on the carried rule, give the text sent."""
     _asked("zamiathen_check_steps", rule, steps, sent)
 
 
 def check_names(names: Words) -> None:
-    """Is this a table of names?"""
+    """Checks whether a text is a table of names."""
     _asked("zamiathen_check_names", _encoded(names))
 
 
 def rule_to_words(rule: Bytes, names: Words = "") -> str:
-    """The first rule of a text in words; it may be a carried one."""
+    """The first rule of a text in words; it may be a carried rule."""
     return _decoded(_written("zamiathen_rule_to_words", RULE_WORDS_BYTES, _encoded(names), rule))
 
 
 def rule_in_words(words: Words, rule: int, names: Words = "") -> int:
-    """Where the first word of a rule stands in the words of a book, in bytes; their length where there is none."""
+    """Where the first word of a rule stands in the words of a book, in bytes; their length if there is no such rule."""
     return _call("zamiathen_rule_in_words", _encoded(names), _encoded(words), rule)
 
 
 def count(n: int, book: Bytes, edit: Bytes) -> Counts:
-    """What an edit does to every sheet of n nodes, 1 to 3, with label 0 and arrow 0 alone."""
+    """What an edit does to every sheet of n nodes, 1 to 3, that has no label except 0 and no arrow except 0."""
     answer = _asked("zamiathen_count", n, book, edit)
     return Counts(answer.kept_kept, answer.kept_broken, answer.broken_kept, answer.broken_broken)

@@ -1,4 +1,4 @@
-//! Links the archive libzamiathen.a, from the directory that the environment variable ZAMIATHEN_LIB_DIR names, else
+//! Links the archive libzamiathen.a from the directory that the environment variable ZAMIATHEN_LIB_DIR names, otherwise
 //! from pkg-config's.
 
 use std::env;

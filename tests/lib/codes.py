@@ -13,7 +13,7 @@ FOLLOW = {
 
 
 def end(text, start):
-    """Where the text that begins at start ends. None if it does not end, or has a byte that is no code."""
+    """Where the text that begins at start ends. None if it does not end, or has a byte that is not a code."""
     wanted = 1
     while wanted > 0:
         if start >= len(text) or text[start] not in FOLLOW:
@@ -29,7 +29,7 @@ def rules(book):
     """Start and end of each rule up to the first that does not end."""
     found = []
     start = 0
-    while start < len(book) and (behind := end(book, start)) is not None:
-        found.append((start, behind))
-        start = behind
+    while start < len(book) and (after := end(book, start)) is not None:
+        found.append((start, after))
+        start = after
     return found

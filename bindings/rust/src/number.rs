@@ -83,30 +83,30 @@ const TEXTS: [(Number, &str); 43] = [
     (Number::LogBlock, "A block of the log is wrong or cut short, or the log ends inside an edit."),
     (Number::NodeTaken, "The node has a label or an arrow, or is the only one in use."),
     (Number::Store, "The store, or a sheet kept in it, is not sound."),
-    (Number::PlanName, "The name of a plan is from 1 to 7."),
+    (Number::PlanName, "A plan's name is a number from 1 to 7."),
     (Number::PlanUnfilled, "Nothing is kept under this name."),
     (Number::NodesTotal, "The two sheets have more than 60 nodes together."),
     (Number::Step, "A step is cut, its law is unknown, or it does not fit."),
     (Number::Sent, "The text that the steps make is not the one sent."),
-    (Number::SmallSheets, "Small sheets have 1 to 3 nodes, and name no other label and arrow than 0."),
+    (Number::SmallSheets, "Small sheets have 1 to 3 nodes; book and edit may name only label 0 and arrow 0."),
     (Number::GameRange, "The lists of edits, their lengths or the number of moves are out of range."),
     (Number::Names, "The table of names is wrong here."),
     (Number::WordsEnd, "The words end where more is wanted."),
-    (Number::WordsStart, "No rule, expression or step that is wanted here begins so."),
+    (Number::WordsStart, "This does not begin a rule, expression or step of the sort wanted here."),
     (Number::WordsMark, "Another mark, one of ( ) and the comma, is wanted here."),
-    (Number::WordsNumber, "No name or count of the sort that is wanted here."),
+    (Number::WordsNumber, "This is not a name or count of the sort wanted here."),
     (Number::WordsLevel, "The words are nested too deep here."),
     (Number::WordsRules, "The book has more than 32 rules."),
     (Number::WordsLength, "The words stand for more than 4,096 bytes."),
 ];
 
 impl Number {
-    /// The number of this value; `Number::Unknown` where there is none.
+    /// The number of this value; `Number::Unknown` if there is none.
     pub fn of(value: usize) -> Number {
         TEXTS.iter().map(|(number, _)| *number).find(|number| *number as usize == value).unwrap_or(Number::Unknown)
     }
 
-    /// A sentence for the number, to be shown to people.
+    /// A sentence for the number, to show to people.
     pub fn text(self) -> &'static str {
         TEXTS.iter().find(|(number, _)| *number == self).map_or("This version has no such number.", |(_, text)| text)
     }

@@ -1,8 +1,8 @@
-//! The functions of the header, and over each a safe one that takes slices. The only module with unsafe code.
+//! The functions of the header, and for each a safe one that takes slices. The only module with unsafe code.
 //!
-//! Why the calls are safe: the library reads and writes within its buffers, any bytes and any number get an answer, it keeps
-//! no state, and the buffers that a call writes share no byte with others, since they are borrowed mutably. The pointer
-//! of an empty slice is not read. `tests/bindings` compares the declarations with the header.
+//! Why the calls are safe: the library reads and writes only within its buffers, answers any bytes and any number, and
+//! keeps no state. The buffers that a call writes share no byte with others, since they are borrowed mutably. The
+//! pointer of an empty slice is not read. `tests/bindings` compares the declarations with the header.
 
 use std::mem::size_of;
 
