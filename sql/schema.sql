@@ -4,7 +4,7 @@
 --
 -- A station is made by an INSERT into stations with the opening sheet as its sheet. Edits are entered by an INSERT into the
 -- view edits (station, edit, who), and by nothing else: the sheet is what replaying the log on the opening sheet gives.
--- Whatever would be kept otherwise is refused, by RAISE(ABORT), since an OR clause of the client's statement changes what a
+-- Every other write is refused, by RAISE(ABORT), since an OR clause of the client's statement changes what a
 -- constraint does, and not what RAISE does.
 PRAGMA journal_mode = WAL;
 BEGIN IMMEDIATE;
@@ -19,7 +19,7 @@ CREATE TABLE stations (
     opening BLOB NOT NULL,
     sheet   BLOB NOT NULL,
     CHECK (zamiathen_keeps(sheet, book)),
-    CHECK (zamiathen_book_words(names, book) IS NOT NULL) -- an error where the names are no table of names
+    CHECK (zamiathen_book_words(names, book) IS NOT NULL) -- an error where the names are not a table of names
 ) WITHOUT ROWID;
 
 CREATE TABLE log (

@@ -2,7 +2,7 @@
  *
  *   zamiathen_keeps(sheet, book)                   1 or 0, for a CHECK of a table
  *   zamiathen_judge(sheet, book)                   number, place and sentence, as in '00 00000: Done.'
- *   zamiathen_enter_answer(sheet, book, edit)      the same of the edit; nothing is changed
+ *   zamiathen_enter_answer(sheet, book, edit)      the same for the edit; nothing is changed
  *   zamiathen_entered(sheet, book, edit [, names]) the sheet after the edit, or an error that says why it is refused
  *   zamiathen_book_codes(names, words), zamiathen_edit_codes(names, words)
  *   zamiathen_book_words(names, book), zamiathen_edit_words(names, edit)
@@ -43,7 +43,7 @@ static const char *const unlike[] = {
 static const char *lend(sqlite3_value *value, sort wanted, lent *out) {
     int type = sqlite3_value_type(value);
     if (type == SQLITE_TEXT && (wanted == NAMES || wanted == WORDS))
-        out->bytes = sqlite3_value_text(value); /* in UTF-8, whatever the database has */
+        out->bytes = sqlite3_value_text(value); /* in UTF-8, for every encoding of the database */
     else if (type == SQLITE_BLOB)
         out->bytes = sqlite3_value_blob(value);
     else
@@ -67,7 +67,7 @@ static bool lend_all(sqlite3_context *context, int count, sqlite3_value **values
  * Answers and names
  */
 
-/* Number, place and sentence, in memory of SQLite's; NULL where there is none left. */
+/* Number, place and sentence, in SQLite's memory; NULL where none is left. */
 static char *said_answer(size_t number, size_t place) {
     return sqlite3_mprintf("%02llu %05llu: %s", (unsigned long long)number, (unsigned long long)place, zamiathen_text(number));
 }
@@ -80,7 +80,7 @@ static void result_answer(sqlite3_context *context, size_t number, size_t place)
         sqlite3_result_text(context, text, -1, sqlite3_free);
 }
 
-/* Makes a text the error, and frees it. */
+/* Reports a text as the error, and frees it. */
 static void refuse(sqlite3_context *context, char *text) {
     if (text == NULL) {
         sqlite3_result_error_nomem(context);
@@ -91,7 +91,7 @@ static void refuse(sqlite3_context *context, char *text) {
     sqlite3_free(text);
 }
 
-/* A name, cut out of a rule that the library prints: it stands between so many bytes. */
+/* A name, cut out of a rule that the library prints: it stands between this many bytes before and after. */
 static void cut_name(lent names, const uint8_t *rule, size_t length, size_t before, size_t after, char name[LONGEST_NAME + 1]) {
     uint8_t printed[4 * LONGEST_NAME];
     zamiathen_length words = zamiathen_rule_to_words(names.bytes, names.length, rule, length, printed, sizeof printed);
@@ -165,7 +165,7 @@ static void enter_answer(sqlite3_context *context, int count, sqlite3_value **va
     sqlite3_free(t);
 }
 
-/* Who would break the rule after the edit: asked of the sheet as it was, and the carried rule in the scratch. */
+/* Who would break the rule after the edit: the witness of the carried rule in the scratch, on the sheet as it was. */
 static void append_witness(sqlite3_str *text, const trial *t, lent names) {
     char name[LONGEST_NAME + 1];
     zamiathen_witnessed who = zamiathen_witness(t->sheet, ZAMIATHEN_SHEET_BYTES, t->scratch, sizeof t->scratch);
@@ -289,7 +289,7 @@ static void edit_words(sqlite3_context *context, int count, sqlite3_value **valu
 
 typedef enum { ARROW_TABLE, LABEL_TABLE } table_kind;
 
-/* The columns of both, and the hidden ones that the arguments are handed through. */
+/* The columns of both, and the hidden ones through which the arguments are passed. */
 enum { ARROW_NAME, ARROW_SOURCE, ARROW_TARGET, ARROW_SHEET, ARROW_NAMES };
 enum { LABEL_NAME, LABEL_NODE, LABEL_SHEET, LABEL_NAMES };
 
@@ -308,7 +308,7 @@ typedef struct {
     struct {
         char labels[ZAMIATHEN_LABELS][LONGEST_NAME + 1], arrows[ZAMIATHEN_ARROWS][LONGEST_NAME + 1],
             nodes[ZAMIATHEN_MAX_NODES][LONGEST_NAME + 1];
-    } said; /* names that the library has said */
+    } said; /* names that the library has given */
 } cursor;
 
 static int table_connect(sqlite3 *db, void *kind, int count, const char *const *words, sqlite3_vtab **made, char **fault) {
@@ -333,7 +333,7 @@ static int table_disconnect(sqlite3_vtab *base) {
     return SQLITE_OK;
 }
 
-/* The sheet must be given, the names may be. An argument whose value is not known yet is waited for. */
+/* The sheet must be given, the names may be. Waits for an argument whose value is not known yet. */
 static int table_plan(sqlite3_vtab *base, sqlite3_index_info *info) {
     int sheet_column = ((table *)base)->kind == ARROW_TABLE ? ARROW_SHEET : LABEL_SHEET, found[2] = {-1, -1};
     for (int i = 0; i < info->nConstraint; i++) {
@@ -393,7 +393,7 @@ static void find_line(cursor *c) {
     }
 }
 
-/* Takes over a sheet and a table of names that were asked. */
+/* Takes over a sheet and a table of names that were checked. */
 static int take_over(cursor *c, const lent in[2], size_t n) {
     uint8_t *names = sqlite3_malloc64(in[1].length + 1);
     if (names == NULL)

@@ -1,11 +1,11 @@
 /* Damaged inputs for the command: its functions, called in one process under the sanitizers, the same inputs in each run.
  *
- * Words, codes, tables of names, sheets, cards, pages, stores and logs of the station are damaged and lent to the commands in
+ * Words, codes, tables of names, sheets, cards, pages, stores and logs of the station are damaged and passed to the commands in
  * files of a folder of its own. Each call must end with status 0, 1 or 2. A sheet on disk must be sound after each command that
  * changes it, and as it was after each refusal and each trial; a damaged sheet, store or log that a command does not take must
  * be as it was, too. What the command prints is thrown away; the last line counts.
  *
- *   damaged [COUNT]      in the repository's folder; 100,000 if nothing else is said
+ *   damaged [COUNT]      in the repository's folder; 100,000 by default
  */
 #define _XOPEN_SOURCE 700
 #include <stdio.h>

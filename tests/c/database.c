@@ -206,7 +206,7 @@ static void enter_apart(client *c) {
     sqlite3_finalize(log);
 }
 
-/* One edit, through the view or through the table beneath it, which is the same door. */
+/* One edit, through the view or through the table under it, which comes to the same. */
 static void enter_one(client *c) {
     attempt a;
     make_attempt(c, &a);
@@ -330,7 +330,7 @@ static void write_directly(client *c, size_t which) {
     note(c, line, (size_t)snprintf(line, sizeof line, "direct %zu %s\n", which, stored ? "stored" : "failed"));
 }
 
-/* Waits for the file a millisecond at a time, and not when the client is asked to end. */
+/* Waits for the file a millisecond at a time, unless the client must end. */
 static int wait_for_file(void *unused, int count) {
     (void)unused;
     if (asked_to_end || count > PATIENCE_MS)
@@ -498,7 +498,7 @@ static void bind_any(sqlite3_stmt *s, int at, char sort) {
         sqlite3_bind_blob(s, at, bytes, (int)length, SQLITE_TRANSIENT);
 }
 
-/* Runs a statement, now and then with little memory left to SQLite; tells whether it ended as one may. */
+/* Runs a statement, now and then with little memory left to SQLite; returns whether it ended as it may. */
 static bool run_any(sqlite3_stmt *s, bool *answered) {
     bool little = below(8) == 0;
     if (little)

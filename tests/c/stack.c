@@ -90,7 +90,7 @@ static void report(const char *what) {
 
 /* The name 0 in a rule, carried through steps that put a chain of codes on it, ending in the next name: each step of 30
  * codes makes the rule 31 levels deeper. The last step is carried first. `step` and `name` are the codes of a step and of a
- * name; a chain has `open` before the name and `close` behind it as often as 30 codes take, `levels` of them each time. */
+ * name; a chain has `open` before the name and `close` after it as often as 30 codes take, `levels` of them each time. */
 static void chain(const char *what, const char *rule, const char *step, const char *name, const char *open,
                   const char *close, size_t levels) {
     size_t wanted = 255 - 2;
@@ -194,7 +194,7 @@ static void report_words(const char *what, void *(*call)(void *), size_t times) 
         failed++;
 }
 
-/* A game of six moves: the book is the goal, too, and both sides have the edit. */
+/* A game of six moves: the book is also the goal, and both sides have the edit. */
 static uint8_t edits[2 * ZAMIATHEN_TEXT_BYTES];
 static size_t lengths[2];
 static zamiathen_played played;

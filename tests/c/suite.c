@@ -1,5 +1,5 @@
 /* Every call of the header as a C program makes it, through the header and libsuite.a alone: each answer that it can
- * give, and the buffers that it is lent, with a guard on each side, after it. */
+ * give, and the buffers passed to it, with a guard on each side, after it. */
 #include "zamiathen.h"
 
 #include <stdio.h>
@@ -199,7 +199,7 @@ static const struct fault book_faults[] = {
     {ZAMIATHEN_BOOK_RULES, 96, "", ZAMIATHEN_MAX_RULES + 1, "21 01 01", ""},
 };
 
-/* Stored books: those faults of books that are none of counts, and a fault in what would be dropped. */
+/* Stored books: the faults of books that are not about counts, and a fault in what would be dropped. */
 static const struct fault stored_faults[] = {
     {ZAMIATHEN_BOOK_LENGTH, 0, "", ZAMIATHEN_TEXT_BYTES + 1, "21", ""},
     {ZAMIATHEN_BOOK_ENDS, 6, "23 00 0A 00 11 00", 0, "", ""},
@@ -357,7 +357,7 @@ static void rules(void) {
     left("second rule broken", BROKEN + 3, 4);
 }
 
-/* Each call that is lent a sheet of this length. */
+/* Each call that takes a sheet, with a sheet of this length. */
 static void refused_sheet(const char *what, size_t length, size_t number, size_t place) {
     answered(what, zamiathen_check(sheet, length), number, place);
     judged(what, zamiathen_judge(sheet, length, B, sizeof B), (zamiathen_judged){number, place, 0, 0});
@@ -520,7 +520,7 @@ static void nodes_in_use(void) {
     bit_read("arrow bit of a closed node", arrow_bit(0, 1, 0), ZAMIATHEN_DONE, 0, 0);
 }
 
-/* A card that is no sound one stays as it is. */
+/* A card that is not sound stays as it is. */
 static void refused_card(const char *what, const struct form *form, size_t length, size_t number, size_t place) {
     memcpy(kept, sheet, whole);
     answered(what, form->convert(sheet, length), number, place);
@@ -581,7 +581,7 @@ static void card_sum_of_zero(void) {
     }
 }
 
-/* Each call that is lent a book. A text of 33 rules has a first one. */
+/* Each call that takes a book. A text of 33 rules has a first one. */
 static void refused_books(void) {
     start();
     for (size_t i = 0; i < sizeof book_faults / sizeof *book_faults; i++) {
@@ -637,7 +637,7 @@ static void rewritten(void) {
     left_alone("refused stored books");
 }
 
-/* Each call that is lent an edit. */
+/* Each call that takes an edit. */
 static void refused_edits(void) {
     start();
     for (size_t i = 0; i < sizeof edit_faults / sizeof *edit_faults; i++) {
@@ -674,7 +674,7 @@ static void refused_sizes(void) {
     left("output of the length needed", CARRIED_8, sizeof CARRIED_8);
 }
 
-/* Node 3 is none of T's, and is one of the 60 that a text without a sheet may name. */
+/* Node 3 is not one of T's, but it is one of the 60 that a text without a sheet may name. */
 static void node_3(void) {
     static const uint8_t book[] = {0x23, 0x03, 0x01};
     start();
@@ -794,7 +794,7 @@ static zamiathen_answer give_back(size_t name, const uint8_t *book, size_t lengt
 
 static zamiathen_answer drop(size_t name) { return zamiathen_drop(store, STORE_BYTES, name); }
 
-/* A blank store beside T. */
+/* A blank store, with T. */
 static void start_store(void) {
     start();
     memset(&lent_store, GUARD_BYTE, sizeof lent_store);
@@ -906,7 +906,7 @@ static void joined(const char *what, size_t first_length, size_t second_length, 
     left_alone(what);
 }
 
-/* T and behind it T, whose nodes are then 3, 4 and 5; T and behind it U, which is T without node 1, a closed one. */
+/* T followed by T, whose nodes are then 3, 4 and 5; T followed by U, which is T without node 1, a closed one. */
 static void joining(void) {
     start();
     memset(&lent_second, GUARD_BYTE, sizeof lent_second);
@@ -1052,7 +1052,7 @@ static void refused_chains(void) {
 }
 
 /* Rules are judged one by one, each written at the scratch's start over the one before, up to the first broken one: two
- * that hold, of 11 and 5 bytes, one that doesn't, of 3, and a longer one behind it. TAKE changes none of them. */
+ * that hold, of 11 and 5 bytes, one that doesn't, of 3, and a longer one after it. TAKE changes none of them. */
 static const uint8_t ONE_BY_ONE[] = {0x21, 0x03, 0x00, 0x07, 0x03, 0x00, 0x07, 0x03, 0x00, 0x04, 0x01,
                                      0x22, 0x11, 0x00, 0x11, 0x00, 0x21, 0x01, 0x02, 0x21, 0x01, 0x07,
                                      0x01, 0x07, 0x01, 0x07, 0x01, 0x07, 0x01, 0x07, 0x01, 0x01};
@@ -1194,7 +1194,7 @@ static void counts(void) {
     }
 }
 
-/* Games on a blank sheet of two nodes: the edits' texts one behind the other, the dispatcher's first, their lengths, and
+/* Games on a blank sheet of two nodes: the edits' texts one after the other, the dispatcher's first, their lengths, and
  * the answer: number, place, outcome (0 can't, 1 an edit, 2 a pass, 3 after a refusal), the edit. GIVE gives node 0 label 0. */
 #define GIVE "31 00 04 00 30 "
 #define TAKE_IT "32 00 04 00 30 "

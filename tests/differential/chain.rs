@@ -1,5 +1,5 @@
-//! Edits joined by the library, compared with the reference; and what item 9 says of carrying a book back through them and of the
-//! sheets that they leave, asked of the library's own calls.
+//! Edits joined by the library, compared with the reference; and what item 9 says about carrying a book back through them and about the
+//! sheets that they leave, by the library's own calls.
 
 use common::compare::{Lent, Outcome, Tally};
 use common::library::{zamiathen_apply, zamiathen_carry_back, zamiathen_enter, zamiathen_join_edits};
@@ -25,7 +25,7 @@ fn known(tally: &mut Tally, what: &'static str, p: &[u8], q: &[u8], before: &[u8
     tally.compare(what, &found, &wanted, &[("P", p), ("Q", q), ("room", &before.len().to_le_bytes())]);
 }
 
-/// Both sides, with an output of so many bytes.
+/// Both sides, with an output of this many bytes.
 fn compare(tally: &mut Tally, p: &[u8], q: &[u8], room: usize) {
     let before = vec![0x5A; room];
     let mut after = before.clone();

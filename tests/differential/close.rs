@@ -97,7 +97,7 @@ fn opening(random: &mut Random, names: Names, broken_one_in: usize) -> (Graph, V
     (graph, terms::book_code(&rules))
 }
 
-/// A node below n, or one past it.
+/// A node below n, or n.
 fn some_node(random: &mut Random, n: usize) -> usize {
     match random.below(16) {
         0 => n + random.below(3),
@@ -148,7 +148,7 @@ fn faulty_call(tally: &mut Tally, random: &mut Random, mut bytes: Vec<u8>, mut b
     call(tally, random.pick(&[Close, Open]), &bytes, &book, node);
 }
 
-/// Every set of nodes in use of up to four nodes without labels and arrows, each node and the one behind them; rules that
+/// Every set of nodes in use of up to four nodes without labels and arrows, each node and the first one after them; rules that
 /// count the nodes in use. Known without the reference.
 fn small_sheets(tally: &mut Tally) {
     for n in 1..=4usize {
@@ -162,7 +162,7 @@ fn small_sheets(tally: &mut Tally) {
     }
 }
 
-/// Close and open on such a sheet, under a book that asks for one node in use, and under one that asks for it closed.
+/// Close and open on such a sheet, under a book that wants one node in use, and under one that wants it closed.
 fn small_calls(tally: &mut Tally, bytes: &[u8], word: usize, node: usize, member: usize) {
     let n = usize::from(bytes[2]);
     for way in [Close, Open] {
@@ -281,7 +281,7 @@ fn orders_of_open(
     call_known(tally, "orders of open", Open, (bytes, book, node), answer, &after);
 }
 
-/// The node to be closed is the only one in use, of each n; a rule that would be broken is not asked.
+/// The node to be closed is the only one in use, for each n; a rule that would be broken is not judged.
 fn only_ones(tally: &mut Tally) {
     for n in 1..=MOST_NODES {
         for node in [0, n / 2, n - 1] {
@@ -294,7 +294,7 @@ fn only_ones(tally: &mut Tally) {
 }
 
 /// Calls of enter, close and open under one book, from a sheet that keeps it: the answers and sheets are the clerk's, who is
-/// never told an answer, and after each the sheet keeps the book.
+/// never given an answer, and after each the sheet keeps the book.
 fn histories(tally: &mut Tally, rounds: usize) {
     let mut random = Random::new(42);
     for _ in 0..rounds {

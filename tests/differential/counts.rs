@@ -31,7 +31,7 @@ fn compare(tally: &mut Tally, n: usize, book: &[u8], edit: &[u8]) {
     known(tally, "count", n, book, edit, wanted);
 }
 
-/// The marked case and others whose counts are easily told: how many of n nodes have label 0, or the arrow from 0 to 0.
+/// The marked case and others whose counts are easy to work out: how many of n nodes have label 0, or the arrow from 0 to 0.
 fn told(tally: &mut Tally) {
     let all = |n: usize| 1usize << (n + n * n);
     for n in 1..=3 {
@@ -62,7 +62,7 @@ fn told(tally: &mut Tally) {
     }
 }
 
-/// Another label or arrow at each place of each code, taken or not; node and count numbers are no names.
+/// Another label or arrow at each place of each code, taken or not; node and count numbers are not names.
 fn names(tally: &mut Tally) {
     let named: [(&[u8], &[u8]); 16] = [
         (&[0x21, 0x03, 0x01, 0x01], &[0x30]),

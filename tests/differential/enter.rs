@@ -14,7 +14,7 @@ use reference::meaning::{first_broken, holds};
 use reference::syntax::{Coded, Node, Rule};
 use reference::{reader, sheet, witness};
 
-/// What a call of enter is lent.
+/// What a call of enter takes.
 struct Call<'c> {
     sheet: &'c [u8],
     book: &'c [u8],
@@ -170,7 +170,7 @@ fn some_edit(random: &mut Random, names: Names) -> Vec<u8> {
     }
 }
 
-/// Theorem 4.2 asked of the reference: the carried rules hold before exactly when the rules hold after.
+/// Theorem 4.2 on the reference: the carried rules hold before exactly when the rules hold after.
 fn theorem(opening: &Opening, edit: &[u8]) {
     let mut clerk = Clerk::new(opening.graph.clone(), reader::book(&terms::book_code(&opening.rules), 60).unwrap());
     let called = clerk.call(edit, CARRIED_BYTES);
@@ -230,7 +230,7 @@ fn faulty_call(tally: &mut Tally, random: &mut Random, bytes: &[u8], book: &[u8]
     all_three(tally, random, &bytes, &book, &edit);
 }
 
-/// Runs: the sheet as the call before left it, against the plain clerk, who is never told an answer.
+/// Runs: the sheet as the call before left it, against the plain clerk, who is never given an answer.
 fn runs(tally: &mut Tally, rounds: usize) {
     let mut random = Random::new(32);
     for _ in 0..rounds {

@@ -12,7 +12,7 @@ use reference::meaning::holds;
 use reference::sheet;
 use reference::syntax::{Coded, Rule};
 
-/// What a call is lent.
+/// What a call takes.
 struct Call<'c> {
     sheet: &'c [u8],
     book: &'c [u8],
@@ -47,7 +47,7 @@ impl Call<'_> {
         Outcome::new(&[found.number, found.place, found.outcome, found.edit], vec![sheet, book, goal, edits])
     }
 
-    /// The library's call against these numbers; what it is lent stays.
+    /// The library's call against these numbers; its buffers stay unchanged.
     fn known(&self, tally: &mut Tally, what: &'static str, numbers: [usize; 4]) {
         let wanted = Outcome::new(&numbers, [self.sheet, self.book, self.goal, self.edits].map(Lent::of).into());
         let lengths: Vec<u8> = self.lengths.iter().flat_map(|length| length.to_le_bytes()).collect();
@@ -121,7 +121,7 @@ fn one_bit(ours: &[usize], theirs: &[usize], allowed: [bool; 2], goal: bool, mov
     first
 }
 
-/// Lists of up to so many edits of one bit.
+/// Lists of up to this many edits of one bit.
 fn lists(least: usize, most: usize) -> Vec<Vec<usize>> {
     let mut all = vec![vec![]];
     let mut last = all.clone();
@@ -301,7 +301,7 @@ fn orders(tally: &mut Tally) {
         (vec![0x31, 0x00, 0x04, 0x02, 0x30], [25, 3]),
         (vec![0x30, 0x30], [26, 1]),
     ];
-    // A fault in each place of two against two; before it carried books that do not fit, behind it another fault.
+    // A fault in each place of two against two; before it carried books that do not fit, after it another fault.
     for (text, [number, place]) in &faults {
         for edit in 0..4 {
             let mut texts = vec![&doubling[..]; 4];

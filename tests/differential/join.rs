@@ -1,5 +1,5 @@
 //! Two sheets joined by the library, compared with what the words of their bytes say and with the reference; and what item 8 says of
-//! rules, of which the library's judge is asked.
+//! rules, by the library's judge.
 
 use common::compare::{Lent, Outcome, Tally};
 use common::library::{zamiathen_join_sheets, zamiathen_judge};
@@ -33,7 +33,7 @@ fn compare(tally: &mut Tally, first: &[u8], second: &[u8]) -> (Answer, Vec<u8>) 
     (answer, after)
 }
 
-/// Known without the reference: each word of the second, raised by the first's n, beside the first's; the second's rows behind.
+/// Known without the reference: each word of the second, raised by the first's n, with the first's; the second's rows after the first's.
 fn by_words(first: &[u8], second: &[u8]) -> (Answer, Vec<u8>) {
     let (n, m) = (usize::from(first[2]), usize::from(second[2]));
     if n + m > MOST_NODES {
@@ -65,7 +65,7 @@ fn some_graph(random: &mut Random, n: usize) -> Graph {
     graphs::graph(random, names)
 }
 
-/// Each n beside each, full sheets, blank ones, and some in between.
+/// Each n with each other n, full sheets, blank ones, and some in between.
 fn every_total(tally: &mut Tally) {
     let mut random = Random::new(81);
     for n in 1..=MOST_NODES {
@@ -136,7 +136,7 @@ fn random_sheets(tally: &mut Tally, rounds: usize) {
     }
 }
 
-/// A third behind two others, joined from either side: the same bytes.
+/// A third after two others, joined from either side: the same bytes.
 fn thirds(tally: &mut Tally, rounds: usize) {
     let mut random = Random::new(83);
     for _ in 0..rounds {
@@ -223,7 +223,7 @@ fn rules_on_both(tally: &mut Tally, rounds: usize) {
     }
 }
 
-/// Why item 8 leaves 04, 17, 23, 24, 26 and 27 out: a rule with each, two sheets, and what it says of each and of both.
+/// Why item 8 leaves 04, 17, 23, 24, 26 and 27 out: a rule with each, two sheets, and its truth on each and on both.
 fn needed(tally: &mut Tally) {
     let mut labelled = Graph::blank(1);
     labelled.labels[0][0] = true;

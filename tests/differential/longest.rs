@@ -83,7 +83,7 @@ impl Form {
     }
 }
 
-/// One behind the other: the best of all ways to divide each length.
+/// One after the other: the best of all ways to divide each length.
 fn together(first: &Longest, second: &Longest) -> Longest {
     let mut best = vec![NO_CODES; first.len()];
     for (length, words) in first.iter().enumerate().filter(|(_, words)| **words > 0) {
@@ -94,7 +94,7 @@ fn together(first: &Longest, second: &Longest) -> Longest {
     best
 }
 
-/// Takes over what is longer, with so many bytes and so many words more.
+/// Takes over what is longer, with this many more bytes and words.
 fn raise(best: &mut Longest, (bytes, words): (usize, i32), by: &Longest) {
     for (best, other) in best.iter_mut().skip(bytes).zip(by) {
         *best = (*best).max(words + other);
@@ -183,7 +183,7 @@ struct Steps {
     list: Longest,
 }
 
-/// What the lines of an `if` have besides its rule and its branches: `if()`, `else`, `end`, three margins and line feeds.
+/// What the lines of an `if` have in addition to its rule and its branches: `if()`, `else`, `end`, three margins and line feeds.
 fn branch_words(level: usize) -> i32 {
     4 + 4 + 3 + 3 * line_words(level)
 }

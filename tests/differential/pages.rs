@@ -77,7 +77,7 @@ fn prints(tally: &mut Tally) {
 }
 
 /// Every page of a sheet typed back into it changes nothing; into the blank sheet with these nodes in use it puts that block
-/// alone; into a sheet of another n it is refused. All known without the reference but the pages.
+/// alone; into a sheet of another n it is refused. All known without the reference except the pages.
 fn pages_back(tally: &mut Tally) {
     let mut random = Random::new(2);
     for n in 1..=60 {
@@ -100,7 +100,7 @@ fn pages_back(tally: &mut Tally) {
 }
 
 /// A page of a blank sheet with other nodes in use: an arrow page is typed, and of a label page line 48 is refused. A mark at a
-/// closed node is refused in its line, before line 48. Known without the reference but the pages.
+/// closed node is refused in its line, before line 48. Known without the reference except the pages.
 fn closed_nodes(tally: &mut Tally) {
     let mut random = Random::new(7);
     let blank = |n: usize, in_use: &[bool]| graphs::with_use(Graph::blank(n), in_use.to_vec());
@@ -153,7 +153,7 @@ fn changed_bytes(tally: &mut Tally) {
     }
 }
 
-/// Heads that no page has, and heads that only another page has: all two digits behind A and L.
+/// Heads that no page has, and heads that only another page has: all two digits after A and L.
 fn heads(tally: &mut Tally) {
     let mut random = Random::new(4);
     for n in [1, 7, 15, 16, 47, 48, 49, 60] {

@@ -19,7 +19,7 @@ fn refusal(number: usize, place: usize) -> Answer {
     Answer { number, place }
 }
 
-/// A call with what it is lent. Keep and return are lent a sheet, return a book.
+/// A call with what it takes. Keep and return take a sheet, return a book.
 struct Call<'c> {
     way: Way,
     sheet: &'c [u8],
@@ -111,7 +111,7 @@ fn store_of(plans: &Plans) -> Vec<u8> {
     store
 }
 
-/// Names in range more often than not, and those that are none: 0, 8, 2^63, and such as are 1 to 7 in fewer bits.
+/// Names in range more often than not, and numbers that are not names: 0, 8, 2^63, and such as are 1 to 7 in fewer bits.
 fn some_name(random: &mut Random) -> usize {
     match random.below(12) {
         0 => random.pick(&[0, 8]),
@@ -125,7 +125,7 @@ fn some_sheet(random: &mut Random, names: Names) -> Vec<u8> {
     sheet::store(&graphs::graph(random, names))
 }
 
-/// A book that a graph keeps, but for one rule in `broken_one_in`.
+/// A book that a graph keeps, except one rule in `broken_one_in`.
 fn some_book(random: &mut Random, graph: &Graph, names: Names, broken_one_in: usize) -> Vec<u8> {
     let most = terms::some_rules(random);
     let mut rules = terms::book(random, names, most);
@@ -137,7 +137,7 @@ fn some_book(random: &mut Random, graph: &Graph, names: Names, broken_one_in: us
     terms::book_code(&rules)
 }
 
-/// Blank asks the length alone.
+/// Blank checks only the length.
 fn blanks(tally: &mut Tally) {
     let mut random = Random::new(71);
     for length in [0, 1, 511, 512, SHEET, 30_720, STORE - 512, STORE - 1, STORE, STORE + 1, STORE + 512, 2 * STORE] {
@@ -153,7 +153,7 @@ fn blanks(tally: &mut Tally) {
 }
 
 /// Lists of these calls and of enter, the store written by no other: a return that is done gives back the sheet last kept under
-/// that name, whatever was entered since. The plans are known without the reference.
+/// that name, no matter what was entered since. The plans are known without the reference.
 fn histories(tally: &mut Tally, rounds: usize) {
     let mut random = Random::new(72);
     for _ in 0..rounds {
@@ -289,7 +289,7 @@ fn some_stores() -> [Vec<u8>; 4] {
     [filled(&[1, 2, 3, 4, 5, 6, 7]), filled(&[]), filled(&[2, 3, 7]), filled(&[1])]
 }
 
-/// Drop of a name that is none, which shows whether the store passed: 56 if so. Writes nothing, so the store is lent as it is.
+/// Drop of a number that is not a name, which shows whether the store passed: 56 if so. Writes nothing, so the store is passed as it is.
 fn asked(store: &mut [u8]) -> [usize; 2] {
     let found = unsafe { zamiathen_drop(store.as_mut_ptr(), store.len(), 0) };
     [found.number, found.place]
@@ -336,7 +336,7 @@ fn heads(tally: &mut Tally) {
     }
 }
 
-/// In each block of each place, with the block's sums right: a head that is no block's, a byte that must be zero. A bit of an arrow
+/// In each block of each place, with the block's sums right: a head that no block has, a byte that must be zero. A bit of an arrow
 /// leaves a filled sheet sound. The calls see it under every name.
 fn damaged_blocks(tally: &mut Tally) {
     let mut random = Random::new(73);
@@ -458,7 +458,7 @@ fn orders(tally: &mut Tally) {
     }
 }
 
-/// The first answer that is none of done.
+/// The first answer that is not done.
 fn first_of(answers: &[Answer]) -> Answer {
     answers.iter().copied().find(|answer| *answer != DONE).unwrap_or(DONE)
 }
@@ -523,7 +523,7 @@ fn random_calls(tally: &mut Tally, rounds: usize) {
     }
 }
 
-/// A place damaged as a sheet is, a name marked that is unfilled or the other way round, or a sheet in another place.
+/// A place damaged as a sheet is, a name marked that is unfilled, or unmarked that is filled, or a sheet in another place.
 fn hurt(random: &mut Random, store: &mut Vec<u8>) {
     let place = BLOCK + random.below(NAMES) * SHEET;
     match random.below(6) {

@@ -11,7 +11,7 @@ use reference::{reader, rewrite, sheet};
 
 const LONGEST: usize = 4096;
 
-/// What the library writes into an output of so many bytes, after comparing.
+/// What the library writes into an output of this many bytes, after comparing.
 fn rewritten(tally: &mut Tally, book: &[u8], room: usize) -> Vec<u8> {
     let blank = vec![0x5A; room];
     let mut wanted_output = blank.clone();
@@ -102,7 +102,7 @@ fn faults_in_what_is_dropped(tally: &mut Tally) {
     }
 }
 
-/// Each limit and one past it, with a dropped count before it: the stored book is measured, not the rewritten one.
+/// Each limit and one more than it, with a dropped count before it: the stored book is measured, not the rewritten one.
 fn limit_texts(tally: &mut Tally) {
     let dropped = [0x23, 0x00, 0x0A, 0x00, 0x11, 0x00, 0x01];
     for text in [limits::lengths(), limits::levels(), limits::rule_counts()].concat() {

@@ -73,7 +73,7 @@ fn arrow_bit(tally: &mut Tally, bytes: &[u8], arrow: usize, from: usize, to: usi
     tally.compare("arrow bit", &found, &wanted, &[("sheet", bytes), ("arrow", &arrow.to_le_bytes()), ("from", &from.to_le_bytes()), ("to", &to.to_le_bytes())]);
 }
 
-/// A set of nodes that was asked for.
+/// A set of nodes that was read.
 fn node_set(tally: &mut Tally, what: &'static str, found: CNodeSet, wanted: Asked<(usize, u64)>, inputs: &[(&str, &[u8])]) {
     let answer = answer_of(&wanted);
     let (count, set) = wanted.unwrap_or_default();
@@ -162,7 +162,7 @@ fn noticed_changes(tally: &mut Tally) {
     stored_sums(tally, &fixed_sheet());
 }
 
-/// What 01 says of one byte of a block, its sums being right: not of the nodes in use, and not of n.
+/// What 01 says about one byte of a block whose sums are right, except for the nodes in use and n.
 fn fault_of_byte(bytes: &[u8], at: usize) -> (usize, usize) {
     let (block, place) = (at / BLOCK, at % BLOCK);
     let used = u64::from_le_bytes(bytes[400..408].try_into().expect("8 bytes"));
@@ -209,8 +209,8 @@ fn with_word(graph: &Graph, word: u64) -> Vec<u8> {
     bytes
 }
 
-/// The nodes in use on a sheet without labels and arrows: 3 when none is below n, whatever stands above; else 4 when one is at n
-/// or above. Every n, each node alone and beside another.
+/// The nodes in use on a sheet without labels and arrows: 3 when none is below n, with any bits above; else 4 when one is at n
+/// or above. Every n, each node alone and with one other.
 fn use_words(tally: &mut Tally) {
     for n in 1..=MOST_NODES {
         let blank = Graph::blank(n);
@@ -320,7 +320,7 @@ fn random_bytes(tally: &mut Tally) {
     }
 }
 
-/// A sound sheet cut short, or with more behind it.
+/// A sound sheet cut short, or with more after it.
 fn other_lengths(tally: &mut Tally) {
     let twice = fixed_sheet().repeat(2);
     for length in [0, 1, 511, 512, 8192, SHEET - 1, SHEET + 1, SHEET + BLOCK, 2 * SHEET] {
@@ -352,7 +352,7 @@ fn labelled(n: usize, k: usize, nodes: &[usize]) -> Graph {
 /// The two forms of old cards, whose nodes are all in use.
 const OLD_FORMS: [Form; 2] = [SUMS_255, SUMS_257];
 
-/// The calls for a form of cards: the library's, the reference's, and what they are told by.
+/// The calls for a form of cards: the library's, the reference's, and their arguments.
 fn convert(tally: &mut Tally, form: Form, card: &[u8]) {
     let mut after = card.to_vec();
     let (what, answer) = match form.modulus {
@@ -386,7 +386,7 @@ fn refuse_card(tally: &mut Tally, form: Form, card: &[u8], number: usize, place:
     convert_known(tally, "convert, known answer", form, card, (number, place), card);
 }
 
-/// Each old card of a graph becomes its sheet, with bits 0 to n minus 1; the sheet is no old card, and neither is the card of
+/// Each old card of a graph becomes its sheet, with bits 0 to n minus 1; the sheet is not an old card, and neither is the card of
 /// the other form.
 fn convert_graph(tally: &mut Tally, graph: &Graph) {
     let sheet = sheet::store(graph);

@@ -12,7 +12,7 @@ use reference::laws::{self, Term};
 use reference::reader;
 use reference::syntax::Coded;
 
-/// The library's call against this answer; what it is lent stays.
+/// The library's call against this answer; its buffers stay unchanged.
 fn known(tally: &mut Tally, what: &'static str, rule: &[u8], steps: &[u8], sent: &[u8], answer: Answer) {
     let [lent_rule, lent_steps, lent_sent] = [rule, steps, sent].map(Lent::of);
     let found = unsafe {
@@ -49,7 +49,7 @@ struct Chain {
     sent: Vec<u8>,
 }
 
-/// A rule lengthened by laws the other way round, at random places: the steps lead back. Known without the reference's steps.
+/// A rule lengthened by laws from right to left, at random places: the steps lead back. Known without the reference's steps.
 fn lengthened(random: &mut Random, mut rule: Term, times: usize, names: Names) -> Chain {
     let sent = rule.code();
     let mut steps = vec![];
@@ -230,7 +230,7 @@ fn orders(tally: &mut Tally) {
         (vec![0x23, 0x00, 0x0B, 0x3C, 0x11, 0x00, 0x01], refused(15, 3)),
         ([&sound[..], &[0xFF]].concat(), refused(16, 9)),
     ];
-    // Behind the two steps that lead to 23 00 03 01, or instead of the second.
+    // After the two steps that lead to 23 00 03 01, or instead of the second.
     let right = [step(2, 1), step(2, 2)].concat();
     let steps: [(Vec<u8>, Answer); 8] = [
         (right.clone(), DONE),

@@ -9,7 +9,7 @@ use reference::graph::{Graph, MOST_NODES};
 use reference::{calls, reader, sheet};
 use std::sync::OnceLock;
 
-/// The blank sheet of n, on which a text is asked as a book and as an edit. Where n is odd, every third node is closed.
+/// The blank sheet of n, on which a text is checked as a book and as an edit. Where n is odd, every third node is closed.
 struct Blank {
     graph: Graph,
     bytes: Vec<u8>,
@@ -62,7 +62,7 @@ fn first_rule(tally: &mut Tally, text: &[u8]) {
     tally.compare("first rule", &found, &wanted, &[("text", text)]);
 }
 
-/// Where rules 0 to 34 start, and one that no text has. This is asked with any n.
+/// Where rules 0 to 34 start, and one that no text has. With any n.
 fn rule_starts(tally: &mut Tally, text: &[u8], n: usize) {
     let asked: Vec<usize> = (0..=34).chain([usize::MAX]).collect();
     let lent = Lent::of(text);
@@ -98,7 +98,7 @@ fn short_texts(tally: &mut Tally) {
     }
 }
 
-/// Each limit and one past it; each of these texts also cut by one byte and with one byte more.
+/// Each limit and one more than it; each of these texts also cut by one byte and with one byte more.
 fn limit_texts(tally: &mut Tally) {
     let at_limits = [limits::lengths(), limits::levels(), limits::rule_counts()].concat();
     for text in &at_limits {
@@ -115,7 +115,7 @@ fn limit_texts(tally: &mut Tally) {
             limits::numbers(number as u8).iter().for_each(|text| all(tally, text, n));
         }
     }
-    // A rule's start is asked with any n, also one that no sheet has.
+    // A rule's start may be read with any n, also one that no sheet has.
     for n in [0, 61, 255, 256, 257, 1 << 32, usize::MAX] {
         for number in [0, 1, 59, 60, 61, 254, 255] {
             limits::numbers(number).iter().for_each(|text| rule_starts(tally, text, n));

@@ -79,7 +79,7 @@ fn written(tally: &mut Tally, call: Call, table: &[u8], codes: &[u8]) -> Option<
     Some(words)
 }
 
-/// Every rule that is asked for on every text: those a book can have, and others.
+/// Every rule number that is tried on every text: those that a book can have, and others.
 fn every_rule() -> Vec<usize> {
     (0..=34).chain([255, 256, 1 << 32, usize::MAX]).collect()
 }
@@ -388,7 +388,7 @@ fn load(path: &str) -> Vec<u8> {
     std::fs::read(path).unwrap_or_else(|error| panic!("{path}: {error}"))
 }
 
-/// The station's book and edits in words are read to the bytes beside them, by both sides; the opening has none beside it.
+/// The station's book and edits in words are read to the bytes in the files next to them, by both sides; the opening has no such file.
 fn station(tally: &mut Tally) {
     let station = "examples/station";
     let table = load(&format!("{station}/station.names"));

@@ -7,7 +7,7 @@ use crate::graph::{Graph, MOST_NODES};
 use crate::meaning::first_broken;
 use crate::{reader, sheet, steps};
 
-/// Judge's answer, and the first broken rule as a part of the book: empty but for 41.
+/// Judge's answer, and the first broken rule as a part of the book: empty except for 41.
 #[derive(Clone, Copy, PartialEq, Eq, Debug)]
 pub struct Judged {
     pub answer: Answer,
@@ -15,7 +15,7 @@ pub struct Judged {
     pub length: usize,
 }
 
-/// Carry back's answer, and the length of the carried book: 0 but for done.
+/// Carry back's answer, and the length of the carried book: 0 except for done.
 #[derive(Clone, Copy, PartialEq, Eq, Debug)]
 pub struct Lengthy {
     pub answer: Answer,

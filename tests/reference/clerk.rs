@@ -1,4 +1,4 @@
-//! The plain clerk of "The run": he makes the steps on a copy and judges the copy. He closes and opens nodes likewise.
+//! The plain clerk of "The run": he makes the steps on a copy and judges the copy. He closes and opens nodes in the same way.
 
 use crate::answer::{refuse, Answer, Asked, DONE};
 use crate::carry::{carry, Carried};

@@ -28,7 +28,7 @@ fn about<T>(edit: usize, asked: Asked<T>) -> Result<T, Refused> {
     asked.map_err(|answer| Refused { answer, edit })
 }
 
-/// The texts of the edits one behind the other, the dispatcher's first, and the length of each.
+/// The texts of the edits one after the other, the dispatcher's first, and the length of each.
 pub struct Edits<'e> {
     pub bytes: &'e [u8],
     pub lengths: &'e [usize],
@@ -110,7 +110,7 @@ impl Game {
         forcing.map_or(Outcome::Cannot, |(number, _)| Outcome::First(*number))
     }
 
-    /// Whether the dispatcher, whose move it is, can force a win with so many moves left.
+    /// Whether the dispatcher, whose move it is, can force a win with this many moves left.
     fn forced(&self, graph: &Graph, left: usize) -> bool {
         if left == 0 {
             return holds(graph, &self.goal);
@@ -122,7 +122,7 @@ impl Game {
         made.iter().any(|(_, after)| self.against(after, left - 1))
     }
 
-    /// The same where it is the disruption's move: whatever it does. Its edits are carried out without the book.
+    /// The same where it is the disruption's move: against each of its moves. Its edits are carried out without the book.
     fn against(&self, graph: &Graph, left: usize) -> bool {
         if left == 0 {
             return holds(graph, &self.goal);

@@ -21,7 +21,7 @@ fn ask_joined(first: &[u8], second: &[u8]) -> Asked<Graph> {
     Ok(joined(&sheet::read(first), &sheet::read(second)))
 }
 
-/// The second's nodes follow the first's, its numbers raised by the first's n; labels, arrows and nodes in use likewise.
+/// The second's nodes follow the first's, its numbers raised by the first's n; labels, arrows and nodes in use in the same way.
 pub fn joined(first: &Graph, second: &Graph) -> Graph {
     let behind = |one: &Nodes, other: &Nodes| [&one[..], other].concat();
     let linked = |one: &Pairs, other: &Pairs| {

@@ -1,7 +1,7 @@
 //! Document 01, the landed items of document 02 and the calls that came after them, written a second time, in plain Rust, from the papers alone.
 //!
 //! The proved library is compared with this one by the programs in `tests/differential`. It is meant to be read
-//! beside the papers: a set has one `bool` for each node, a relation one for each pair, texts are read into trees, and an edit is
+//! next to the papers: a set has one `bool` for each node, a relation one for each pair, texts are read into trees, and an edit is
 //! made on a copy of the graph. Nothing here is fast on purpose, but nothing takes exponential time either.
 
 pub mod answer;

@@ -23,7 +23,7 @@ fn head(shown: Shown, n: usize) -> String {
     format!("{letter}{number:02}{:60}\n", "")
 }
 
-/// The lines behind it: one for each node, or one for each label and a last one for the nodes in use.
+/// The lines after it: one for each node, or one for each label and a last one for the nodes in use.
 fn rows(graph: &Graph, shown: Shown) -> Vec<&[bool]> {
     match shown {
         Shown::Arrow(a) => (0..graph.n).map(|i| graph.arrows[a].row(i)).collect(),

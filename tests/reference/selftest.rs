@@ -1,5 +1,5 @@
 //! The marked examples of document 01, some of its remarks, check bytes, old cards, pages of its sheet T, rewritten books,
-//! closed nodes, stores, joined sheets and edits, laws, counts, games and words, asked of the reference itself.
+//! closed nodes, stores, joined sheets and edits, laws, counts, games and words, by the reference itself.
 
 use reference::answer::{Answer, DONE};
 use reference::calls::{apply, carry_back, close, enter, judge, open, Judged, Lengthy};
@@ -143,7 +143,7 @@ fn refused(tally: &mut Tally, text: Vec<u8>, number: usize, place: usize) {
 
 fn reading(tally: &mut Tally) {
     refused(tally, hex("24 3C"), 15, 1);
-    // Counts: example 6 in a book, and one past each other end.
+    // Counts: example 6 in a book, and just outside each other end.
     refused(tally, hex("23 00 0A 00 11 00 02"), 15, 3);
     refused(tally, hex("23 00 0A 3D"), 15, 3);
     refused(tally, hex("23 00 0B 3C"), 15, 3);
@@ -196,7 +196,7 @@ fn labelled(n: usize, k: usize, nodes: &[usize]) -> Graph {
     graph
 }
 
-/// The check bytes of block 0 as stored, and what is said of the sheet when others stand there.
+/// The check bytes of block 0 as stored, and the answer for the sheet when others stand there.
 fn stored_sums(tally: &mut Tally, graph: &Graph, wanted: [u8; 4], other: [u8; 4]) {
     let mut bytes = sheet::store(graph);
     tally.same("check bytes", (&bytes[508..512], sheet::check(&bytes)), (&wanted[..], DONE));
@@ -218,7 +218,7 @@ fn sheets(tally: &mut Tally) {
     tally.same("stored as one sheet", sheet::store(&read), sheet_t());
 }
 
-/// Old cards, which are asked by document 01's sums or by item 2's, and do not hold the nodes in use.
+/// Old cards, which are checked by document 01's sums or by item 2's, and do not hold the nodes in use.
 fn cards(tally: &mut Tally) {
     let card = SUMS_255.store(&Graph::blank(7));
     tally.same("block 1 of an old card", &card[1020..1024], &[0, 0, 3, 254][..]);
@@ -342,7 +342,7 @@ fn closed_sheets(tally: &mut Tally) {
     tally.same("its bit reads clear", sheet::label_bit(&sheet_u(), 0, 1), Ok(false));
 }
 
-/// The label page of U, and what 51 says of others.
+/// The label page of U, and the place of 51 for others.
 fn closed_pages(tally: &mut Tally) {
     let labels = page(&sheet::read(&sheet_u()), Shown::Labels);
     tally.same("line 48", &labels[64 * 49..64 * 49 + 7], b"48 #.# ".as_slice());
@@ -433,7 +433,7 @@ fn stores(tally: &mut Tally) {
     tally.same("bit 7", plans::keep(&t, &mut bit_7, 1), refused(55));
 }
 
-/// T and behind it U, whose nodes are then 3, 4 (closed) and 5; and the totals.
+/// T followed by U, whose nodes are then 3, 4 (closed) and 5; and the totals.
 fn two_stations(tally: &mut Tally) {
     let (t, u) = (sheet_t(), sheet_u());
     let mut both = t.clone();
@@ -521,7 +521,7 @@ fn rule_by_rule(tally: &mut Tally) {
     entered("one less", &book, 12, Answer { number: 33, place: 13 }, vec![]);
     entered("two rules", &book[..10], 13, DONE, [&second[..], &first[5..]].concat());
     entered("no rule", &[], 0, DONE, vec![]);
-    // The longest rule stands behind the broken one, and is measured, not written.
+    // The longest rule stands after the broken one, and is measured, not written.
     let behind = [&book[10..], &book[..10]].concat();
     entered("broken before the longest", &behind, 13, Answer { number: 41, place: 0 }, third);
     entered("measured before", &behind, 12, Answer { number: 33, place: 13 }, vec![]);
@@ -575,7 +575,7 @@ fn laws(tally: &mut Tally) {
     tally.same("16,385 bytes", check_steps(&[0; 16385], &[], &[]), Answer { number: 11, place: 0 });
 }
 
-/// The marked case of item 12, and some whose numbers are easily told.
+/// The marked case of item 12, and some whose numbers are easy to work out.
 fn counts(tally: &mut Tally) {
     let done = [
         (1, "21 01 03 00", "30", [2, 0, 0, 2]),
@@ -610,7 +610,7 @@ fn counts(tally: &mut Tally) {
     }
 }
 
-/// Games on a blank sheet of two nodes: what the dispatcher and the disruption may do, and who wins after so many moves.
+/// Games on a blank sheet of two nodes: what the dispatcher and the disruption may do, and who wins after a number of moves.
 fn games(tally: &mut Tally) {
     let blank = sheet::store(&Graph::blank(2));
     let played = |book: &str, goal: &str, ours: &[&str], theirs: &[&str], moves: usize| {
@@ -634,7 +634,7 @@ fn games(tally: &mut Tally) {
     tally.same("a pass that loses", played(never, labelled, &[give], &[idle], 2), [0, 0, 0, 0]);
     tally.same("a pass, then theirs", played(never, labelled, &[give], &[give], 2), [0, 0, 2, 0]);
     tally.same("no pass beside an edit", played("", "27 23 00 03 00", &[give], &[], 1), [0, 0, 0, 0]);
-    // Once they break the book by giving the label, no edit of ours can be made but one that takes it.
+    // Once they break the book by giving the label, no edit of ours can be made except one that takes it.
     tally.same("theirs without the book", played(never, labelled, &[idle], &[give], 3), [0, 0, 1, 0]);
     tally.same("ours under it", played(never, labelled, &[take], &[give], 3), [0, 0, 0, 0]);
     // The given sheet need not keep the book.

@@ -9,8 +9,8 @@ pub const BLOCK: usize = 512;
 const BLOCKS: usize = 17;
 
 /// How the sums s and t of a block are taken and stored: modulo what, over how many bytes from byte 0, and in how many
-/// bytes each, little-endian, one behind the other, at the block's end. The zeros end where the sums begin. And whether
-/// block 0 holds the nodes in use, in label form, behind the labels; else all n are.
+/// bytes each, little-endian, one after the other, at the block's end. The zeros end where the sums begin. And whether
+/// block 0 holds the nodes in use, in label form, after the labels; otherwise all n are in use.
 #[derive(Clone, Copy, Debug)]
 pub struct Form {
     pub modulus: u32,
@@ -66,7 +66,7 @@ impl Form {
         Ok(in_use.len())
     }
 
-    /// Which of the nodes below n are in use, whatever n is.
+    /// Which of the nodes below n are in use, for any n.
     fn in_use(&self, sheet: &[u8]) -> Nodes {
         (0..usize::from(sheet[2])).map(|i| !self.holds_use || i < 64 && bit_at(sheet, USE_PLACE, i)).collect()
     }
@@ -185,7 +185,7 @@ fn row_place(a: usize, i: usize) -> usize {
     (a + 1) * BLOCK + 16 + 8 * i
 }
 
-/// All of a graph's sheet but the nodes in use and the check bytes.
+/// All of a graph's sheet except the nodes in use and the check bytes.
 fn unsealed(graph: &Graph) -> Vec<u8> {
     let mut sheet = vec![0; SHEET];
     sheet[0] = 1;

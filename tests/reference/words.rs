@@ -204,7 +204,7 @@ impl<'t> Reader<'t> {
         Ok(found)
     }
 
-    /// Something behind a comma.
+    /// Something after a comma.
     fn then<T>(&mut self, read: impl FnOnce(&mut Self) -> Asked<T>) -> Asked<T> {
         self.mark(b",")?;
         read(self)
@@ -421,7 +421,7 @@ impl Table {
         }
     }
 
-    /// The lines of steps, each behind a margin.
+    /// The lines of steps, each after a margin.
     fn steps(&self, edit: &Edit, margin: &str, out: &mut Vec<u8>) {
         for step in edit {
             let line = match step {
@@ -466,7 +466,7 @@ fn print_rule(names: &[u8], text: &[u8]) -> Asked<Vec<u8>> {
     Ok(line(&table, &reader::first_carried(text, MOST_NODES)?))
 }
 
-/// What was asked for goes to the start of the output, if there is room: 33.
+/// Writes the result at the start of the output, if there is room: 33.
 fn put(asked: Asked<Vec<u8>>, out: &mut [u8]) -> Lengthy {
     let fitting = asked.and_then(|text| if out.len() < text.len() { refuse(33, text.len()) } else { Ok(text) });
     let length = fitting.as_ref().map_or(0, Vec::len);
@@ -497,7 +497,7 @@ pub fn edit_from_words(names: &[u8], words: &[u8], out: &mut [u8]) -> Lengthy {
     put(read_edit(names, words), out)
 }
 
-/// Where a rule of a book stands in its words: behind the rules before it. The words' length where there is none.
+/// Where a rule of a book stands in its words: after the rules before it. The words' length where there is none.
 pub fn rule_in_words(names: &[u8], words: &[u8], rule: usize) -> usize {
     let Ok(table) = table(names) else { return words.len() };
     let mut reader = Reader::new(&table, words, LAST_LEVEL);

@@ -46,7 +46,7 @@ fn deep() -> Vec<Pair> {
     pairs
 }
 
-/// Levels that the E of each step has of its own.
+/// The levels of the E of each step.
 fn deep_operands() -> Vec<Pair> {
     let mut pairs = Vec::new();
     let low = [vec![0x23, 0x00], vec![0x05; 30], vec![0x03, 0x00]].concat();
@@ -80,7 +80,7 @@ fn places(count: usize) -> Vec<u8> {
     }
 }
 
-/// Branches one behind the other, with and without a step in them.
+/// Branches one after the other, with and without a step in them.
 fn branched() -> Vec<Pair> {
     let with_step = [0x35, 0x23, 0x00, 0x03, 0x00, 0x31, 0x00, 0x01, 0x30, 0x30];
     let both =

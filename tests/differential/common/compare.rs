@@ -5,11 +5,11 @@ use reference::answer::Answer;
 use reference::witness::Witness;
 use std::collections::BTreeMap;
 
-/// Bytes on each side of a lent buffer that no call may touch; an odd number, so that buffers begin anywhere.
+/// Bytes on each side of a buffer that no call may touch; an odd number, so that buffers begin anywhere.
 const GUARD: usize = 37;
 const GUARD_BYTE: u8 = 0xA7;
 
-/// A buffer lent to the library, with a guard on each side.
+/// A buffer passed to the library, with a guard on each side.
 pub struct Lent {
     all: Vec<u8>,
     length: usize,
@@ -43,8 +43,7 @@ impl Lent {
     }
 }
 
-/// What a call leaves: its numbers, the first of them the answer's number where it has one, and all buffers that it was
-/// lent.
+/// What a call leaves: its numbers, the first of them the answer's number where it has one, and all buffers passed to it.
 #[derive(PartialEq)]
 pub struct Outcome {
     pub numbers: Vec<usize>,
@@ -109,7 +108,7 @@ impl Tally {
         *self.reached.entry((what, wanted.numbers[0])).or_insert(0) += 1;
     }
 
-    /// Counts two equal outcomes whose numbers are no answer. The first difference ends the program with the inputs in
+    /// Counts two equal outcomes whose numbers are not an answer. The first difference ends the program with the inputs in
     /// hexadecimal.
     pub fn compare_numbers(&mut self, what: &str, found: &Outcome, wanted: &Outcome, inputs: &[(&str, &[u8])]) {
         if found != wanted {
@@ -118,7 +117,7 @@ impl Tally {
         self.passed += 1;
     }
 
-    /// How often a number came, whatever was called.
+    /// How often a number came, from any call.
     fn reached(&self, number: usize) -> usize {
         self.reached.iter().filter(|((_, answer), _)| *answer == number).map(|(_, count)| count).sum()
     }

@@ -73,7 +73,7 @@ fn wrap(byte: &mut u8) {
     };
 }
 
-/// Two unequal neighbours, where the block has any at all behind some place.
+/// Two unequal neighbours, where the block has any after some place.
 fn exchange_neighbours(random: &mut Random, block: &mut [u8]) {
     let from = random.below(BLOCK - 1);
     if let Some(at) = (from..BLOCK - 1).find(|at| block[*at] != block[at + 1]) {

@@ -13,7 +13,7 @@ pub fn node_count(random: &mut Random) -> usize {
     }
 }
 
-/// Some of n nodes, one at least: often all, all but one, or one alone.
+/// Some of n nodes, at least one: often all, all except one, or one alone.
 pub fn in_use(random: &mut Random, n: usize) -> Nodes {
     let some = random.below(n);
     let mut nodes = vec![false; n];

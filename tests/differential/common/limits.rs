@@ -1,4 +1,4 @@
-//! Texts at each limit of document 01 and one past it.
+//! Texts at each limit of document 01 and just outside it.
 
 /// A node expression of just this many bytes, as flat as can be.
 pub fn wide_node(length: usize) -> Vec<u8> {
@@ -132,14 +132,14 @@ pub fn levels() -> Vec<Vec<u8>> {
         texts.push([[0x35, 0x21, 0x01, 0x01].repeat(depth), vec![0x30; 2 * depth + 1]].concat());
         texts.push([vec![0x35], vec![0x27; depth], vec![0x23, 0x00, 0x01, 0x30, 0x30, 0x30]].concat());
     }
-    // Forty steps one behind the other: Z is on the level of its step.
+    // Forty steps one after the other: Z is on the level of its step.
     texts.push([[0x31, 0x00, 0x01].repeat(40), vec![0x30]].concat());
     // A rule that ends where level 33 would begin.
     texts.push([vec![0x23, 0x01], vec![0x05; 31]].concat());
     texts
 }
 
-/// Books of 31 to 34 rules, sound, with a fault in a rule, and with any byte behind the last.
+/// Books of 31 to 34 rules, sound, with a fault in a rule, and with any byte after the last.
 pub fn rule_counts() -> Vec<Vec<u8>> {
     let mut texts = Vec::new();
     for rules in 31..=34 {
@@ -159,7 +159,7 @@ pub fn rule_counts() -> Vec<Vec<u8>> {
     texts
 }
 
-/// Texts of 4,095 to 4,098 bytes, sound but for their length, and of other bytes.
+/// Texts of 4,095 to 4,098 bytes, sound except for their length, and of other bytes.
 pub fn lengths() -> Vec<Vec<u8>> {
     let mut texts = Vec::new();
     for length in [4095, 4096, 4097, 4098, 5000, 65535] {

@@ -36,7 +36,7 @@ pub const WORDS: [&str; 24] = [
     "end",
 ];
 
-/// Tokens that are no names, and some that almost are not.
+/// Tokens that are not names, and some that only just are.
 const HOSTILE: [&[u8]; 40] = [
     b"label:3",
     b"arrow:2",

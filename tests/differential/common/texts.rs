@@ -32,7 +32,7 @@ pub fn damaged(random: &mut Random, mut text: Vec<u8>) -> Vec<u8> {
     text
 }
 
-/// A byte behind a 0A or 0B, most often its count, made one at an end of a range of counts or beyond.
+/// A byte after a 0A or 0B, most often its count, made one at an end of a range of counts or beyond.
 pub fn miscounted(random: &mut Random, mut text: Vec<u8>) -> Vec<u8> {
     let counts: Vec<usize> = (1..text.len()).filter(|at| text[at - 1] == 0x0A || text[at - 1] == 0x0B).collect();
     if !counts.is_empty() {
