@@ -18,6 +18,9 @@ enum {
     WINDOW = 100 /* bytes of a long line that are shown on either side of a mark */
 };
 
+/* What a game may have, for its help and for what is refused. */
+#define GAME_LIMITS "A game has 1 to 6 MOVES, 1 to 4 edits of the dispatcher and 0 to 4 of the disruption."
+
 /* A file's bytes. */
 typedef struct {
     const char *path;

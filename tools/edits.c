@@ -122,8 +122,7 @@ static int read_edits(request *r, edit_list *list) {
 static int play_fault(request *r, const file *sheet, const text *book, const text *goal, const edit_list *list, zamiathen_played played) {
     zamiathen_answer answer = {played.number, played.place};
     if (played.number == ZAMIATHEN_GAME_RANGE) {
-        fprintf(stderr, "zamiathen: %zu: %s\nA game has 1 to 4 edits, up to 4 against them, and 1 to 6 moves.\n", played.number,
-                zamiathen_text(played.number));
+        fprintf(stderr, "zamiathen: %zu: %s\n%s\n", played.number, zamiathen_text(played.number), GAME_LIMITS);
         return REFUSED;
     }
     size_t judged = zamiathen_judge(sheet->bytes, sheet->length, book->codes, book->length).number;

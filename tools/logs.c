@@ -15,6 +15,17 @@ enum { BLOCK = 512, MOST_BLOCKS = 65535, LINE = 9 };
  * Recording
  */
 
+/* Says that a file is not a log, if a block of it does not begin as those of a log do: with a 3, and one of 0 to 3 after it. */
+static int check_log(const file *log) {
+    for (size_t at = 0; at < log->length; at += BLOCK)
+        if (log->bytes[at] != 3 || log->bytes[at + 1] > 3) {
+            fprintf(stderr, "%s: It is not a log: block %zu does not begin as one of a log. Take another file or an earlier copy.\n", log->path,
+                    at / BLOCK);
+            return REFUSED;
+        }
+    return DONE;
+}
+
 /* The log with one edit more. */
 static int longer_log(request *r, const text *edit, file *log) {
     uint8_t *blocks = take(r, ZAMIATHEN_LOG_BYTES);
@@ -30,6 +41,9 @@ static int longer_log(request *r, const text *edit, file *log) {
                 figure(r, MOST_BLOCKS));
         return REFUSED;
     }
+    int status = check_log(log);
+    if (status != DONE)
+        return status;
     uint8_t *longer = take(r, log->length + made.length);
     if (log->length > 0)
         memcpy(longer, log->bytes, log->length);

@@ -116,7 +116,7 @@ size_t print_changes(request *r, const uint8_t *old_sheet, const uint8_t *new_sh
     const graph *before = graph_of(r, old_sheet), *after = graph_of(r, new_sheet);
     size_t count = before->n != after->n;
     if (before->n != after->n)
-        printf("  %zu nodes, and then %zu\n", before->n, after->n);
+        printf("  nodes: %zu, and then %zu\n", before->n, after->n);
     for (size_t node = 0; node < ZAMIATHEN_MAX_NODES; node++)
         if (node < before->n && node < after->n && has(before->in_use ^ after->in_use, node)) {
             printf("  %s is %s\n", node_name(r, node), has(after->in_use, node) ? "in use again" : "closed");

@@ -287,13 +287,16 @@ typedef struct {
     uint64_t rows, columns, outside; /* outside: the cells without a square */
 } board;
 
-/* Who counts as nowhere: of the labels that all nodes standing somewhere have, and others too, the one with the fewest nodes. */
-static uint64_t kin_of(const graph *g, uint64_t standing) {
-    uint64_t kin = 0;
+/* Who counts as nowhere after an edit: the nodes with that label which, before the edit, all nodes standing somewhere have, and others
+ * too; of several labels, the one with the fewest nodes. So an edit that changes labels does not change which label is chosen. */
+static uint64_t kin_of(const board *b, uint64_t standing) {
+    uint64_t kin = 0, kin_before = 0;
     for (size_t label = 0; label < ZAMIATHEN_LABELS && standing != 0; label++) {
-        uint64_t set = g->labels[label];
-        if ((standing & ~set) == 0 && (set & ~standing) != 0 && (kin == 0 || size_of(set) < size_of(kin)))
-            kin = set;
+        uint64_t set = b->before->labels[label];
+        if ((standing & ~set) == 0 && (set & ~standing) != 0 && (kin_before == 0 || size_of(set) < size_of(kin_before))) {
+            kin_before = set;
+            kin = b->after->labels[label];
+        }
     }
     return kin;
 }
@@ -363,6 +366,14 @@ static void fill_grid(request *r, const board *b, grid *g) {
     }
 }
 
+/* Is a square marked whose node, or a node in it, would break a rule? */
+static bool shows_broken(const grid *g) {
+    for (size_t i = 0; i < g->rows * g->columns; i++)
+        if (g->squares[i].broken)
+            return true;
+    return false;
+}
+
 /* Adds a note with the nodes of a set, + before those that were not in it. */
 static void note_nodes(request *r, grid *g, const char *head, uint64_t set, uint64_t earlier) {
     if (set == 0)
@@ -377,7 +388,7 @@ static void note_nodes(request *r, grid *g, const char *head, uint64_t set, uint
 
 static void note_nowhere(request *r, const board *b, grid *g) {
     uint64_t now = standing(b, b->after), then = standing(b, b->before);
-    uint64_t kin = b->who != 0 ? b->who : kin_of(b->after, now);
+    uint64_t kin = r->who_label != NULL ? b->who : kin_of(b, then);
     note_nodes(r, g, "nowhere:", kin & ~now, ~then);
     note_nodes(r, g, "without a square:", b->outside, ~(uint64_t)0);
 }
@@ -428,7 +439,7 @@ static int put_board(request *r, board *b, size_t rule) {
     if (r->edit_path != NULL) {
         string note = empty_string(r);
         add(&note, "+ comes, - goes");
-        if (b->broken != 0)
+        if (shows_broken(&g))
             add_format(&note, ", ! would break rule %zu", rule);
         g.note[g.notes++] = note;
     }

@@ -124,7 +124,7 @@ static int print_shortened(request *r, const uint8_t *carried) {
         puts("none of the eight laws shortens it");
         return REFUSED;
     }
-    printf("shortened from %zu bytes to %zu, in %zu steps:\n", length, s.length, s.count);
+    printf("shortened from %zu bytes to %zu, in %zu step%s:\n", length, s.length, s.count, s.count == 1 ? "" : "s");
     for (const uint8_t *step = s.steps; step < s.steps + 3 * s.count; step += 3)
         printf("  byte %u, law %u: %s\n", step[0] + 256u * step[1], step[2], law_text(step[2]));
     print_rule(r, "  ", s.codes, s.length);

@@ -394,6 +394,15 @@ static bool has_order_mark(const file *f, token t) {
     return t.start == 0 && t.end >= 3 && memcmp(f->bytes, "\xEF\xBB\xBF", 3) == 0;
 }
 
+/* Does a token have a no-break space? That is not a blank, but part of a word. */
+static bool has_no_break_space(const file *f, token t) {
+    for (size_t i = t.start; i + 1 < t.end; i++)
+        if (f->bytes[i] == 0xC2 && f->bytes[i + 1] == 0xA0)
+            return true;
+    return false;
+}
+
+static const char no_break_space[] = "it has a no-break space: write a blank\n";
 static const char order_mark[] = "the file begins with a byte order mark: save it without\n";
 
 /* What a word is that was not wanted: one of the notation, a name of which sort, or none. */
@@ -469,6 +478,8 @@ static int names_fault(const file *f, zamiathen_answer answer) {
     say_wanted_entry(f, count % 3, sort);
     if (has_order_mark(f, t))
         fputs(order_mark, stderr);
+    if (has_no_break_space(f, t))
+        fputs(no_break_space, stderr);
     if (t.end > t.start && shape_of(f, t) != NULL)
         fputs("this is a word of the notation\n", stderr);
     say_earlier(f, count % 3, t, sort);
@@ -527,6 +538,19 @@ static void say_levels(const context *c) {
     }
 }
 
+/* Of an end right after the steps of if(…): what is missing. */
+static void say_else(const context *c, const file *f, token here) {
+    if (c->depth == 0 && c->ifs > 0 && c->branches[c->ifs - 1].operand == 0 && token_is(f, here, "end"))
+        fputs("write else before end, even without steps\n", stderr);
+}
+
+/* Is a token the name of a label, an arrow or a node? */
+static bool is_name(request *r, const file *f, token t) {
+    word name = {f->bytes + t.start, t.end - t.start};
+    size_t number;
+    return number_of(r, 'l', name, &number) || number_of(r, 'a', name, &number) || number_of(r, 'i', name, &number);
+}
+
 /* A fault of words: 64 to 70. */
 static int words_fault(request *r, const text *t, size_t number, size_t place) {
     const file *f = &t->source;
@@ -548,7 +572,11 @@ static int words_fault(request *r, const text *t, size_t number, size_t place) {
         say_wanted(&c, f, here.start);
     if (number == ZAMIATHEN_WORDS_MARK)
         say_third_operand(&c, f, here);
-    if (number == ZAMIATHEN_WORDS_START || number == ZAMIATHEN_WORDS_NUMBER)
+    if (number == ZAMIATHEN_WORDS_START)
+        say_else(&c, f, here);
+    if (has_no_break_space(f, here) && !is_name(r, f, here))
+        fputs(no_break_space, stderr);
+    else if (number == ZAMIATHEN_WORDS_START || number == ZAMIATHEN_WORDS_NUMBER)
         say_name(r, f, here, wanted_sort(&c));
     return REFUSED;
 }
@@ -590,6 +618,8 @@ static bool looks_like_text(const file *f) {
 int codes_fault(request *r, const text *t, size_t number, size_t place, size_t n) {
     bool range = number == ZAMIATHEN_BOOK_NUMBER || number == ZAMIATHEN_EDIT_NUMBER;
     fprintf(stderr, "%s: %zu: %s\n", t->source.path, number, zamiathen_text(number));
+    if (!t->in_words && looks_like_text(&t->source))
+        fprintf(stderr, "%s is read as codes, because its name does not end in .words.\n", t->source.path);
     if (t->in_words && range && place < t->length) {
         fprintf(stderr, "%s is node %u, and the sheet has the nodes 0 to %zu.\n", node_name(r, t->codes[place]),
                 t->codes[place], n - 1);
@@ -598,11 +628,9 @@ int codes_fault(request *r, const text *t, size_t number, size_t place, size_t n
     if (number == ZAMIATHEN_BOOK_LENGTH || number == ZAMIATHEN_EDIT_LENGTH)
         fprintf(stderr, "It has %s.\n", figure(r, t->length));
     else if (place < t->length)
-        fprintf(stderr, "Byte %zu, counted from 0, is %02X.\n", place, t->codes[place]);
+        fprintf(stderr, "Byte %zu, counted from 0, is %02X in hexadecimal.\n", place, t->codes[place]);
     else
         fprintf(stderr, t->in_words ? "It stands for %s bytes.\n" : "It has %s bytes.\n", figure(r, t->length));
-    if (!t->in_words && looks_like_text(&t->source))
-        fprintf(stderr, "%s is read as codes, because its name does not end in .words.\n", t->source.path);
     return REFUSED;
 }
 

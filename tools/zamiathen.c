@@ -66,11 +66,16 @@ static const command commands[] = {
      run_table, "shows who stands where, in a squared sheet",
      "A square for each node with the label CELL, in the row and the column to which its arrows ROW and COLUMN go; in the\n"
      "square the nodes with an arrow IN to it. A square with the label closed, or that of --closed, is closed. Below:\n"
-     "which nodes stand nowhere, of those with the label --who, or else with a label that all have that stand somewhere. With\n"
-     "--try: what the edit would change, + and -, and with --book who would break a rule, !.\n"
+     "which nodes stand nowhere, of those with the label --who, or else of the rarest label that all have that stand\n"
+     "somewhere, and others too; without such a label nothing is listed. Then the nodes with the label CELL that lack an\n"
+     "arrow ROW or COLUMN (without a square). With --try: what the edit would change, + and -; no book is judged unless\n"
+     "--book names one. If a rule of it would be broken, ! marks each node that would break it, if that is a square or stands\n"
+     "in one, and the exit status is 1.\n"
      "  zamiathen table sheet.bin berth has-platform has-slot stands-at --svg table.svg\n"},
     {"diff", "SHEET SHEET", "n", 2, 2, run_diff, "says what differs between two sheets",
-     "Prints what only the second sheet has (+) and what only the first has (-).\n"
+     "Prints what only the second sheet has (+) and what only the first has (-); an arrow that only changes its end as\n"
+     "\"T34 stands-at: P1-S1 → P1-S2\"; which nodes are closed or in use again; and the numbers of nodes if they differ.\n"
+     "enter, return, type and replay print changes in the same way. The exit status is 0 even if the sheets differ.\n"
      "  zamiathen diff sheet.bin sheet_after.bin\n"},
     {"close", "SHEET BOOK NODE", "n", 3, 3, run_close, "closes a node that has nothing",
      "Closes a node that has no label and no arrow, if the sheet without it keeps the book. Else prints the rule that would\n"
@@ -117,13 +122,17 @@ static const command commands[] = {
      "Says whether the dispatcher, who moves first and enters one of the edits, can force the rule GOAL to hold after MOVES\n"
      "moves, and by which edit first. The disruption moves by turns with the dispatcher and makes one of the edits after\n"
      "--against, whatever the book says. The exit status is 1 if no win can be forced.\n"
+     GAME_LIMITS "\n"
      "  zamiathen play sheet.bin book.words goal.words 3 move.words swap.words --against fault_s1.words fault_s2.words\n"},
     {"log", "EDIT LOG", "n", 2, 2, run_log, "records an edit in a log",
-     "Appends the edit to the log. A log that is not there is made.\n"
+     "Appends the edit to the log. A file that is not a log, such as a sheet, is refused; most damage inside a log is found only\n"
+     "by replay. A log that does not exist is created.\n"
      "  zamiathen log move.words week.log\n"},
     {"replay", "SHEET BOOK LOG [OUT]", "n", 3, 4, run_replay, "runs the edits of a log again",
-     "Runs the program replay, from this command's folder or else from the PATH, and prints its line for each edit with a\n"
-     "sentence, and what has changed in the end. The sheet stays as it is; the one that the log ends in is written to OUT.\n"
+     "Runs the program zamiathen-replay or replay, the one in this command's folder or else on the PATH, and prints its line\n"
+     "for each edit with a sentence, and what has changed in the end. The sheet stays as it is. If the log is good to its\n"
+     "end, the sheet that it ends in is written to OUT, and the exit status is 0, even if edits were refused; if a block is\n"
+     "bad, OUT is not written, and the exit status is 1.\n"
      "  zamiathen replay sheet.bin book.words week.log\n"},
     {"help", "[COMMAND]", "", 0, 1, run_help, "says what a command does",
      "Prints the commands, or what one of them does, with an example.\n"
@@ -134,9 +143,9 @@ enum { COMMANDS = sizeof commands / sizeof *commands };
 
 static const char shared_help[] =
     "\nFiles that end in .words are words, all others codes. The names are in station.names in the folder of the first file\n"
-    "of a command, mostly the sheet; --names FILE names another table. A file is replaced as a whole or not at all, and of two\n"
-    "calls that change it one waits for the other. The exit status is 0 for done, 1 for refused, 2 for wrong usage or a file\n"
-    "that cannot be read or written.\n";
+    "of a command, mostly the sheet; --names FILE names another table. A file OUT that exists is replaced without a question,\n"
+    "whatever it holds. A file is replaced as a whole or not at all, and of two calls that change it one waits for the other.\n"
+    "The exit status is 0 for done, 1 for refused, 2 for wrong usage or a file that cannot be read or written.\n";
 
 static const command *command_of(const char *name) {
     for (size_t i = 0; i < COMMANDS; i++)
@@ -149,13 +158,15 @@ static const char *names_option(const command *c) {
     return strchr(c->options, 'n') != NULL ? " [--names FILE]" : "";
 }
 
+static int print_help(const command *c) {
+    printf("zamiathen %s %s%s\n\n%s", c->name, c->operands, names_option(c), c->help);
+    return DONE;
+}
+
 static int run_help(request *r) {
     if (r->count == 1) {
         const command *c = command_of(r->operands[0]);
-        if (c == NULL)
-            return wrong("there is no command %s; zamiathen help lists all", r->operands[0]);
-        printf("zamiathen %s %s%s\n\n%s", c->name, c->operands, names_option(c), c->help);
-        return DONE;
+        return c != NULL ? print_help(c) : wrong("there is no command %s; zamiathen help lists all", r->operands[0]);
     }
     puts("zamiathen COMMAND ...");
     for (size_t i = 0; i < COMMANDS; i++)
@@ -204,6 +215,7 @@ static int read_words(request *r, const command *c, int count, char **words) {
                 return usage(c);
             *place = words[++i];
         } else if (against ? r->against_count == ZAMIATHEN_MAX_EDITS : r->count == c->most) {
+            fputs(c->run == run_play ? GAME_LIMITS "\n" : "", stderr);
             return usage(c);
         } else if (against) {
             r->against[r->against_count++] = words[i];
@@ -220,9 +232,18 @@ static bool wants_colour(void) {
     return (none == NULL || *none == 0) && terminal != NULL && strcmp(terminal, "dumb") != 0 && isatty(STDOUT_FILENO);
 }
 
+/* Is --help among the options? */
+static bool wants_help(int count, char **words) {
+    for (int i = 0; i < count && strcmp(words[i], "--") != 0; i++)
+        if (strcmp(words[i], "--help") == 0)
+            return true;
+    return false;
+}
+
 static int run_command(request *r, const command *c, int count, char **words) {
-    int status = read_words(r, c, count, words);
-    if (status == DONE)
+    bool help = wants_help(count, words);
+    int status = help ? print_help(c) : read_words(r, c, count, words);
+    if (status == DONE && !help)
         status = c->run(r);
     if ((fflush(stdout) != 0 || ferror(stdout)) && status != WRONG)
         status = wrong("the output cannot be written");
