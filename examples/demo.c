@@ -79,6 +79,8 @@ static void print_broken(size_t rule, const uint8_t *judged, size_t length) {
         printf("  broken by %s", node_name(who.first));
     if (who.kind == ZAMIATHEN_WITNESS_PAIR)
         printf(" and %s", node_name(who.second));
+    if (who.kind == ZAMIATHEN_WITNESS_UNNAMED)
+        printf("  nobody is named");
     printf("\n");
 }
 
@@ -120,7 +122,9 @@ static void play(size_t moves) {
     zamiathen_played played = zamiathen_play(sheet, sheet_length, book.bytes, book.length, goal.bytes, goal.length, edits, end,
                                              lengths, 4, 2, moves);
     if (played.outcome == ZAMIATHEN_PLAY_REFUSED)
-        print_answer("play", files[played.edit], played.number, played.place);
+        print_answer("play", played.number >= ZAMIATHEN_EDIT_LENGTH && played.number <= ZAMIATHEN_CARRIED_LEVELS ? files[played.edit]
+                                                                                                               : "the game",
+                     played.number, played.place);
     else
         printf("play %zu moves: %s\n", moves, played.outcome == ZAMIATHEN_PLAY_EDIT ? files[played.edit]
                                              : played.outcome == ZAMIATHEN_PLAY_PASS ? "pass" : "no win can be forced");

@@ -66,7 +66,7 @@ size_t zamiathen_version(void);
 #define ZAMIATHEN_RULE_WORDS_BYTES 662372 /* the longest carried rule in words */
 #define ZAMIATHEN_LINE_BYTES 64       /* a line of a page, with its line feed */
 #define ZAMIATHEN_PAGE_BYTES 3904     /* the longest page: an arrow kind, 60 nodes; a label page has 3200 */
-#define ZAMIATHEN_STACK_BYTES 262144  /* measured: 230,960, with a carried rule of 255 levels, the most */
+#define ZAMIATHEN_STACK_BYTES 262144  /* measured: 235,424, with a carried rule of 255 levels, the most */
 #define ZAMIATHEN_THREAD_BYTES 393216 /* the whole stack of a thread */
 
 /* Limits. A sheet has n nodes, where n is 1 to ZAMIATHEN_MAX_NODES and stands in its byte 2. Nodes, labels and arrow
@@ -96,11 +96,12 @@ enum zamiathen_number {
     ZAMIATHEN_NODE_COUNT = 5,   /* n of a blank sheet is not 1 to 60 */
     ZAMIATHEN_OUT_OF_RANGE = 7, /* the sheet has no label, arrow or node of this number */
 
-    /* The book. Place: the byte in the book, except 0 for 11 and the book's length for 12. */
-    ZAMIATHEN_BOOK_LENGTH = 11, /* more than 4,096 bytes */
+    /* The book. Place: the byte in the book, except 0 for 11 and, for 12, the book's length (of zamiathen_witness and
+     * zamiathen_rule_to_words at most 16,384). */
+    ZAMIATHEN_BOOK_LENGTH = 11, /* more than 4,096 bytes; of zamiathen_check_steps: more than 16,384 */
     ZAMIATHEN_BOOK_ENDS = 12,   /* it ends where a byte is wanted */
     ZAMIATHEN_BOOK_CODE = 13,   /* not a code of the sort wanted */
-    ZAMIATHEN_BOOK_LEVEL = 14,  /* deeper than level 32 */
+    ZAMIATHEN_BOOK_LEVEL = 14,  /* deeper than level 32; where a carried rule is taken: than level 255 */
     ZAMIATHEN_BOOK_NUMBER = 15, /* a label, arrow or node number or a count out of range */
     ZAMIATHEN_BOOK_RULES = 16,  /* more than 32 rules, or bytes after a single rule; place: the first byte too many */
 
@@ -163,7 +164,7 @@ enum zamiathen_number {
     ZAMIATHEN_WORDS_MARK = 66,   /* a mark, one of ( ) and the comma, is wanted, and this is another token */
     ZAMIATHEN_WORDS_NUMBER = 67, /* a name or count is wanted, and this is not one of that sort in its range */
     ZAMIATHEN_WORDS_LEVEL = 68,  /* what this token begins would be deeper than level 32 */
-    ZAMIATHEN_WORDS_RULES = 69,  /* a 33rd rule */
+    ZAMIATHEN_WORDS_RULES = 69,  /* any token after the 32nd rule */
     ZAMIATHEN_WORDS_LENGTH = 70  /* the codes would have more than 4,096 bytes; place: how many */
 };
 
@@ -177,7 +178,7 @@ static inline const char *zamiathen_text(size_t number) {
     case 4: return "A byte or bit of the sheet that must be zero is not.";
     case 5: return "A blank sheet has 1 to 60 nodes.";
     case 7: return "The sheet has no label, arrow or node of this number.";
-    case 11: return "The book has more than 4,096 bytes.";
+    case 11: return "The book is too long.";
     case 12: return "The book ends where a byte is wanted.";
     case 13: return "A byte of the book is not a code of the sort wanted.";
     case 14: return "The book is too deep.";
@@ -390,7 +391,8 @@ zamiathen_answer zamiathen_type_page(uint8_t *sheet, size_t sheet_length, const 
  * Questions: 11 of the whole text, then 12 to 15 of the first rule; what follows the rule is not checked. */
 zamiathen_length zamiathen_first_rule(const uint8_t *text, size_t text_length);
 
-/* Returns where a rule of a book starts; rules are counted from 0, and n is the sheet's. After a 41, which names a
+/* Returns where a rule of a book starts; rules are counted from 0, and n is that of the sheet judged (after
+ * zamiathen_return the kept one); 60 gives the same for every book that passed 11 to 16. After a 41, which names a
  * rule, its bytes go from zamiathen_rule_start(book, book_length, n, rule) up to zamiathen_rule_start(book,
  * book_length, n, rule + 1). Returns book_length if the book does not have such a rule, or if a rule before it cannot
  * be read with node numbers below n. Asks no question and writes nothing. */
@@ -412,7 +414,8 @@ zamiathen_judged zamiathen_judge(const uint8_t *sheet, size_t sheet_length, cons
  * After 41 of zamiathen_judge pass the part of the book that it names. After 41 of zamiathen_enter pass the sheet,
  * which is as it was, and the scratch, which starts with the broken rule, carried back: the witness is who would
  * break the rule after the edit. After 41 of zamiathen_return the kept sheet is in the store, from byte 512 + 8704 *
- * (name - 1) on. After 41 of zamiathen_close or zamiathen_open no buffer holds the sheet that was judged.
+ * (name - 1) on. After 41 of zamiathen_close or zamiathen_open make the same call with an empty book on a copy of
+ * the sheet, and pass the copy and the rule in the book.
  * Questions: 1 to 4, then 12 to 15 of the rule. */
 zamiathen_witnessed zamiathen_witness(const uint8_t *sheet, size_t sheet_length, const uint8_t *rule,
                                       size_t rule_length);
@@ -533,7 +536,7 @@ zamiathen_length zamiathen_log_edit(const uint8_t *edit, size_t edit_length, uin
  * tokens up to and including the place do not begin any within the limits.
  *
  * Words and tables of names may have any length. A NUL is a byte of a word like any other: pass the length of a string
- * without its NUL, or a token that looks right is refused (63 or 65). A byte order mark is refused at place 0.
+ * without its NUL, or the last word, or the NUL itself, is refused (63 or 65). A byte order mark is refused at place 0.
  */
 
 /* Checks whether a text is a table of names. Writes nothing.
@@ -573,9 +576,9 @@ zamiathen_length zamiathen_edit_from_words(const uint8_t *names, size_t names_le
                                            size_t words_length, uint8_t *output, size_t output_length);
 
 /* Returns where the first word of a rule stands in the words of a book, so that a 41 can point at a line; rules are
- * counted from 0. Returns words_length if the book does not have such a rule, if a rule before it cannot be read, or
- * if the table of names is wrong; faults in the rule itself and after it do not matter. Asks no question and writes
- * nothing. */
+ * counted from 0. Returns words_length if the book does not have such a rule, if the rule is not below 32, if a rule
+ * before it cannot be read, or if the table of names is wrong; faults in the rule itself and after it do not matter.
+ * Asks no question and writes nothing. */
 size_t zamiathen_rule_in_words(const uint8_t *names, size_t names_length, const uint8_t *words, size_t words_length,
                                size_t rule);
 

@@ -1,6 +1,6 @@
 -- Stations and their edits. Needs the extension sql/sqlite.c; run it once in a new database, in one transaction:
 --
---   sqlite3 -bail stations.db ".load zamiathen_sqlite" ".read schema.sql"
+--   sqlite3 -bail stations.db ".load ./zamiathen_sqlite" ".read schema.sql"
 --
 -- A station is made by an INSERT into stations with the opening sheet as its sheet. Edits are entered by an INSERT into the
 -- view edits (station, edit, who), and by nothing else: the sheet is what replaying the log on the opening sheet gives.

@@ -109,7 +109,7 @@ _TEXTS = {
     4: "A byte or bit of the sheet that must be zero is not.",
     5: "A blank sheet has 1 to 60 nodes.",
     7: "The sheet has no label, arrow or node of this number.",
-    11: "The book has more than 4,096 bytes.",
+    11: "The book is too long.",
     12: "The book ends where a byte is wanted.",
     13: "A byte of the book is not a code of the sort wanted.",
     14: "The book is too deep.",

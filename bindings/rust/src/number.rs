@@ -62,7 +62,7 @@ const TEXTS: [(Number, &str); 43] = [
     (Number::SheetZeros, "A byte or bit of the sheet that must be zero is not."),
     (Number::NodeCount, "A blank sheet has 1 to 60 nodes."),
     (Number::OutOfRange, "The sheet has no label, arrow or node of this number."),
-    (Number::BookLength, "The book has more than 4,096 bytes."),
+    (Number::BookLength, "The book is too long."),
     (Number::BookEnds, "The book ends where a byte is wanted."),
     (Number::BookCode, "A byte of the book is not a code of the sort wanted."),
     (Number::BookLevel, "The book is too deep."),
