@@ -350,7 +350,7 @@ static void rules(void) {
     }
     same("no such rule", zamiathen_rule_start(BROKEN, sizeof BROKEN, 3, SIZE_MAX) == sizeof BROKEN);
     same("rule start with n = 2", zamiathen_rule_start(BROKEN, sizeof BROKEN, 2, 1) == 3);
-    same("rule behind node 2 with n = 2", zamiathen_rule_start(BROKEN, sizeof BROKEN, 2, 2) == sizeof BROKEN);
+    same("rule after node 2 with n = 2", zamiathen_rule_start(BROKEN, sizeof BROKEN, 2, 2) == sizeof BROKEN);
     judged("second rule broken", zamiathen_judge(sheet, whole, BROKEN, sizeof BROKEN),
            (zamiathen_judged){ZAMIATHEN_RULE_BROKEN, 1, 3, 4});
     answered("second rule broken", enter(whole, BROKEN, sizeof BROKEN, END, 1), ZAMIATHEN_RULE_BROKEN, 1);
@@ -424,7 +424,7 @@ static void pages(void) {
     left_alone("pages of its own");
     answered("page cut short", zamiathen_type_page(sheet, whole, page, length - 1), ZAMIATHEN_PAGE, 0);
     page[64 * 2 + 3 + 3] = '.';
-    answered("mark behind column n", zamiathen_type_page(sheet, whole, page, length), ZAMIATHEN_PAGE, 2);
+    answered("mark after column n", zamiathen_type_page(sheet, whole, page, length), ZAMIATHEN_PAGE, 2);
     memcpy(page, "A16", 3);
     answered("head of no kind", zamiathen_type_page(sheet, whole, page, length), ZAMIATHEN_PAGE, 0);
     labels[64 * 49 + 4] = '.';
@@ -1065,7 +1065,7 @@ static zamiathen_answer enter_with(const uint8_t *book, size_t length, size_t sc
 static void one_by_one(void) {
     static uint8_t writings[FIRST];
     start();
-    answered("longest behind the broken one", enter_with(ONE_BY_ONE, sizeof ONE_BY_ONE, LAST - 1), ZAMIATHEN_ROOM, LAST);
+    answered("longest after the broken one", enter_with(ONE_BY_ONE, sizeof ONE_BY_ONE, LAST - 1), ZAMIATHEN_ROOM, LAST);
     answered("no scratch", enter_with(ONE_BY_ONE, FIRST_TWO, 0), ZAMIATHEN_ROOM, FIRST);
     answered("one byte short", enter_with(ONE_BY_ONE, FIRST_THREE, FIRST - 1), ZAMIATHEN_ROOM, FIRST);
     left_alone("short scratches");
