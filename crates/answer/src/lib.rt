@@ -1,4 +1,7 @@
 // The answer of a call: done, or a refusal with number and place ("The calls" of document 01).
+
+#![tactic(auto)]
+
 ghost use Rattle.std.specs.Prelude.{◌≡◌};
 ghost use Rattle.answer.specs.Answers.{refusal_number_def, refusal_place_def, answer_number, answer_place};
 

@@ -1,5 +1,8 @@
 // Carrying out an edit in the sheet's buffer. Each step evaluates its whole expression on the sheet just before it, then writes
 // its label or its rows and seals that one block: after each step the buffer is the sheet of the graph after that step.
+
+#![tactic(auto)]
+
 ghost use Rattle.std.specs.Prelude.{◌≡◌, ◌<◌, ◌≤◌, get_or};
 ghost use Rattle.answer.specs.Asked.{outcome};
 ghost use Rattle.answer.specs.Answers.{asked};

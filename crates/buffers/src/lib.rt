@@ -1,4 +1,7 @@
 // Words in slots of one width, and bytes written as far as there is room.
+
+#![tactic(auto)]
+
 ghost use Rattle.std.specs.Prelude.{◌≡◌, ◌+◌, ◌*◌, ◌^◌, ◌≤◌, ◌<◌, length, get_or};
 ghost use Rattle.names.specs.Token.{same, first_below};
 ghost use Rattle.buffers.specs.Slots.{Slots, slot_at, put_slot_def, or_bound};

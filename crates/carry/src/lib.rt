@@ -1,4 +1,7 @@
 // Carrying a book back into an output ("Carrying back" and "The questions, in order" of document 01).
+
+#![tactic(auto)]
+
 ghost use Rattle.std.specs.Prelude.{◌≡◌, List, ◌≤◌, length};
 ghost use Rattle.logic.specs.Syntax.{Edit, Expr, rule};
 ghost use Rattle.ends.specs.Edits.{EditAt, SomeEdit};

@@ -1,4 +1,7 @@
 // Shorter conditions from a partner's tool (item 11 of document 02): changes a carried rule step by step and compares it with the text sent.
+
+#![tactic(auto)]
+
 ghost use Rattle.std.specs.Prelude.{◌≡◌, ◌+◌, ◌*◌, ◌<◌, ◌≤◌, length};
 ghost use Rattle.answer.specs.Answers.{asked};
 ghost use Rattle.answer.specs.Outputs.{written_at_start};

@@ -1,5 +1,8 @@
 // Closing and opening a node: calls, not steps of an edit. Both judge the sheet that they would leave, in the sheet's buffer; a refusal puts
 // the nodes in use back.
+
+#![tactic(auto)]
+
 ghost use Rattle.std.specs.Prelude.{◌≡◌, not, ◌||◌, List, ◌<◌, ◌≤◌, length};
 ghost use Rattle.answer.specs.Answers.{asked};
 ghost use Rattle.answer.specs.Asked.{outcome};

@@ -1,6 +1,9 @@
 // How many small sheets keep a book before and after an edit (item 12 of document 02). One sheet's buffer holds them all, one after the other: only label 0
 // and arrow 0 differ, and the edit can change nothing else.
 // Stack: the buffer, 8,704 bytes, in addition to what judging and carrying out an edit need.
+
+#![tactic(auto)]
+
 ghost use Rattle.std.specs.Prelude.{◌≡◌};
 ghost use Rattle.answer.specs.Answers.{asked};
 ghost use Rattle.answer.specs.Asked.{outcome};

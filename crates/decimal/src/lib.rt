@@ -1,4 +1,7 @@
 // Numbers in decimal digits.
+
+#![tactic(auto)]
+
 ghost use Rattle.std.specs.Prelude.{◌≡◌, length};
 ghost use Rattle.decimal.specs.Digits.{digits};
 

@@ -1,5 +1,8 @@
 // Where expressions, steps and edits end, found from the code bytes alone: a table gives each code's length and number of operands.
 // The end of the file has the 64 cells of names.
+
+#![tactic(auto)]
+
 ghost use Rattle.std.specs.Prelude.{◌≡◌, ◌+◌, ◌<◌, length, get_or};
 ghost use Rattle.logic.specs.Syntax.{Edit};
 ghost use Rattle.text.specs.Code.{edit_code};

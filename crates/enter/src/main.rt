@@ -1,4 +1,7 @@
 // The program `enter` of document 01: reads a sheet, a book and an edit from standard input, enters the edit, and writes the answer and the sheet.
+
+#![tactic(auto)]
+
 use input::Got;
 use libc::STDOUT_FILENO;
 use sheet::Sheet;

@@ -2,6 +2,9 @@
 // The carried rules are judged one by one, in a scratch that need not hold the whole carried book (item 10 of document 02).
 // Stack: 14,168 bytes for the edit without its idle steps and the work array, in addition to what measuring, writing and evaluating take; 16,384 more
 // during a dry run of writing.
+
+#![tactic(auto)]
+
 ghost use Rattle.std.specs.Prelude.{◌≡◌, List, ◌<◌, ◌≤◌, length};
 ghost use Rattle.logic.specs.Syntax.{Edit, Expr, rule};
 ghost use Rattle.logic.specs.Carry.{carried_book};

@@ -2,6 +2,9 @@
 // Inner, all of them: the sheet is sound, and an expression in range stands at `at`. Levels have no bound here.
 // A relation is written to `out`, which holds 64 zeros before; the function then returns where the text goes on.
 // Each level takes stack: tests/c/stack.c measures enter on carried rules of 255 levels.
+
+#![tactic(auto)]
+
 ghost use Rattle.std.specs.Prelude.{◌≡◌, true, ℕ, ◌<◌, ◌≤◌, length, get_or, replicate};
 ghost use Rattle.logic.specs.Syntax.{Expr, «node», arrow, rule};
 ghost use Rattle.logic.specs.Limits.{Ranges, ranges, max_nodes};

@@ -1,4 +1,7 @@
 // The input of the programs: a sheet, then texts, each with its length before it. Only the bytes due are read, and none after them.
+
+#![tactic(auto)]
+
 ghost use Rattle.std.specs.Prelude.{◌≡◌, ◌+◌, ◌*◌, ◌≤◌, length};
 ghost use Rattle.input.specs.Input.{text_bytes, got_length};
 

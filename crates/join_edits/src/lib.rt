@@ -1,4 +1,7 @@
 // Edits sent as a chain (document 02, item 9).
+
+#![tactic(auto)]
+
 ghost use Rattle.std.specs.Prelude.{◌≡◌, length};
 ghost use Rattle.answer.specs.Outputs.{written_asked, written_length, written_output};
 ghost use Rattle.join_edits.specs.Chain.{ask_join_edits};

@@ -1,4 +1,7 @@
 // Joins two sheets in the first's buffer (item 8 of document 02).
+
+#![tactic(auto)]
+
 ghost use Rattle.std.specs.Prelude.{◌≡◌, ◌+◌, ◌<◌, ◌≤◌, length, set};
 ghost use Rattle.answer.specs.Answers.{asked};
 ghost use Rattle.logic.specs.Limits.{max_nodes};

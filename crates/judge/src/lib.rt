@@ -1,4 +1,7 @@
 // Judging a book on a sheet ("The calls" of document 01).
+
+#![tactic(auto)]
+
 ghost use Rattle.std.specs.Prelude.{◌≡◌, ◌+◌, ◌≤◌, List, length};
 ghost use Rattle.answer.specs.Answers.{asked};
 ghost use Rattle.logic.specs.Syntax.{Expr, rule};

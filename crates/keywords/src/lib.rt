@@ -1,4 +1,7 @@
 // The notation as tables: the words of its phrases, their codes, and what follows each.
+
+#![tactic(auto)]
+
 ghost use Rattle.std.specs.Prelude.{◌≡◌, ◌<◌, ◌≤◌};
 ghost use Rattle.names.specs.Names.{among, notation_words};
 ghost use Rattle.notation.specs.Grammar.{phrases};

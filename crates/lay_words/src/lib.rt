@@ -1,4 +1,7 @@
 // Lays out tokens as text: one line for each rule or step.
+
+#![tactic(auto)]
+
 ghost use Rattle.std.specs.Prelude.{◌≡◌, ◌||◌, cond, [], ◌+◌, ◌-◌, ◌*◌, ◌^◌, ◌<◌, length, replicate};
 ghost use Rattle.names.specs.Token.{same};
 ghost use Rattle.notation.specs.Grammar.{else_word, end_word};

@@ -1,4 +1,7 @@
 // A log of edits (document 02, item 4), block by block: what a block means for the edit begun before it, and what a replay does with it.
+
+#![tactic(auto)]
+
 ghost use Rattle.std.specs.Prelude.{◌≡◌, List, ℕ, ◌+◌, ◌-◌, ◌*◌, ◌≤◌, min, ltb, length, take, drop};
 ghost use Rattle.answer.specs.Answers.{asked};
 ghost use Rattle.answer.specs.Asked.{after};

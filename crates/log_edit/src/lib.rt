@@ -1,4 +1,7 @@
 // One edit as blocks of a log (document 02, item 4).
+
+#![tactic(auto)]
+
 ghost use Rattle.std.specs.Prelude.{◌≡◌, [], ◌∷◌, ◌≤◌, ◌<◌, length};
 ghost use Rattle.answer.specs.Outputs.{written_asked, written_length, written_at_start, written_output};
 ghost use Rattle.seal.specs.Seal.{block_bytes};

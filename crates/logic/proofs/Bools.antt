@@ -47,6 +47,10 @@ is_false false h = refl
 
 pub both_so : (a b : Bool) → T (a && b) → T a × T b
 both_so true true h = (tt, tt)
+both_so false b h = elim h [ ]
+both_so true false h = elim h [ ]
 
 pub so-both : (a b : Bool) → T a → T b → T (a && b)
 so-both true true h k = tt
+so-both false b h k = elim h [ ]
+so-both true false h k = elim k [ ]

@@ -1,6 +1,9 @@
 // Measuring a carried book without writing it: one walk back over the edit, which also writes the edit again without its idle steps.
 //
 // Stack: 260 bytes of numbers and about 650 bytes for each 35 inside a 35, of which there are at most 30: under 24 kB.
+
+#![tactic(auto)]
+
 ghost use Rattle.std.specs.Prelude.{◌≡◌, List, ◌≤◌, length};
 ghost use Rattle.text.specs.Reading.{longest_text};
 ghost use Rattle.logic.specs.Syntax.{Edit, Expr, rule};

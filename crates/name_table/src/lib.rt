@@ -1,4 +1,7 @@
 // Tables of names: checks them and puts the names into slots, where they are looked up.
+
+#![tactic(auto)]
+
 ghost use Rattle.std.specs.Prelude.{◌≡◌, List, [], ◌++◌, ◌+◌, ◌*◌, ◌<◌, ◌≤◌, T, length, replicate};
 ghost use Rattle.answer.specs.Asked.{outcome};
 ghost use Rattle.answer.specs.Answers.{asked};

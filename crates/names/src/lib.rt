@@ -1,4 +1,7 @@
 // The tokens of a text in words.
+
+#![tactic(auto)]
+
 ghost use Rattle.std.specs.Prelude.{◌≡◌, true, ◌<◌, ◌≤◌, length, get_or};
 ghost use Rattle.names.specs.Scan.{is_blank_def, is_mark_byte, is_letter_def};
 ghost use Rattle.names.specs.Scanned.{LineEnded, Skipped, WordEnded, Next};

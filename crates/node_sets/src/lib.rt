@@ -1,4 +1,7 @@
 // Sets of a sheet's nodes, a word each: those in use, those with a label, those that an arrow reaches from a node.
+
+#![tactic(auto)]
+
 ghost use Rattle.std.specs.Prelude.{◌≡◌, ℕ, ◌≤◌};
 ghost use Rattle.logic.specs.Graph.{Nodes};
 ghost use Rattle.bitset.specs.Words.{set_of};

@@ -1,4 +1,7 @@
 // Plans to come back to: a store of a head block and seven sheets, under the names 1 to 7.
+
+#![tactic(auto)]
+
 ghost use Rattle.std.specs.Prelude.{◌≡◌, true, ◌+◌, ◌-◌, ◌*◌, ◌<◌, ◌≤◌, length, get_or};
 ghost use Rattle.answer.specs.Answers.{asked};
 ghost use Rattle.logic.specs.Steps.{update};

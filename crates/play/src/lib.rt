@@ -1,4 +1,7 @@
 // Dispatcher against disruption (item 13 of document 02): can the dispatcher force the goal, and by which first move?
+
+#![tactic(auto)]
+
 ghost use Rattle.std.specs.Prelude.{◌≡◌};
 ghost use Rattle.answer.specs.Answers.{asked};
 ghost use Rattle.answer.specs.Asked.{outcome, after};

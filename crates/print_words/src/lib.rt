@@ -1,4 +1,7 @@
 // Prints books, edits and rules in words.
+
+#![tactic(auto)]
+
 mod print;
 
 ghost use Rattle.std.specs.Prelude.{◌≡◌, ◌≤◌, ◌<◌, length};

@@ -1,4 +1,7 @@
 // What the programs print for an edit.
+
+#![tactic(auto)]
+
 ghost use Rattle.std.specs.Prelude.{◌≡◌};
 ghost use Rattle.printed.specs.Printed.{printed_line, printed_sheet};
 

@@ -1,4 +1,7 @@
 // Reads books and edits in words.
+
+#![tactic(auto)]
+
 ghost use Rattle.std.specs.Prelude.{◌≡◌, cond, List, [], ◌∷◌, ◌⊎◌, ℕ, ◌+◌, ◌^◌, ◌<◌, ◌≤◌, eqb, length};
 ghost use Rattle.answer.specs.Asked.{passed};
 ghost use Rattle.answer.specs.Answers.{refusal_number_def, refusal_place_def};

@@ -1,5 +1,8 @@
 // The program `replay` of document 02, item 4: reads a sheet, a book and a log of edits from standard input, enters the edits, and writes a line for each,
 // a line for a bad block, and last the sheet.
+
+#![tactic(auto)]
+
 use input::Got;
 use libc::STDOUT_FILENO;
 use log_blocks::{Held, Told};

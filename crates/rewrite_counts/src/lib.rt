@@ -1,4 +1,7 @@
 // Stored books rewritten without the counts that say nothing (document 02, item 3).
+
+#![tactic(auto)]
+
 ghost use Rattle.std.specs.Prelude.{◌≡◌, List, length};
 ghost use Rattle.answer.specs.Outputs.{written_asked, written_length, written_at_start, written_output};
 ghost use Rattle.logic.specs.Syntax.{Expr, rule};

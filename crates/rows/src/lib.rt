@@ -1,6 +1,9 @@
 // Node sets as words and arrow relations as rows of words: what each code with operands does to them.
 // A relation has 64 rows, of which the first n count; it is changed in place. `all` is the word of the graph's nodes in use.
 // This file has the sets.
+
+#![tactic(auto)]
+
 ghost use Rattle.std.specs.Prelude.{◌≡◌, ◌&&◌, ℕ, ◌<◌, ◌≤◌, eqb};
 ghost use Rattle.logic.specs.Graph.{Nodes, all_below, implies};
 ghost use Rattle.logic.specs.Limits.{max_nodes};

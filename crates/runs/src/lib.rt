@@ -1,1 +1,3 @@
 // What enter promises, and demand 3: definitions and theorems only.
+
+#![tactic(auto)]

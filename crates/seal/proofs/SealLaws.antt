@@ -16,6 +16,7 @@ use Rattle.seal.proofs.TotalLaws.{sums-total, sums-weighed}
 
 so : (b : Bool) → T b → b ≡ true
 so true h = refl
+so mathlib.Core.Bool.false h = elim h [ ]
 
 pub same_refl : (k : List ℕ) → same_bytes k k ≡ true
 unfolding same_bytes

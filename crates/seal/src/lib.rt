@@ -1,4 +1,7 @@
 // The check bytes of a block, in two forms: that of item 2, and that of document 01 for old cards. Both are computed over words of 8 bytes.
+
+#![tactic(auto)]
+
 ghost use Rattle.std.specs.Prelude.{◌≡◌, true, ◌<◌, ◌≤◌, ◌+◌, ◌*◌, ◌%◌, ◌∷◌, ◌++◌, length, get_or, take, replicate};
 ghost use Rattle.bitset.specs.Words.{put_word_def};
 ghost use Rattle.seal.specs.Seal.{block_bytes, modulo255, modulo257, sums, stored, seal_of, seal_right_def, reseal};

@@ -1,4 +1,7 @@
 // What turns a graph into bytes: labels and arrows written into a sheet, and old cards converted. (`Sheet::blank` makes a blank sheet.)
+
+#![tactic(auto)]
+
 ghost use Rattle.std.specs.Prelude.{◌≡◌, ℕ, ◌<◌, ◌≤◌, length, get_or};
 ghost use Rattle.answer.specs.Answers.{asked};
 ghost use Rattle.logic.specs.Graph.{Nodes, Pairs};

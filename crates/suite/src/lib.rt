@@ -1,4 +1,7 @@
 // What a C program calls: numbers and byte slices, thin over the proved library. Each exported function is declared in include/zamiathen.h.
+
+#![tactic(auto)]
+
 ghost use Rattle.std.specs.Prelude.{◌≡◌};
 ghost use Rattle.answer.specs.Answers.{asked};
 ghost use Rattle.answer.specs.Outputs.{written_asked};

@@ -1,4 +1,7 @@
 // Reading rules, books and edits ("The code" and "The questions, in order" of document 01).
+
+#![tactic(auto)]
+
 ghost use Rattle.std.specs.Prelude.{◌≡◌, min, ◌<◌, ◌≤◌};
 ghost use Rattle.logic.specs.Limits.{max_nodes};
 ghost use Rattle.text.specs.Patterns.{item_of, pattern_of_def, sort_of_def, pattern_format, limits_of, number_fits, turn_at, turn_answer};

@@ -1,4 +1,7 @@
 // What breaks a rule: the lowest node or pair that is where it must not be.
+
+#![tactic(auto)]
+
 ghost use Rattle.std.specs.Prelude.{◌≡◌, false, not, ◌&&◌, cond, ◌≤◌, ◌<◌, length, get_or};
 ghost use Rattle.logic.specs.Syntax.{Expr, rule};
 ghost use Rattle.logic.specs.Graph.{Pairs, all_below, implies};

@@ -1,4 +1,7 @@
 // A rule carried back through an edit, written byte for byte, each byte once.
+
+#![tactic(auto)]
+
 ghost use Rattle.std.specs.Prelude.{List, ℕ, length};
 ghost use Rattle.logic.specs.Syntax.{rule, Expr, Edit};
 ghost use Rattle.ends.specs.Edits.{EditAt, SomeEdit};
