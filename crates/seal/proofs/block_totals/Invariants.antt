@@ -9,9 +9,6 @@ pub record Inv (l : List ℕ) (first second before odds z j : ℕ) : Type 0 wher
   pub z-low : z ≤ 524280 * j
   pub counted : Counted l first second before odds z j
 
-abbrev pub block : At-loop-j → List ℕ
-block c = c.args.block.now
-
 abbrev pub invariant-loop-j : goal.invariant-loop-j
 invariant-loop-j l = Inv l.block l.first l.second l.before l.odds l.z l.j
 
