@@ -1,13 +1,13 @@
 use mathlib.Core.Path.{◌≡◌, ap₂, ◌∙◌, subst}
 use mathlib.Core.List.{List}
-use Prim.Native.Nat.{ℕ, ◌≤◌, ◌<◌, ◌-◌, ◌*◌, ◌%◌, ◌+◌, ◌/◌}
+use Prim.Native.Nat.{ℕ, ◌≤◌, ◌-◌, ◌*◌, ◌%◌, ◌+◌, ◌/◌}
 use native.Mathlib.Nat.{mul-le-mul, le_antisymm}
 use native.Mathlib.Numerals.{add-one}
 use native.Mathlib.Omega.{arith}
 use lib.ListN.{length}
 use Rattle.bitset.specs.Words.{Bytes}
 use Rattle.seal.specs.Seal.{block_bytes}
-use Rattle.seal.specs.Lanes.{pairs_at, four_at, lane_sum_def, lane_places, total, weighed}
+use Rattle.seal.specs.Lanes.{lane_sum_def, lane_places, total, weighed}
 use Rattle.seal.proofs.LaneTotals.{Counted, counted_none, counted-more, counted-all, across-is}
 use Rattle.seal.proofs.block_totals.Invariants.{Inv}
 use Rattle.seal.proofs.block_totals.Goals as goal

@@ -1,14 +1,11 @@
 use mathlib.Core.Path.{◌≡◌, ap, ap₂, ◌∙◌}
 use mathlib.Core.Bool.{true}
 use mathlib.Core.List.{List, ◌++◌}
-use Prim.Native.Nat.{ℕ, ◌+◌, ◌-◌, ◌*◌, ◌≤◌, ◌<◌}
-use native.Mathlib.Nat.{mul-le-mul, le_trans, lt_of_le_of_lt, le-add_left}
-use native.Mathlib.Omega.{arith}
+use Prim.Native.Nat.{ℕ, ◌+◌, ◌-◌, ◌*◌, ◌≤◌}
+use native.Mathlib.Nat.{le_trans, le-add_left}
 use borrow.Author.Rules.{rules}
-use lib.Dec.{lit<}
 use lib.ListN.{length, get_or, take}
 use Rattle.bitset.specs.Words.{Bytes, put_word_def}
-use Rattle.bitset.proofs.WordLaws.{length-put_word}
 use Rattle.seal.specs.Seal.{block_bytes, modulo257, stored, reseal, seal_right_def}
 use Rattle.seal.specs.Lanes.{pairs_at, odds_at, lane_sum_def, lane_places}
 use Rattle.seal.proofs.CodeLaws.{check-bytes}
