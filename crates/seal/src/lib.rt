@@ -30,7 +30,7 @@ const FORMER_T: usize = FORMER_BODY + 1;
 const FORMER_MODULUS: u64 = 255;
 
 // The modulus of the sums: 257, or 255 on old cards.
-#[derive(Drop)]
+#[derive(Clone, Copy)]
 pub enum Modulo {
     M257,
     M255,
