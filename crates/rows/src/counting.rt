@@ -5,7 +5,7 @@ ghost use Rattle.bitset.specs.Words.{set_of, member};
 ghost use Rattle.rows.specs.Operations.{number, enough, least, looked, answered};
 
 // How many ends must be there: one (08, 09), or a number that is counted (0A, 0B).
-#[derive(Drop)]
+#[derive(Clone, Copy)]
 pub enum Wanted {
     One,
     Count(usize),

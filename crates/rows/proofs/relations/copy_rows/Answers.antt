@@ -1,0 +1,15 @@
+use mathlib.Core.Path.{refl}
+use native.Mathlib.Omega.{arith}
+use borrow.Author.Rules.{rules}
+use lib.ListN.{length-set}
+use Rattle.rows.proofs.OperationLaws.{changed-none, changed-more}
+use Rattle.rows.proofs.relations.copy_rows.Goals as goal
+
+pub loop-i-init : goal.loop-i-init
+loop-i-init c = (search rules, c.requires.2, changed-none)
+
+pub loop-i-preserved : goal.loop-i-preserved
+loop-i-preserved c = let l = c.loop-i in (search rules, simp length-set l.invariant.1, changed-more (search rules) l.invariant.2 refl)
+
+pub returns : goal.returns
+returns c = (λ i l. c.loop-i.invariant.2.row i (omega arith), c.loop-i.invariant.1)
