@@ -7,7 +7,7 @@ use Prim.Native.Nat.{ℕ, zero, suc, ◌+◌, ◌-◌, ◌≤◌, ◌<◌}
 use native.Mathlib.Omega.{arith}
 use lib.Dec.{T, leb, ltb, eqb, eqb→eq}
 use lib.ListN.{get_or, drop}
-use borrow.Author.Tests.{ltb-true, eqb-true, eqb-false, leb-true}
+use borrow.Author.Tests.{ltb-true, eqb-true, eqb-false}
 use Rattle.logic.specs.Syntax.{node, arrow, rule}
 use Rattle.logic.specs.Lists.{All}
 use Rattle.logic.proofs.ListLaws.{all_append, all_drop}

@@ -5,10 +5,10 @@ use Prim.Native.Nat.{suc, max, ◌≤◌}
 use native.Mathlib.Omega.{arith}
 use lib.ListN.{length}
 use Rattle.logic.specs.Syntax.{Sort, Expr}
-use Rattle.logic.specs.Arity.{Nullary, all·, none·, label·, nominal·, arrow_kind·, pair·, Unary, complement·, reversed·, node_in·, pair_in·, not_rule·, Binary, and·, or·, some·, every·, atLeast·, atMost·, union·, common·, minus·, ending_in·, sub_nodes·, sub_arrows·, both·, either·, build0, build1, build2, numbers0, numbers1, numbers2, by_arity}
+use Rattle.logic.specs.Arity.{Nullary, all·, none·, label·, nominal·, arrow_kind·, pair·, Unary, complement·, reversed·, node_in·, pair_in·, not_rule·, Binary, and·, or·, some·, every·, atLeast·, atMost·, union·, common·, minus·, ending_in·, sub_nodes·, sub_arrows·, both·, either·, build0, build1, build2, by_arity}
 use Rattle.logic.proofs.ArityLaws.{by_arity-0, by_arity-1, by_arity-2}
 use Rattle.text.specs.Code.{code, levels}
-use Rattle.text.specs.Heads.{byte0, byte1, byte2, head0, head1, head2}
+use Rattle.text.specs.Heads.{head0, head1, head2}
 
 pub code-0 : {s : Sort} (b : Nullary s) → code (build0 b) ≡ head0 b
 unfolding code build0 head0

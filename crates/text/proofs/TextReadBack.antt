@@ -19,6 +19,7 @@ use Rattle.text.proofs.Converse.{spelling, Allowed}
 
 pub if-so : {X : Type 0} (b : Bool) → T b → (x y : X) → elim b as (λ c. X) [ true ↦ x | false ↦ y ] ≡ x
 if-so true h x y = refl
+if-so {X = X} false h x y = elim h [ ]
 
 regroup : (a b c t : List ℕ) → ((a ++ b) ++ c) ++ t ≡ a ++ ((b ++ c) ++ t)
 regroup a b c t = simp append_assoc

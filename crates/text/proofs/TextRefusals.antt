@@ -1,6 +1,6 @@
 -- How a book and an edit can be refused: with 11 to 16 and 21 to 26, and a place of the text or its end. A text that is too long is refused before it
 -- is read, so no place is outside the longest text.
-use mathlib.Core.Path.{◌≡◌, refl}
+use mathlib.Core.Path.{◌≡◌}
 use mathlib.Core.Bool.{Bool, true, false}
 use mathlib.Core.List.{List, [], ◌∷◌}
 use Prim.Native.Nat.{ℕ, zero, suc, ◌+◌, ◌≤◌}

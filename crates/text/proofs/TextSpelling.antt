@@ -8,7 +8,7 @@ use lib.Seq.{take_at}
 use lib.Dec.{leb}
 use borrow.Author.Tests.{leb-true, le-leb}
 use denote.Ref.{Bor}
-use Rattle.answer.specs.Asked.{Asked, passed, refused, ◌>>=◌, ◌>>◌, after}
+use Rattle.answer.specs.Asked.{Asked, passed, refused, ◌>>=◌, after}
 use Rattle.answer.proofs.AskedLaws.{passed-same, refused-not-passed, is-then, so-then}
 use Rattle.logic.specs.Syntax.{Expr, rule, Edit}
 use Rattle.logic.specs.Limits.{max_nodes}

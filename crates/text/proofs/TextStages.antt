@@ -6,7 +6,7 @@ use native.Mathlib.Omega.{arith}
 use lib.ListN.{length, drop, length-drop, drop_of_length-le}
 use lib.Seq.{drop-cons}
 use borrow.Author.Tests.{le-leb, lt-leb}
-use Rattle.answer.specs.Asked.{Asked, passed, refused, ◌>>◌, is, after, outcome}
+use Rattle.answer.specs.Asked.{passed, refused, ◌>>◌, is, after, outcome}
 use Rattle.answer.proofs.AskedLaws.{so-then, not-then, outcome-ends, after-ends, outcome-bind}
 use Rattle.logic.specs.Syntax.{rule, Expr}
 use Rattle.logic.specs.Limits.{max_nodes}

@@ -33,6 +33,7 @@ pub enum Turn {
 // What follows each code, a hexadecimal digit for each item, the first item last. 3 label, 4 arrow, 5 node number; 6, 7 the counts of 0A
 // and 0B; 8 nodes, 9 arrows, A rule, B edit, one level deeper; C nodes, D arrows, E rule, F edit, at the code's own level.
 // 0 if the byte is not a code. A single `match` with constants, which the compiler turns into a table in read-only memory.
+#[tactic(auto, unfolding(crate::specs::Patterns::node_patterns, crate::specs::Patterns::arrow_patterns, crate::specs::Patterns::rule_patterns, crate::specs::Patterns::edit_patterns, crate::specs::Patterns::code_sort, crate::specs::Patterns::pattern_in))]
 fn pattern_of(code: u8) -> u32
     ensures { result ≡ pattern_of_def code }
 {
@@ -92,7 +93,7 @@ fn sort_of(code: u8) -> u32
 
 // The limits of a reading: the longest text, the last level, and the ranges of numbers. Nodes are below `nodes`; the count of an 0A is from
 // `from` to `to`, that of an 0B at most `most`. The struct fills two words, so that calls pass it in registers.
-#[derive(Drop)]
+#[derive(Clone, Copy)]
 struct Limits {
     nodes: usize,
     longest: u32,
