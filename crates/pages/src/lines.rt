@@ -59,7 +59,7 @@ fn put_head(line: &mut [u8], letter: u8, x: usize)
 }
 
 // What a page shows: the arrows of a kind, or the labels and the nodes in use.
-#[derive(Drop)]
+#[derive(Clone, Copy)]
 pub enum Shown {
     Arrows(usize),
     Labels,
