@@ -5,3 +5,4 @@ pub mod RowItems
 pub mod WordSlots
 pub mod PickLaws
 pub mod KeywordLaws
+pub mod SearchLaws

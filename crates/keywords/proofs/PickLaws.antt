@@ -8,7 +8,7 @@ use lib.Dec.{eqb, ltb, lit≤, leb-suc-suc}
 use lib.ListN.{length, get_or, take, drop}
 use lib.Seq.{get_or-take, get_or-drop}
 use borrow.Author.Tests.{lt-ltb, le-ltb, eqb-true, eqb-false}
-use Rattle.bytes.specs.Bytes.{index_after, index_of, slice}
+use Rattle.keywords.specs.Search.{index_after, index_of, slice}
 use Rattle.names.specs.Token.{Token, same, Found, found, absent, first_below}
 use Rattle.names.proofs.FirstLaws.{up_one, first-front, first-same}
 use Rattle.notation.specs.Grammar.{Phrase, phrases}

@@ -2,13 +2,14 @@
 
 #![tactic(auto)]
 
-ghost use Rattle.std.specs.Prelude.{◌≡◌, ◌<◌, ◌≤◌};
+ghost use Rattle.std.specs.Prelude.{◌≡◌, ◌+◌, ◌<◌, ◌≤◌, length};
 ghost use Rattle.names.specs.Names.{among, notation_words};
 ghost use Rattle.notation.specs.Grammar.{phrases};
 ghost use Rattle.notation.specs.Parse.{phrase_for_def};
 ghost use Rattle.notation.specs.Spell.{phrase_of_def};
 ghost use Rattle.keywords.specs.Rows.{slot_of, row_of};
 ghost use Rattle.keywords.specs.Phrases.{code_at, InSlot, Picked};
+ghost use Rattle.keywords.specs.Search.{index_of, slice};
 
 // Slots of a length byte and ten bytes: the words of the phrases of nodes, of arrows, of rules, of steps, in the order of their codes; then the ends of steps.
 pub const WIDTH: usize = 11;
@@ -110,6 +111,19 @@ pub fn phrase_for(item: usize, word: &[u8]) -> usize
     if x < count { first + x } else { PHRASES }
 }
 
+// The first place from `from` up to `to` that has the byte; `to` if none has. Inner: the bytes have these places.
+fn find(bytes: &[u8], from: usize, to: usize, byte: u8) -> usize
+    requires { (from ≤ to) × (to ≤ length bytes.now) }
+    ensures { result ≡ from + index_of byte (slice from to bytes.now) }
+{
+    for p in from..to {
+        if bytes[p] == byte {
+            return p;
+        }
+    }
+    to
+}
+
 // The number of the phrase of a code if an item is wanted. Inner: the item is a thing.
 pub fn phrase_of(item: usize, code: u8) -> usize
     requires { (9 ≤ item) × (item < 18) }
@@ -118,7 +132,7 @@ pub fn phrase_of(item: usize, code: u8) -> usize
     let i = item - 9;
     let first = FIRST[i];
     let end = first + COUNT[i];
-    let p = bytes::scan::find(&CODES, first, end, code);
+    let p = find(&CODES, first, end, code);
     if p < end { p } else { PHRASES }
 }
 
