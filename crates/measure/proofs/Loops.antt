@@ -1,7 +1,7 @@
 -- Numbers copied, and those of a choice's two ways merged.
-use mathlib.Core.Path.{◌≡◌, refl, sym, ap, ap₂, ◌∙◌, subst}
+use mathlib.Core.Path.{◌≡◌, refl, sym, ap, ap₂, ◌∙◌}
 use mathlib.Core.List.{List}
-use Prim.Native.Nat.{ℕ, zero, suc, ◌+◌, ◌*◌, ◌-◌, max, ◌≤◌, ◌<◌}
+use Prim.Native.Nat.{ℕ, ◌+◌, ◌*◌, ◌-◌, max, ◌≤◌, ◌<◌}
 use native.Mathlib.Omega.{arith}
 use native.Mathlib.Decide.{dec_lt}
 use lib.ListN.{length, get_or, set, length-set}
@@ -16,7 +16,7 @@ use Rattle.ends.proofs.NameCells.{named-lt}
 use Rattle.ends.proofs.Kept.{elsewhere}
 use Rattle.measure.specs.State.{Holds, added, Scanned}
 use Rattle.measure.specs.EditMeasures.{Merged, ChoiceHeld}
-use Rattle.measure.proofs.Held.{under-comm, holds-is, holds-longer, longer}
+use Rattle.measure.proofs.Held.{under-comm, holds-is, holds-longer}
 
 pub kept-holds : (l l' : List ℕ) (M : Measure) → Kept 130 l l' → Holds l M → Holds l' M
 kept-holds l l' M k h = record {

@@ -1,14 +1,14 @@
 -- The rules of a book, measured, and the sizes of the rules they are carried to.
 use mathlib.Core.Path.{◌≡◌, refl, sym, ap, ◌∙◌, subst}
-use mathlib.Core.List.{List, [], ◌∷◌, ◌++◌, append-nil}
-use Prim.Native.Nat.{ℕ, zero, suc, ◌+◌, ◌*◌, ◌-◌, max, ◌≤◌, ◌<◌}
+use mathlib.Core.List.{List, [], ◌∷◌, append-nil}
+use Prim.Native.Nat.{ℕ, ◌+◌, ◌-◌, max, ◌≤◌, ◌<◌}
 use native.Mathlib.Omega.{arith}
 use lib.ListN.{length, get_or, set, replicate, get_or-replicate}
 use lib.Seq.{drop-length}
 use Rattle.logic.specs.Syntax.{rule, Expr, Edit}
 use Rattle.logic.specs.Carry.{carried_book}
-use Rattle.text.specs.Code.{code, edit_code, book_code, book_levels}
-use Rattle.tree.specs.Tree.{Tree, tree, size, height, under}
+use Rattle.text.specs.Code.{edit_code, book_code, book_levels}
+use Rattle.tree.specs.Tree.{Tree, tree, size, height}
 use Rattle.tree.specs.Sizes.{Measure, measure, back, together, nothing, measures, capped}
 use Rattle.tree.proofs.BookMeasures.{together-nothing, together-comm, together-assoc, measured-book, len-codes, tall-levels}
 use Rattle.tree.proofs.Measured.{same-measure, under_one}

@@ -10,7 +10,7 @@ use Rattle.ends.specs.Shapes.{shape_of, cell, Formed, At, Some}
 use Rattle.measure.specs.State.{Holds, added, Scanned}
 use Rattle.ends.proofs.TreePlaces.{IsName, IsLeaf, tag_at, as_one, as-two, as-any}
 use Rattle.ends.proofs.NameCells.{named-lt}
-use Rattle.measure.proofs.Held.{holds_same, holds-is, holds-rise, holds-touch, risen, marked, added-name, added-leaf, added-one, added-two, added-capped}
+use Rattle.measure.proofs.Held.{holds_same, holds-is, holds-rise, holds-touch, risen, added-name, added-leaf, added-one, added-two, added-capped}
 
 module _ (text : List ℕ) (at w v : ℕ) where
   pub place-lt : (t : Tree) → IsName text at t → (i : ℕ) → i ≡ cell (get_or text at 0) (get_or text (at + 1) 0) → i < 64

@@ -13,7 +13,7 @@ ghost use Rattle.measure.specs.EditMeasures.{EditRoom, StepRoom, Held, StepMeasu
 use super::{keep, numbers, scan};
 
 // Where a walk back stands: at an edit, above what its stack already holds, before what is written.
-#[derive(Drop)]
+#[derive(Clone, Copy)]
 pub struct Spot {
     pub at: usize,
     pub top: usize,
