@@ -13,6 +13,7 @@ import re
 
 IDENT = r"[^\s(){}.,;:\[\]⌜⌝λ@]+"
 DEFINED = re.compile(r"^(\s*)((?:(?:abbrev|pub|unfoldable|record|data|ruleset)\s+)*)(" + IDENT + r")\s*(?:\{|\(|:(?!:)|=)")
+SEVERAL = re.compile(r"^\s+((?:[A-Za-z][\w'·\-]* )+): ")  # constructors of one type
 TOKEN = re.compile(r"[A-Za-z_][\w'·\-]*")
 FIELDS = {"inUse"}  # a field, always written with its dot
 
@@ -39,6 +40,9 @@ def defined(files):
             m = DEFINED.match(line)
             if m and TOKEN.fullmatch(m.group(3)):
                 names.add(m.group(3))
+            m = SEVERAL.match(line)
+            if m:
+                names |= set(m.group(1).split())
     return names
 
 
