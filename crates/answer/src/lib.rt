@@ -6,7 +6,7 @@ ghost use Rattle.std.specs.Prelude.{◌≡◌};
 ghost use Rattle.answer.specs.Answers.{refusal_number_def, refusal_place_def, answer_number, answer_place};
 
 // What is wrong: a case for each number of "The questions, in order", each with its place.
-#[derive(Drop)]
+#[derive(Clone, Copy)]
 pub enum Refusal {
     // 1: the sheet is not 8,704 bytes long
     SheetLength { place: usize },
@@ -90,14 +90,14 @@ pub enum Refusal {
     WordsLength { place: usize },
 }
 
-#[derive(Drop)]
+#[derive(Clone, Copy)]
 pub enum Answer {
     Done,
     Refused(Refusal),
 }
 
 // The answer of a call that writes at the start of an output: how many bytes it wrote, or why it wrote none.
-#[derive(Drop)]
+#[derive(Clone, Copy)]
 pub enum Written {
     Length(usize),
     Refused(Refusal),

@@ -22,10 +22,14 @@ first begun = cond begun 0 1
 
 -- it is right there, and not a last block's; two more is right, and a last block's
 mark-more : (begun : Bool) → (mark_right_def begun (first begun) ≡ true) × ((eqb (first begun) 2 || eqb (first begun) 3) ≡ false)
-mark-more begun = unfold mark_right_def in elim begun [ true ↦ (refl, refl) | false ↦ (refl, refl) ]
+unfolding mark_right_def
+mark-more true = (refl, refl)
+mark-more false = (refl, refl)
 
 mark-last : (begun : Bool) → (mark_right_def begun (first begun + 2) ≡ true) × ((eqb (first begun + 2) 2 || eqb (first begun + 2) 3) ≡ true)
-mark-last begun = unfold mark_right_def in elim begun [ true ↦ (refl, refl) | false ↦ (refl, refl) ]
+unfolding mark_right_def
+mark-last true = (refl, refl)
+mark-last false = (refl, refl)
 
 -- the two shapes of an edit's blocks
 module _ (most mark : ℕ) (edit : List ℕ) where
