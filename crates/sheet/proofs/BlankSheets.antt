@@ -13,7 +13,7 @@ use Rattle.logic.specs.Limits.{max_nodes, label_count, arrow_count}
 use Rattle.bitset.specs.Words.{Bytes, set_of, bytes, put_word_def}
 use Rattle.bitset.proofs.SetLaws.{set_of-none, set_of-cong, set_of-lowest}
 use Rattle.seal.specs.Seal.{reseal, block_bytes}
-use Rattle.sheet.specs.Sheet.{SheetForm, present, sheet_bytes, block_count, chunks, block, line_count, label_block, arrow_block, store_in, store, graph_in, blank}
+use Rattle.sheet.specs.Sheet.{SheetForm, present, sheet_bytes, block_count, chunks, block, line_count, label_block, arrow_block, store, graph_in, blank}
 use Rattle.sheet.specs.Questions.{block_of, SoundIn, ask_blank}
 use Rattle.sheet.specs.Writes.{bare_block, blank_block_def}
 use Rattle.sheet.proofs.BlockParts.{length-block}

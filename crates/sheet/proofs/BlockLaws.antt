@@ -2,12 +2,12 @@
 use mathlib.Core.Path.{◌≡◌, refl, sym, ◌∙◌, ap, ap₂}
 use mathlib.Core.Bool.{Bool, true, false, cond}
 use mathlib.Core.List.{List, [], ◌∷◌, ◌++◌}
-use Prim.Native.Nat.{ℕ, zero, suc, ◌+◌, ◌-◌, ◌*◌, ◌/◌, ◌%◌, ◌^◌, ◌≤◌, ◌<◌}
-use native.Mathlib.Nat.{mul-zero, zero-add, mul-suc}
+use Prim.Native.Nat.{ℕ, suc, ◌+◌, ◌-◌, ◌*◌, ◌/◌, ◌%◌, ◌^◌, ◌≤◌, ◌<◌}
+use native.Mathlib.Nat.{zero-add}
 use native.Mathlib.Omega.{arith}
 use borrow.Author.Tests.{lt-ltb, le-ltb}
 use lib.ListN.{get_or, length, take, drop, replicate, length-append, length-replicate, get_or-replicate, get_or-append}
-use lib.Seq.{get_or-append-add, get_or-take, get_or-drop, take_at, drop-append-add}
+use lib.Seq.{get_or-append-add, take_at, drop-append-add}
 use Rattle.logic.specs.Graph.{Graph}
 use Rattle.logic.specs.Limits.{max_nodes, label_count, arrow_count}
 use Rattle.bitset.specs.Words.{set_of, member, bytes}

@@ -20,7 +20,7 @@ use Rattle.bitset.proofs.SetLaws.{set_of-lt, member-zero, member-set_of}
 use Rattle.bitset.proofs.MemberLaws.{member-small}
 use Rattle.bitset.proofs.ZeroBytes.{high_zero, zero_high, low-zero, zero-low}
 use Rattle.seal.specs.Seal.{block_bytes, Form}
-use Rattle.sheet.specs.Masks.{word_count, zeros_at, within, zero_but, line_mask, row_mask, ZeroWhen, Outside, Edges, Bare, Over}
+use Rattle.sheet.specs.Masks.{word_count, within, zero_but, line_mask, row_mask, ZeroWhen, Outside, Edges, Bare, Over}
 use Rattle.sheet.specs.Sheet.{SheetForm, line_count, padding}
 use Rattle.sheet.proofs.ZeroLaws.{same_test, but-parts, within_none, zeros-are, zero-at}
 use Rattle.sheet.proofs.BlockLaws.{few-lines}

@@ -1,6 +1,6 @@
 -- The questions as the code asks them, one by one and block by block.
 use mathlib.Core.Path.{◌≡◌, refl, sym, ap, ap₂, ◌∙◌, subst}
-use mathlib.Core.Bool.{Bool, true, false, not, ◌&&◌, cond, and-eq-true_iff, and_self, and-false, not-not}
+use mathlib.Core.Bool.{true, false, not, ◌&&◌, cond, and-eq-true_iff, and_self, and-false, not-not}
 use mathlib.Core.List.{List}
 use Prim.Native.Nat.{ℕ, zero, suc, ◌+◌, ◌-◌, ◌*◌, ◌/◌, ◌%◌, ◌≤◌, ◌<◌}
 use native.Mathlib.Omega.{arith}

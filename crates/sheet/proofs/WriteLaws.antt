@@ -19,12 +19,12 @@ use Rattle.logic.proofs.Inside.{no_node}
 use Rattle.bitset.specs.Words.{set_of, bytes, put_word_def}
 use Rattle.bitset.proofs.SetLaws.{set_of-cong}
 use Rattle.bitset.proofs.WordLaws.{length-bytes}
-use Rattle.seal.specs.Seal.{seal, sealed, reseal, block_bytes, Form}
+use Rattle.seal.specs.Seal.{sealed, reseal, block_bytes, Form}
 use Rattle.sheet.specs.Sheet.{sheet_bytes, block_count, chunks, block, SheetForm, line_of, line_count, label_block, arrow_block, store_in, with_lines, relabel_all, Rows, padding}
 use Rattle.sheet.specs.Questions.{block_of}
 use Rattle.sheet.specs.Writes.{put_rows_def}
 use Rattle.sheet.proofs.ChunkLaws.{chunks-same, chunks-at}
-use Rattle.sheet.proofs.BlockParts.{blocks-ext, length-block}
+use Rattle.sheet.proofs.BlockParts.{blocks-ext}
 use Rattle.sheet.proofs.BlockLaws.{words_of, body_of, length-words, length-body, label_head, label_word, line-label, line-use, label-lines, arrow_head, row_word_def, length-label_block, length-arrow_block, length-store, labels-fit, rows_fit, first_block, later-block, lines-held}
 use Rattle.sheet.proofs.ReplacedBlocks.{replaced, replaced-length, block_here, block-other}
 
