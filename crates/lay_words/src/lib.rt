@@ -11,7 +11,7 @@ ghost use Rattle.lay_words.specs.Laying.{before_of, lead, piece, After};
 
 // How far the text has come: its length, what comes before the next token (0 nothing, 1 an opening bracket, 2 another token), and how many brackets
 // and how many `if`s are open there.
-#[derive(Drop)]
+#[derive(Clone, Copy)]
 pub struct Laid {
     pub size: usize,
     pub before: u8,
