@@ -1,12 +1,12 @@
 -- What closing and opening answer and leave, by where they stop.
 use mathlib.Core.Path.{◌≡◌, refl, sym, ap, ◌∙◌}
-use mathlib.Core.Bool.{Bool, true, false, cond}
+use mathlib.Core.Bool.{Bool, true, false}
 use mathlib.Core.List.{List}
 use Prim.Native.Nat.{ℕ, ◌≤◌, ◌<◌}
 use lib.Dec.{ltb}
 use lib.ListN.{length}
 use borrow.Author.Tests.{lt-ltb, le-ltb, ltb-true}
-use Rattle.answer.specs.Asked.{Asked, passed, refused, ◌>>=◌, ◌>>◌, is, after, outcome}
+use Rattle.answer.specs.Asked.{passed, refused, ◌>>=◌, ◌>>◌, is, after, outcome}
 use Rattle.answer.specs.Answers.{asked}
 use Rattle.answer.specs.declared.Refusal.{Refusal}
 use Rattle.answer.specs.declared.Refusal.TheVariants.{NodeTaken}
@@ -18,7 +18,7 @@ use Rattle.logic.specs.Limits.{Within, ranges}
 use Rattle.logic.specs.Closing.{close_node_def, open_node_def, can_close_def}
 use Rattle.bitset.specs.Words.{Bytes}
 use Rattle.sheet.specs.Sheet.{present, store, graph_of}
-use Rattle.sheet.specs.Questions.{ask_sheet, Sound}
+use Rattle.sheet.specs.Questions.{Sound}
 use Rattle.sheet.proofs.SoundSheets.{sound-is-stored}
 use Rattle.judge.proofs.SheetAndBook.{done-learned, refused-asked, sheet-sound, rules_stand}
 use Rattle.judge.specs.Questions.{ask_sheet_and_book}
