@@ -1,4 +1,3 @@
-use Prim.Native.Nat.{◌-◌}
 use Rattle.pages.proofs.LineLaws.{no-squares, square-more, all-squares}
 use Rattle.pages.proofs.lines.put_squares.Goals as goal
 

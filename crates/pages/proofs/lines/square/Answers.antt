@@ -1,6 +1,5 @@
 use mathlib.Core.Path.{sym, ◌∙◌}
 use borrow.Author.Tests.{lt-ltb, le-ltb}
-use Rattle.bitset.specs.Words.{member}
 use Rattle.pages.specs.Page.{square}
 use Rattle.pages.proofs.lines.square.Goals as goal
 

@@ -1,4 +1,4 @@
-use Rattle.std.proofs.Common.{◌≡◌, sym, ◌∙◌, ap, List, ◌++◌, ℕ, ◌+◌, ◌*◌, arith, length, length-drop}
+use Rattle.std.proofs.Common.{◌≡◌, sym, ◌∙◌, ap, ◌++◌, ◌+◌, ◌*◌, arith, length, length-drop}
 use Rattle.answer.specs.Outputs.{ask_room, written_at_start}
 use Rattle.answer.proofs.OutputLaws.{room-short, room-enough, not_written, is-written}
 use Rattle.sheet.specs.Sheet.{graph_of}

@@ -1,4 +1,4 @@
-use Rattle.std.proofs.Common.{sym, ◌∙◌, suc}
+use Rattle.std.proofs.Common.{sym, ◌∙◌}
 use Rattle.std.proofs.Common.{arith}
 use Rattle.answer.proofs.AskedLaws.{refused-not-passed}
 use Rattle.sheet.specs.Sheet.{graph_of}
