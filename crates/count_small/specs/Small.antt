@@ -1,9 +1,9 @@
 -- How many small sheets survive (item 12 of document 02): the small sheets, numbered, and the four counts.
-use Rattle.std.specs.Prelude.{◌≡◌, ◌≢◌, Bool, true, false, not, ◌&&◌, List, [], ◌∷◌, ℕ, ◌+◌, ◌*◌, ◌^◌, eqb, ltb}
+use Rattle.std.specs.Prelude.{◌≡◌, ◌≢◌, Bool, false, not, ◌&&◌, List, ℕ, ◌+◌, ◌*◌, ◌^◌, eqb, ltb}
 use Rattle.bitset.specs.Words.{member}
 use Rattle.logic.specs.Syntax.{Expr, rule, Edit}
 use Rattle.logic.specs.Graph.{Graph, count_below}
-use Rattle.logic.specs.Meaning.{value, hold_all}
+use Rattle.logic.specs.Meaning.{hold_all}
 use Rattle.logic.specs.Steps.{run}
 use Rattle.logic.specs.Limits.{Within}
 use Rattle.count_small.specs.declared.Four.{Four}
