@@ -18,7 +18,7 @@ use Rattle.bitset.specs.Words.{set_of, member}
 use Rattle.bitset.proofs.SetLaws.{member-set_of, member-beyond}
 use Rattle.seal.proofs.SealLaws.{sealed-right}
 use Rattle.sheet.specs.Sheet.{block, SheetForm, present, line_of, line_count, label_block, arrow_block, store_in, store, blank, used_in, graph_in, Storable}
-use Rattle.sheet.specs.Questions.{node_count_right, head_right_def, free, zero_right_def, ask_block_def, ask_blocks, ask_sheet_in, SoundIn, Sound}
+use Rattle.sheet.specs.Questions.{node_count_right, head_right_def, free, ask_block_def, ask_blocks, ask_sheet_in, SoundIn, Sound}
 use Rattle.sheet.proofs.BlockLaws.{body_of, length-body, head_at, front-zero, pad-zero, word-bit, label_head, label_word, line-label, arrow_head, row_word_def, length-store, n-is, labels-fit, rows_fit, first_block, later-block}
 use Rattle.sheet.proofs.BlockParts.{used-0}
 use Rattle.sheet.proofs.SheetQuestionLaws.{block-right}
