@@ -8,7 +8,7 @@ use lib.Dec.{T, leb, leb→le}
 use borrow.Author.Tests.{ne_eqb, le-leb, lt-ltb}
 use Rattle.answer.specs.Asked.{passed, ◌>>=◌}
 use Rattle.logic.specs.Syntax.{Sort, node, arrow, rule, Expr, at_least, at_most}
-use Rattle.logic.specs.Limits.{max_nodes, ranges, InRange}
+use Rattle.logic.specs.Limits.{max_nodes, ranges, former_ranges, InRange}
 use Rattle.logic.specs.Arity.{build1, build2}
 use Rattle.logic.proofs.ArityLaws.{range-1, range-2}
 use Rattle.logic.proofs.Bools.{both_so}
@@ -51,5 +51,5 @@ module _ (n : ℕ) where
   pub left_alone : n ≤ max_nodes → (t : List ℕ) (rules : List (Expr rule)) → ask_book (text_limits n) t ≡ passed rules → ask_rewritten t ≡ passed t
   unfolding ask_rewritten ◌>>=◌
   left_alone l t rules h =
-      rw (book-wider (λ k x i. former-below n l k x (former-of-now n k x i)) t rules h)
+      rw (book-wider (ranges n) (former_ranges max_nodes) (λ k x i. former-below n l k x (former-of-now n k x i)) t rules h)
       (ap (λ x. passed (book_code x)) (book_kept t rules h) ∙ ap passed (sym (book-is-spelled (text_limits n) t rules h).spells.text-is))

@@ -10,7 +10,7 @@ use Rattle.answer.specs.Asked.{passed, ◌>>=◌}
 use Rattle.logic.specs.Syntax.{Sort, node, arrow, rule, Expr, all, none, at_least, at_most}
 use Rattle.logic.specs.Graph.{Graph, Nodes, is_node, count_below}
 use Rattle.logic.specs.Meaning.{value}
-use Rattle.logic.specs.Limits.{max_nodes, Within}
+use Rattle.logic.specs.Limits.{max_nodes, former_ranges, Within}
 use Rattle.logic.specs.Arity.{atLeast·, atMost·, build2}
 use Rattle.logic.proofs.ArityLaws.{value-1, value-2}
 use Rattle.logic.proofs.Dual.{at_least_none}
@@ -65,7 +65,7 @@ pub on_every_sheet : (g : Graph) → Within g → (t : List ℕ) (rules : List (
 unfolding ask_rewritten ◌>>=◌
 on_every_sheet g w t rules h = record {
   bytes = book_code (rewritten_book rules);
-  rewrites = rw (book-wider (former-below g.n w.few_nodes) t rules h);
+  rewrites = rw (book-wider (former_ranges g.n) (former_ranges max_nodes) (former-below g.n w.few_nodes) t rules h);
   passes = rewritten-passes g.n t rules h;
   same = same_truth g w.few_nodes rules;
 }

@@ -12,7 +12,7 @@ use Rattle.logic.proofs.ListLaws.{all_map}
 use Rattle.text.specs.Code.{book_code}
 use Rattle.text.specs.Stands.{RulesInRange}
 use Rattle.text.specs.Heads.{head1, head2}
-use Rattle.tree.specs.Tree.{Tree, leaf, one, two, tree_code, tree, bare}
+use Rattle.tree.specs.Tree.{Tree, leaf, two, tree_code, tree, bare}
 use Rattle.tree.proofs.TreeLaws.{tree-0, tree-1, tree-2, code-tree}
 use Rattle.ends.specs.Shapes.{Formed}
 use Rattle.ends.proofs.Formed.{formed-tree}

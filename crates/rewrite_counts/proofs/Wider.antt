@@ -18,7 +18,7 @@ use Rattle.text.proofs.TextSpelling.{EachAllowed, book-is-spelled, spelled-book-
 abbrev pub Wider : Ranges → Ranges → Type 0
 Wider r r' = (k : Kind) (x : ℕ) → T (fits r k x) → T (fits r' k x)
 
-module _ {r r' : Ranges} (w : Wider r r') where
+module _ (r r' : Ranges) (w : Wider r r') where
   in-wider : {s : Sort} (e : Expr s) → InRange r e → InRange r' e
   in-wider = by_arity (λ s e. InRange r e → InRange r' e) (λ s b h. (range-0 r' b).1 (fit (numbers0 b) ((range-0 r b).0 h)))
       (λ u t b x p h. let q = (range-1 r b x).0 h in (range-1 r' b x).1 (fit (numbers1 b) q.0, p q.1))
