@@ -3,6 +3,7 @@ pub mod Notes
 pub mod Finding
 pub mod Laying
 pub mod Emitting
+pub mod Naming
 pub mod Walking
 pub mod Choosing
 pub mod WrittenWays

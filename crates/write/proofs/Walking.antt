@@ -13,12 +13,12 @@ use Rattle.logic.specs.Carry.{followed_by}
 use Rattle.logic.proofs.Bools.{true-false}
 use Rattle.text.specs.Code.{edit_code}
 use Rattle.tree.specs.Tree.{Tree, size}
-use Rattle.tree.specs.Stack.{Substitution, touched, written}
+use Rattle.tree.specs.Stack.{Substitution, written}
 use Rattle.tree.proofs.Written.{written-add_label, written-take_label, written-add_arrow, written-take_arrow}
-use Rattle.ends.specs.Shapes.{shape_of, At, Some, Named}
+use Rattle.ends.specs.Shapes.{shape_of, At}
 use Rattle.ends.specs.Edits.{EditAt, behind_step}
 use Rattle.ends.specs.Kept.{Kept}
-use Rattle.ends.proofs.FirstSteps.{edit_tag, edit_tree, step_of, IsStep, as_step, as-finish, edit-inside}
+use Rattle.ends.proofs.FirstSteps.{edit_tag, edit_tree, step_of, as_step, as-finish, edit-inside}
 use Rattle.ends.proofs.TreePlaces.{size-pos}
 use Rattle.ends.proofs.Pending.{passing-first, passing-more, passing-end}
 use Rattle.ends.proofs.Kept.{kept_set, kept_more}

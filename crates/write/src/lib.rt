@@ -35,7 +35,7 @@ pub struct Place {
 }
 
 // How far a walk has come: the place in the edit, the number of steps passed, the number of edits that follow.
-#[derive(Drop)]
+#[derive(Clone, Copy)]
 pub struct Reached {
     pub at: usize,
     pub h: usize,

@@ -9,7 +9,7 @@ ghost use Rattle.write.specs.Links.{last_in, SomeLinks, link_step};
 use crate::LINKS;
 
 // A name as it stands in a text, 03 k or 11 a, deliberately of either sort: both bytes are copied as they are, and only `ends::cell_of` makes a cell of them.
-#[derive(Drop)]
+#[derive(Clone, Copy)]
 pub struct Name {
     pub code: u8,
     pub number: u8,
