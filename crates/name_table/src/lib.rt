@@ -59,8 +59,8 @@ fn put_plain(table: &mut [u8], i: usize, start: &[u8], x: usize)
     ensures { table.new ≡ put_slot_def name_width table.old i (start.now ++ decimal x) }
 {
     let mut name = [0u8; 8];
-    bytes::copy(start, &mut name);
     let from = start.len();
+    name[..from].copy_from_slice(start);
     let to = from + width(x);
     decimal::write_digits(&mut name[from..to], x);
     buffers::put_slot(table, WIDTH, i, &name[..to]);
