@@ -18,10 +18,10 @@ returns-in_default-edit_answer c =
 pub run_edit-requires : goal.run_edit-requires
 run_edit-requires c =
     let sound = sheet-sound _ _ c.check-sheet_answer.ensures c.in-Done.is in
-    (sound, edit_stands _ _ sound _ c.node_count.ensures.0 _ c.check_edit-edit_answer.ensures c.in-Done-edit_answer.is)
+    (sound, edit_stands _ _ sound _ c.node_count.ensures.0 _ c.check_edit-edit_answer.ensures (cc))
 
 pub returns : goal.returns
 returns c =
     let sound = sheet-sound _ _ c.check-sheet_answer.ensures c.in-Done.is in
-    let a = edit-made _ _ sound _ c.node_count.ensures.0 _ c.check_edit-edit_answer.ensures c.in-Done-edit_answer.is _ _ c.run_edit.ensures.1 in
+    let a = edit-made _ _ sound _ c.node_count.ensures.0 _ c.check_edit-edit_answer.ensures (cc) _ _ c.run_edit.ensures.1 in
     record { result_value = a.answer; sheet_after = a.sheet_is }
