@@ -2,6 +2,7 @@ use mathlib.Core.Path.{◌≡◌, refl, sym, ap, ◌∙◌}
 use mathlib.Core.Bool.{Bool, ◌&&◌}
 use mathlib.Core.List.{List}
 use Prim.Native.Nat.{ℕ, ◌≤◌}
+use native.Mathlib.Omega.{arith}
 use Rattle.answer.specs.Asked.{Asked, is, outcome}
 use Rattle.answer.specs.Answers.{asked}
 use Rattle.answer.specs.declared.Answer.{Answer}
@@ -30,23 +31,23 @@ pub returns-then-n-gt-MOST_SMALL : goal.returns-then-n-gt-MOST_SMALL
 returns-then-n-gt-MOST_SMALL c = too_many _ _ _ c.if-n-gt-MOST_SMALL.true
 
 pub returns-in_default : goal.returns-in_default
-returns-in_default c = book-stops _ _ _ c.if-n-lt1.false c.if-n-gt-MOST_SMALL.false _ c.check_book-rules.ensures c.in_default.is
+returns-in_default c = book-stops _ _ _ (omega arith) (omega arith) _ c.check_book-rules.ensures c.in_default.is
 
 pub returns-in_default-steps : goal.returns-in_default-steps
 returns-in_default-steps c =
-    edit-stops _ _ _ c.if-n-lt1.false c.if-n-gt-MOST_SMALL.false (read _ _ c.check_book-rules.ensures c.in-Done.is) _ c.check_edit-steps.ensures c.in_default-steps.is
+    edit-stops _ _ _ (omega arith) (omega arith) (read _ _ c.check_book-rules.ensures c.in-Done.is) _ c.check_edit-steps.ensures c.in_default-steps.is
 
 pub returns-then-not-only_first : goal.returns-then-not-only_first
 returns-then-not-only_first c =
-    unfold is in names _ _ _ _ _ c.if-n-lt1.false c.if-n-gt-MOST_SMALL.false c.check_book-rules.ensures c.in-Done.is c.check_edit-steps.ensures c.in-Done-steps.is _ _
+    unfold is in names _ _ _ _ _ (omega arith) (omega arith) c.check_book-rules.ensures c.in-Done.is c.check_edit-steps.ensures c.in-Done-steps.is _ _
     (sym c.only_first.ensures ∙ c.if-not-only_first.true) refl
 
 pub returns-then-not-only_first-2 : goal.returns-then-not-only_first-2
 returns-then-not-only_first-2 c =
-    unfold is in names _ _ _ _ _ c.if-n-lt1.false c.if-n-gt-MOST_SMALL.false c.check_book-rules.ensures c.in-Done.is c.check_edit-steps.ensures c.in-Done-steps.is _ _
+    unfold is in names _ _ _ _ _ (omega arith) (omega arith) c.check_book-rules.ensures c.in-Done.is c.check_edit-steps.ensures c.in-Done-steps.is _ _
     (sym c.only_first.ensures ∙ c.if-not-only_first.false) (sym c.only_first-2.ensures ∙ c.if-not-only_first-2.true)
 
 pub returns : goal.returns
 returns c =
-    unfold is in names _ _ _ _ _ c.if-n-lt1.false c.if-n-gt-MOST_SMALL.false c.check_book-rules.ensures c.in-Done.is c.check_edit-steps.ensures c.in-Done-steps.is _ _
+    unfold is in names _ _ _ _ _ (omega arith) (omega arith) c.check_book-rules.ensures c.in-Done.is c.check_edit-steps.ensures c.in-Done-steps.is _ _
     (sym c.only_first.ensures ∙ c.if-not-only_first.false) (sym c.only_first-2.ensures ∙ c.if-not-only_first-2.false)
