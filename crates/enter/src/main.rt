@@ -3,28 +3,23 @@
 #![tactic(auto)]
 
 use input::Got;
-use libc::STDOUT_FILENO;
 use sheet::Sheet;
+use std::io;
+use std::io::Write;
 
-// The whole output when the input ends early.
-fn write_early() {
-    let early = printed::line::early();
-    io::write_all(STDOUT_FILENO, &early);
-}
-
-fn main() {
+fn main(rt: HostRuntime) -> io::Result<()> {
+    let mut from = rt.reader();
+    let mut out = io::writer(&rt);
     let mut sheet = [0u8; Sheet::BYTES];
     let mut book = [0u8; input::TEXT_BYTES];
-    let Got::Length(b) = input::read_sheet_and_book(&mut sheet, &mut book) else {
-        write_early();
-        return;
+    let Got::Length(b) = input::read_sheet_and_book(&mut from, &mut sheet, &mut book) else {
+        return out.write_all(&printed::line::early());
     };
     let mut edit = [0u8; input::TEXT_BYTES];
-    let Got::Length(e) = input::read_text(&mut edit) else {
-        write_early();
-        return;
+    let Got::Length(e) = input::read_text(&mut from, &mut edit) else {
+        return out.write_all(&printed::line::early());
     };
     let answer = printed::enter_line(&mut sheet, &book[0..b], &edit[0..e]);
-    io::write_all(STDOUT_FILENO, &answer);
-    io::write_all(STDOUT_FILENO, &sheet);
+    out.write_all(&answer)?;
+    out.write_all(&sheet)
 }

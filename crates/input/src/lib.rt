@@ -5,13 +5,13 @@
 ghost use Rattle.std.specs.Prelude.{◌≡◌, ◌+◌, ◌*◌, ◌≤◌, length};
 ghost use Rattle.input.specs.Input.{text_bytes, got_length};
 
-use libc::STDIN_FILENO;
+use std::io::{ErrorKind, Read};
 
 // The longest text that a length of two bytes can announce.
 pub const TEXT_BYTES: usize = 65535;
 
 // The result of reading a text: its length, or that the input ended early.
-#[derive(Drop)]
+#[derive(Clone, Copy)]
 pub enum Got {
     Length(usize),
     Early,
@@ -25,29 +25,44 @@ fn text_length(low: u8, high: u8) -> usize
     low as usize + 256 * (high as usize)
 }
 
-// Reads into the buffer as far as the input goes, and returns how many bytes came.
-pub fn read_up_to(buf: &mut [u8]) -> usize
+// Reads into the buffer as far as the input goes, and returns how many bytes came. An error ends the input, as its end does.
+pub fn read_up_to<R: Read>(input: &mut R, buf: &mut [u8]) -> usize
     ensures { result ≤ length buf.new }
 {
-    io::read_full(STDIN_FILENO, buf)
+    let mut got = 0;
+    for _ in 0..u64::MAX {
+        if got == buf.len() {
+            break;
+        }
+        match input.read(&mut buf[got..]) {
+            Ok(0) => break,
+            Ok(n) => got += n,
+            Err(error) => {
+                if error.kind() != ErrorKind::Interrupted {
+                    break;
+                }
+            }
+        }
+    }
+    got
 }
 
 // Fills the buffer; false when the input ends before it is full. No contract can say what was read.
-fn fill(buf: &mut [u8]) -> bool {
-    read_up_to(buf) == buf.len()
+fn fill<R: Read>(input: &mut R, buf: &mut [u8]) -> bool {
+    read_up_to(input, buf) == buf.len()
 }
 
 // Reads a two-byte length and that many bytes, to the start of the buffer. Inner: it has room for every such length.
-pub fn read_text(buf: &mut [u8]) -> Got
+pub fn read_text<R: Read>(input: &mut R, buf: &mut [u8]) -> Got
     requires { text_bytes ≤ length buf.old }
     ensures { got_length result ≤ length buf.new }
 {
     let mut two = [0u8; 2];
-    if !fill(&mut two) {
+    if !fill(input, &mut two) {
         return Got::Early;
     }
     let n = text_length(two[0], two[1]);
-    if fill(&mut buf[0..n]) {
+    if fill(input, &mut buf[0..n]) {
         Got::Length(n)
     } else {
         Got::Early
@@ -55,12 +70,12 @@ pub fn read_text(buf: &mut [u8]) -> Got
 }
 
 // Reads a sheet and a book, as every program does first. Inner: the book's buffer has room for a text of any length.
-pub fn read_sheet_and_book(sheet: &mut [u8], book: &mut [u8]) -> Got
+pub fn read_sheet_and_book<R: Read>(input: &mut R, sheet: &mut [u8], book: &mut [u8]) -> Got
     requires { text_bytes ≤ length book.old }
     ensures { got_length result ≤ length book.new }
 {
-    if fill(sheet) {
-        read_text(book)
+    if fill(input, sheet) {
+        read_text(input, book)
     } else {
         Got::Early
     }

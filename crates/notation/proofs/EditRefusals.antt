@@ -95,3 +95,4 @@ module _ (name : Naming) (l : Limits) where
         go absent r = λ e. omega arith
     never-69 (t ∷ ts) (thing s d ∷ g) m h =
         start-not s d t.place g t.token (start name l s d t.token) (start_right name l s d t.token) h (λ then. parse name l end ts (then ++ g) m) (λ then k. never-69 ts (then ++ g) m k)
+    never-69 (t ∷ ts) [] m h = elim h [ ]

@@ -101,6 +101,7 @@ module _ (name : Naming) (l : Limits) (law : Lawful name l) where
         go : (b : Bool) → T b
             → elim b as (λ z. Asked (List ℕ)) [ true ↦ prefixed c (parse name l end ps (then ++ g) m) | false ↦ refused 68 p.place ] ≡ prefixed c (parse name l end ps (then ++ g) m)
         go true i = refl
+        go false i = elim i [ ]
 
     last-read : (d : ℕ) (g : List Goal) (m : ℕ) (bytes : List ℕ) → d ≤ l.deepest → Reads bytes [] g m → Reads (0x30 ∷ bytes) [] (thing (steps textEnd) d ∷ g) m
     unfolding parse prefixed
@@ -108,6 +109,7 @@ module _ (name : Naming) (l : Limits) (law : Lawful name l) where
       where
         go : (b : Bool) → T b → elim b as (λ z. Asked (List ℕ)) [ true ↦ prefixed (0x30 ∷ []) (parse name l end [] g m) | false ↦ refused 68 end ] ≡ passed (0x30 ∷ bytes)
         go true i = ap (prefixed (0x30 ∷ [])) h
+        go false i = elim i [ ]
 
     pub says-read : {bytes : List ℕ} {ts : List Token} {g : List Goal} {m : ℕ} → Says name l bytes ts g m → (ps : List Placed) → tokens_of ps ≡ ts → Reads bytes ps g m
     unfolding parse

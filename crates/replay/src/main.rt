@@ -4,42 +4,44 @@
 #![tactic(auto)]
 
 use input::Got;
-use libc::STDOUT_FILENO;
 use log_blocks::{Held, Told};
 use sheet::Sheet;
+use std::io;
+use std::io::{Read, Write};
 
 // Writes the line of a round, where one is due.
-fn write_due(s: Told) {
+fn write_due<W: Write>(out: &mut W, s: Told) -> io::Result<()> {
     if s.prints {
         let line = s.line;
-        io::write_all(STDOUT_FILENO, &line);
+        out.write_all(&line)?;
     }
+    Ok(())
 }
 
 // Replays the log on the sheet, block by block, and writes its lines.
-fn replay_log(sheet: &mut [u8], book: &[u8]) {
+fn replay_log<R: Read, W: Write>(from: &mut R, out: &mut W, sheet: &mut [u8], book: &[u8]) -> io::Result<()> {
     let mut block = [0u8; seal::BLOCK];
     let mut edit = [0u8; log_blocks::KEPT];
     let mut held = Held { number: 0, kept: 0 };
     loop {
-        let got = input::read_up_to(&mut block);
+        let got = input::read_up_to(from, &mut block);
         let s = log_blocks::round(&block[0..got], held, &mut edit, sheet, book);
-        write_due(s);
+        write_due(out, s)?;
         if !s.onward {
-            return;
+            return Ok(());
         }
         held = s.held;
     }
 }
 
-fn main() {
+fn main(rt: HostRuntime) -> io::Result<()> {
+    let mut from = rt.reader();
+    let mut out = io::writer(&rt);
     let mut sheet = [0u8; Sheet::BYTES];
     let mut book = [0u8; input::TEXT_BYTES];
-    let Got::Length(b) = input::read_sheet_and_book(&mut sheet, &mut book) else {
-        let early = printed::line::early();
-        io::write_all(STDOUT_FILENO, &early);
-        return;
+    let Got::Length(b) = input::read_sheet_and_book(&mut from, &mut sheet, &mut book) else {
+        return out.write_all(&printed::line::early());
     };
-    replay_log(&mut sheet, &book[0..b]);
-    io::write_all(STDOUT_FILENO, &sheet);
+    replay_log(&mut from, &mut out, &mut sheet, &book[0..b])?;
+    out.write_all(&sheet)
 }

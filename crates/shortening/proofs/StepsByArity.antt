@@ -46,7 +46,7 @@ module _ (n : ℕ) where
   past : {s : Sort} (e : Expr s) (h k : ℕ) (inside : ℕ → Made (Expr s)) → 1 ≤ h → at_root n e (λ at. elim (ltb at h) [ true ↦ unfit | false ↦ inside (at - h) ]) (h + k) ≡ inside k
   unfolding at_root
   past {s} e h k inside l =
-      ap₂ (λ a b. elim a as (λ c. Made (Expr s)) [ true ↦ by_law e (numbered n (laws s)) | false ↦ elim b [ true ↦ unfit | false ↦ inside (h + k - h) ] ]) (ne_eqb (h + k) 0 (λ q. absurd (omega arith))) (le-ltb (h + k) h (omega arith))
+      ap₂ {B = Bool} {C = Made (Expr s)} (λ a b. elim a as (λ c. Made (Expr s)) [ true ↦ by_law e (numbered n (laws s)) | false ↦ elim b [ true ↦ unfit | false ↦ inside (h + k - h) ] ]) (ne_eqb (h + k) 0 (λ q. absurd (omega arith))) (le-ltb (h + k) h (omega arith))
       ∙ ap inside (omega arith)
 
   pub step-only : {u t : Sort} (b : Unary u t) (x : Expr u) (k : ℕ) → make_step n (build1 b x) (length (head1 b) + k) ≡ map_made (build1 b) (make_step n x k)
