@@ -1,0 +1,8 @@
+use mathlib.Core.Path.{sym, subst}
+use lib.ListN.{length}
+use Rattle.text.specs.Part.{Part}
+use Rattle.judge.proofs.PartLaws.{EndsBy, judged-inside}
+use Rattle.judge.proofs.judge.Goals as goal
+
+pub part_of-rule-requires : goal.part_of-rule-requires
+part_of-rule-requires c = subst (λ (p : Part). EndsBy p (length c.args.book.now)) (sym c.decide-v.ensures.1) (judged-inside _ _)
