@@ -1,7 +1,7 @@
 -- The places of a store: a list of its length is its first block and its places, one after the other.
 use mathlib.Core.Path.{◌≡◌, refl, sym, ap, ap₂, ◌∙◌}
 use mathlib.Core.List.{List, ◌++◌}
-use Prim.Native.Nat.{ℕ, zero, suc, ◌+◌, ◌-◌, ◌*◌, ◌<◌}
+use Prim.Native.Nat.{ℕ, zero, suc, ◌+◌, ◌*◌, ◌<◌}
 use native.Mathlib.Omega.{arith}
 use lib.ListN.{length, get_or, take, drop, length-append, length-drop, take-append-drop, drop_of_length-le, replicate, length-replicate, get_or-replicate}
 use lib.Seq.{length-take-le, get_or-take, get_or-drop, ext_get_or, take_at, drop-drop, drop-append-add}

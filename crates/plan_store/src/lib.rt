@@ -50,7 +50,7 @@ fn copy(to: &mut [u8], from: &[u8])
     requires { length to.old ≡ length from.now }
     ensures { to.new ≡ from.now }
 {
-    bytes::copy(from, to);
+    to.copy_from_slice(from);
 }
 
 // Whether the head block is right. Inner: it is a block.
