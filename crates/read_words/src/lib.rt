@@ -20,7 +20,7 @@ use answer::{Answer, Refusal, Written};
 use text::Text;
 
 // What a token begins if an item is wanted: nothing, or `size` bytes of codes and a row that must follow.
-#[derive(Drop)]
+#[derive(Clone, Copy)]
 struct Met {
     wrong: bool,
     size: usize,
