@@ -1,10 +1,10 @@
 -- 31 to 33 by the measured sizes, and then the rules one by one, with the edit without its idle steps.
-use mathlib.Core.Path.{◌≡◌, refl, sym, ap, ◌∙◌, subst}
-use mathlib.Core.List.{List, [], ◌∷◌, append-nil}
+use mathlib.Core.Path.{◌≡◌, refl, sym, ap, ◌∙◌}
+use mathlib.Core.List.{List, [], append-nil}
 use Prim.Native.Nat.{ℕ, ◌≤◌, ◌<◌}
 use native.Mathlib.Omega.{arith}
 use lib.ListN.{length}
-use Rattle.answer.specs.Asked.{Asked, passed, refused, ◌>>◌, after}
+use Rattle.answer.specs.Asked.{passed, refused, ◌>>◌, after}
 use Rattle.answer.specs.Answers.{refusal_number_def, refusal_place_def}
 use Rattle.answer.specs.declared.Refusal.{Refusal}
 use Rattle.answer.specs.declared.Refusal.TheVariants.{CarriedLength, CarriedLevels, OutputLength}
@@ -16,7 +16,6 @@ use Rattle.logic.specs.Carry.{carried_book}
 use Rattle.logic.specs.Limits.{ranges}
 use Rattle.text.specs.Code.{book_code, book_levels}
 use Rattle.text.specs.Reading.{longest_carried, deepest_carried}
-use Rattle.text.specs.Stands.{EditStands}
 use Rattle.tree.specs.Sizes.{measures}
 use Rattle.ends.specs.Edits.{EditAt}
 use Rattle.ends.specs.Books.{BookIs}
@@ -29,7 +28,7 @@ use Rattle.carry.proofs.CarriedSizes as carry
 use Rattle.judge.specs.Questions.{ask_rules}
 use Rattle.judge.specs.Judging.{RulesStand}
 use Rattle.judge.proofs.RulesJudged.{none_left}
-use Rattle.runs.specs.Scratch.{longest, longest_rule_def, ask_scratch, up_to_broken, overwritten, writings}
+use Rattle.runs.specs.Scratch.{longest, longest_rule_def, ask_scratch, up_to_broken, overwritten}
 use Rattle.runs.proofs.ScratchLaws.{longest-short, split, scratch_is}
 use Rattle.enter_edit.specs.Singly.{BothRead, Singly, EachFits, EachJudged}
 

@@ -1,5 +1,5 @@
 -- Where entering stops, and what sheet and scratch then hold.
-use mathlib.Core.Path.{◌≡◌, refl, sym, ◌∙◌, ap}
+use mathlib.Core.Path.{◌≡◌, refl, ◌∙◌, ap}
 use mathlib.Core.List.{List}
 use Prim.Native.Nat.{ℕ}
 use lib.ListN.{length}
@@ -12,12 +12,11 @@ use Rattle.logic.specs.Syntax.{Expr, rule, Edit}
 use Rattle.logic.specs.Carry.{carried_book}
 use Rattle.logic.specs.Limits.{ranges}
 use Rattle.sheet.specs.Sheet.{graph_of}
-use Rattle.sheet.specs.Questions.{Sound}
 use Rattle.text.specs.Reading.{text_limits}
 use Rattle.text.specs.Questions.{ask_edit}
 use Rattle.text.proofs.TextSpelling.{rules-in-range, book-is-spelled, read-edit-stands}
 use Rattle.judge.specs.Questions.{ask_rules, ask_sheet_and_book}
-use Rattle.judge.proofs.SheetAndBook.{sheet-sound, book-passed}
+use Rattle.judge.proofs.SheetAndBook.{book-passed}
 use Rattle.runs.specs.Scratch.{ask_scratch, writings}
 use Rattle.enter_edit.specs.Singly.{BothRead, Singly}
 use Rattle.apply.specs.Apply.{after_steps}
