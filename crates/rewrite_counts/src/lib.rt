@@ -17,6 +17,7 @@ use logic::Node;
 use text::Text;
 
 // The byte that replaces an 0A with this count and its operands; 0 where they stay.
+#[tactic(auto, using(std::proofs::lemmas::Bool::Decides::nat_tests), unfolding(crate::specs::Trees::least_in_place_def))]
 fn least_in_place(count: u8) -> u8
     ensures { result ≡ least_in_place_def count }
 {
@@ -27,6 +28,7 @@ fn least_in_place(count: u8) -> u8
 }
 
 // The same for an 0B.
+#[tactic(auto, using(std::proofs::lemmas::Bool::Decides::nat_tests), unfolding(crate::specs::Trees::most_in_place_def))]
 fn most_in_place(count: u8) -> u8
     ensures { result ≡ most_in_place_def count }
 {

@@ -18,9 +18,9 @@ returns-then-out-size c = let r = book_read _ c.check_former_book-answer.result 
 
 pub put_rewritten-requires : goal.put_rewritten-requires
 put_rewritten-requires c = let r = book_read _ c.check_former_book-answer.result c.check_former_book-answer.ensures c.in_default.is in
-    record { rules = r.what; is = book-is r; fits = omega (arith, c.if-out-size.false, c.rewritten_length-size.ensures _ (book-is r)) }
+    record { rules = r.what; is = book-is r; fits = omega (arith, c.rewritten_length-size.ensures _ (book-is r)) }
 
 pub returns : goal.returns
 returns c = let r = book_read _ c.check_former_book-answer.result c.check_former_book-answer.ensures c.in_default.is in let l = c.rewritten_length-size in
-    let w = is-written (ask_rewrite c.args.book.now (length c.args.out.now)) c.args.out.now (book_code (rewritten_book r.what)) l.result (enough r l.ensures _ c.if-out-size.false) (l.ensures _ (book-is r)) in
+    let w = is-written (ask_rewrite c.args.book.now (length c.args.out.now)) c.args.out.now (book_code (rewritten_book r.what)) l.result (enough r l.ensures (length c.args.out.now) (omega arith)) (l.ensures _ (book-is r)) in
     record { result_value = w.0; out_after = c.put_rewritten.ensures r.what (book-is r) ∙ w.1 }
