@@ -21,7 +21,7 @@ returns-then-size-gt-LONGEST c =
 
 pub returns-then-output-size : goal.returns-then-output-size
 returns-then-output-size c =
-    let w = not_written (ask_join_edits c.args.p.now c.args.q.now (length c.args.output.now)) c.args.output.now 33 _ (short (edit-passed _ c.check_edit-first.result c.check_edit-first.ensures c.in_default.is) (edit-passed _ c.check_edit-second.result c.check_edit-second.ensures c.in_default-second.is) _ c.if-size-gt-LONGEST.false c.if-output-size.true) in record { result_value = w.0; output_after = w.1 }
+    let w = not_written (ask_join_edits c.args.p.now c.args.q.now (length c.args.output.now)) c.args.output.now 33 _ (short (edit-passed _ c.check_edit-first.result c.check_edit-first.ensures c.in_default.is) (edit-passed _ c.check_edit-second.result c.check_edit-second.ensures c.in_default-second.is) (length c.args.output.now) (omega arith) c.if-output-size.true) in record { result_value = w.0; output_after = w.1 }
 
 pub returns : goal.returns
 returns c =
