@@ -1,5 +1,6 @@
 use mathlib.Core.Path.{◌≡◌, sym, ap, ap₂, ◌∙◌}
 use Prim.Native.Nat.{◌+◌}
+use native.Mathlib.Omega.{arith}
 use Rattle.answer.specs.Answers.{asked}
 use Rattle.join_sheets.specs.Joined.{nodes_total}
 use Rattle.join_sheets.proofs.JoinStages.{first_stops, second-stops, passes, too_many}
@@ -14,9 +15,9 @@ returns-in_default-other c = second-stops _ _ (sym c.check-own.ensures ∙ ap as
 pub returns-then-total-le-NODES : goal.returns-then-total-le-NODES
 returns-then-total-le-NODES c =
     let total : c.node_count.result + c.node_count-2.result ≡ nodes_total c.args.first.now c.args.second.now = ap₂ ◌+◌ c.node_count.ensures.0 c.node_count-2.ensures.0 in
-    sym (passes _ _ (sym c.check-own.ensures ∙ ap asked c.in-Done.is) (sym c.check-other.ensures ∙ ap asked c.in-Done-other.is) (rw total at c.if-total-le-NODES.true))
+    sym (passes _ _ (sym c.check-own.ensures ∙ ap asked c.in-Done.is) (sym c.check-other.ensures ∙ ap asked c.in-Done-other.is) (omega (arith, total, c.if-total-le-NODES.true)))
 
 pub returns : goal.returns
 returns c =
     let total : c.node_count.result + c.node_count-2.result ≡ nodes_total c.args.first.now c.args.second.now = ap₂ ◌+◌ c.node_count.ensures.0 c.node_count-2.ensures.0 in
-    rw total (sym (too_many _ _ (sym c.check-own.ensures ∙ ap asked c.in-Done.is) (sym c.check-other.ensures ∙ ap asked c.in-Done-other.is) (rw total at c.if-total-le-NODES.false)))
+    rw total (sym (too_many _ _ (sym c.check-own.ensures ∙ ap asked c.in-Done.is) (sym c.check-other.ensures ∙ ap asked c.in-Done-other.is) (omega (arith, total, c.if-total-le-NODES.false))))
