@@ -2,24 +2,26 @@
 use mathlib.Core.Path.{◌≡◌, sym, ◌∙◌, ap, ap₂}
 use mathlib.Core.Bool.{true, ◌&&◌}
 use mathlib.Core.List.{List, [], ◌∷◌, ◌++◌, append_assoc, append-nil}
-use Prim.Native.Nat.{ℕ, suc, ◌+◌, ◌≤◌, ◌<◌}
+use Prim.Native.Nat.{ℕ, suc, ◌+◌, ◌*◌, ◌%◌, ◌^◌, ◌≤◌, ◌<◌}
 use native.Mathlib.Numerals.{add-one}
 use native.Mathlib.Omega.{arith}
 use native.Mathlib.Decide.{dec_lt}
-use borrow.Author.Tests.{lt-ltb, le-ltb}
+use borrow.Author.Tests.{lt-ltb, le-ltb, eq-eqb, ne_eqb}
+use lib.Bits.{bit_or}
 use lib.Dec.{eqb}
 use lib.ListN.{length, get_or, set, take, drop, replicate, length-append, length-set, length-drop, drop_of_length-le}
 use borrow.Rule.Slice.PartMut.{post_of, Post-is}
 use lib.Seq.{drop-cons, take-suc-set, take_at, set_split, length-take-le}
 use Rattle.logic.specs.Graph.{Graph, Nodes, is_node}
-use Rattle.bitset.specs.Words.{set_of, member}
-use Rattle.bitset.proofs.SetLaws.{set_of-cong, member-set_of}
+use Rattle.bitset.specs.Words.{set_of, member, digit}
+use Rattle.bitset.proofs.SetLaws.{set_of-cong, member-set_of, set_of-more, set_of-same}
 use Rattle.seal.specs.Seal.{same_bytes}
 use Rattle.decimal.specs.Digits.{digits}
 use Rattle.decimal.proofs.DigitLaws.{digits-length}
 use Rattle.sheet.specs.Sheet.{chunks}
 use Rattle.sheet.proofs.ChunkLaws.{chunks-more}
 use Rattle.pages.specs.Page.{head_line, square, squares, set_line}
+use Rattle.pages.specs.Typed.{marks}
 
 -- comparing: one more byte
 pub same_step : (a b : List ℕ) (i : ℕ) → i < length a → i < length b
@@ -104,3 +106,11 @@ line-written n x row s = unfold set_line in ap (◌++ squares n (member row)) s.
 pub head-written : {letter : ℕ} {line : List ℕ} (x : ℕ) → Started (letter ∷ digits 2 x) line → take 3 line ++ squares 0 (member 0) ≡ head_line letter x
 unfolding head_line squares square chunks
 head-written {letter} x s = ap (◌++ squares 0 (member 0)) s.front ∙ sym (append_assoc (letter ∷ digits 2 x) (replicate 60 0x20) (0x0A ∷ []))
+
+-- The set of a line's marks, one byte more.
+module _ (line : List ℕ) (r j : ℕ) where
+  pub marked-more : j < 64 → r ≡ set_of j (marks line) → get_or line (3 + j) 0 ≡ 0x23 → bit_or r (1 * 2 ^ j % 2 ^ 64) ≡ set_of (j + 1) (marks line)
+  marked-more l e m = set_of-more j (marks line) r 1 l e (ap digit (sym (eq-eqb _ _ m)))
+
+  pub unmarked-more : r ≡ set_of j (marks line) → (get_or line (3 + j) 0 ≡ 0x23 → ⊥) → r ≡ set_of (j + 1) (marks line)
+  unmarked-more e m = set_of-same j (marks line) r e (ne_eqb _ _ m)
