@@ -1,14 +1,13 @@
 -- The lowest pair of a relation that is not in another, found row by row.
-use mathlib.Core.Path.{◌≡◌, refl, sym, ap, ap₂, ◌∙◌, subst}
+use mathlib.Core.Path.{◌≡◌, refl, sym, ap, ap₂, ◌∙◌}
 use mathlib.Core.Bool.{Bool, true, false, not, ◌&&◌, cond, not-not}
-use mathlib.Core.List.{List}
 use Prim.Native.Nat.{ℕ, ◌≤◌, ◌<◌}
 use native.Mathlib.Omega.{arith}
 use lib.Count.{count_trailing_zeros}
 use lib.Dec.{eqb}
 use borrow.Author.Tests.{ne_eqb}
 use Rattle.logic.specs.Graph.{Nodes, Pairs, any_below, all_below, implies}
-use Rattle.logic.specs.Witness.{IsLowest, nothing, pairs, lowest_below}
+use Rattle.logic.specs.Witness.{IsLowest, nothing, pairs}
 use Rattle.logic.proofs.Below.{any-one, all-each, all-stop, all_end, all-not-any, none-outside}
 use Rattle.logic.proofs.WitnessLaws.{lowest-is}
 use Rattle.bitset.specs.Words.{set_of, member, combined}

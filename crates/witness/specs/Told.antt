@@ -1,5 +1,5 @@
 -- What a witness says about a broken rule: the part that breaks it, and the nodes or pairs that break that part.
-use Rattle.std.specs.Prelude.{◌≡◌, false, not, ◌&&◌, cond, ℕ, eqb}
+use Rattle.std.specs.Prelude.{◌≡◌, false, not, ◌&&◌, cond, eqb}
 use Rattle.logic.specs.Syntax.{Expr, rule, sub_nodes, sub_arrows, node_in, pair_in, both, either, not_rule}
 use Rattle.logic.specs.Graph.{Graph, Nodes, Pairs, any_below}
 use Rattle.logic.specs.Meaning.{value}
