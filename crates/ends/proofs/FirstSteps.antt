@@ -183,6 +183,11 @@ chosen text at (choose K P Q Z) h t =
       tail = edit_code P ++ (edit_code Q ++ z);
       split = d;
     }
+chosen text at finish h t = elim t [ ]
+chosen text at (addLabel k E Z) h t = elim t [ ]
+chosen text at (takeLabel k E Z) h t = elim t [ ]
+chosen text at (addArrow a R Z) h t = elim t [ ]
+chosen text at (takeArrow a R Z) h t = elim t [ ]
 
 pub as-choose : (text : List ℕ) (at : ℕ) (Z : Edit) → EditAt text at Z → get_or text at 0 ≡ 0x35 → IsChoose text at Z
 as-choose text at Z h m = chosen text at Z h (so (eq-eqb _ _ (sym (tag-edit text at Z h) ∙ m)))
@@ -190,6 +195,11 @@ as-choose text at Z h m = chosen text at Z h (so (eq-eqb _ _ (sym (tag-edit text
 -- the end of an edit
 is-finish : (Z : Edit) → T (eqb (edit_tag Z) 0x30) → Z ≡ finish
 is-finish finish t = refl
+is-finish (addLabel k E Z) t = elim t [ ]
+is-finish (takeLabel k E Z) t = elim t [ ]
+is-finish (addArrow a R Z) t = elim t [ ]
+is-finish (takeArrow a R Z) t = elim t [ ]
+is-finish (choose K P Q Z) t = elim t [ ]
 
 pub as-finish : (text : List ℕ) (at : ℕ) (Z : Edit) → EditAt text at Z → get_or text at 0 ≡ 0x30 → Z ≡ finish
 as-finish text at Z h m = is-finish Z (so (eq-eqb _ _ (sym (tag-edit text at Z h) ∙ m)))

@@ -16,6 +16,7 @@ use logic::{Arrow, Label};
 // The shape of each code: the length of the code byte with its numbers, plus 4 for each operand, plus 16 for a name (03, 11); 0 if it is not a code.
 // The table is in specs/Shapes.antt. A single `match` with constants, which the compiler turns into a table in read-only memory.
 // Inner: callers pass a byte that is within the table.
+#[tactic(auto, unfolding(crate::specs::Shapes::shapes))]
 pub fn shape(code: u8) -> usize
     requires { code < 40 }
     ensures { result ≡ shape_of code }
@@ -68,7 +69,7 @@ pub fn past(text: &[u8], at: usize) -> usize
 
 // The place after the first step of the edit at `at`.
 // Inner: callers have read the text before, and a step is there.
-#[cycle(end_of_next_step)]
+#[cycle(steps)]
 pub fn next_step(text: &[u8], at: usize) -> usize
     requires { SomeEdit text.now at × (get_or text.now at 0 ≡ 0x30 → ⊥) }
     ensures { (Z : Edit) → EditAt text.now at Z → NextAt text.now at Z result }
@@ -84,7 +85,7 @@ pub fn next_step(text: &[u8], at: usize) -> usize
 
 // The place after the edit at `at`.
 // Inner: callers have read the text before.
-#[cycle(end_of_next_step)]
+#[cycle(steps)]
 pub fn end_of(text: &[u8], at: usize) -> usize
     requires { SomeEdit text.now at }
     ensures { (Z : Edit) → EditAt text.now at Z → result ≡ at + length (edit_code Z) }
