@@ -55,7 +55,11 @@ module _ (name : Naming) (l l' : Limits) (same : l.numbers ≡ l'.numbers) (deep
 module _ (l : Limits) (rest : List ℕ) where
   pub printable-more : (bytes : List ℕ) (g : List Goal) → Printable l bytes g 0 → Printable l (bytes ++ rest) g 0
   unfolding Printable
-  printable-more [] [] h = elim rest [ [] ↦ tt | x ∷ t ↦ tt ]
+  printable-more [] [] h = nothing-wanted rest
+    where
+      nothing-wanted : (bytes : List ℕ) → Printable l bytes [] 0
+      nothing-wanted [] = tt
+      nothing-wanted (x ∷ t) = tt
   printable-more [] (mark t ∷ g) h = mark-printable l rest t g 0 (printable-more [] g h)
   printable-more [] (number k ∷ g) h = absurd h
   printable-more [] (thing s d ∷ g) h = absurd h

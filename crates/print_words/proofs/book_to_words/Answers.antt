@@ -1,0 +1,12 @@
+use native.Mathlib.Omega.{arith}
+use Rattle.print_words.proofs.PrintStages.{answered-as, book-prints, book-asked}
+use Rattle.print_words.proofs.book_to_words.Goals as goal
+
+pub to_words-requires : goal.to_words-requires
+to_words-requires c = (book-prints _ c.check_book-second.ensures, omega arith, omega arith)
+
+pub returns : goal.returns
+returns c =
+    let e = c.to_words.ensures in
+    let a = answered-as (book-asked _ c.check_book-second.ensures _ _) c.args.output.now (e.result_value, e.output_after) in
+    record { result_value = a.0; output_after = a.1 }
