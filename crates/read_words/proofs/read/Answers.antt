@@ -57,7 +57,7 @@ pub next-token-requires-in-loop-row : goal.next-token-requires-in-loop-row
 next-token-requires-in-loop-row c = c.loop-row.invariant.inside
 
 pub end_of_text-requires : goal.end_of_text-requires
-end_of_text-requires c = let l = c in omega (arith, l.loop-row.invariant.short, l.loop-row.invariant.inside, l.well_formed)
+end_of_text-requires c = omega (arith, c.loop-row.invariant.short, c.loop-row.invariant.inside, c.well_formed)
 
 -- the text has ended
 pub returns-then-from-words : goal.returns-then-from-words
