@@ -1,6 +1,6 @@
 -- The questions of a game, in item 13's order, and the answer when all have passed.
 use Rattle.std.specs.Prelude.{Bool, ◌&&◌, List, [], ◌∷◌, ℕ, suc, ◌+◌, ◌-◌, eqb, leb, length, take, drop}
-use Rattle.answer.specs.Asked.{Asked, passed, refused, ◌>>=◌, ◌>>◌, is, after}
+use Rattle.answer.specs.Asked.{Asked, passed, ◌>>=◌, ◌>>◌, is, after}
 use Rattle.logic.specs.Syntax.{Expr, rule, Edit}
 use Rattle.logic.specs.Carry.{carried_book}
 use Rattle.sheet.specs.Sheet.{graph_of}

@@ -13,7 +13,7 @@ ghost use Rattle.play.specs.Standing.{count_of, start_of, GameStands, SomeGame, 
 use sheet::Sheet;
 
 // The edits of both sides stand one after the other: how many the dispatcher has, where the disruption's start, and how many those are.
-#[derive(Drop)]
+#[derive(Clone, Copy)]
 pub struct Lists {
     pub ours: usize,
     pub second: usize,
