@@ -18,7 +18,7 @@ use sheet::Sheet;
 use text::Text;
 
 // The verdict in numbers: the answer, and the broken rule as a part of the text.
-#[derive(Drop)]
+#[derive(Clone, Copy)]
 pub struct Verdict {
     pub answer: Answer,
     pub start: usize,
@@ -94,9 +94,9 @@ pub fn decide(sheet: &[u8], book: &[u8]) -> Verdict
 }
 
 // The part of a book that a verdict names. Inner: it lies in the book.
-fn part_of<'b>(book: &'b [u8], v: &Verdict) -> &'b [u8]
-    requires { v.now.start + v.now.size ≤ length book.now }
-    ensures { PartOf book.entry (part_named v.now) result }
+fn part_of<'b>(book: &'b [u8], v: Verdict) -> &'b [u8]
+    requires { v.start + v.size ≤ length book.now }
+    ensures { PartOf book.entry (part_named v) result }
 {
     let start = v.start;
     let end = start + v.size;
@@ -126,6 +126,6 @@ pub fn judge<'s, 'b>(sheet: &'s [u8], book: &'b [u8]) -> Judged<'b>
         × PartOf book.entry (judged_part sheet.now book.now) result.rule }
 {
     let v = decide(sheet, book);
-    let rule = part_of(book, &v);
+    let rule = part_of(book, v);
     with_part(v, rule)
 }
