@@ -19,7 +19,12 @@ fn write_due<W: Write>(out: &mut W, s: Told) -> io::Result<()> {
 }
 
 // Replays the log on the sheet, block by block, and writes its lines.
-fn replay_log<R: Read, W: Write>(from: &mut R, out: &mut W, sheet: &mut [u8], book: &[u8]) -> io::Result<()> {
+fn replay_log<R: Read, W: Write>(
+    from: &mut R,
+    out: &mut W,
+    sheet: &mut [u8],
+    book: &[u8],
+) -> io::Result<()> {
     let mut block = [0u8; seal::BLOCK];
     let mut edit = [0u8; log_blocks::KEPT];
     let mut held = Held { number: 0, kept: 0 };
