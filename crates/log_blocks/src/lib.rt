@@ -27,7 +27,7 @@ const LAST: usize = 65534;
 pub const KEPT: usize = Text::LONGEST + 1;
 
 // What a block says: the edit goes on or has finished, and that many bytes of it are kept; or why the block is bad.
-#[derive(Clone, Copy)]
+#[derive(Drop)]
 enum Taken {
     GoesOn(usize),
     Finished(usize),
@@ -35,14 +35,14 @@ enum Taken {
 }
 
 // What is held between blocks: the number of the next one, and how many bytes of the begun edit are kept.
-#[derive(Clone, Copy)]
+#[derive(Drop)]
 pub struct Held {
     pub number: usize,
     pub kept: usize,
 }
 
 // The result of a round: whether a line is due, and the line, zeros where none is; whether to go on, and what is then held.
-#[derive(Clone, Copy)]
+#[derive(Drop)]
 pub struct Told {
     pub prints: bool,
     pub line: [u8; printed::line::BYTES],
@@ -58,6 +58,7 @@ fn number_of(low: u8, high: u8) -> usize
 }
 
 // How many edit bytes a block says it has. Inner: it is a block.
+#[tactic(auto, unfolding(crate::specs::Log::count))]
 fn count(block: &[u8]) -> usize
     requires { length block.now ≡ block_bytes }
     ensures value { result ≡ count block.now }
@@ -67,6 +68,7 @@ fn count(block: &[u8]) -> usize
 }
 
 // Whether it is its edit's last block. Inner: it is a block.
+#[tactic(auto, unfolding(crate::specs::Log::is_last))]
 fn is_last(block: &[u8]) -> bool
     requires { length block.now ≡ block_bytes }
     ensures { result ≡ is_last block.now }
@@ -76,6 +78,7 @@ fn is_last(block: &[u8]) -> bool
 }
 
 // Whether byte 1 is right, given whether an edit is begun.
+#[tactic(auto, unfolding(crate::specs::Log::mark_right_def))]
 fn mark_right(begun: bool, mark: u8) -> bool
     ensures { result ≡ mark_right_def begun mark }
 {
@@ -86,6 +89,7 @@ fn mark_right(begun: bool, mark: u8) -> bool
 }
 
 // Whether a count is from 1 to 504, and 504 where more follows.
+#[tactic(auto, unfolding(crate::specs::Log::count_right_def))]
 fn count_right(last: bool, c: usize) -> bool
     ensures { result ≡ count_right_def last c }
 {
@@ -183,6 +187,7 @@ fn take_block(block: &[u8], number: usize, n: usize, edit: &mut [u8]) -> Taken
 }
 
 // The end of a log of that many blocks.
+#[tactic(auto, unfolding(crate::specs::Log::ask_log_end, answer::specs::Asked::is))]
 fn take_end(blocks: usize, n: usize) -> Answer
     ensures { asked result ≡ ask_log_end (ltb 0 n) blocks }
 {
