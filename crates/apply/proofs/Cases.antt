@@ -6,7 +6,7 @@ use Prim.Native.Nat.{ℕ, ◌+◌, ◌≤◌, ◌<◌}
 use native.Mathlib.Omega.{arith}
 use lib.Dec.{ltb→lt}
 use lib.ListN.{length, get_or, drop, length-append}
-use Rattle.logic.specs.Syntax.{Sort, node, arrow, rule, Expr, Edit, finish, addLabel, takeLabel, addArrow, takeArrow, choose}
+use Rattle.logic.specs.Syntax.{Sort, node, arrow, rule, Expr, Edit, finish, add_label, take_label, add_arrow, take_arrow, choose}
 use Rattle.logic.specs.Graph.{Graph, Nodes, Pairs}
 use Rattle.logic.specs.Meaning.{Value, value}
 use Rattle.logic.specs.Steps.{relabel, rejoin, run}
@@ -66,10 +66,10 @@ module _ (r : Ranges) (text : List ℕ) (at : ℕ) where
   is-finish Z h m = as-finish text at Z (record { limits = r; place = h }) (go Z (edit-byte Z h)) where
     go : (Y : Edit) → get_or text at 0 ≡ edit_tag Y → get_or text at 0 ≡ 0x30
     go finish e = e
-    go (addLabel k E Y) e = absurd (omega arith)
-    go (takeLabel k E Y) e = absurd (omega arith)
-    go (addArrow a R Y) e = absurd (omega arith)
-    go (takeArrow a R Y) e = absurd (omega arith)
+    go (add_label k E Y) e = absurd (omega arith)
+    go (take_label k E Y) e = absurd (omega arith)
+    go (add_arrow a R Y) e = absurd (omega arith)
+    go (take_arrow a R Y) e = absurd (omega arith)
     go (choose K P Q Y) e = absurd (omega arith)
 
   module _ {s : Sort} (limit : ℕ) (made : ℕ → Graph → ℕ → Value s → Graph) (Z : Edit) (h : Here Z) where
@@ -98,36 +98,36 @@ module _ (r : Ranges) (text : List ℕ) (at : ℕ) where
   pub as-label : (Z : Edit) → Here Z → 0x30 < get_or text at 0 → get_or text at 0 ≤ 0x32 → IsStep r text at Z node label_count label_made
   unfolding edit_code EditInRange behind_step run
   as-label finish h a b = absurd (omega (arith, edit-byte finish h))
-  as-label (addLabel k E Z) h a b =
-      is-step label_count label_made (addLabel k E Z) h 0x31 k E refl refl (ltb→lt k label_count h.range.0) h.range.1 h.range.2
-      (λ g w. refl) (λ g w. run_within r (addLabel k E finish) (h.range.0, h.range.1, tt) g w)
-  as-label (takeLabel k E Z) h a b =
-      is-step label_count label_made (takeLabel k E Z) h 0x32 k E refl refl (ltb→lt k label_count h.range.0) h.range.1 h.range.2
-      (λ g w. taken_label g w k E Z) (λ g w. subst Within (taken_label g w k E finish) (run_within r (takeLabel k E finish) (h.range.0, h.range.1, tt) g w))
-  as-label (addArrow k R Z) h a b = absurd (omega (arith, edit-byte (addArrow k R Z) h))
-  as-label (takeArrow k R Z) h a b = absurd (omega (arith, edit-byte (takeArrow k R Z) h))
+  as-label (add_label k E Z) h a b =
+      is-step label_count label_made (add_label k E Z) h 0x31 k E refl refl (ltb→lt k label_count h.range.0) h.range.1 h.range.2
+      (λ g w. refl) (λ g w. run_within r (add_label k E finish) (h.range.0, h.range.1, tt) g w)
+  as-label (take_label k E Z) h a b =
+      is-step label_count label_made (take_label k E Z) h 0x32 k E refl refl (ltb→lt k label_count h.range.0) h.range.1 h.range.2
+      (λ g w. taken_label g w k E Z) (λ g w. subst Within (taken_label g w k E finish) (run_within r (take_label k E finish) (h.range.0, h.range.1, tt) g w))
+  as-label (add_arrow k R Z) h a b = absurd (omega (arith, edit-byte (add_arrow k R Z) h))
+  as-label (take_arrow k R Z) h a b = absurd (omega (arith, edit-byte (take_arrow k R Z) h))
   as-label (choose K P Q Z) h a b = absurd (omega (arith, edit-byte (choose K P Q Z) h))
 
   pub as-arrow : (Z : Edit) → Here Z → 0x32 < get_or text at 0 → get_or text at 0 ≤ 0x34 → IsStep r text at Z arrow arrow_count arrow_made
   unfolding edit_code EditInRange behind_step run
   as-arrow finish h a b = absurd (omega (arith, edit-byte finish h))
-  as-arrow (addLabel k E Z) h a b = absurd (omega (arith, edit-byte (addLabel k E Z) h))
-  as-arrow (takeLabel k E Z) h a b = absurd (omega (arith, edit-byte (takeLabel k E Z) h))
-  as-arrow (addArrow k R Z) h a b =
-      is-step arrow_count arrow_made (addArrow k R Z) h 0x33 k R refl refl (ltb→lt k arrow_count h.range.0) h.range.1 h.range.2
-      (λ g w. refl) (λ g w. run_within r (addArrow k R finish) (h.range.0, h.range.1, tt) g w)
-  as-arrow (takeArrow k R Z) h a b =
-      is-step arrow_count arrow_made (takeArrow k R Z) h 0x34 k R refl refl (ltb→lt k arrow_count h.range.0) h.range.1 h.range.2
-      (λ g w. refl) (λ g w. run_within r (takeArrow k R finish) (h.range.0, h.range.1, tt) g w)
+  as-arrow (add_label k E Z) h a b = absurd (omega (arith, edit-byte (add_label k E Z) h))
+  as-arrow (take_label k E Z) h a b = absurd (omega (arith, edit-byte (take_label k E Z) h))
+  as-arrow (add_arrow k R Z) h a b =
+      is-step arrow_count arrow_made (add_arrow k R Z) h 0x33 k R refl refl (ltb→lt k arrow_count h.range.0) h.range.1 h.range.2
+      (λ g w. refl) (λ g w. run_within r (add_arrow k R finish) (h.range.0, h.range.1, tt) g w)
+  as-arrow (take_arrow k R Z) h a b =
+      is-step arrow_count arrow_made (take_arrow k R Z) h 0x34 k R refl refl (ltb→lt k arrow_count h.range.0) h.range.1 h.range.2
+      (λ g w. refl) (λ g w. run_within r (take_arrow k R finish) (h.range.0, h.range.1, tt) g w)
   as-arrow (choose K P Q Z) h a b = absurd (omega (arith, edit-byte (choose K P Q Z) h))
 
   pub as-choose : (Z : Edit) → Here Z → 0x34 < get_or text at 0 → IsChoose r text at Z
   unfolding edit_code EditInRange behind_step run
   as-choose finish h a = absurd (omega (arith, edit-byte finish h))
-  as-choose (addLabel k E Z) h a = absurd (omega (arith, edit-byte (addLabel k E Z) h))
-  as-choose (takeLabel k E Z) h a = absurd (omega (arith, edit-byte (takeLabel k E Z) h))
-  as-choose (addArrow k R Z) h a = absurd (omega (arith, edit-byte (addArrow k R Z) h))
-  as-choose (takeArrow k R Z) h a = absurd (omega (arith, edit-byte (takeArrow k R Z) h))
+  as-choose (add_label k E Z) h a = absurd (omega (arith, edit-byte (add_label k E Z) h))
+  as-choose (take_label k E Z) h a = absurd (omega (arith, edit-byte (take_label k E Z) h))
+  as-choose (add_arrow k R Z) h a = absurd (omega (arith, edit-byte (add_arrow k R Z) h))
+  as-choose (take_arrow k R Z) h a = absurd (omega (arith, edit-byte (take_arrow k R Z) h))
   as-choose (choose K P Q Z) h a =
       let z : List ℕ = edit_code Z ++ h.rest in
       let d : drop at text ≡ 0x35 ∷ (code K ++ (edit_code P ++ (edit_code Q ++ z))) =

@@ -10,7 +10,7 @@ use lib.Dec.{T, leb, ltb→lt, leb→le}
 use lib.ListN.{length, length-map, length-append}
 use borrow.Author.Tests.{ne_eqb}
 use Rattle.logic.specs.Syntax.{Sort, Expr}
-use Rattle.logic.specs.Limits.{max_nodes, ranges, InRange, Kind, labelNumber, arrowNumber, nodeNumber, leastCount, mostCount, fits}
+use Rattle.logic.specs.Limits.{max_nodes, ranges, InRange, Kind, label_number, arrow_number, node_number, least_count, most_count, fits}
 use Rattle.logic.specs.Arity.{Unary, Binary, build1, build2, Nullary, build0, by_arity}
 use Rattle.logic.proofs.Bools.{both_so}
 use Rattle.logic.proofs.ArityLaws.{range-1, range-2, range-0, Fit}
@@ -138,11 +138,11 @@ lowered-append a b = map-append (λ x. x % 128) a b
 
 -- A number in range is below 128,
 low : (k : Kind) (x : ℕ) → T (fits (ranges max_nodes) k x) → x < 128
-low labelNumber x h = omega (arith, ltb→lt x 48 h)
-low arrowNumber x h = omega (arith, ltb→lt x 16 h)
-low nodeNumber x h = omega (arith, ltb→lt x 60 h)
-low leastCount x h = omega (arith, leb→le x 60 (both_so (leb 1 x) (leb x 60) h).1)
-low mostCount x h = omega (arith, leb→le x 59 h)
+low label_number x h = omega (arith, ltb→lt x 48 h)
+low arrow_number x h = omega (arith, ltb→lt x 16 h)
+low node_number x h = omega (arith, ltb→lt x 60 h)
+low least_count x h = omega (arith, leb→le x 60 (both_so (leb 1 x) (leb x 60) h).1)
+low most_count x h = omega (arith, leb→le x 59 h)
 
 -- so raising and then lowering it changes nothing.
 lower-numbers : (ns : List (Kind × ℕ)) → Fit (ranges max_nodes) ns → lowered (marks (map (λ n. n.1) ns)) ≡ map (λ n. n.1) ns

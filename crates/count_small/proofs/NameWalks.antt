@@ -10,7 +10,7 @@ use lib.Dec.{eqb, ltb}
 use lib.ListN.{length, get_or, drop, drop_of_length-le}
 use lib.Seq.{drop-cons}
 use borrow.Author.Tests.{lt-ltb}
-use Rattle.logic.specs.Syntax.{Sort, Expr, rule, Edit, finish, addLabel, takeLabel, addArrow, takeArrow, choose}
+use Rattle.logic.specs.Syntax.{Sort, Expr, rule, Edit, finish, add_label, take_label, add_arrow, take_arrow, choose}
 use Rattle.logic.specs.Limits.{Ranges, InRange, EditInRange}
 use Rattle.text.specs.Code.{code, edit_code, book_code}
 use Rattle.text.specs.Stands.{RulesInRange}
@@ -100,10 +100,10 @@ module _ (r : Ranges) where
   walk-edit : (Z : Edit) → EditInRange r Z → (rest : List ℕ) → walk 0 (edit_code Z ++ rest) ≡ (edit_only_first Z && walk 0 rest)
   unfolding edit_code EditInRange edit_only_first walk due_next_def code_shape
   walk-edit finish f rest = refl
-  walk-edit (addLabel k E Z) f rest = walk_step 0x31 k E (edit_code Z) rest (edit_only_first Z) refl f.1 (walk-edit Z f.2 rest)
-  walk-edit (takeLabel k E Z) f rest = walk_step 0x32 k E (edit_code Z) rest (edit_only_first Z) refl f.1 (walk-edit Z f.2 rest)
-  walk-edit (addArrow a R Z) f rest = walk_step 0x33 a R (edit_code Z) rest (edit_only_first Z) refl f.1 (walk-edit Z f.2 rest)
-  walk-edit (takeArrow a R Z) f rest = walk_step 0x34 a R (edit_code Z) rest (edit_only_first Z) refl f.1 (walk-edit Z f.2 rest)
+  walk-edit (add_label k E Z) f rest = walk_step 0x31 k E (edit_code Z) rest (edit_only_first Z) refl f.1 (walk-edit Z f.2 rest)
+  walk-edit (take_label k E Z) f rest = walk_step 0x32 k E (edit_code Z) rest (edit_only_first Z) refl f.1 (walk-edit Z f.2 rest)
+  walk-edit (add_arrow a R Z) f rest = walk_step 0x33 a R (edit_code Z) rest (edit_only_first Z) refl f.1 (walk-edit Z f.2 rest)
+  walk-edit (take_arrow a R Z) f rest = walk_step 0x34 a R (edit_code Z) rest (edit_only_first Z) refl f.1 (walk-edit Z f.2 rest)
   walk-edit (choose K P Q Z) f rest =
       ap (walk 0) (four (0x35 ∷ code K) (edit_code P) (edit_code Q) (edit_code Z) rest)
       ∙ walk_code K f.0 (edit_code P ++ (edit_code Q ++ (edit_code Z ++ rest)))

@@ -6,7 +6,7 @@ use mathlib.Core.Bool.{Bool, true, false, ◌&&◌, cond, and-eq-true_iff}
 use Prim.Native.Nat.{ℕ}
 use lib.Dec.{eqb}
 use borrow.Author.Tests.{eqb-true, eqb-false, ne_eqb}
-use Rattle.logic.specs.Syntax.{Sort, Expr, Edit, finish, addLabel, takeLabel, addArrow, takeArrow, choose}
+use Rattle.logic.specs.Syntax.{Sort, Expr, Edit, finish, add_label, take_label, add_arrow, take_arrow, choose}
 use Rattle.logic.specs.Graph.{Graph, Nodes, Pairs}
 use Rattle.logic.specs.Meaning.{value}
 use Rattle.logic.specs.Steps.{update, relabel, rejoin, run}
@@ -42,10 +42,10 @@ step-first k e Z o = let (h, q) = (and-eq-true_iff (eqb k 0) (only_first (tree e
 pub run-others : (Z : Edit) → edit_only_first Z ≡ true → (g : Graph) → SameOthers g (run Z g)
 unfolding run edit_only_first
 run-others finish o g = record { labels = λ k i n. refl; arrows = λ a i j n. refl }
-run-others (addLabel k E Z) o g = let (h, q) = step-first k E Z o in same_then g _ _ (relabelled g k _ h) (run-others Z q _)
-run-others (takeLabel k E Z) o g = let (h, q) = step-first k E Z o in same_then g _ _ (relabelled g k _ h) (run-others Z q _)
-run-others (addArrow a R Z) o g = let (h, q) = step-first a R Z o in same_then g _ _ (rejoined g a _ h) (run-others Z q _)
-run-others (takeArrow a R Z) o g = let (h, q) = step-first a R Z o in same_then g _ _ (rejoined g a _ h) (run-others Z q _)
+run-others (add_label k E Z) o g = let (h, q) = step-first k E Z o in same_then g _ _ (relabelled g k _ h) (run-others Z q _)
+run-others (take_label k E Z) o g = let (h, q) = step-first k E Z o in same_then g _ _ (relabelled g k _ h) (run-others Z q _)
+run-others (add_arrow a R Z) o g = let (h, q) = step-first a R Z o in same_then g _ _ (rejoined g a _ h) (run-others Z q _)
+run-others (take_arrow a R Z) o g = let (h, q) = step-first a R Z o in same_then g _ _ (rejoined g a _ h) (run-others Z q _)
 run-others (choose K P Q Z) o g =
     let (k, x) = (and-eq-true_iff (only_first (tree K)) (edit_only_first P && (edit_only_first Q && edit_only_first Z))).0 o in
     let (p, y) = (and-eq-true_iff (edit_only_first P) (edit_only_first Q && edit_only_first Z)).0 x in

@@ -7,7 +7,7 @@ use native.Mathlib.Omega.{arith}
 use lib.Dec.{T, eqb, ltb→lt}
 use borrow.Author.Tests.{eq-eqb}
 use lib.ListN.{length, get_or, drop, length-append}
-use Rattle.logic.specs.Syntax.{rule, Expr, Edit, finish, addLabel, takeLabel, addArrow, takeArrow, choose}
+use Rattle.logic.specs.Syntax.{rule, Expr, Edit, finish, add_label, take_label, add_arrow, take_arrow, choose}
 use Rattle.logic.specs.Limits.{Ranges, EditInRange}
 use Rattle.logic.proofs.Bools.{so}
 use Rattle.text.specs.Code.{code, edit_code}
@@ -24,26 +24,26 @@ use Rattle.ends.proofs.Behind.{size-code, stands-tree}
 -- the code byte of an edit, and the number and the expression of its first step if that is 31 to 34
 abbrev pub edit_tag : Edit → ℕ
 edit_tag finish = 0x30
-edit_tag (addLabel k E Z) = 0x31
-edit_tag (takeLabel k E Z) = 0x32
-edit_tag (addArrow a R Z) = 0x33
-edit_tag (takeArrow a R Z) = 0x34
+edit_tag (add_label k E Z) = 0x31
+edit_tag (take_label k E Z) = 0x32
+edit_tag (add_arrow a R Z) = 0x33
+edit_tag (take_arrow a R Z) = 0x34
 edit_tag (choose K P Q Z) = 0x35
 
 abbrev pub edit_number : Edit → ℕ
 edit_number finish = 0
-edit_number (addLabel k E Z) = k
-edit_number (takeLabel k E Z) = k
-edit_number (addArrow a R Z) = a
-edit_number (takeArrow a R Z) = a
+edit_number (add_label k E Z) = k
+edit_number (take_label k E Z) = k
+edit_number (add_arrow a R Z) = a
+edit_number (take_arrow a R Z) = a
 edit_number (choose K P Q Z) = 0
 
 abbrev pub edit_tree : Edit → Tree
 edit_tree finish = leaf []
-edit_tree (addLabel k E Z) = tree E
-edit_tree (takeLabel k E Z) = tree E
-edit_tree (addArrow a R Z) = tree R
-edit_tree (takeArrow a R Z) = tree R
+edit_tree (add_label k E Z) = tree E
+edit_tree (take_label k E Z) = tree E
+edit_tree (add_arrow a R Z) = tree R
+edit_tree (take_arrow a R Z) = tree R
 edit_tree (choose K P Q Z) = tree K
 
 -- such a step, and its bytes
@@ -56,10 +56,10 @@ step_code Z = edit_tag Z ∷ edit_number Z ∷ tree_code (edit_tree Z)
 edit-opens : (Z : Edit) → edit_code Z ≡ edit_tag Z ∷ drop 1 (edit_code Z)
 unfolding edit_code
 edit-opens finish = refl
-edit-opens (addLabel k E Z) = refl
-edit-opens (takeLabel k E Z) = refl
-edit-opens (addArrow a R Z) = refl
-edit-opens (takeArrow a R Z) = refl
+edit-opens (add_label k E Z) = refl
+edit-opens (take_label k E Z) = refl
+edit-opens (add_arrow a R Z) = refl
+edit-opens (take_arrow a R Z) = refl
 edit-opens (choose K P Q Z) = refl
 
 pub tag-edit : (text : List ℕ) (at : ℕ) (Z : Edit) → EditAt text at Z → get_or text at 0 ≡ edit_tag Z
@@ -68,10 +68,10 @@ tag-edit text at Z h = byte_at text at _ _ (h.place.here ∙ ap (◌++ h.place.r
 pub step-code : (Z : Edit) → (edit_tag Z ≡ 0x30 → ⊥) → (edit_tag Z ≡ 0x35 → ⊥) → edit_code Z ≡ step_code Z ++ edit_code (behind_step Z)
 unfolding edit_code behind_step
 step-code finish n m = absurd (n refl)
-step-code (addLabel k E Z) n m = ap (λ (l : List ℕ). 0x31 ∷ k ∷ l ++ edit_code Z) (sym (code-tree E))
-step-code (takeLabel k E Z) n m = ap (λ (l : List ℕ). 0x32 ∷ k ∷ l ++ edit_code Z) (sym (code-tree E))
-step-code (addArrow a R Z) n m = ap (λ (l : List ℕ). 0x33 ∷ a ∷ l ++ edit_code Z) (sym (code-tree R))
-step-code (takeArrow a R Z) n m = ap (λ (l : List ℕ). 0x34 ∷ a ∷ l ++ edit_code Z) (sym (code-tree R))
+step-code (add_label k E Z) n m = ap (λ (l : List ℕ). 0x31 ∷ k ∷ l ++ edit_code Z) (sym (code-tree E))
+step-code (take_label k E Z) n m = ap (λ (l : List ℕ). 0x32 ∷ k ∷ l ++ edit_code Z) (sym (code-tree E))
+step-code (add_arrow a R Z) n m = ap (λ (l : List ℕ). 0x33 ∷ a ∷ l ++ edit_code Z) (sym (code-tree R))
+step-code (take_arrow a R Z) n m = ap (λ (l : List ℕ). 0x34 ∷ a ∷ l ++ edit_code Z) (sym (code-tree R))
 step-code (choose K P Q Z) n m = absurd (m refl)
 
 pub code-pos : (Z : Edit) → 0 < length (edit_code Z)
@@ -109,10 +109,10 @@ record Parts (lim : Ranges) (Z : Edit) : Type 0 where
 parts : (lim : Ranges) (Z : Edit) → EditInRange lim Z → (edit_tag Z ≡ 0x30 → ⊥) → (edit_tag Z ≡ 0x35 → ⊥) → Parts lim Z
 unfolding EditInRange behind_step
 parts lim finish r n m = absurd (n refl)
-parts lim (addLabel k E Z) r n m = record { named = inl (refl, ltb→lt k 48 r.0); formed = formed-tree lim E r.1; range = r.2 }
-parts lim (takeLabel k E Z) r n m = record { named = inl (refl, ltb→lt k 48 r.0); formed = formed-tree lim E r.1; range = r.2 }
-parts lim (addArrow a R Z) r n m = record { named = inr (refl, ltb→lt a 16 r.0); formed = formed-tree lim R r.1; range = r.2 }
-parts lim (takeArrow a R Z) r n m = record { named = inr (refl, ltb→lt a 16 r.0); formed = formed-tree lim R r.1; range = r.2 }
+parts lim (add_label k E Z) r n m = record { named = inl (refl, ltb→lt k 48 r.0); formed = formed-tree lim E r.1; range = r.2 }
+parts lim (take_label k E Z) r n m = record { named = inl (refl, ltb→lt k 48 r.0); formed = formed-tree lim E r.1; range = r.2 }
+parts lim (add_arrow a R Z) r n m = record { named = inr (refl, ltb→lt a 16 r.0); formed = formed-tree lim R r.1; range = r.2 }
+parts lim (take_arrow a R Z) r n m = record { named = inr (refl, ltb→lt a 16 r.0); formed = formed-tree lim R r.1; range = r.2 }
 parts lim (choose K P Q Z) r n m = absurd (m refl)
 
 pub as_step : (text : List ℕ) (at : ℕ) (Z : Edit) → EditAt text at Z → (get_or text at 0 ≡ 0x30 → ⊥) → (get_or text at 0 ≡ 0x35 → ⊥) → IsStep text at Z
@@ -184,10 +184,10 @@ chosen text at (choose K P Q Z) h t =
       split = d;
     }
 chosen text at finish h t = elim t [ ]
-chosen text at (addLabel k E Z) h t = elim t [ ]
-chosen text at (takeLabel k E Z) h t = elim t [ ]
-chosen text at (addArrow a R Z) h t = elim t [ ]
-chosen text at (takeArrow a R Z) h t = elim t [ ]
+chosen text at (add_label k E Z) h t = elim t [ ]
+chosen text at (take_label k E Z) h t = elim t [ ]
+chosen text at (add_arrow a R Z) h t = elim t [ ]
+chosen text at (take_arrow a R Z) h t = elim t [ ]
 
 pub as-choose : (text : List ℕ) (at : ℕ) (Z : Edit) → EditAt text at Z → get_or text at 0 ≡ 0x35 → IsChoose text at Z
 as-choose text at Z h m = chosen text at Z h (so (eq-eqb _ _ (sym (tag-edit text at Z h) ∙ m)))
@@ -195,10 +195,10 @@ as-choose text at Z h m = chosen text at Z h (so (eq-eqb _ _ (sym (tag-edit text
 -- the end of an edit
 is-finish : (Z : Edit) → T (eqb (edit_tag Z) 0x30) → Z ≡ finish
 is-finish finish t = refl
-is-finish (addLabel k E Z) t = elim t [ ]
-is-finish (takeLabel k E Z) t = elim t [ ]
-is-finish (addArrow a R Z) t = elim t [ ]
-is-finish (takeArrow a R Z) t = elim t [ ]
+is-finish (add_label k E Z) t = elim t [ ]
+is-finish (take_label k E Z) t = elim t [ ]
+is-finish (add_arrow a R Z) t = elim t [ ]
+is-finish (take_arrow a R Z) t = elim t [ ]
 is-finish (choose K P Q Z) t = elim t [ ]
 
 pub as-finish : (text : List ℕ) (at : ℕ) (Z : Edit) → EditAt text at Z → get_or text at 0 ≡ 0x30 → Z ≡ finish

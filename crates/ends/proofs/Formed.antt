@@ -5,7 +5,7 @@ use native.Mathlib.Omega.{arith}
 use lib.Dec.{ltb→lt}
 use Rattle.logic.specs.Syntax.{Sort, Expr}
 use Rattle.logic.specs.Limits.{Ranges, InRange}
-use Rattle.logic.specs.Arity.{Nullary, all·, none·, label·, nominal·, arrow_kind·, pair·, Unary, complement·, reversed·, node_in·, pair_in·, not_rule·, Binary, and·, or·, some·, every·, atLeast·, atMost·, union·, common·, minus·, ending_in·, sub_nodes·, sub_arrows·, both·, either·, build0, by_arity}
+use Rattle.logic.specs.Arity.{Nullary, all·, none·, label·, nominal·, arrow_kind·, pair·, Unary, complement·, reversed·, node_in·, pair_in·, not_rule·, Binary, and·, or·, some·, every·, at_least·, at_most·, union·, common·, minus·, ending_in·, sub_nodes·, sub_arrows·, both·, either·, build0, by_arity}
 use Rattle.logic.proofs.ArityLaws.{range-1, range-2}
 use Rattle.text.specs.Heads.{head1, head2}
 use Rattle.tree.specs.Tree.{bare, tree}
@@ -26,8 +26,8 @@ shape-2 and· = record { pos = omega arith; short = omega arith; is = refl }
 shape-2 or· = record { pos = omega arith; short = omega arith; is = refl }
 shape-2 some· = record { pos = omega arith; short = omega arith; is = refl }
 shape-2 every· = record { pos = omega arith; short = omega arith; is = refl }
-shape-2 (atLeast· m) = record { pos = omega arith; short = omega arith; is = refl }
-shape-2 (atMost· m) = record { pos = omega arith; short = omega arith; is = refl }
+shape-2 (at_least· m) = record { pos = omega arith; short = omega arith; is = refl }
+shape-2 (at_most· m) = record { pos = omega arith; short = omega arith; is = refl }
 shape-2 union· = record { pos = omega arith; short = omega arith; is = refl }
 shape-2 common· = record { pos = omega arith; short = omega arith; is = refl }
 shape-2 minus· = record { pos = omega arith; short = omega arith; is = refl }

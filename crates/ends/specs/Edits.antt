@@ -1,6 +1,6 @@
 -- An edit in a text, and what follows its first step.
 use Rattle.std.specs.Prelude.{◌≡◌, List, ℕ, zero, suc, ◌+◌, ◌<◌, length}
-use Rattle.logic.specs.Syntax.{Edit, finish, addLabel, takeLabel, addArrow, takeArrow, choose}
+use Rattle.logic.specs.Syntax.{Edit, finish, add_label, take_label, add_arrow, take_arrow, choose}
 use Rattle.logic.specs.Limits.{Ranges}
 use Rattle.text.specs.Code.{edit_code}
 use Rattle.text.specs.Stands.{EditStands}
@@ -8,10 +8,10 @@ use Rattle.text.specs.Stands.{EditStands}
 -- What follows the first step; what follows the first j steps.
 unfoldable pub behind_step : Edit → Edit
 behind_step finish = finish
-behind_step (addLabel k E Z) = Z
-behind_step (takeLabel k E Z) = Z
-behind_step (addArrow a R Z) = Z
-behind_step (takeArrow a R Z) = Z
+behind_step (add_label k E Z) = Z
+behind_step (take_label k E Z) = Z
+behind_step (add_arrow a R Z) = Z
+behind_step (take_arrow a R Z) = Z
 behind_step (choose K P Q Z) = Z
 
 unfoldable pub behind_steps : ℕ → Edit → Edit

@@ -1,6 +1,6 @@
 -- Small games, each with its answer, which proofs/Examples computes. One node, with label 0 or without it; book and goal are about that label.
 use Rattle.std.specs.Prelude.{false, List, [], ◌∷◌, ℕ, eqb}
-use Rattle.logic.specs.Syntax.{Expr, rule, all, none, label, sub_nodes, Edit, finish, addLabel, takeLabel}
+use Rattle.logic.specs.Syntax.{Expr, rule, all, none, label, sub_nodes, Edit, finish, add_label, take_label}
 use Rattle.logic.specs.Graph.{Graph}
 use Rattle.game.specs.Game.{pass, edit, Outcome, cannot, first, answer}
 
@@ -8,10 +8,10 @@ abbrev pub bare : Graph
 bare = record { n = 1; in_use = λ i. eqb i 0; labelled = λ k i. false; joined = λ a i j. false }
 
 abbrev pub set : Edit
-set = addLabel 0 all finish
+set = add_label 0 all finish
 
 abbrev pub clear : Edit
-clear = takeLabel 0 all finish
+clear = take_label 0 all finish
 
 abbrev pub stay : Edit
 stay = finish

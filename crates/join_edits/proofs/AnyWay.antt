@@ -7,7 +7,7 @@ use native.Mathlib.Omega.{arith}
 use lib.ListN.{length}
 use borrow.Author.Tests.{le-leb}
 use Rattle.answer.specs.Asked.{passed, ◌>>=◌, ◌>>◌, is}
-use Rattle.logic.specs.Syntax.{Edit, finish, addLabel, takeLabel, addArrow, takeArrow, choose}
+use Rattle.logic.specs.Syntax.{Edit, finish, add_label, take_label, add_arrow, take_arrow, choose}
 use Rattle.logic.specs.Carry.{followed_by}
 use Rattle.logic.specs.Limits.{max_nodes}
 use Rattle.text.specs.Code.{edit_code}
@@ -20,10 +20,10 @@ use Rattle.join_edits.proofs.JoinedPasses.{Joins, joins, joined-passes}
 followed-assoc : (P Q R : Edit) → followed_by (followed_by P Q) R ≡ followed_by P (followed_by Q R)
 unfolding followed_by
 followed-assoc finish Q R = refl
-followed-assoc (addLabel k E P) Q R = ap (addLabel k E) (followed-assoc P Q R)
-followed-assoc (takeLabel k E P) Q R = ap (takeLabel k E) (followed-assoc P Q R)
-followed-assoc (addArrow a S P) Q R = ap (addArrow a S) (followed-assoc P Q R)
-followed-assoc (takeArrow a S P) Q R = ap (takeArrow a S) (followed-assoc P Q R)
+followed-assoc (add_label k E P) Q R = ap (add_label k E) (followed-assoc P Q R)
+followed-assoc (take_label k E P) Q R = ap (take_label k E) (followed-assoc P Q R)
+followed-assoc (add_arrow a S P) Q R = ap (add_arrow a S) (followed-assoc P Q R)
+followed-assoc (take_arrow a S P) Q R = ap (take_arrow a S) (followed-assoc P Q R)
 followed-assoc (choose K P₁ Q₁ P) Q R = ap (choose K P₁ Q₁) (followed-assoc P Q R)
 
 module _ (p q : List ℕ) (P Q : Edit) (p-read : ask_edit (text_limits max_nodes) p ≡ passed P) (q_read : ask_edit (text_limits max_nodes) q ≡ passed Q) (short : length (edit_code (followed_by P Q)) ≤ longest_text) where

@@ -5,7 +5,7 @@ use Prim.Native.Nat.{ℕ, ◌+◌, ◌-◌, ◌<◌}
 use native.Mathlib.Omega.{arith}
 use lib.ListN.{length, take, length-append}
 use lib.Seq.{take_at}
-use Rattle.logic.specs.Syntax.{Edit, finish, addLabel, takeLabel, addArrow, takeArrow, choose}
+use Rattle.logic.specs.Syntax.{Edit, finish, add_label, take_label, add_arrow, take_arrow, choose}
 use Rattle.logic.specs.Carry.{followed_by}
 use Rattle.text.specs.Code.{code, edit_code}
 use Rattle.join_edits.specs.Chain.{without_last}
@@ -13,10 +13,10 @@ use Rattle.join_edits.specs.Chain.{without_last}
 -- the bytes of an edit before its end
 step_bytes : Edit → List ℕ
 step_bytes finish = []
-step_bytes (addLabel k E Z) = 0x31 ∷ k ∷ code E ++ step_bytes Z
-step_bytes (takeLabel k E Z) = 0x32 ∷ k ∷ code E ++ step_bytes Z
-step_bytes (addArrow a R Z) = 0x33 ∷ a ∷ code R ++ step_bytes Z
-step_bytes (takeArrow a R Z) = 0x34 ∷ a ∷ code R ++ step_bytes Z
+step_bytes (add_label k E Z) = 0x31 ∷ k ∷ code E ++ step_bytes Z
+step_bytes (take_label k E Z) = 0x32 ∷ k ∷ code E ++ step_bytes Z
+step_bytes (add_arrow a R Z) = 0x33 ∷ a ∷ code R ++ step_bytes Z
+step_bytes (take_arrow a R Z) = 0x34 ∷ a ∷ code R ++ step_bytes Z
 step_bytes (choose K P Q Z) = 0x35 ∷ code K ++ edit_code P ++ edit_code Q ++ step_bytes Z
 
 module _ (Q : Edit) where
@@ -26,20 +26,20 @@ module _ (Q : Edit) where
 steps_then : (P Q : Edit) → edit_code (followed_by P Q) ≡ step_bytes P ++ edit_code Q
 unfolding step_bytes followed_by edit_code
 steps_then finish Q = refl
-steps_then (addLabel k E P) Q = ap (λ (l : List ℕ). 0x31 ∷ k ∷ l) (behind Q (code E) (step_bytes P) (steps_then P Q))
-steps_then (takeLabel k E P) Q = ap (λ (l : List ℕ). 0x32 ∷ k ∷ l) (behind Q (code E) (step_bytes P) (steps_then P Q))
-steps_then (addArrow a R P) Q = ap (λ (l : List ℕ). 0x33 ∷ a ∷ l) (behind Q (code R) (step_bytes P) (steps_then P Q))
-steps_then (takeArrow a R P) Q = ap (λ (l : List ℕ). 0x34 ∷ a ∷ l) (behind Q (code R) (step_bytes P) (steps_then P Q))
+steps_then (add_label k E P) Q = ap (λ (l : List ℕ). 0x31 ∷ k ∷ l) (behind Q (code E) (step_bytes P) (steps_then P Q))
+steps_then (take_label k E P) Q = ap (λ (l : List ℕ). 0x32 ∷ k ∷ l) (behind Q (code E) (step_bytes P) (steps_then P Q))
+steps_then (add_arrow a R P) Q = ap (λ (l : List ℕ). 0x33 ∷ a ∷ l) (behind Q (code R) (step_bytes P) (steps_then P Q))
+steps_then (take_arrow a R P) Q = ap (λ (l : List ℕ). 0x34 ∷ a ∷ l) (behind Q (code R) (step_bytes P) (steps_then P Q))
 steps_then (choose K P₁ Q₁ P) Q = ap (λ (l : List ℕ). 0x35 ∷ l) (behind Q (code K ++ edit_code P₁ ++ edit_code Q₁) (step_bytes P) (steps_then P Q))
 
 -- An edit followed by the end alone is itself.
 pub followed-by-end : (P : Edit) → followed_by P finish ≡ P
 unfolding followed_by
 followed-by-end finish = refl
-followed-by-end (addLabel k E P) = ap (addLabel k E) (followed-by-end P)
-followed-by-end (takeLabel k E P) = ap (takeLabel k E) (followed-by-end P)
-followed-by-end (addArrow a R P) = ap (addArrow a R) (followed-by-end P)
-followed-by-end (takeArrow a R P) = ap (takeArrow a R) (followed-by-end P)
+followed-by-end (add_label k E P) = ap (add_label k E) (followed-by-end P)
+followed-by-end (take_label k E P) = ap (take_label k E) (followed-by-end P)
+followed-by-end (add_arrow a R P) = ap (add_arrow a R) (followed-by-end P)
+followed-by-end (take_arrow a R P) = ap (take_arrow a R) (followed-by-end P)
 followed-by-end (choose K P₁ Q₁ P) = ap (choose K P₁ Q₁) (followed-by-end P)
 
 module _ (P : Edit) where

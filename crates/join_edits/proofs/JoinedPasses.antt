@@ -9,7 +9,7 @@ use borrow.Author.Tests.{leb-true}
 use Rattle.answer.specs.Asked.{passed}
 use Rattle.answer.specs.Outputs.{ask_room}
 use Rattle.answer.proofs.AskedLaws.{passed-same, bind-passed, is-then}
-use Rattle.logic.specs.Syntax.{Edit, finish, addLabel, takeLabel, addArrow, takeArrow, choose}
+use Rattle.logic.specs.Syntax.{Edit, finish, add_label, take_label, add_arrow, take_arrow, choose}
 use Rattle.logic.specs.Carry.{followed_by}
 use Rattle.logic.specs.Limits.{max_nodes, Ranges, EditInRange}
 use Rattle.text.specs.Code.{edit_code, edit_levels}
@@ -22,20 +22,20 @@ use Rattle.join_edits.specs.Chain.{ask_joined, ask_join_edits}
 in-range : (r : Ranges) (Q P : Edit) → EditInRange r (followed_by P Q) ↔ (EditInRange r P × EditInRange r Q)
 unfolding EditInRange followed_by
 in-range r Q finish = (λ i. (tt, i), λ i. i.1)
-in-range r Q (addLabel k E P) = let (b, c) = in-range r Q P in (λ i. let (p, q) = b i.2 in ((i.0, i.1, p), q), λ i. (i.0.0, i.0.1, c (i.0.2, i.1)))
-in-range r Q (takeLabel k E P) = let (b, c) = in-range r Q P in (λ i. let (p, q) = b i.2 in ((i.0, i.1, p), q), λ i. (i.0.0, i.0.1, c (i.0.2, i.1)))
-in-range r Q (addArrow a R P) = let (b, c) = in-range r Q P in (λ i. let (p, q) = b i.2 in ((i.0, i.1, p), q), λ i. (i.0.0, i.0.1, c (i.0.2, i.1)))
-in-range r Q (takeArrow a R P) = let (b, c) = in-range r Q P in (λ i. let (p, q) = b i.2 in ((i.0, i.1, p), q), λ i. (i.0.0, i.0.1, c (i.0.2, i.1)))
+in-range r Q (add_label k E P) = let (b, c) = in-range r Q P in (λ i. let (p, q) = b i.2 in ((i.0, i.1, p), q), λ i. (i.0.0, i.0.1, c (i.0.2, i.1)))
+in-range r Q (take_label k E P) = let (b, c) = in-range r Q P in (λ i. let (p, q) = b i.2 in ((i.0, i.1, p), q), λ i. (i.0.0, i.0.1, c (i.0.2, i.1)))
+in-range r Q (add_arrow a R P) = let (b, c) = in-range r Q P in (λ i. let (p, q) = b i.2 in ((i.0, i.1, p), q), λ i. (i.0.0, i.0.1, c (i.0.2, i.1)))
+in-range r Q (take_arrow a R P) = let (b, c) = in-range r Q P in (λ i. let (p, q) = b i.2 in ((i.0, i.1, p), q), λ i. (i.0.0, i.0.1, c (i.0.2, i.1)))
 in-range r Q (choose K P₁ Q₁ P) = let (b, c) = in-range r Q P in (λ i. let (p, q) = b i.3 in ((i.0, i.1, i.2, p), q), λ i. (i.0.0, i.0.1, i.0.2, c (i.0.3, i.1)))
 
 -- and so are its levels
 no_deeper : (d : ℕ) (Q P : Edit) → edit_levels P ≤ d → edit_levels Q ≤ d → edit_levels (followed_by P Q) ≤ d
 unfolding edit_levels followed_by
 no_deeper d Q finish i j = j
-no_deeper d Q (addLabel k E P) i j = omega (arith, i, no_deeper d Q P (omega (arith, i)) j)
-no_deeper d Q (takeLabel k E P) i j = omega (arith, i, no_deeper d Q P (omega (arith, i)) j)
-no_deeper d Q (addArrow a R P) i j = omega (arith, i, no_deeper d Q P (omega (arith, i)) j)
-no_deeper d Q (takeArrow a R P) i j = omega (arith, i, no_deeper d Q P (omega (arith, i)) j)
+no_deeper d Q (add_label k E P) i j = omega (arith, i, no_deeper d Q P (omega (arith, i)) j)
+no_deeper d Q (take_label k E P) i j = omega (arith, i, no_deeper d Q P (omega (arith, i)) j)
+no_deeper d Q (add_arrow a R P) i j = omega (arith, i, no_deeper d Q P (omega (arith, i)) j)
+no_deeper d Q (take_arrow a R P) i j = omega (arith, i, no_deeper d Q P (omega (arith, i)) j)
 no_deeper d Q (choose K P₁ Q₁ P) i j = omega (arith, i, no_deeper d Q P (omega (arith, i)) j)
 
 module _ (l : Limits) (p q : List ℕ) (P Q : Edit) where

@@ -2,14 +2,14 @@
 use Rattle.std.specs.Prelude.{◌≡◌, cond, List, [], ◌∷◌, ◌++◌, map, ℕ, ◌+◌, ◌-◌, ◌≤◌, ◌<◌, ltb, length, get_or, replicate}
 use Rattle.logic.specs.Syntax.{node, arrow, rule}
 use Rattle.names.specs.Token.{Token, Found, found, absent}
-use Rattle.notation.specs.Grammar.{textEnd, else_word, end_word, expr, steps, Phrase, phrases}
+use Rattle.notation.specs.Grammar.{text_end, else_word, end_word, expr, steps, Phrase, phrases}
 
 abbrev pub phrase_count : ℕ
 phrase_count = 27
 
 -- Steps have the same phrases wherever they end.
 unfoldable pub all_phrases : List Phrase
-all_phrases = phrases (expr node) ++ (phrases (expr arrow) ++ (phrases (expr rule) ++ phrases (steps textEnd)))
+all_phrases = phrases (expr node) ++ (phrases (expr arrow) ++ (phrases (expr rule) ++ phrases (steps text_end)))
 
 abbrev pub no_phrase : Phrase
 no_phrase = record { byte = 0; word = []; items = [] }

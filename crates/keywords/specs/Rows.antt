@@ -1,9 +1,9 @@
 -- What follows a word, as numbers: an item is a byte, and a row of items is a number with the first item in its lowest byte.
 use Rattle.std.specs.Prelude.{◌≡◌, cond, List, [], ◌∷◌, ◌++◌, ℕ, zero, suc, ◌+◌, ◌-◌, ◌/◌, ◌%◌, ◌^◌, ◌≤◌, ◌<◌, eqb, leb, get_or}
 use Rattle.logic.specs.Syntax.{node, arrow, rule}
-use Rattle.logic.specs.Limits.{Kind, labelNumber, arrowNumber, nodeNumber, leastCount, mostCount}
+use Rattle.logic.specs.Limits.{Kind, label_number, arrow_number, node_number, least_count, most_count}
 use Rattle.names.specs.Token.{Token, ascii}
-use Rattle.notation.specs.Grammar.{atElse, atEnd, textEnd, Slot, expr, steps, Goal, mark, number, thing}
+use Rattle.notation.specs.Grammar.{at_else, at_end, text_end, Slot, expr, steps, Goal, mark, number, thing}
 
 -- The marks, items 1 to 3.
 unfoldable pub mark_of : ℕ → Token
@@ -11,13 +11,13 @@ mark_of item = get_or (ascii "(" ∷ ascii "," ∷ ascii ")" ∷ []) (item - 1) 
 
 -- The names and counts, items 4 to 8.
 unfoldable pub kind_of : ℕ → Kind
-kind_of item = get_or (labelNumber ∷ arrowNumber ∷ nodeNumber ∷ leastCount ∷ mostCount ∷ []) (item - 4) labelNumber
+kind_of item = get_or (label_number ∷ arrow_number ∷ node_number ∷ least_count ∷ most_count ∷ []) (item - 4) label_number
 
 -- The things, items 9 to 17; the first five are one level deeper.
 abbrev pub things : List Slot
 things =
-    expr node ∷ expr arrow ∷ expr rule ∷ steps atElse ∷ steps atEnd
-    ∷ steps atElse ∷ steps atEnd ∷ steps textEnd ∷ expr rule ∷ []
+    expr node ∷ expr arrow ∷ expr rule ∷ steps at_else ∷ steps at_end
+    ∷ steps at_else ∷ steps at_end ∷ steps text_end ∷ expr rule ∷ []
 
 unfoldable pub slot_of : ℕ → Slot
 slot_of item = get_or things (item - 9) (expr rule)

@@ -11,7 +11,7 @@ use Rattle.logic.specs.Graph.{Graph, Nodes, Pairs, is_node, any_below, all_below
 use Rattle.logic.specs.Meaning.{value}
 use Rattle.logic.specs.Carry.{substitute}
 use Rattle.logic.specs.Limits.{Kind, Ranges, fits, InRange}
-use Rattle.logic.specs.Arity.{Nullary, all·, none·, label·, nominal·, arrow_kind·, pair·, Unary, complement·, reversed·, node_in·, pair_in·, not_rule·, Binary, and·, or·, some·, every·, atLeast·, atMost·, union·, common·, minus·, ending_in·, sub_nodes·, sub_arrows·, both·, either·, build0, build1, build2, numbers0, numbers1, numbers2, by_arity}
+use Rattle.logic.specs.Arity.{Nullary, all·, none·, label·, nominal·, arrow_kind·, pair·, Unary, complement·, reversed·, node_in·, pair_in·, not_rule·, Binary, and·, or·, some·, every·, at_least·, at_most·, union·, common·, minus·, ending_in·, sub_nodes·, sub_arrows·, both·, either·, build0, build1, build2, numbers0, numbers1, numbers2, by_arity}
 
 -- `by_arity` at a code gives the case for its arity, from the results for its operands; `substitute` goes on under the code.
 module _ {ℓ} (P : (s : Sort) → Expr s → Type ℓ) (leaf : (s : Sort) (b : Nullary s) → P s (build0 b)) (one : (u t : Sort) (b : Unary u t) (x : Expr u) → P u x → P t (build1 b x))
@@ -32,8 +32,8 @@ module _ {ℓ} (P : (s : Sort) → Expr s → Type ℓ) (leaf : (s : Sort) (b : 
   alike-2 or· x y = (refl, refl)
   alike-2 some· x y = (refl, refl)
   alike-2 every· x y = (refl, refl)
-  alike-2 (atLeast· m) x y = (refl, refl)
-  alike-2 (atMost· m) x y = (refl, refl)
+  alike-2 (at_least· m) x y = (refl, refl)
+  alike-2 (at_most· m) x y = (refl, refl)
   alike-2 union· x y = (refl, refl)
   alike-2 common· x y = (refl, refl)
   alike-2 minus· x y = (refl, refl)
@@ -94,8 +94,8 @@ module _ (r : Ranges) where
   range-2 or· x y = (λ q. (tt, q), λ q. q.1)
   range-2 some· x y = (λ q. (tt, q), λ q. q.1)
   range-2 every· x y = (λ q. (tt, q), λ q. q.1)
-  range-2 (atLeast· m) x y = (λ q. ((q.0, tt), (q.1, q.2)), λ q. (q.0.0, q.1.0, q.1.1))
-  range-2 (atMost· m) x y = (λ q. ((q.0, tt), (q.1, q.2)), λ q. (q.0.0, q.1.0, q.1.1))
+  range-2 (at_least· m) x y = (λ q. ((q.0, tt), (q.1, q.2)), λ q. (q.0.0, q.1.0, q.1.1))
+  range-2 (at_most· m) x y = (λ q. ((q.0, tt), (q.1, q.2)), λ q. (q.0.0, q.1.0, q.1.1))
   range-2 union· x y = (λ q. (tt, q), λ q. q.1)
   range-2 common· x y = (λ q. (tt, q), λ q. q.1)
   range-2 minus· x y = (λ q. (tt, q), λ q. q.1)
@@ -124,8 +124,8 @@ module _ (g : Graph) (labelled : ℕ → Nodes) (joined : ℕ → Pairs) where
   value-2 or· x y z w p q = λ t i. p t i || q t i
   value-2 some· x y z w p q = λ t i. any_below g.n (λ j. p t i j && q t j)
   value-2 every· x y z w p q = λ t i. is_node g i && all_below g.n (λ j. implies (p t i j) (q t j))
-  value-2 (atLeast· m) x y z w p q = λ t i. is_node g i && leb m (count_below g.n (λ j. p t i j && q t j))
-  value-2 (atMost· m) x y z w p q = λ t i. is_node g i && leb (count_below g.n (λ j. p t i j && q t j)) m
+  value-2 (at_least· m) x y z w p q = λ t i. is_node g i && leb m (count_below g.n (λ j. p t i j && q t j))
+  value-2 (at_most· m) x y z w p q = λ t i. is_node g i && leb (count_below g.n (λ j. p t i j && q t j)) m
   value-2 union· x y z w p q = λ t i j. p t i j || q t i j
   value-2 common· x y z w p q = λ t i j. p t i j && q t i j
   value-2 minus· x y z w p q = λ t i j. p t i j && not (q t i j)

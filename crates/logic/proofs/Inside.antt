@@ -6,7 +6,7 @@ use Prim.Native.Nat.{ℕ, ◌≤◌}
 use native.Mathlib.Omega.{arith}
 use lib.Dec.{T, ltb, ltb→lt}
 use borrow.Author.Tests.{le-ltb}
-use Rattle.logic.specs.Syntax.{Sort, node, arrow, rule, Expr, all, none, label, nominal, complement, and, or, some, every, at_least, at_most, arrow_kind, reversed, union, common, minus, ending_in, pair, sub_nodes, sub_arrows, node_in, pair_in, both, either, not_rule, Edit, finish, addLabel, takeLabel, addArrow, takeArrow, choose}
+use Rattle.logic.specs.Syntax.{Sort, node, arrow, rule, Expr, all, none, label, nominal, complement, and, or, some, every, at_least, at_most, arrow_kind, reversed, union, common, minus, ending_in, pair, sub_nodes, sub_arrows, node_in, pair_in, both, either, not_rule, Edit, finish, add_label, take_label, add_arrow, take_arrow, choose}
 use Rattle.logic.specs.Graph.{Graph, Nodes, Pairs, is_node}
 use Rattle.logic.specs.Meaning.{Value, value}
 use Rattle.logic.specs.Steps.{update, relabel, rejoin, run}
@@ -62,14 +62,14 @@ module _ (g : Graph) (w : Within g) where
   value_in (not_rule K) = tt
 
   -- What 32 and 34 take away is the set difference.
-  pub taken_label : (k : ℕ) (E : Expr node) (Z : Edit) → run (takeLabel k E Z) g ≡ run Z (relabel g k (λ i. g.labelled k i && not (value g E i)))
+  pub taken_label : (k : ℕ) (E : Expr node) (Z : Edit) → run (take_label k E Z) g ≡ run Z (relabel g k (λ i. g.labelled k i && not (value g E i)))
   unfolding run
   taken_label k E Z = ap (λ v. run Z (relabel g k v)) (fun_ext (λ i. go i (is_node g i) (g.labelled k i) (w.labels_in k i))) where
     go : (i : ℕ) (b l : Bool) → (b ≡ false → l ≡ false) → (l && (b && not (value g E i))) ≡ (l && not (value g E i))
     go i true l h = refl
     go i false l h = rw (h refl)
 
-pub taken_arrow : (g : Graph) (a : ℕ) (R : Expr arrow) (Z : Edit) → run (takeArrow a R Z) g ≡ run Z (rejoin g a (λ i j. g.joined a i j && not (value g R i j)))
+pub taken_arrow : (g : Graph) (a : ℕ) (R : Expr arrow) (Z : Edit) → run (take_arrow a R Z) g ≡ run Z (rejoin g a (λ i j. g.joined a i j && not (value g R i j)))
 taken_arrow g a R Z = unfold run in refl
 
 module _ (g : Graph) (w : Within g) where
@@ -102,10 +102,10 @@ module _ (g : Graph) (w : Within g) where
 pub run-nodes : {A : Type 0} (f : ℕ → Nodes → A) (Z : Edit) (g : Graph) → f (run Z g).n (run Z g).in_use ≡ f g.n g.in_use
 unfolding run
 run-nodes f finish g = refl
-run-nodes f (addLabel k E Z) g = run-nodes f Z _
-run-nodes f (takeLabel k E Z) g = run-nodes f Z _
-run-nodes f (addArrow a R Z) g = run-nodes f Z _
-run-nodes f (takeArrow a R Z) g = run-nodes f Z _
+run-nodes f (add_label k E Z) g = run-nodes f Z _
+run-nodes f (take_label k E Z) g = run-nodes f Z _
+run-nodes f (add_arrow a R Z) g = run-nodes f Z _
+run-nodes f (take_arrow a R Z) g = run-nodes f Z _
 run-nodes f (choose K P Q Z) g = run-nodes f Z _ ∙ cond_both (λ h. f h.n h.in_use ≡ f g.n g.in_use) (value g K) (run P g) (run Q g) (run-nodes f P g) (run-nodes f Q g)
 
 pub run-n : (Z : Edit) (g : Graph) → (run Z g).n ≡ g.n
@@ -115,8 +115,8 @@ run-n = run-nodes (λ n u. n)
 pub run_within : (r : Ranges) (Z : Edit) → EditInRange r Z → (g : Graph) → Within g → Within (run Z g)
 unfolding run EditInRange value
 run_within r finish q g w = w
-run_within r (addLabel k E Z) q g w = run_within r Z q.2 _ (relabel-within g w k (value g (or (label k) E)) q.0 (value_in g w (or (label k) E)))
-run_within r (takeLabel k E Z) q g w = run_within r Z q.2 _ (relabel-within g w k (value g (and (label k) (complement E))) q.0 (value_in g w (and (label k) (complement E))))
-run_within r (addArrow a R Z) q g w = run_within r Z q.2 _ (rejoin-within g w a (value g (union (arrow_kind a) R)) q.0 (value_in g w (union (arrow_kind a) R)))
-run_within r (takeArrow a R Z) q g w = run_within r Z q.2 _ (rejoin-within g w a (value g (minus (arrow_kind a) R)) q.0 (value_in g w (minus (arrow_kind a) R)))
+run_within r (add_label k E Z) q g w = run_within r Z q.2 _ (relabel-within g w k (value g (or (label k) E)) q.0 (value_in g w (or (label k) E)))
+run_within r (take_label k E Z) q g w = run_within r Z q.2 _ (relabel-within g w k (value g (and (label k) (complement E))) q.0 (value_in g w (and (label k) (complement E))))
+run_within r (add_arrow a R Z) q g w = run_within r Z q.2 _ (rejoin-within g w a (value g (union (arrow_kind a) R)) q.0 (value_in g w (union (arrow_kind a) R)))
+run_within r (take_arrow a R Z) q g w = run_within r Z q.2 _ (rejoin-within g w a (value g (minus (arrow_kind a) R)) q.0 (value_in g w (minus (arrow_kind a) R)))
 run_within r (choose K P Q Z) q g w = run_within r Z q.3 _ (cond_both Within (value g K) (run P g) (run Q g) (run_within r P q.1 g w) (run_within r Q q.2 g w))

@@ -4,7 +4,7 @@ use mathlib.Core.Bool.{Bool, true, false, not, ◌&&◌, ◌||◌, cond}
 use mathlib.Core.List.{List, [], ◌∷◌}
 use Prim.Native.Nat.{ℕ}
 use lib.Dec.{T, eqb}
-use Rattle.logic.specs.Syntax.{Sort, node, arrow, rule, Expr, label, complement, and, or, arrow_kind, union, minus, both, either, not_rule, Edit, finish, addLabel, takeLabel, addArrow, takeArrow, choose}
+use Rattle.logic.specs.Syntax.{Sort, node, arrow, rule, Expr, label, complement, and, or, arrow_kind, union, minus, both, either, not_rule, Edit, finish, add_label, take_label, add_arrow, take_arrow, choose}
 use Rattle.logic.specs.Graph.{Graph, is_node}
 use Rattle.logic.specs.Meaning.{value, hold_all}
 use Rattle.logic.specs.Steps.{update, relabel, rejoin, run}
@@ -58,10 +58,10 @@ choice false p q = refl
 pub carried : (Z : Edit) (K : Expr rule) (g : Graph) → value g (carry Z K) ≡ value (run Z g) K
 unfolding carry run value
 carried finish K g = refl
-carried (addLabel k E Z) K g = value-put_label g k (or (label k) E) (carry Z K) ∙ carried Z K (relabel g k (value g (or (label k) E)))
-carried (takeLabel k E Z) K g = value-put_label g k (and (label k) (complement E)) (carry Z K) ∙ carried Z K (relabel g k (value g (and (label k) (complement E))))
-carried (addArrow a R Z) K g = value-put_arrow g a (union (arrow_kind a) R) (carry Z K) ∙ carried Z K (rejoin g a (value g (union (arrow_kind a) R)))
-carried (takeArrow a R Z) K g = value-put_arrow g a (minus (arrow_kind a) R) (carry Z K) ∙ carried Z K (rejoin g a (value g (minus (arrow_kind a) R)))
+carried (add_label k E Z) K g = value-put_label g k (or (label k) E) (carry Z K) ∙ carried Z K (relabel g k (value g (or (label k) E)))
+carried (take_label k E Z) K g = value-put_label g k (and (label k) (complement E)) (carry Z K) ∙ carried Z K (relabel g k (value g (and (label k) (complement E))))
+carried (add_arrow a R Z) K g = value-put_arrow g a (union (arrow_kind a) R) (carry Z K) ∙ carried Z K (rejoin g a (value g (union (arrow_kind a) R)))
+carried (take_arrow a R Z) K g = value-put_arrow g a (minus (arrow_kind a) R) (carry Z K) ∙ carried Z K (rejoin g a (value g (minus (arrow_kind a) R)))
 carried (choose K₁ P Q Z) K g =
     choice (value g K₁) (value g (carry P (carry Z K))) (value g (carry Q (carry Z K)))
     ∙ ap₂ (cond (value g K₁)) (carried P (carry Z K) g) (carried Q (carry Z K) g)
@@ -78,10 +78,10 @@ hold-carried Z (K ∷ book) g = ap₂ ◌&&◌ (carried Z K g) (hold-carried Z b
 pub carry-followed_by : (P Z : Edit) (K : Expr rule) → carry (followed_by P Z) K ≡ carry P (carry Z K)
 unfolding carry followed_by
 carry-followed_by finish Z K = refl
-carry-followed_by (addLabel k E P) Z K = ap (put_label k (or (label k) E)) (carry-followed_by P Z K)
-carry-followed_by (takeLabel k E P) Z K = ap (put_label k (and (label k) (complement E))) (carry-followed_by P Z K)
-carry-followed_by (addArrow a R P) Z K = ap (put_arrow a (union (arrow_kind a) R)) (carry-followed_by P Z K)
-carry-followed_by (takeArrow a R P) Z K = ap (put_arrow a (minus (arrow_kind a) R)) (carry-followed_by P Z K)
+carry-followed_by (add_label k E P) Z K = ap (put_label k (or (label k) E)) (carry-followed_by P Z K)
+carry-followed_by (take_label k E P) Z K = ap (put_label k (and (label k) (complement E))) (carry-followed_by P Z K)
+carry-followed_by (add_arrow a R P) Z K = ap (put_arrow a (union (arrow_kind a) R)) (carry-followed_by P Z K)
+carry-followed_by (take_arrow a R P) Z K = ap (put_arrow a (minus (arrow_kind a) R)) (carry-followed_by P Z K)
 carry-followed_by (choose K₁ P Q P') Z K = ap (λ L. both (either (not_rule K₁) (carry P L)) (either K₁ (carry Q L))) (carry-followed_by P' Z K)
 
 pub carry_choose : (K₁ : Expr rule) (P Q Z : Edit) (K : Expr rule) → carry (choose K₁ P Q Z) K ≡ both (either (not_rule K₁) (carry (followed_by P Z) K)) (either K₁ (carry (followed_by Q Z) K))
@@ -90,10 +90,10 @@ carry_choose K₁ P Q Z K = unfold carry in rw (carry-followed_by P Z K, carry-f
 pub run-followed_by : (P Z : Edit) (g : Graph) → run (followed_by P Z) g ≡ run Z (run P g)
 unfolding run followed_by
 run-followed_by finish Z g = refl
-run-followed_by (addLabel k E P) Z g = run-followed_by P Z _
-run-followed_by (takeLabel k E P) Z g = run-followed_by P Z _
-run-followed_by (addArrow a R P) Z g = run-followed_by P Z _
-run-followed_by (takeArrow a R P) Z g = run-followed_by P Z _
+run-followed_by (add_label k E P) Z g = run-followed_by P Z _
+run-followed_by (take_label k E P) Z g = run-followed_by P Z _
+run-followed_by (add_arrow a R P) Z g = run-followed_by P Z _
+run-followed_by (take_arrow a R P) Z g = run-followed_by P Z _
 run-followed_by (choose K P Q P') Z g = run-followed_by P' Z _
 
 -- It is the weakest such condition: it ensures the rule after the edit, and every condition that does so implies it.

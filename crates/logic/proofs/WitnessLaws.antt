@@ -5,7 +5,7 @@ use Prim.Native.Nat.{ℕ, zero, suc, ◌<◌}
 use native.Mathlib.Decide.{dec_lt}
 use native.Mathlib.Omega.{arith}
 use lib.Dec.{eqb}
-use Rattle.logic.specs.Syntax.{node, arrow, rule, Expr, label, complement, and, or, arrow_kind, union, minus, sub_nodes, sub_arrows, node_in, pair_in, both, either, not_rule, Edit, finish, addLabel, takeLabel, addArrow, takeArrow, choose}
+use Rattle.logic.specs.Syntax.{node, arrow, rule, Expr, label, complement, and, or, arrow_kind, union, minus, sub_nodes, sub_arrows, node_in, pair_in, both, either, not_rule, Edit, finish, add_label, take_label, add_arrow, take_arrow, choose}
 use Rattle.logic.specs.Graph.{Graph, Nodes, any_below, all_below, implies}
 use Rattle.logic.specs.Meaning.{value}
 use Rattle.logic.specs.Steps.{update, relabel, rejoin, run}
@@ -119,10 +119,10 @@ cond-run false g h K = refl
 pub carried-breaks : (Z : Edit) (K : Expr rule) (g : Graph) → breaks g (carry Z K) ≡ breaks (run Z g) K
 unfolding carry run breaks value
 carried-breaks finish K g = refl
-carried-breaks (addLabel k E Z) K g = breaks-put_label g k (or (label k) E) (carry Z K) ∙ carried-breaks Z K (relabel g k (value g (or (label k) E)))
-carried-breaks (takeLabel k E Z) K g = breaks-put_label g k (and (label k) (complement E)) (carry Z K) ∙ carried-breaks Z K (relabel g k (value g (and (label k) (complement E))))
-carried-breaks (addArrow a R Z) K g = breaks-put_arrow g a (union (arrow_kind a) R) (carry Z K) ∙ carried-breaks Z K (rejoin g a (value g (union (arrow_kind a) R)))
-carried-breaks (takeArrow a R Z) K g = breaks-put_arrow g a (minus (arrow_kind a) R) (carry Z K) ∙ carried-breaks Z K (rejoin g a (value g (minus (arrow_kind a) R)))
+carried-breaks (add_label k E Z) K g = breaks-put_label g k (or (label k) E) (carry Z K) ∙ carried-breaks Z K (relabel g k (value g (or (label k) E)))
+carried-breaks (take_label k E Z) K g = breaks-put_label g k (and (label k) (complement E)) (carry Z K) ∙ carried-breaks Z K (relabel g k (value g (and (label k) (complement E))))
+carried-breaks (add_arrow a R Z) K g = breaks-put_arrow g a (union (arrow_kind a) R) (carry Z K) ∙ carried-breaks Z K (rejoin g a (value g (union (arrow_kind a) R)))
+carried-breaks (take_arrow a R Z) K g = breaks-put_arrow g a (minus (arrow_kind a) R) (carry Z K) ∙ carried-breaks Z K (rejoin g a (value g (minus (arrow_kind a) R)))
 carried-breaks (choose K₁ P Q Z) K g =
     choice (value g K₁) (value g (carry P (carry Z K))) (breaks g (carry P (carry Z K))) (breaks g (carry Q (carry Z K))) (holds-nothing g (carry P (carry Z K)))
     ∙ ap₂ (cond (value g K₁)) (carried-breaks P (carry Z K) g) (carried-breaks Q (carry Z K) g)

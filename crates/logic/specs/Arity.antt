@@ -1,7 +1,7 @@
 -- Terms grouped by how many operands their first code has: none, one or two. A definition or law that treats all codes alike has three cases instead of 25.
 use Rattle.std.specs.Prelude.{List, [], ◌∷◌, ℕ}
 use Rattle.logic.specs.Syntax.{Sort, node, arrow, rule, Expr, all, none, label, nominal, complement, and, or, some, every, at_least, at_most, arrow_kind, reversed, union, common, minus, ending_in, pair, sub_nodes, sub_arrows, node_in, pair_in, both, either, not_rule}
-use Rattle.logic.specs.Limits.{Kind, labelNumber, arrowNumber, nodeNumber, leastCount, mostCount}
+use Rattle.logic.specs.Limits.{Kind, label_number, arrow_number, node_number, least_count, most_count}
 
 -- The codes without operands, with their numbers. The index is the sort of the term.
 pub data Nullary : Sort → Type 0 where
@@ -22,7 +22,7 @@ pub data Unary : Sort → Sort → Type 0 where
 pub data Binary : Sort → Sort → Sort → Type 0 where
   and· or· : Binary node node node
   some· every· : Binary arrow node node
-  atLeast· atMost· : (m : ℕ) → Binary arrow node node
+  at_least· at_most· : (m : ℕ) → Binary arrow node node
   union· common· minus· : Binary arrow arrow arrow
   ending_in· : Binary arrow node arrow
   sub_nodes· : Binary node node rule
@@ -50,8 +50,8 @@ build2 and· x y = and x y
 build2 or· x y = or x y
 build2 some· x y = some x y
 build2 every· x y = every x y
-build2 (atLeast· m) x y = at_least m x y
-build2 (atMost· m) x y = at_most m x y
+build2 (at_least· m) x y = at_least m x y
+build2 (at_most· m) x y = at_most m x y
 build2 union· x y = union x y
 build2 common· x y = common x y
 build2 minus· x y = minus x y
@@ -65,16 +65,16 @@ build2 either· x y = either x y
 abbrev pub numbers0 : {s : Sort} → Nullary s → List (Kind × ℕ)
 numbers0 all· = []
 numbers0 none· = []
-numbers0 (label· k) = (labelNumber, k) ∷ []
-numbers0 (nominal· i) = (nodeNumber, i) ∷ []
-numbers0 (arrow_kind· a) = (arrowNumber, a) ∷ []
-numbers0 (pair· i j) = (nodeNumber, i) ∷ (nodeNumber, j) ∷ []
+numbers0 (label· k) = (label_number, k) ∷ []
+numbers0 (nominal· i) = (node_number, i) ∷ []
+numbers0 (arrow_kind· a) = (arrow_number, a) ∷ []
+numbers0 (pair· i j) = (node_number, i) ∷ (node_number, j) ∷ []
 
 abbrev pub numbers1 : {u t : Sort} → Unary u t → List (Kind × ℕ)
 numbers1 complement· = []
 numbers1 reversed· = []
-numbers1 (node_in· i) = (nodeNumber, i) ∷ []
-numbers1 (pair_in· i j) = (nodeNumber, i) ∷ (nodeNumber, j) ∷ []
+numbers1 (node_in· i) = (node_number, i) ∷ []
+numbers1 (pair_in· i j) = (node_number, i) ∷ (node_number, j) ∷ []
 numbers1 not_rule· = []
 
 abbrev pub numbers2 : {u v t : Sort} → Binary u v t → List (Kind × ℕ)
@@ -82,8 +82,8 @@ numbers2 and· = []
 numbers2 or· = []
 numbers2 some· = []
 numbers2 every· = []
-numbers2 (atLeast· m) = (leastCount, m) ∷ []
-numbers2 (atMost· m) = (mostCount, m) ∷ []
+numbers2 (at_least· m) = (least_count, m) ∷ []
+numbers2 (at_most· m) = (most_count, m) ∷ []
 numbers2 union· = []
 numbers2 common· = []
 numbers2 minus· = []
@@ -106,8 +106,8 @@ module _ {ℓ} (P : (s : Sort) → Expr s → Type ℓ) (leaf : (s : Sort) (b : 
   by_arity (or E F) = two _ _ _ or· E F (by_arity E) (by_arity F)
   by_arity (some R E) = two _ _ _ some· R E (by_arity R) (by_arity E)
   by_arity (every R E) = two _ _ _ every· R E (by_arity R) (by_arity E)
-  by_arity (at_least m R E) = two _ _ _ (atLeast· m) R E (by_arity R) (by_arity E)
-  by_arity (at_most m R E) = two _ _ _ (atMost· m) R E (by_arity R) (by_arity E)
+  by_arity (at_least m R E) = two _ _ _ (at_least· m) R E (by_arity R) (by_arity E)
+  by_arity (at_most m R E) = two _ _ _ (at_most· m) R E (by_arity R) (by_arity E)
   by_arity (arrow_kind a) = leaf _ (arrow_kind· a)
   by_arity (reversed R) = one _ _ reversed· R (by_arity R)
   by_arity (union R S) = two _ _ _ union· R S (by_arity R) (by_arity S)

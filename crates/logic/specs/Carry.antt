@@ -1,6 +1,6 @@
 -- Carrying a rule back through an edit ("Carrying back" of document 01; document 004, Definition 4.1).
 use Rattle.std.specs.Prelude.{List, map, ℕ}
-use Rattle.logic.specs.Syntax.{Sort, node, arrow, rule, Expr, all, none, label, nominal, complement, and, or, some, every, at_least, at_most, arrow_kind, reversed, union, common, minus, ending_in, pair, sub_nodes, sub_arrows, node_in, pair_in, both, either, not_rule, Edit, finish, addLabel, takeLabel, addArrow, takeArrow, choose}
+use Rattle.logic.specs.Syntax.{Sort, node, arrow, rule, Expr, all, none, label, nominal, complement, and, or, some, every, at_least, at_most, arrow_kind, reversed, union, common, minus, ending_in, pair, sub_nodes, sub_arrows, node_in, pair_in, both, either, not_rule, Edit, finish, add_label, take_label, add_arrow, take_arrow, choose}
 use Rattle.logic.specs.Steps.{update}
 
 -- Replaces every 03 k by f k and every 11 a by h a at the same time; what is put in is not replaced inside.
@@ -42,10 +42,10 @@ put_arrow a S K = substitute label (update arrow_kind a S) K
 -- "through P and through Q, each with its end replaced by Z"; `carry_choose` in proofs/Theorem proves that both give the same.
 unfoldable pub carry : Edit → Expr rule → Expr rule
 carry finish K = K
-carry (addLabel k E Z) K = put_label k (or (label k) E) (carry Z K)
-carry (takeLabel k E Z) K = put_label k (and (label k) (complement E)) (carry Z K)
-carry (addArrow a R Z) K = put_arrow a (union (arrow_kind a) R) (carry Z K)
-carry (takeArrow a R Z) K = put_arrow a (minus (arrow_kind a) R) (carry Z K)
+carry (add_label k E Z) K = put_label k (or (label k) E) (carry Z K)
+carry (take_label k E Z) K = put_label k (and (label k) (complement E)) (carry Z K)
+carry (add_arrow a R Z) K = put_arrow a (union (arrow_kind a) R) (carry Z K)
+carry (take_arrow a R Z) K = put_arrow a (minus (arrow_kind a) R) (carry Z K)
 carry (choose K₁ P Q Z) K = both (either (not_rule K₁) (carry P (carry Z K))) (either K₁ (carry Q (carry Z K)))
 
 -- A book is carried rule by rule.
@@ -55,8 +55,8 @@ carried_book Z book = map (carry Z) book
 -- P with its end replaced by Z; the end is the 30 reached through the Z parts alone.
 unfoldable pub followed_by : Edit → Edit → Edit
 followed_by finish Z = Z
-followed_by (addLabel k E P) Z = addLabel k E (followed_by P Z)
-followed_by (takeLabel k E P) Z = takeLabel k E (followed_by P Z)
-followed_by (addArrow a R P) Z = addArrow a R (followed_by P Z)
-followed_by (takeArrow a R P) Z = takeArrow a R (followed_by P Z)
+followed_by (add_label k E P) Z = add_label k E (followed_by P Z)
+followed_by (take_label k E P) Z = take_label k E (followed_by P Z)
+followed_by (add_arrow a R P) Z = add_arrow a R (followed_by P Z)
+followed_by (take_arrow a R P) Z = take_arrow a R (followed_by P Z)
 followed_by (choose K₁ P₁ Q₁ P) Z = choose K₁ P₁ Q₁ (followed_by P Z)

@@ -4,7 +4,7 @@ use mathlib.Core.Bool.{Bool, true, false, cond}
 use mathlib.Core.List.{List, ◌∷◌, ◌++◌}
 use Prim.Native.Nat.{ℕ}
 use lib.Dec.{eqb}
-use Rattle.logic.specs.Syntax.{Edit, finish, addLabel, takeLabel, addArrow, takeArrow, choose}
+use Rattle.logic.specs.Syntax.{Edit, finish, add_label, take_label, add_arrow, take_arrow, choose}
 use Rattle.text.specs.Code.{code, edit_code}
 use Rattle.tree.specs.Tree.{tree}
 use Rattle.tree.specs.Sizes.{Measure, measure, substituted, chosen, back}
@@ -18,10 +18,10 @@ pub back_step : (Z : Edit) → (edit_tag Z ≡ 0x30 → ⊥) → (edit_tag Z ≡
     → back r Z M ≡ substituted (touched (edit_tag Z)) (edit_number Z) (cond (eqb (edit_tag Z) 0x32) 2 1) (measure (edit_tree Z)) (back r (behind_step Z) M)
 unfolding back behind_step
 back_step finish n m r M = absurd (n refl)
-back_step (addLabel k E Z) n m r M = refl
-back_step (takeLabel k E Z) n m r M = refl
-back_step (addArrow a R Z) n m r M = refl
-back_step (takeArrow a R Z) n m r M = refl
+back_step (add_label k E Z) n m r M = refl
+back_step (take_label k E Z) n m r M = refl
+back_step (add_arrow a R Z) n m r M = refl
+back_step (take_arrow a R Z) n m r M = refl
 back_step (choose K P Q Z) n m r M = absurd (m refl)
 
 either-code : (b : Bool) (Y step : Edit) {l : List ℕ} → edit_code step ≡ l → edit_code (cond b Y step) ≡ cond b (edit_code Y) l
@@ -32,10 +32,10 @@ pub pruned-step : (Z : Edit) → (edit_tag Z ≡ 0x30 → ⊥) → (edit_tag Z �
     → edit_code (pruned r Z M) ≡ cond (eqb ((back r (behind_step Z) M).counts (touched (edit_tag Z)) (edit_number Z)) 0) (edit_code (pruned r (behind_step Z) M)) (step_code Z ++ edit_code (pruned r (behind_step Z) M))
 unfolding pruned behind_step
 pruned-step finish n m r M = absurd (n refl)
-pruned-step (addLabel k E Z) n m r M = either-code (eqb ((back r Z M).counts 0x03 k) 0) (pruned r Z M) (addLabel k E (pruned r Z M)) (step-code (addLabel k E (pruned r Z M)) n m)
-pruned-step (takeLabel k E Z) n m r M = either-code (eqb ((back r Z M).counts 0x03 k) 0) (pruned r Z M) (takeLabel k E (pruned r Z M)) (step-code (takeLabel k E (pruned r Z M)) n m)
-pruned-step (addArrow a R Z) n m r M = either-code (eqb ((back r Z M).counts 0x11 a) 0) (pruned r Z M) (addArrow a R (pruned r Z M)) (step-code (addArrow a R (pruned r Z M)) n m)
-pruned-step (takeArrow a R Z) n m r M = either-code (eqb ((back r Z M).counts 0x11 a) 0) (pruned r Z M) (takeArrow a R (pruned r Z M)) (step-code (takeArrow a R (pruned r Z M)) n m)
+pruned-step (add_label k E Z) n m r M = either-code (eqb ((back r Z M).counts 0x03 k) 0) (pruned r Z M) (add_label k E (pruned r Z M)) (step-code (add_label k E (pruned r Z M)) n m)
+pruned-step (take_label k E Z) n m r M = either-code (eqb ((back r Z M).counts 0x03 k) 0) (pruned r Z M) (take_label k E (pruned r Z M)) (step-code (take_label k E (pruned r Z M)) n m)
+pruned-step (add_arrow a R Z) n m r M = either-code (eqb ((back r Z M).counts 0x11 a) 0) (pruned r Z M) (add_arrow a R (pruned r Z M)) (step-code (add_arrow a R (pruned r Z M)) n m)
+pruned-step (take_arrow a R Z) n m r M = either-code (eqb ((back r Z M).counts 0x11 a) 0) (pruned r Z M) (take_arrow a R (pruned r Z M)) (step-code (take_arrow a R (pruned r Z M)) n m)
 pruned-step (choose K P Q Z) n m r M = absurd (m refl)
 
 -- 35

@@ -7,7 +7,7 @@ use native.Mathlib.Omega.{arith}
 use borrow.Author.Tests.{eqb-true}
 use lib.Dec.{eqb}
 use lib.ListN.{length}
-use Rattle.logic.specs.Syntax.{Sort, node, arrow, rule, Expr, label, complement, and, or, arrow_kind, union, minus, both, either, not_rule, Edit, finish, addLabel, takeLabel, addArrow, takeArrow, choose}
+use Rattle.logic.specs.Syntax.{Sort, node, arrow, rule, Expr, label, complement, and, or, arrow_kind, union, minus, both, either, not_rule, Edit, finish, add_label, take_label, add_arrow, take_arrow, choose}
 use Rattle.logic.specs.Steps.{update}
 use Rattle.logic.specs.Carry.{substitute, put_label, put_arrow, carry, carried_book}
 use Rattle.logic.specs.Limits.{Ranges, EditInRange}
@@ -66,10 +66,10 @@ step_same s Z K N c k put idle Y step e f = go (eqb ((back (1 + s) Z (together (
 pruned-rule : (s : ℕ) (Z : Edit) (K : Expr rule) (N : Measure) → carry (pruned (1 + s) Z (together (measure (tree K)) N)) K ≡ carry Z K
 unfolding pruned carry
 pruned-rule s finish K N = refl
-pruned-rule s (addLabel k E Z) K N = step_same s Z K N 0x03 k (put_label k (or (label k) E)) (label-idle k _) _ _ refl (pruned-rule s Z K N)
-pruned-rule s (takeLabel k E Z) K N = step_same s Z K N 0x03 k (put_label k (and (label k) (complement E))) (label-idle k _) _ _ refl (pruned-rule s Z K N)
-pruned-rule s (addArrow a R Z) K N = step_same s Z K N 0x11 a (put_arrow a (union (arrow_kind a) R)) (arrow-idle a _) _ _ refl (pruned-rule s Z K N)
-pruned-rule s (takeArrow a R Z) K N = step_same s Z K N 0x11 a (put_arrow a (minus (arrow_kind a) R)) (arrow-idle a _) _ _ refl (pruned-rule s Z K N)
+pruned-rule s (add_label k E Z) K N = step_same s Z K N 0x03 k (put_label k (or (label k) E)) (label-idle k _) _ _ refl (pruned-rule s Z K N)
+pruned-rule s (take_label k E Z) K N = step_same s Z K N 0x03 k (put_label k (and (label k) (complement E))) (label-idle k _) _ _ refl (pruned-rule s Z K N)
+pruned-rule s (add_arrow a R Z) K N = step_same s Z K N 0x11 a (put_arrow a (union (arrow_kind a) R)) (arrow-idle a _) _ _ refl (pruned-rule s Z K N)
+pruned-rule s (take_arrow a R Z) K N = step_same s Z K N 0x11 a (put_arrow a (minus (arrow_kind a) R)) (arrow-idle a _) _ _ refl (pruned-rule s Z K N)
 pruned-rule s (choose L P Q Z) K N =
     rw (with-rule s Z K N, pruned-rule s Z K N) (ap₂ (λ (T U : Expr rule). both (either (not_rule L) T) (either L U)) (pruned-rule s P (carry Z K) (back s Z N)) (pruned-rule s Q (carry Z K) (back s Z N)))
 
@@ -92,10 +92,10 @@ pruned-codes Z rules = ap (map code) (pruned-book Z rules)
 pruned-range : (lim : Ranges) (r : ℕ) (Z : Edit) (M : Measure) → EditInRange lim Z → EditInRange lim (pruned r Z M)
 unfolding pruned EditInRange
 pruned-range lim r finish M h = h
-pruned-range lim r (addLabel k E Z) M h = cond_both (EditInRange lim) (eqb ((back r Z M).counts 0x03 k) 0) _ _ (pruned-range lim r Z M h.2) (h.0, h.1, pruned-range lim r Z M h.2)
-pruned-range lim r (takeLabel k E Z) M h = cond_both (EditInRange lim) (eqb ((back r Z M).counts 0x03 k) 0) _ _ (pruned-range lim r Z M h.2) (h.0, h.1, pruned-range lim r Z M h.2)
-pruned-range lim r (addArrow a R Z) M h = cond_both (EditInRange lim) (eqb ((back r Z M).counts 0x11 a) 0) _ _ (pruned-range lim r Z M h.2) (h.0, h.1, pruned-range lim r Z M h.2)
-pruned-range lim r (takeArrow a R Z) M h = cond_both (EditInRange lim) (eqb ((back r Z M).counts 0x11 a) 0) _ _ (pruned-range lim r Z M h.2) (h.0, h.1, pruned-range lim r Z M h.2)
+pruned-range lim r (add_label k E Z) M h = cond_both (EditInRange lim) (eqb ((back r Z M).counts 0x03 k) 0) _ _ (pruned-range lim r Z M h.2) (h.0, h.1, pruned-range lim r Z M h.2)
+pruned-range lim r (take_label k E Z) M h = cond_both (EditInRange lim) (eqb ((back r Z M).counts 0x03 k) 0) _ _ (pruned-range lim r Z M h.2) (h.0, h.1, pruned-range lim r Z M h.2)
+pruned-range lim r (add_arrow a R Z) M h = cond_both (EditInRange lim) (eqb ((back r Z M).counts 0x11 a) 0) _ _ (pruned-range lim r Z M h.2) (h.0, h.1, pruned-range lim r Z M h.2)
+pruned-range lim r (take_arrow a R Z) M h = cond_both (EditInRange lim) (eqb ((back r Z M).counts 0x11 a) 0) _ _ (pruned-range lim r Z M h.2) (h.0, h.1, pruned-range lim r Z M h.2)
 pruned-range lim r (choose K P Q Z) M h = (h.0, pruned-range lim r P (back r Z M) h.1, pruned-range lim r Q (back r Z M) h.2, pruned-range lim r Z M h.3)
 
 -- The buffer that holds the edit without its idle steps holds an edit in range.

@@ -7,7 +7,7 @@ use native.Mathlib.Omega.{arith}
 use borrow.Author.Tests.{eqb-true, eq-eqb, lt-ltb, le-ltb}
 use lib.Dec.{eqb, ltb}
 use lib.ListN.{length, get_or}
-use Rattle.logic.specs.Limits.{Kind, labelNumber, arrowNumber, nodeNumber, leastCount, mostCount}
+use Rattle.logic.specs.Limits.{Kind, label_number, arrow_number, node_number, least_count, most_count}
 use Rattle.logic.proofs.Bools.{true-false, and_left, and_right}
 use Rattle.names.specs.Token.{Token, same, Found, found, absent}
 use Rattle.names.specs.Names.{Entry, kind_number, is_for, given, taken, unnamed}
@@ -24,31 +24,31 @@ abbrev kind_at : ℕ → ℕ
 kind_at j = cond (ltb j 48) 0 (cond (ltb j 64) 1 2)
 
 kind-at : (k : Kind) (x : ℕ) → HasNames k → x < slot_count k → kind_at (slot_base k + x) ≡ kind_number k
-kind-at labelNumber x n l = ap (λ b. cond b 0 (cond (ltb (0 + x) 64) 1 2)) (lt-ltb (0 + x) 48 (omega arith))
-kind-at arrowNumber x n l = ap₂ (λ a b. cond a 0 (cond b 1 2)) (le-ltb (48 + x) 48 (omega arith)) (lt-ltb (48 + x) 64 (omega arith))
-kind-at nodeNumber x n l = ap₂ (λ a b. cond a 0 (cond b 1 2)) (le-ltb (64 + x) 48 (omega arith)) (le-ltb (64 + x) 64 (omega arith))
-kind-at leastCount x n l = absurd n
-kind-at mostCount x n l = absurd n
+kind-at label_number x n l = ap (λ b. cond b 0 (cond (ltb (0 + x) 64) 1 2)) (lt-ltb (0 + x) 48 (omega arith))
+kind-at arrow_number x n l = ap₂ (λ a b. cond a 0 (cond b 1 2)) (le-ltb (48 + x) 48 (omega arith)) (lt-ltb (48 + x) 64 (omega arith))
+kind-at node_number x n l = ap₂ (λ a b. cond a 0 (cond b 1 2)) (le-ltb (64 + x) 48 (omega arith)) (le-ltb (64 + x) 64 (omega arith))
+kind-at least_count x n l = absurd n
+kind-at most_count x n l = absurd n
 
 abbrev kind_from : ℕ → Kind
-kind_from n = get_or (labelNumber ∷ arrowNumber ∷ nodeNumber ∷ leastCount ∷ mostCount ∷ []) n labelNumber
+kind_from n = get_or (label_number ∷ arrow_number ∷ node_number ∷ least_count ∷ most_count ∷ []) n label_number
 
 kind-from : (k : Kind) → kind_from (kind_number k) ≡ k
-kind-from labelNumber = refl
-kind-from arrowNumber = refl
-kind-from nodeNumber = refl
-kind-from leastCount = refl
-kind-from mostCount = refl
+kind-from label_number = refl
+kind-from arrow_number = refl
+kind-from node_number = refl
+kind-from least_count = refl
+kind-from most_count = refl
 
 same_kind : (k k' : Kind) → kind_number k ≡ kind_number k' → k ≡ k'
 same_kind k k' e = sym (kind-from k) ∙ ap kind_from e ∙ kind-from k'
 
 pub named-slot : (k : Kind) (x : ℕ) → HasNames k → x < slot_count k → slot_base k + x < named_slots
-named-slot labelNumber x n l = omega arith
-named-slot arrowNumber x n l = omega arith
-named-slot nodeNumber x n l = omega arith
-named-slot leastCount x n l = absurd n
-named-slot mostCount x n l = absurd n
+named-slot label_number x n l = omega arith
+named-slot arrow_number x n l = omega arith
+named-slot node_number x n l = omega arith
+named-slot least_count x n l = absurd n
+named-slot most_count x n l = absurd n
 
 module _ {es : List Entry} {table : List ℕ} (p : Partly es table) (k : Kind) (n : HasNames k) (x : ℕ) (l : x < slot_count k) (u : unnamed es k x ≡ true) (t : Token) (w : well_spelled t ≡ true) where
   abbrev entry : Entry
@@ -104,11 +104,11 @@ module _ {es : List Entry} {table : List ℕ} (p : Partly es table) (k : Kind) (
 
   each : (k' : Kind) (y : ℕ) → y < slot_count k' → slot_at name_width after (slot_base k' + y) ≡ given_names (entry ∷ es) k' y
   unfolding given_names
-  each labelNumber y b = each-named labelNumber tt y b
-  each arrowNumber y b = each-named arrowNumber tt y b
-  each nodeNumber y b = each-named nodeNumber tt y b
-  each leastCount y b = elsewhere (124 + y) (λ q. let s = named-slot k x n l in omega arith) (omega arith) ∙ p.holds.each leastCount y b
-  each mostCount y b = elsewhere (124 + y) (λ q. let s = named-slot k x n l in omega arith) (omega arith) ∙ p.holds.each mostCount y b
+  each label_number y b = each-named label_number tt y b
+  each arrow_number y b = each-named arrow_number tt y b
+  each node_number y b = each-named node_number tt y b
+  each least_count y b = elsewhere (124 + y) (λ q. let s = named-slot k x n l in omega arith) (omega arith) ∙ p.holds.each least_count y b
+  each most_count y b = elsewhere (124 + y) (λ q. let s = named-slot k x n l in omega arith) (omega arith) ∙ p.holds.each most_count y b
 
   stands : (v : Token) → taken (entry ∷ es) v ≡ true → Stands after v
   unfolding taken

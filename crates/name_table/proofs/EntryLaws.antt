@@ -5,7 +5,7 @@ use mathlib.Core.List.{List, [], ◌∷◌}
 use Prim.Native.Nat.{ℕ, ◌≤◌, ◌<◌}
 use native.Mathlib.Omega.{arith}
 use Rattle.answer.specs.Asked.{Asked, passed, refused, ◌>>=◌, ◌>>◌, is}
-use Rattle.logic.specs.Limits.{Kind, labelNumber, arrowNumber, nodeNumber, leastCount, mostCount}
+use Rattle.logic.specs.Limits.{Kind, label_number, arrow_number, node_number, least_count, most_count}
 use Rattle.names.specs.Token.{Token, Found, found, absent, ascii, same}
 use Rattle.names.specs.Scan.{Placed}
 use Rattle.names.specs.Names.{Entry, kind_of, free_name_def, ask_kind, ask_number, ask_entries}
@@ -13,7 +13,7 @@ use Rattle.keywords.specs.Rows as rows
 use Rattle.name_table.specs.Entries.{item_for, free_number}
 
 abbrev chosen : (a b c : Bool) → Found Kind
-chosen a b c = cond a (found labelNumber) (cond b (found arrowNumber) (cond c (found nodeNumber) absent))
+chosen a b c = cond a (found label_number) (cond b (found arrow_number) (cond c (found node_number) absent))
 
 module _ (t : Token) where
   chosen_is : {a b c : Bool} → same t (ascii "label") ≡ a → same t (ascii "arrow") ≡ b → same t (ascii "node") ≡ c → kind_of t ≡ chosen a b c
@@ -55,11 +55,11 @@ pub item-absent : (t : Token) {item : ℕ} → item ≡ item_for (kind_of t) →
 item-absent t e z = go (kind_of t) (sym e ∙ z)
   where
     go : (f : Found Kind) → item_for f ≡ 0 → f ≡ absent
-    go (found labelNumber) q = absurd (omega arith)
-    go (found arrowNumber) q = absurd (omega arith)
-    go (found nodeNumber) q = absurd (omega arith)
-    go (found leastCount) q = absurd (omega arith)
-    go (found mostCount) q = absurd (omega arith)
+    go (found label_number) q = absurd (omega arith)
+    go (found arrow_number) q = absurd (omega arith)
+    go (found node_number) q = absurd (omega arith)
+    go (found least_count) q = absurd (omega arith)
+    go (found most_count) q = absurd (omega arith)
     go absent q = refl
 
 -- Questions of which one passed or was refused.

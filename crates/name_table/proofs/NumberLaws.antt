@@ -9,7 +9,7 @@ use native.Mathlib.Decide.{dec_lt}
 use borrow.Author.Tests.{lt-ltb, le-ltb, le-leb, lt-leb, ltb-true, leb-true}
 use lib.Dec.{T, leb}
 use lib.ListN.{get_or}
-use Rattle.logic.specs.Limits.{Kind, labelNumber, arrowNumber, nodeNumber, leastCount, mostCount, ranges, max_nodes, fits}
+use Rattle.logic.specs.Limits.{Kind, label_number, arrow_number, node_number, least_count, most_count, ranges, max_nodes, fits}
 use Rattle.logic.proofs.Bools.{is_true, both_so}
 use Rattle.names.specs.Token.{Token, same, first_below}
 use Rattle.names.specs.Names.{Naming, count_of}
@@ -48,53 +48,53 @@ counts = 48 ∷ 16 ∷ 60 ∷ 60 ∷ 60 ∷ []
 
 -- The least number of a kind, and how many there are.
 abbrev least : Kind → ℕ
-least labelNumber = 0
-least arrowNumber = 0
-least nodeNumber = 0
-least leastCount = 1
-least mostCount = 0
+least label_number = 0
+least arrow_number = 0
+least node_number = 0
+least least_count = 1
+least most_count = 0
 
 abbrev many : Kind → ℕ
-many labelNumber = 48
-many arrowNumber = 16
-many nodeNumber = 60
-many leastCount = 60
-many mostCount = 60
+many label_number = 48
+many arrow_number = 16
+many node_number = 60
+many least_count = 60
+many most_count = 60
 
 below-least : (k : Kind) (x : ℕ) → x < least k → fits (ranges max_nodes) k x ≡ false
-below-least labelNumber x h = absurd (omega arith)
-below-least arrowNumber x h = absurd (omega arith)
-below-least nodeNumber x h = absurd (omega arith)
-below-least leastCount x h = ap (◌&& leb x 60) (lt-leb 1 x h)
-below-least mostCount x h = absurd (omega arith)
+below-least label_number x h = absurd (omega arith)
+below-least arrow_number x h = absurd (omega arith)
+below-least node_number x h = absurd (omega arith)
+below-least least_count x h = ap (◌&& leb x 60) (lt-leb 1 x h)
+below-least most_count x h = absurd (omega arith)
 
 in-range : (k : Kind) (x : ℕ) → x < many k → fits (ranges max_nodes) k (least k + x) ≡ true
-in-range labelNumber x h = lt-ltb (0 + x) 48 (omega arith)
-in-range arrowNumber x h = lt-ltb (0 + x) 16 (omega arith)
-in-range nodeNumber x h = lt-ltb (0 + x) 60 (omega arith)
-in-range leastCount x h = ap₂ ◌&&◌ (le-leb 1 (1 + x) (omega arith)) (le-leb (1 + x) 60 (omega arith))
-in-range mostCount x h = le-leb (0 + x) 59 (omega arith)
+in-range label_number x h = lt-ltb (0 + x) 48 (omega arith)
+in-range arrow_number x h = lt-ltb (0 + x) 16 (omega arith)
+in-range node_number x h = lt-ltb (0 + x) 60 (omega arith)
+in-range least_count x h = ap₂ ◌&&◌ (le-leb 1 (1 + x) (omega arith)) (le-leb (1 + x) 60 (omega arith))
+in-range most_count x h = le-leb (0 + x) 59 (omega arith)
 
 above-range : (k : Kind) (x : ℕ) → least k + many k ≤ x → fits (ranges max_nodes) k x ≡ false
-above-range labelNumber x h = le-ltb x 48 (omega arith)
-above-range arrowNumber x h = le-ltb x 16 (omega arith)
-above-range nodeNumber x h = le-ltb x 60 (omega arith)
-above-range leastCount x h = ap₂ ◌&&◌ (le-leb 1 x (omega arith)) (lt-leb x 60 (omega arith))
-above-range mostCount x h = lt-leb x 59 (omega arith)
+above-range label_number x h = le-ltb x 48 (omega arith)
+above-range arrow_number x h = le-ltb x 16 (omega arith)
+above-range node_number x h = le-ltb x 60 (omega arith)
+above-range least_count x h = ap₂ ◌&&◌ (le-leb 1 x (omega arith)) (lt-leb x 60 (omega arith))
+above-range most_count x h = lt-leb x 59 (omega arith)
 
 has-slot : (k : Kind) (x : ℕ) → x < many k → least k + x < slot_count k
-has-slot labelNumber x h = omega arith
-has-slot arrowNumber x h = omega arith
-has-slot nodeNumber x h = omega arith
-has-slot leastCount x h = omega arith
-has-slot mostCount x h = omega arith
+has-slot label_number x h = omega arith
+has-slot arrow_number x h = omega arith
+has-slot node_number x h = omega arith
+has-slot least_count x h = omega arith
+has-slot most_count x h = omega arith
 
 few : (k : Kind) → least k + many k ≤ 256
-few labelNumber = omega arith
-few arrowNumber = omega arith
-few nodeNumber = omega arith
-few leastCount = omega arith
-few mostCount = omega arith
+few label_number = omega arith
+few arrow_number = omega arith
+few node_number = omega arith
+few least_count = omega arith
+few most_count = omega arith
 
 module _ (table : List ℕ) (name : Naming) (h : Holds table name) (t : Token) where
   -- What is found among the slots of a kind, from that of its least number on.
@@ -117,7 +117,7 @@ module _ (table : List ℕ) (name : Naming) (h : Holds table name) (t : Token) w
       by-item
       (λ item. number_of name word_limits (kind_of item) t
       ≡ further (get_or leasts (item - 4) 0) (first_below (λ x. same t (slot_at name_width table (get_or bases (item - 4) 0 + get_or leasts (item - 4) 0 + x))) (get_or counts (item - 4) 0)))
-      (number_is labelNumber) (number_is arrowNumber) (number_is nodeNumber) (number_is leastCount) (number_is mostCount)
+      (number_is label_number) (number_is arrow_number) (number_is node_number) (number_is least_count) (number_is most_count)
 
 -- The slots of an item are slots of the table.
 pub item-inside : (item : ℕ) → 4 ≤ item → item < 9 → get_or bases (item - 4) 0 + get_or leasts (item - 4) 0 + get_or counts (item - 4) 0 ≤ name_count
@@ -153,11 +153,11 @@ pub name-at : (table : List ℕ) (name : Naming) → Holds table name → (item 
 unfolding kind_of
 name-at table name g =
     by-item (λ item. (x : ℕ) → T (fits (ranges max_nodes) (kind_of item) x) → slot_at name_width table (get_or bases (item - 4) 0 + x) ≡ name (kind_of item) x)
-    (λ x h. g.each labelNumber x (ltb-true x 48 (is_true _ h)))
-    (λ x h. g.each arrowNumber x (ltb-true x 16 (is_true _ h)))
-    (λ x h. g.each nodeNumber x (ltb-true x 60 (is_true _ h)))
-    (λ x h. g.each leastCount x (let z = leb-true x 60 (is_true _ (both_so (leb 1 x) (leb x 60) h).1) in omega arith))
-    (λ x h. g.each mostCount x (let z = leb-true x 59 (is_true _ h) in omega arith))
+    (λ x h. g.each label_number x (ltb-true x 48 (is_true _ h)))
+    (λ x h. g.each arrow_number x (ltb-true x 16 (is_true _ h)))
+    (λ x h. g.each node_number x (ltb-true x 60 (is_true _ h)))
+    (λ x h. g.each least_count x (let z = leb-true x 60 (is_true _ (both_so (leb 1 x) (leb x 60) h).1) in omega arith))
+    (λ x h. g.each most_count x (let z = leb-true x 59 (is_true _ h) in omega arith))
 
 -- An item that is a name.
 pub record NameItem (item : ℕ) : Type 0 where

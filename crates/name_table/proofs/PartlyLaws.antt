@@ -9,7 +9,7 @@ use native.Mathlib.Decide.{dec_lt}
 use borrow.Author.Tests.{eqb-true, eqb-false, leb-true}
 use lib.Dec.{eqb, leb}
 use lib.ListN.{length, get_or}
-use Rattle.logic.specs.Limits.{Kind, labelNumber, arrowNumber, nodeNumber, leastCount, mostCount}
+use Rattle.logic.specs.Limits.{Kind, label_number, arrow_number, node_number, least_count, most_count}
 use Rattle.logic.proofs.Bools.{true-false, and_left, and_right, is_false}
 use Rattle.names.specs.Token.{Token, same, Found, found, absent, first_below}
 use Rattle.names.specs.Scan.{is_word_def}
@@ -45,36 +45,36 @@ given-taken (n ∷ es) k x {t} e = go (is_for n k x) e (given-taken es k x)
 
 pub given-names : (es : List Entry) (k : Kind) (x : ℕ) → HasNames k → given_names es k x ≡ or_nothing (given es k x)
 unfolding given_names
-given-names es labelNumber x n = refl
-given-names es arrowNumber x n = refl
-given-names es nodeNumber x n = refl
-given-names es leastCount x n = absurd n
-given-names es mostCount x n = absurd n
+given-names es label_number x n = refl
+given-names es arrow_number x n = refl
+given-names es node_number x n = refl
+given-names es least_count x n = absurd n
+given-names es most_count x n = absurd n
 
 pub slot-inside : (k : Kind) (x : ℕ) → x < slot_count k → slot_base k + x < name_count
-slot-inside labelNumber x h = omega arith
-slot-inside arrowNumber x h = omega arith
-slot-inside nodeNumber x h = omega arith
-slot-inside leastCount x h = omega arith
-slot-inside mostCount x h = omega arith
+slot-inside label_number x h = omega arith
+slot-inside arrow_number x h = omega arith
+slot-inside node_number x h = omega arith
+slot-inside least_count x h = omega arith
+slot-inside most_count x h = omega arith
 
 pub count-is : (k : Kind) → HasNames k → count_of k ≡ slot_count k
-count-is labelNumber n = refl
-count-is arrowNumber n = refl
-count-is nodeNumber n = refl
-count-is leastCount n = absurd n
-count-is mostCount n = absurd n
+count-is label_number n = refl
+count-is arrow_number n = refl
+count-is node_number n = refl
+count-is least_count n = absurd n
+count-is most_count n = absurd n
 
 pub count_small : (k : Kind) → HasNames k → count_of k ≤ 60
-count_small labelNumber n = omega arith
-count_small arrowNumber n = omega arith
-count_small nodeNumber n = omega arith
-count_small leastCount n = absurd n
-count_small mostCount n = absurd n
+count_small label_number n = omega arith
+count_small arrow_number n = omega arith
+count_small node_number n = omega arith
+count_small least_count n = absurd n
+count_small most_count n = absurd n
 
 decimals-differ : (x y : ℕ) → x < 1000 → y < 1000 → decimal x ≡ decimal y → x ≡ y
 unfolding name_in
-decimals-differ x y a b e = names-one [] tt mostCount x y a b e
+decimals-differ x y a b e = names-one [] tt most_count x y a b e
 
 module _ {es : List Entry} {table : List ℕ} (p : Partly es table) where
   -- A name that is given has at least one byte.
@@ -106,7 +106,7 @@ module _ {es : List Entry} {table : List ℕ} (p : Partly es table) where
 
   count-slot : (y : ℕ) → y < 61 → slot_at name_width table (named_slots + y) ≡ decimal y
   unfolding given_names
-  count-slot y h = p.holds.each mostCount y h
+  count-slot y h = p.holds.each most_count y h
 
   -- The number that a word says, and whether it is free.
   module _ (k : Kind) (n : HasNames k) (t : Token) where
@@ -168,8 +168,8 @@ module _ {es : List Entry} {table : List ℕ} (p : Partly es table) where
   unfolding or_nothing
   slot-taken t h j l e =
       elim (dec_lt j 48) [
-        | yes a ↦ at labelNumber tt j a (zero-add j)
-        | no a ↦ elim (dec_lt j 64) [ yes b ↦ at arrowNumber tt (j - 48) (omega arith) (omega arith) | no b ↦ at nodeNumber tt (j - 64) (omega arith) (omega arith) ]
+        | yes a ↦ at label_number tt j a (zero-add j)
+        | no a ↦ elim (dec_lt j 64) [ yes b ↦ at arrow_number tt (j - 48) (omega arith) (omega arith) | no b ↦ at node_number tt (j - 64) (omega arith) (omega arith) ]
       ]
     where
       go : (k : Kind) (y : ℕ) (f : Found Token) → given es k y ≡ f → or_nothing f ≡ t → taken es t ≡ true

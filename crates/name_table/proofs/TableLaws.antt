@@ -5,7 +5,7 @@ use Prim.Native.Nat.{ℕ, ◌+◌, ◌*◌, ◌≤◌, ◌<◌}
 use native.Mathlib.Omega.{arith}
 use lib.ListN.{length, get_or, take, drop, replicate, length-replicate, get_or-replicate}
 use Rattle.answer.specs.Asked.{Asked, passed, refused, outcome}
-use Rattle.logic.specs.Limits.{Kind, labelNumber, arrowNumber, nodeNumber, leastCount, mostCount}
+use Rattle.logic.specs.Limits.{Kind, label_number, arrow_number, node_number, least_count, most_count}
 use Rattle.logic.proofs.Bools.{true-false}
 use Rattle.names.specs.Token.{Token, Found, found, absent, ascii}
 use Rattle.names.specs.Names.{decimal, plain, Entry, given, given_or_plain, name_in, taken}
@@ -39,11 +39,11 @@ module _ (n : ℕ) {table : List ℕ} (e : table ≡ replicate n 0) (room : name
 
     none-given : (k : Kind) (x : ℕ) → x < slot_count k → slot_at name_width after (slot_base k + x) ≡ given_names [] k x
     unfolding given_names given or_nothing
-    none-given labelNumber x l = nothing (0 + x) (omega arith)
-    none-given arrowNumber x l = nothing (48 + x) (omega arith)
-    none-given nodeNumber x l = nothing (64 + x) (omega arith)
-    none-given leastCount x l = counted x l
-    none-given mostCount x l = counted x l
+    none-given label_number x l = nothing (0 + x) (omega arith)
+    none-given arrow_number x l = nothing (48 + x) (omega arith)
+    none-given node_number x l = nothing (64 + x) (omega arith)
+    none-given least_count x l = counted x l
+    none-given most_count x l = counted x l
 
     pub begun : n ≡ table_bytes → Partly [] after
     unfolding taken
@@ -69,11 +69,11 @@ module _ {es : List Entry} {t u v w : List ℕ} (p : Partly es t) (labels : Fill
 
   each : (k : Kind) (x : ℕ) → x < slot_count k → slot_at name_width w (slot_base k + x) ≡ name_in es k x
   unfolding name_in plain given_names
-  each labelNumber x l = nodes.below (0 + x) (omega arith) ∙ arrows.below (0 + x) (omega arith) ∙ labels.filled x l ∙ named labelNumber tt x l refl
-  each arrowNumber x l = nodes.below (48 + x) (omega arith) ∙ arrows.filled x l ∙ named arrowNumber tt x l (labels.above (48 + x) (omega arith) (omega arith))
-  each nodeNumber x l = nodes.filled x l ∙ named nodeNumber tt x l (arrows.above (64 + x) (omega arith) (omega arith) ∙ labels.above (64 + x) (omega arith) (omega arith))
-  each leastCount x l = count x l ∙ p.holds.each leastCount x l
-  each mostCount x l = count x l ∙ p.holds.each mostCount x l
+  each label_number x l = nodes.below (0 + x) (omega arith) ∙ arrows.below (0 + x) (omega arith) ∙ labels.filled x l ∙ named label_number tt x l refl
+  each arrow_number x l = nodes.below (48 + x) (omega arith) ∙ arrows.filled x l ∙ named arrow_number tt x l (labels.above (48 + x) (omega arith) (omega arith))
+  each node_number x l = nodes.filled x l ∙ named node_number tt x l (arrows.above (64 + x) (omega arith) (omega arith) ∙ labels.above (64 + x) (omega arith) (omega arith))
+  each least_count x l = count x l ∙ p.holds.each least_count x l
+  each most_count x l = count x l ∙ p.holds.each most_count x l
 
   pub all_named : Holds w (name_in es)
   all_named = record { slots = nodes.slots; each = each }

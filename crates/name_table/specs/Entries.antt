@@ -1,7 +1,7 @@
 -- The slots while a table is read: each name given so far, nothing for numbers without one, and the counts.
 use Rattle.std.specs.Prelude.{◌≡◌, Bool, true, not, ◌&&◌, List, [], ◌∷◌, ◌++◌, ℕ, ◌+◌, ◌<◌, ◌≤◌, eqb, leb, length}
 use Rattle.answer.specs.Asked.{Asked, passed, refused}
-use Rattle.logic.specs.Limits.{Kind, labelNumber, arrowNumber, nodeNumber, leastCount, mostCount}
+use Rattle.logic.specs.Limits.{Kind, label_number, arrow_number, node_number, least_count, most_count}
 use Rattle.names.specs.Token.{Token, same, Found, found, absent, first_below}
 use Rattle.names.specs.Scan.{is_letter_def, is_word_def}
 use Rattle.names.specs.Scanned.{tokens_from}
@@ -20,11 +20,11 @@ or_nothing (found t) = t
 or_nothing absent = []
 
 unfoldable pub given_names : List Entry → Naming
-given_names es labelNumber x = or_nothing (given es labelNumber x)
-given_names es arrowNumber x = or_nothing (given es arrowNumber x)
-given_names es nodeNumber x = or_nothing (given es nodeNumber x)
-given_names es leastCount x = decimal x
-given_names es mostCount x = decimal x
+given_names es label_number x = or_nothing (given es label_number x)
+given_names es arrow_number x = or_nothing (given es arrow_number x)
+given_names es node_number x = or_nothing (given es node_number x)
+given_names es least_count x = decimal x
+given_names es most_count x = decimal x
 
 -- A name that is in one of those slots.
 pub record Stands (table : List ℕ) (t : Token) : Type 0 where
@@ -52,11 +52,11 @@ slot_found k absent = named_slots
 
 -- The item of the kind that a word of the table stands for; 0 if it stands for none.
 abbrev pub item_for : Found Kind → ℕ
-item_for (found labelNumber) = 4
-item_for (found arrowNumber) = 5
-item_for (found nodeNumber) = 6
-item_for (found leastCount) = 7
-item_for (found mostCount) = 8
+item_for (found label_number) = 4
+item_for (found arrow_number) = 5
+item_for (found node_number) = 6
+item_for (found least_count) = 7
+item_for (found most_count) = 8
 item_for absent = 0
 
 abbrev pub item_of : Token → ℕ

@@ -1,7 +1,7 @@
 -- The names of a table, each in its slot: those of labels, of arrows, of nodes, with plain names for what has no name; then the counts.
 use Rattle.std.specs.Prelude.{◌≡◌, List, ℕ, ◌+◌, ◌<◌, length}
 use Rattle.answer.specs.Asked.{Asked, passed, refused}
-use Rattle.logic.specs.Limits.{Kind, labelNumber, arrowNumber, nodeNumber, leastCount, mostCount}
+use Rattle.logic.specs.Limits.{Kind, label_number, arrow_number, node_number, least_count, most_count}
 use Rattle.names.specs.Names.{Naming, Entry, name_in}
 use Rattle.buffers.specs.Slots.{Slots, slot_at}
 
@@ -16,18 +16,18 @@ table_bytes = 12025
 
 -- The slot of number 0 of each kind, and how many slots the kind has.
 abbrev pub slot_base : Kind → ℕ
-slot_base labelNumber = 0
-slot_base arrowNumber = 48
-slot_base nodeNumber = 64
-slot_base leastCount = 124
-slot_base mostCount = 124
+slot_base label_number = 0
+slot_base arrow_number = 48
+slot_base node_number = 64
+slot_base least_count = 124
+slot_base most_count = 124
 
 abbrev pub slot_count : Kind → ℕ
-slot_count labelNumber = 48
-slot_count arrowNumber = 16
-slot_count nodeNumber = 60
-slot_count leastCount = 61
-slot_count mostCount = 61
+slot_count label_number = 48
+slot_count arrow_number = 16
+slot_count node_number = 60
+slot_count least_count = 61
+slot_count most_count = 61
 
 -- The slots hold this naming.
 pub record Holds (table : List ℕ) (name : Naming) : Type 0 where

@@ -10,7 +10,7 @@ use borrow.Author.Tests.{eq-eqb, ne_eqb, le-leb, not-true, not-false}
 use Rattle.decimal.specs.Digits.{digits}
 use Rattle.decimal.proofs.DigitLaws.{digits-length}
 use Rattle.logic.specs.Graph.{Nodes, count_below}
-use Rattle.logic.specs.Limits.{Kind, labelNumber, arrowNumber, nodeNumber, leastCount, mostCount}
+use Rattle.logic.specs.Limits.{Kind, label_number, arrow_number, node_number, least_count, most_count}
 use Rattle.logic.proofs.Bools.{true-false, and_left, and_right}
 use Rattle.logic.proofs.Below.{leave, count-leave}
 use Rattle.names.specs.Token.{Token, ascii, same, Found, found, absent, first_below}
@@ -83,18 +83,18 @@ one_more e es free l =
     omega (arith, c, m)
 
 few : (e : Entry) (es : List Entry) → unnamed es e.kind e.number ≡ true → e.number < count_of e.kind
-    → suc (in_sort es labelNumber + (in_sort es arrowNumber + in_sort es nodeNumber)) ≤ in_sort (e ∷ es) labelNumber + (in_sort (e ∷ es) arrowNumber + in_sort (e ∷ es) nodeNumber)
+    → suc (in_sort es label_number + (in_sort es arrow_number + in_sort es node_number)) ≤ in_sort (e ∷ es) label_number + (in_sort (e ∷ es) arrow_number + in_sort (e ∷ es) node_number)
 few e es free l = go e.kind refl (one_more e es free l)
   where
     go : (k : Kind) → e.kind ≡ k → suc (in_sort es e.kind) ≤ in_sort (e ∷ es) e.kind
-        → suc (in_sort es labelNumber + (in_sort es arrowNumber + in_sort es nodeNumber)) ≤ in_sort (e ∷ es) labelNumber + (in_sort (e ∷ es) arrowNumber + in_sort (e ∷ es) nodeNumber)
-    go labelNumber q m = let n = subst (λ k. suc (in_sort es k) ≤ in_sort (e ∷ es) k) q m in omega (arith, as_many e es arrowNumber, as_many e es nodeNumber)
-    go arrowNumber q m = let n = subst (λ k. suc (in_sort es k) ≤ in_sort (e ∷ es) k) q m in omega (arith, as_many e es labelNumber, as_many e es nodeNumber)
-    go nodeNumber q m = let n = subst (λ k. suc (in_sort es k) ≤ in_sort (e ∷ es) k) q m in omega (arith, as_many e es labelNumber, as_many e es arrowNumber)
-    go leastCount q m = let n = subst (λ k. e.number < count_of k) q l in absurd (omega arith)
-    go mostCount q m = let n = subst (λ k. e.number < count_of k) q l in absurd (omega arith)
+        → suc (in_sort es label_number + (in_sort es arrow_number + in_sort es node_number)) ≤ in_sort (e ∷ es) label_number + (in_sort (e ∷ es) arrow_number + in_sort (e ∷ es) node_number)
+    go label_number q m = let n = subst (λ k. suc (in_sort es k) ≤ in_sort (e ∷ es) k) q m in omega (arith, as_many e es arrow_number, as_many e es node_number)
+    go arrow_number q m = let n = subst (λ k. suc (in_sort es k) ≤ in_sort (e ∷ es) k) q m in omega (arith, as_many e es label_number, as_many e es node_number)
+    go node_number q m = let n = subst (λ k. suc (in_sort es k) ≤ in_sort (e ∷ es) k) q m in omega (arith, as_many e es label_number, as_many e es arrow_number)
+    go least_count q m = let n = subst (λ k. e.number < count_of k) q l in absurd (omega arith)
+    go most_count q m = let n = subst (λ k. e.number < count_of k) q l in absurd (omega arith)
 
-by-sorts : (es : List Entry) → Numbered es → length es ≤ in_sort es labelNumber + (in_sort es arrowNumber + in_sort es nodeNumber)
+by-sorts : (es : List Entry) → Numbered es → length es ≤ in_sort es label_number + (in_sort es arrow_number + in_sort es node_number)
 by-sorts [] h = omega arith
 by-sorts (e ∷ es) h = omega (arith, by-sorts es h.2, few e es h.0 h.1)
 
@@ -107,7 +107,7 @@ all-below : (v : Nodes) (n : ℕ) → count_below n v ≤ n
 all-below v n = omega (arith, count-mono n v (λ i. true) (λ i l h. refl), count-all n)
 
 few-entries : (es : List Entry) → Numbered es → length es ≤ 124
-few-entries es h = omega (arith, by-sorts es h, all-below (named es labelNumber) 48, all-below (named es arrowNumber) 16, all-below (named es nodeNumber) 60)
+few-entries es h = omega (arith, by-sorts es h, all-below (named es label_number) 48, all-below (named es arrow_number) 16, all-below (named es node_number) 60)
 
 -- Names that are neither words of the notation nor plain names: an x and a number.
 abbrev spare : ℕ → Token

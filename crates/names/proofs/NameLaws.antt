@@ -10,7 +10,7 @@ use borrow.Author.Tests.{eqb-true, ne_eqb, ltb-true}
 use Rattle.answer.specs.Asked.{Asked, passed, refused, ◌>>=◌, ◌>>◌, is}
 use Rattle.decimal.specs.Digits.{digits, said}
 use Rattle.decimal.proofs.DigitLaws.{Left, said-digits, digits-length}
-use Rattle.logic.specs.Limits.{Kind, labelNumber, arrowNumber, nodeNumber, leastCount, mostCount}
+use Rattle.logic.specs.Limits.{Kind, label_number, arrow_number, node_number, least_count, most_count}
 use Rattle.logic.proofs.Bools.{true-false}
 use Rattle.names.specs.Token.{Token, ascii, same, Found, found, absent, first_below}
 use Rattle.names.specs.Scan.{Placed, blank, hash, mark, letter, class_of, is_letter_def, letters, is_word_def, tokens}
@@ -168,48 +168,48 @@ given-one (n ∷ es) h k x k' y t e f =
 
 -- The sorts that have names.
 abbrev pub HasNames : Kind → Type 0
-HasNames labelNumber = Unit {0}
-HasNames arrowNumber = Unit {0}
-HasNames nodeNumber = Unit {0}
-HasNames leastCount = ⊥
-HasNames mostCount = ⊥
+HasNames label_number = Unit {0}
+HasNames arrow_number = Unit {0}
+HasNames node_number = Unit {0}
+HasNames least_count = ⊥
+HasNames most_count = ⊥
 
 -- Plain names begin in a way that no given name does.
 begins-plain : (k : Kind) (x : ℕ) → HasNames k → begins_plain_def (plain k x) ≡ true
 unfolding plain ascii begins_plain_def begins_with
-begins-plain labelNumber x h = refl
-begins-plain arrowNumber x h = refl
-begins-plain nodeNumber x h = refl
-begins-plain leastCount x h = absurd h
-begins-plain mostCount x h = absurd h
+begins-plain label_number x h = refl
+begins-plain arrow_number x h = refl
+begins-plain node_number x h = refl
+begins-plain least_count x h = absurd h
+begins-plain most_count x h = absurd h
 
 plain-one : (k : Kind) (x : ℕ) (k' : Kind) (y : ℕ) → HasNames k → HasNames k' → x < 1000 → y < 1000 → plain k x ≡ plain k' y → SameThing k x k' y
 unfolding plain ascii
-plain-one labelNumber x labelNumber y h h' a b e = record { kinds = refl; numbers = decimal-one x y a b (ap (drop 6) e) }
-plain-one labelNumber x arrowNumber y h h' a b e = let z : ◌≡◌ {A = ℕ} 0x6C 0x61 = ap (λ t. get_or t 0 0) e in absurd (omega arith)
-plain-one labelNumber x nodeNumber y h h' a b e = let z : ◌≡◌ {A = ℕ} 0x6C 0x6E = ap (λ t. get_or t 0 0) e in absurd (omega arith)
-plain-one arrowNumber x labelNumber y h h' a b e = let z : ◌≡◌ {A = ℕ} 0x61 0x6C = ap (λ t. get_or t 0 0) e in absurd (omega arith)
-plain-one arrowNumber x arrowNumber y h h' a b e = record { kinds = refl; numbers = decimal-one x y a b (ap (drop 6) e) }
-plain-one arrowNumber x nodeNumber y h h' a b e = let z : ◌≡◌ {A = ℕ} 0x61 0x6E = ap (λ t. get_or t 0 0) e in absurd (omega arith)
-plain-one nodeNumber x labelNumber y h h' a b e = let z : ◌≡◌ {A = ℕ} 0x6E 0x6C = ap (λ t. get_or t 0 0) e in absurd (omega arith)
-plain-one nodeNumber x arrowNumber y h h' a b e = let z : ◌≡◌ {A = ℕ} 0x6E 0x61 = ap (λ t. get_or t 0 0) e in absurd (omega arith)
-plain-one nodeNumber x nodeNumber y h h' a b e = record { kinds = refl; numbers = decimal-one x y a b (ap (drop 5) e) }
-plain-one labelNumber x leastCount y h h' a b e = absurd h'
-plain-one labelNumber x mostCount y h h' a b e = absurd h'
-plain-one arrowNumber x leastCount y h h' a b e = absurd h'
-plain-one arrowNumber x mostCount y h h' a b e = absurd h'
-plain-one nodeNumber x leastCount y h h' a b e = absurd h'
-plain-one nodeNumber x mostCount y h h' a b e = absurd h'
-plain-one leastCount x k' y h h' a b e = absurd h
-plain-one mostCount x k' y h h' a b e = absurd h
+plain-one label_number x label_number y h h' a b e = record { kinds = refl; numbers = decimal-one x y a b (ap (drop 6) e) }
+plain-one label_number x arrow_number y h h' a b e = let z : ◌≡◌ {A = ℕ} 0x6C 0x61 = ap (λ t. get_or t 0 0) e in absurd (omega arith)
+plain-one label_number x node_number y h h' a b e = let z : ◌≡◌ {A = ℕ} 0x6C 0x6E = ap (λ t. get_or t 0 0) e in absurd (omega arith)
+plain-one arrow_number x label_number y h h' a b e = let z : ◌≡◌ {A = ℕ} 0x61 0x6C = ap (λ t. get_or t 0 0) e in absurd (omega arith)
+plain-one arrow_number x arrow_number y h h' a b e = record { kinds = refl; numbers = decimal-one x y a b (ap (drop 6) e) }
+plain-one arrow_number x node_number y h h' a b e = let z : ◌≡◌ {A = ℕ} 0x61 0x6E = ap (λ t. get_or t 0 0) e in absurd (omega arith)
+plain-one node_number x label_number y h h' a b e = let z : ◌≡◌ {A = ℕ} 0x6E 0x6C = ap (λ t. get_or t 0 0) e in absurd (omega arith)
+plain-one node_number x arrow_number y h h' a b e = let z : ◌≡◌ {A = ℕ} 0x6E 0x61 = ap (λ t. get_or t 0 0) e in absurd (omega arith)
+plain-one node_number x node_number y h h' a b e = record { kinds = refl; numbers = decimal-one x y a b (ap (drop 5) e) }
+plain-one label_number x least_count y h h' a b e = absurd h'
+plain-one label_number x most_count y h h' a b e = absurd h'
+plain-one arrow_number x least_count y h h' a b e = absurd h'
+plain-one arrow_number x most_count y h h' a b e = absurd h'
+plain-one node_number x least_count y h h' a b e = absurd h'
+plain-one node_number x most_count y h h' a b e = absurd h'
+plain-one least_count x k' y h h' a b e = absurd h
+plain-one most_count x k' y h h' a b e = absurd h
 
 plain-name : (k : Kind) (x : ℕ) → HasNames k → Name (plain k x)
 unfolding plain is_word_def letters is_letter_def class_of ascii notation_words among same
-plain-name labelNumber x h = record { is_word = digits-letters (width x) x; not-of-notation = refl }
-plain-name arrowNumber x h = record { is_word = digits-letters (width x) x; not-of-notation = refl }
-plain-name nodeNumber x h = record { is_word = digits-letters (width x) x; not-of-notation = refl }
-plain-name leastCount x h = absurd h
-plain-name mostCount x h = absurd h
+plain-name label_number x h = record { is_word = digits-letters (width x) x; not-of-notation = refl }
+plain-name arrow_number x h = record { is_word = digits-letters (width x) x; not-of-notation = refl }
+plain-name node_number x h = record { is_word = digits-letters (width x) x; not-of-notation = refl }
+plain-name least_count x h = absurd h
+plain-name most_count x h = absurd h
 
 -- THE NAMES OF A TABLE THAT PASSED.
 module _ (es : List Entry) (h : Free es) where
@@ -235,31 +235,31 @@ module _ (es : List Entry) (h : Free es) where
   -- Names are words and not the notation's; different numbers have different names, and no label shares a name with a node.
   pub names-are : (k : Kind) (x : ℕ) → HasNames k → Name (name_in es k x)
   unfolding name_in
-  names-are labelNumber x n = is_name labelNumber x tt
-  names-are arrowNumber x n = is_name arrowNumber x tt
-  names-are nodeNumber x n = is_name nodeNumber x tt
-  names-are leastCount x n = absurd n
-  names-are mostCount x n = absurd n
+  names-are label_number x n = is_name label_number x tt
+  names-are arrow_number x n = is_name arrow_number x tt
+  names-are node_number x n = is_name node_number x tt
+  names-are least_count x n = absurd n
+  names-are most_count x n = absurd n
 
   pub names-words : (k : Kind) (x : ℕ) → is_word_def (name_in es k x) ≡ true
   unfolding name_in
-  names-words labelNumber x = (is_name labelNumber x tt).is_word
-  names-words arrowNumber x = (is_name arrowNumber x tt).is_word
-  names-words nodeNumber x = (is_name nodeNumber x tt).is_word
-  names-words leastCount x = decimal-word x
-  names-words mostCount x = decimal-word x
+  names-words label_number x = (is_name label_number x tt).is_word
+  names-words arrow_number x = (is_name arrow_number x tt).is_word
+  names-words node_number x = (is_name node_number x tt).is_word
+  names-words least_count x = decimal-word x
+  names-words most_count x = decimal-word x
 
   pub names-one : (k : Kind) (x y : ℕ) → x < 1000 → y < 1000 → name_in es k x ≡ name_in es k y → x ≡ y
   unfolding name_in
-  names-one labelNumber x y a b e = (names-differ labelNumber x labelNumber y tt tt a b e).numbers
-  names-one arrowNumber x y a b e = (names-differ arrowNumber x arrowNumber y tt tt a b e).numbers
-  names-one nodeNumber x y a b e = (names-differ nodeNumber x nodeNumber y tt tt a b e).numbers
-  names-one leastCount x y a b e = decimal-one x y a b e
-  names-one mostCount x y a b e = decimal-one x y a b e
+  names-one label_number x y a b e = (names-differ label_number x label_number y tt tt a b e).numbers
+  names-one arrow_number x y a b e = (names-differ arrow_number x arrow_number y tt tt a b e).numbers
+  names-one node_number x y a b e = (names-differ node_number x node_number y tt tt a b e).numbers
+  names-one least_count x y a b e = decimal-one x y a b e
+  names-one most_count x y a b e = decimal-one x y a b e
 
-  pub no-label-is-node : (x y : ℕ) → x < 1000 → y < 1000 → name_in es labelNumber x ≡ name_in es nodeNumber y → ⊥
+  pub no-label-is-node : (x y : ℕ) → x < 1000 → y < 1000 → name_in es label_number x ≡ name_in es node_number y → ⊥
   unfolding name_in
-  no-label-is-node x y a b e = let z = (names-differ labelNumber x nodeNumber y tt tt a b e).kinds in omega arith
+  no-label-is-node x y a b e = let z = (names-differ label_number x node_number y tt tt a b e).kinds in omega arith
 
 -- A table that passes has such entries; any other is refused with 63.
 abbrev By63 : {A : Type 0} → (A → Type 0) → Asked A → Type 0

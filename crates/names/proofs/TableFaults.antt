@@ -8,7 +8,7 @@ use native.Mathlib.Omega.{arith}
 use lib.ListN.{length}
 use Rattle.answer.specs.Asked.{Asked, passed, refused, ◌>>=◌, ◌>>◌, is}
 use Rattle.logic.specs.Lists.{All}
-use Rattle.logic.specs.Limits.{Kind, labelNumber, arrowNumber, nodeNumber, leastCount, mostCount}
+use Rattle.logic.specs.Limits.{Kind, label_number, arrow_number, node_number, least_count, most_count}
 use Rattle.names.specs.Token.{Token, ascii, same, Found, found, absent, first_below}
 use Rattle.names.specs.Scan.{Placed, tokens_of, scan, tokens, class_of, is_letter_def, letters, is_word_def}
 use Rattle.names.specs.Names.{decimal, Entry, free_name_def, unnamed, count_of, kind_of, ask_kind, ask_number, ask_entries, ask_names}
@@ -124,11 +124,11 @@ abbrev pub BegunTable : List Token → List Entry → Type 0
 BegunTable ts es = Ended ts es ⊎ NoneLeft ts es
 
 few-numbers : (k : Kind) {x : ℕ} → x < count_of k → x < 1000
-few-numbers labelNumber h = omega arith
-few-numbers arrowNumber h = omega arith
-few-numbers nodeNumber h = omega arith
-few-numbers leastCount h = omega arith
-few-numbers mostCount h = omega arith
+few-numbers label_number h = omega arith
+few-numbers arrow_number h = omega arith
+few-numbers node_number h = omega arith
+few-numbers least_count h = omega arith
+few-numbers most_count h = omega arith
 
 module _ (es : List Entry) where
   from_nothing : BegunTable [] es
@@ -288,7 +288,7 @@ unfolding kind_of is_word_def letters is_letter_def class_of ascii
 sort-word s k e = go (same s (ascii "label")) refl (same s (ascii "arrow")) refl (same s (ascii "node")) refl e
   where
     go : (a : Bool) → same s (ascii "label") ≡ a → (b : Bool) → same s (ascii "arrow") ≡ b → (c : Bool) → same s (ascii "node") ≡ c
-        → cond a (found labelNumber) (cond b (found arrowNumber) (cond c (found nodeNumber) absent)) ≡ found k → is_word_def s ≡ true
+        → cond a (found label_number) (cond b (found arrow_number) (cond c (found node_number) absent)) ≡ found k → is_word_def s ≡ true
     go true a b f c g e = ap is_word_def (same_true s (ascii "label") a)
     go false a true f c g e = ap is_word_def (same_true s (ascii "arrow") f)
     go false a false f true g e = ap is_word_def (same_true s (ascii "node") g)

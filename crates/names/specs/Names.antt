@@ -3,7 +3,7 @@ use Rattle.std.specs.Prelude.{Bool, true, false, not, ◌&&◌, ◌||◌, cond, 
 use Prim.Native.String.{String}
 use Rattle.answer.specs.Asked.{Asked, passed, refused, ◌>>=◌, ◌>>◌, is}
 use Rattle.decimal.specs.Digits.{digits}
-use Rattle.logic.specs.Limits.{Kind, labelNumber, arrowNumber, nodeNumber, leastCount, mostCount, label_count, arrow_count, max_nodes}
+use Rattle.logic.specs.Limits.{Kind, label_number, arrow_number, node_number, least_count, most_count, label_count, arrow_count, max_nodes}
 use Rattle.names.specs.Token.{Token, ascii, same, Found, found, absent, first_below}
 use Rattle.names.specs.Scan.{Placed, is_word_def, tokens}
 
@@ -20,11 +20,11 @@ decimal x = digits (width x) x
 
 -- How a plain name begins.
 abbrev pub sort_prefix : Kind → String
-sort_prefix labelNumber = "label:"
-sort_prefix arrowNumber = "arrow:"
-sort_prefix nodeNumber = "node:"
-sort_prefix leastCount = ""
-sort_prefix mostCount = ""
+sort_prefix label_number = "label:"
+sort_prefix arrow_number = "arrow:"
+sort_prefix node_number = "node:"
+sort_prefix least_count = ""
+sort_prefix most_count = ""
 
 -- How a number without a name is written.
 unfoldable pub plain : Naming
@@ -37,11 +37,11 @@ pub record Entry : Type 0 where
   pub name : Token
 
 abbrev pub kind_number : Kind → ℕ
-kind_number labelNumber = 0
-kind_number arrowNumber = 1
-kind_number nodeNumber = 2
-kind_number leastCount = 3
-kind_number mostCount = 4
+kind_number label_number = 0
+kind_number arrow_number = 1
+kind_number node_number = 2
+kind_number least_count = 3
+kind_number most_count = 4
 
 -- Whether this is the entry for that number.
 abbrev pub is_for : Entry → Kind → ℕ → Bool
@@ -56,11 +56,11 @@ unfoldable pub given_or_plain : List Entry → Naming
 given_or_plain es k x = elim (given es k x) [ found t ↦ t | absent ↦ plain k x ]
 
 unfoldable pub name_in : List Entry → Naming
-name_in es labelNumber x = given_or_plain es labelNumber x
-name_in es arrowNumber x = given_or_plain es arrowNumber x
-name_in es nodeNumber x = given_or_plain es nodeNumber x
-name_in es leastCount x = decimal x
-name_in es mostCount x = decimal x
+name_in es label_number x = given_or_plain es label_number x
+name_in es arrow_number x = given_or_plain es arrow_number x
+name_in es node_number x = given_or_plain es node_number x
+name_in es least_count x = decimal x
+name_in es most_count x = decimal x
 
 -- The words of the notation, which cannot be names.
 unfoldable pub notation_words : List Token
@@ -105,17 +105,17 @@ unfoldable pub unnamed : List Entry → Kind → ℕ → Bool
 unnamed es k x = elim (given es k x) [ found t ↦ false | absent ↦ true ]
 
 abbrev pub count_of : Kind → ℕ
-count_of labelNumber = label_count
-count_of arrowNumber = arrow_count
-count_of nodeNumber = max_nodes
-count_of leastCount = 0
-count_of mostCount = 0
+count_of label_number = label_count
+count_of arrow_number = arrow_count
+count_of node_number = max_nodes
+count_of least_count = 0
+count_of most_count = 0
 
 unfoldable pub kind_of : Token → Found Kind
 kind_of t =
-    cond (same t (ascii "label")) (found labelNumber)
-    (cond (same t (ascii "arrow")) (found arrowNumber)
-    (cond (same t (ascii "node")) (found nodeNumber) absent))
+    cond (same t (ascii "label")) (found label_number)
+    (cond (same t (ascii "arrow")) (found arrow_number)
+    (cond (same t (ascii "node")) (found node_number) absent))
 
 -- The table: entries of a sort, a number and a name. 63 for the first token that is wrong or names again; its place, or the text's end if a token is missing.
 unfoldable pub ask_kind : Placed → Asked Kind

@@ -5,7 +5,7 @@ use native.Mathlib.Omega.{arith}
 use lib.ListN.{length}
 use lib.Dec.{T}
 use Rattle.logic.specs.Arity.{by_arity}
-use Rattle.logic.specs.Syntax.{Sort, rule, Expr, all, none, label, nominal, complement, and, or, some, every, at_least, at_most, arrow_kind, reversed, union, common, minus, ending_in, pair, sub_nodes, sub_arrows, node_in, pair_in, both, either, not_rule, Edit, finish, addLabel, takeLabel, addArrow, takeArrow, choose}
+use Rattle.logic.specs.Syntax.{Sort, rule, Expr, all, none, label, nominal, complement, and, or, some, every, at_least, at_most, arrow_kind, reversed, union, common, minus, ending_in, pair, sub_nodes, sub_arrows, node_in, pair_in, both, either, not_rule, Edit, finish, add_label, take_label, add_arrow, take_arrow, choose}
 use Rattle.logic.specs.Limits.{Kind, fits, InRange, EditInRange}
 use Rattle.text.specs.Code.{code, edit_code, levels, edit_levels, book_code}
 use Rattle.text.specs.Reading.{Limits, expr as exprWant, edit}
@@ -13,7 +13,7 @@ use Rattle.text.proofs.Converse.{Allowed}
 use Rattle.text.proofs.TextSpelling.{EachAllowed}
 use Rattle.names.specs.Token.{Token}
 use Rattle.names.specs.Names.{Naming}
-use Rattle.notation.specs.Grammar.{Closing, atElse, atEnd, textEnd, Slot, expr, steps, mark, number, Phrase, phrases, bracketed, after_comma, Goal, thing, goals}
+use Rattle.notation.specs.Grammar.{Closing, at_else, at_end, text_end, Slot, expr, steps, mark, number, Phrase, phrases, bracketed, after_comma, Goal, thing, goals}
 use Rattle.notation.proofs.Says.{◌∈◌, first, later, Begins, by_word, label as a-label, nominal as a-node, arrow_kind as an-arrow, closing-else, closing_end, Says, nothing, a-mark, a-number, begin, last, one-rule}
 
 module _ (name : Naming) (l : Limits) where
@@ -97,29 +97,29 @@ module _ (name : Naming) (l : Limits) where
 
   -- what may follow steps: no token, if they end with the text
   abbrev Ended : Closing → List ℕ → List Goal → ℕ → Type 0
-  Ended atElse bytes g m = Said bytes g m
-  Ended atEnd bytes g m = Said bytes g m
-  Ended textEnd bytes g m = Says name l bytes [] g m
+  Ended at_else bytes g m = Said bytes g m
+  Ended at_end bytes g m = Said bytes g m
+  Ended text_end bytes g m = Says name l bytes [] g m
 
   says-end : (c : Closing) (d : ℕ) → d ≤ l.deepest → (bytes : List ℕ) (g : List Goal) (m : ℕ) → Ended c bytes g m → Said (0x30 ∷ bytes) (thing (steps c) d ∷ g) m
-  says-end atElse d h bytes g m x = begin-said h closing-else x
-  says-end atEnd d h bytes g m x = begin-said h closing_end x
-  says-end textEnd d h bytes g m x = record { tokens = []; says = last h x }
+  says-end at_else d h bytes g m x = begin-said h closing-else x
+  says-end at_end d h bytes g m x = begin-said h closing_end x
+  says-end text_end d h bytes g m x = record { tokens = []; says = last h x }
 
   says-steps : (Z : Edit) (c : Closing) (d : ℕ) → d + edit_levels Z ≤ suc l.deepest → EditInRange l.numbers Z → (bytes : List ℕ) (g : List Goal) (m : ℕ) → Ended c bytes g m
       → Said (edit_code Z ++ bytes) (thing (steps c) d ∷ g) m
   unfolding phrases bracketed after_comma goals edit_code edit_levels EditInRange
   says-steps finish c d h r bytes g m x₀ = says-end c d (omega arith) bytes g m x₀
-  says-steps (addLabel k E Z) c d h r bytes g m x₀ =
+  says-steps (add_label k E Z) c d h r bytes g m x₀ =
       phrase-said first (omega arith) (a-mark-said (number-said k r.0
       (a-mark-said (grouped (code E) (edit_code Z) bytes (says-expr E (suc d) (omega arith) r.1 _ _ _ (a-mark-said (says-steps Z c d (omega arith) r.2 bytes g m x₀)))))))
-  says-steps (takeLabel k E Z) c d h r bytes g m x₀ =
+  says-steps (take_label k E Z) c d h r bytes g m x₀ =
       phrase-said (later first) (omega arith) (a-mark-said (number-said k r.0
       (a-mark-said (grouped (code E) (edit_code Z) bytes (says-expr E (suc d) (omega arith) r.1 _ _ _ (a-mark-said (says-steps Z c d (omega arith) r.2 bytes g m x₀)))))))
-  says-steps (addArrow k E Z) c d h r bytes g m x₀ =
+  says-steps (add_arrow k E Z) c d h r bytes g m x₀ =
       phrase-said (later (later first)) (omega arith) (a-mark-said (number-said k r.0
       (a-mark-said (grouped (code E) (edit_code Z) bytes (says-expr E (suc d) (omega arith) r.1 _ _ _ (a-mark-said (says-steps Z c d (omega arith) r.2 bytes g m x₀)))))))
-  says-steps (takeArrow k E Z) c d h r bytes g m x₀ =
+  says-steps (take_arrow k E Z) c d h r bytes g m x₀ =
       phrase-said (later (later (later first))) (omega arith) (a-mark-said (number-said k r.0
       (a-mark-said (grouped (code E) (edit_code Z) bytes (says-expr E (suc d) (omega arith) r.1 _ _ _ (a-mark-said (says-steps Z c d (omega arith) r.2 bytes g m x₀)))))))
   says-steps (choose K P Q Z) c d h r bytes g m x₀ =
@@ -127,8 +127,8 @@ module _ (name : Naming) (l : Limits) where
       (a-mark-said (grouped₄ (code K) (edit_code P) (edit_code Q) (edit_code Z) bytes
       (says-expr K (suc d) (omega arith) r.0 _ _ _
       (a-mark-said
-      (says-steps P atElse (suc d) (omega arith) r.1 _ _ _
-      (says-steps Q atEnd (suc d) (omega arith) r.2 _ _ _
+      (says-steps P at_else (suc d) (omega arith) r.1 _ _ _
+      (says-steps Q at_end (suc d) (omega arith) r.2 _ _ _
       (says-steps Z c d (omega arith) r.3 bytes g m x₀)))))))
 
   said-rule : {m : ℕ} {bytes : List ℕ} → Said bytes (thing (expr rule) 1 ∷ []) m → Said bytes [] (suc m)
@@ -144,8 +144,8 @@ module _ (name : Naming) (l : Limits) where
   book-said (K ∷ book) zero few each = absurd (omega arith)
   book-said (K ∷ book) (suc m) few each = said-rule (says-expr K 1 each.0.levels-fit each.0.numbers_fit (book_code book) [] m (book-said book m (omega arith) each.1))
 
-  pub edit-said : (Z : Edit) → Allowed l edit 1 Z → Said (edit_code Z) (thing (steps textEnd) 1 ∷ []) 0
-  edit-said Z a = rw (append-nil (edit_code Z)) at (says-steps Z textEnd 1 a.levels-fit a.numbers_fit [] [] 0 nothing)
+  pub edit-said : (Z : Edit) → Allowed l edit 1 Z → Said (edit_code Z) (thing (steps text_end) 1 ∷ []) 0
+  edit-said Z a = rw (append-nil (edit_code Z)) at (says-steps Z text_end 1 a.levels-fit a.numbers_fit [] [] 0 nothing)
 
   pub rule-said : (K : Expr rule) → Allowed l (exprWant rule) 1 K → Said (code K) (thing (expr rule) 1 ∷ []) 0
   rule-said K a = rw (append-nil (code K)) at (says-expr K 1 a.levels-fit a.numbers_fit [] [] 0 (record { tokens = []; says = nothing }))

@@ -10,7 +10,7 @@ use Rattle.text.specs.Reading.{Limits}
 use Rattle.names.specs.Token.{Token, same, Found, found, absent}
 use Rattle.names.specs.Scan.{Placed}
 use Rattle.names.specs.Names.{Naming}
-use Rattle.notation.specs.Grammar.{atElse, atEnd, textEnd, Slot, expr, steps, Phrase, phrases, bracketed, after_comma, Goal, mark, number, thing, goals}
+use Rattle.notation.specs.Grammar.{at_else, at_end, text_end, Slot, expr, steps, Phrase, phrases, bracketed, after_comma, Goal, mark, number, thing, goals}
 use Rattle.notation.specs.Parse.{prefixed, ask_start, Start, starts, starts_nothing, number_of, start, parse}
 use Rattle.notation.proofs.Says.{◌∈◌, Begins, by_word}
 use Rattle.notation.proofs.PhraseLaws.{all-at}
@@ -22,18 +22,18 @@ EndsText [] = ⊥
 EndsText (mark t ∷ g) = EndsText g
 EndsText (number k ∷ g) = EndsText g
 EndsText (thing (expr s) d ∷ g) = EndsText g
-EndsText (thing (steps atElse) d ∷ g) = EndsText g
-EndsText (thing (steps atEnd) d ∷ g) = EndsText g
-EndsText (thing (steps textEnd) d ∷ g) = Unit {0}
+EndsText (thing (steps at_else) d ∷ g) = EndsText g
+EndsText (thing (steps at_end) d ∷ g) = EndsText g
+EndsText (thing (steps text_end) d ∷ g) = Unit {0}
 
 later : (f g : List Goal) → EndsText g → EndsText (f ++ g)
 later [] g h = h
 later (mark t ∷ f) g h = later f g h
 later (number k ∷ f) g h = later f g h
 later (thing (expr s) d ∷ f) g h = later f g h
-later (thing (steps atElse) d ∷ f) g h = later f g h
-later (thing (steps atEnd) d ∷ f) g h = later f g h
-later (thing (steps textEnd) d ∷ f) g h = tt
+later (thing (steps at_else) d ∷ f) g h = later f g h
+later (thing (steps at_end) d ∷ f) g h = later f g h
+later (thing (steps text_end) d ∷ f) g h = tt
 
 abbrev pub Not69 : Asked (List ℕ) → Type 0
 Not69 (passed b) = Unit {0}
@@ -46,15 +46,15 @@ prefixed-not c (refused q p) h = h
 
 module _ (name : Naming) (l : Limits) where
   -- a step is followed by further steps
-  step-on : (d : ℕ) (g : List Goal) {t : Token} {c : List ℕ} {then : List Goal} → Begins name l (steps textEnd) d t c then → EndsText (then ++ g)
+  step-on : (d : ℕ) (g : List Goal) {t : Token} {c : List ℕ} {then : List Goal} → Begins name l (steps text_end) d t c then → EndsText (then ++ g)
   unfolding phrases goals bracketed after_comma
-  step-on d g (by_word r i) = all-at (λ r. EndsText (goals (steps textEnd) d r.items ++ g)) i (tt, (tt, (tt, (tt, (tt, tt)))))
+  step-on d g (by_word r i) = all-at (λ r. EndsText (goals (steps text_end) d r.items ++ g)) i (tt, (tt, (tt, (tt, (tt, tt)))))
 
   then-on : (s : Slot) (d : ℕ) (g : List Goal) {t : Token} {c : List ℕ} {then : List Goal} → Begins name l s d t c then → EndsText (thing s d ∷ g) → EndsText (then ++ g)
   then-on (expr s) d g {then = then} b h = later then g h
-  then-on (steps atElse) d g {then = then} b h = later then g h
-  then-on (steps atEnd) d g {then = then} b h = later then g h
-  then-on (steps textEnd) d g b h = step-on d g b
+  then-on (steps at_else) d g {then = then} b h = later then g h
+  then-on (steps at_end) d g {then = then} b h = later then g h
+  then-on (steps text_end) d g b h = step-on d g b
 
   start-not : (s : Slot) (d p : ℕ) (g : List Goal) (t : Token) (x : Start) → StartRight name l s d t x → EndsText (thing s d ∷ g) → (rest : List Goal → Asked (List ℕ))
       → ((then : List Goal) → EndsText (then ++ g) → Not69 (rest then)) → Not69 (ask_start l d p x rest)
@@ -72,9 +72,9 @@ module _ (name : Naming) (l : Limits) where
     at-end (mark t ∷ g) m = λ e. omega arith
     at-end (number k ∷ g) m = λ e. omega arith
     at-end (thing (expr s) d ∷ g) m = λ e. omega arith
-    at-end (thing (steps atElse) d ∷ g) m = λ e. omega arith
-    at-end (thing (steps atEnd) d ∷ g) m = λ e. omega arith
-    at-end (thing (steps textEnd) d ∷ g) m = go (leb d l.deepest) (at-end g m)
+    at-end (thing (steps at_else) d ∷ g) m = λ e. omega arith
+    at-end (thing (steps at_end) d ∷ g) m = λ e. omega arith
+    at-end (thing (steps text_end) d ∷ g) m = go (leb d l.deepest) (at-end g m)
       where
         go : (b : Bool) → Not69 (parse name l end [] g m) → Not69 (elim b as (λ z. Asked (List ℕ)) [ true ↦ prefixed (0x30 ∷ []) (parse name l end [] g m) | false ↦ refused 68 end ])
         go true r = prefixed-not (0x30 ∷ []) (parse name l end [] g m) r

@@ -5,11 +5,11 @@ use Prim.Native.Nat.{ℕ, suc, ◌+◌, ◌≤◌}
 use native.Mathlib.Omega.{arith}
 use lib.Dec.{T}
 use Rattle.logic.specs.Syntax.{node, arrow, rule}
-use Rattle.logic.specs.Limits.{Kind, arrowNumber, fits}
+use Rattle.logic.specs.Limits.{Kind, arrow_number, fits}
 use Rattle.text.specs.Reading.{Limits}
 use Rattle.names.specs.Token.{Token, ascii}
 use Rattle.names.specs.Names.{Naming}
-use Rattle.notation.specs.Grammar.{atElse, atEnd, textEnd, Slot, expr, steps, Phrase, phrases, bracketed, after_comma, Goal, mark, number, thing, goals}
+use Rattle.notation.specs.Grammar.{at_else, at_end, text_end, Slot, expr, steps, Phrase, phrases, bracketed, after_comma, Goal, mark, number, thing, goals}
 use Rattle.notation.proofs.Says.{◌∈◌, first, Begins, by_word, label, nominal, arrow_kind, closing-else, closing_end, Says, nothing, last}
 use Rattle.notation.proofs.PhraseLaws.{all-at}
 use Rattle.notation.proofs.CodeSaid.{Said, a-mark-said, number-said, begin-said, phrase-said}
@@ -29,9 +29,9 @@ Good l [] = Unit {0}
 Good l (mark t ∷ g) = Good l g
 Good l (number k ∷ g) = Good l g
 Good l (thing (expr s) d ∷ g) = (d ≤ suc l.deepest) × Good l g
-Good l (thing (steps atElse) d ∷ g) = (d ≤ suc l.deepest) × Good l g
-Good l (thing (steps atEnd) d ∷ g) = (d ≤ suc l.deepest) × Good l g
-Good l (thing (steps textEnd) d ∷ g) = (d ≤ suc l.deepest) × (g ≡ [])
+Good l (thing (steps at_else) d ∷ g) = (d ≤ suc l.deepest) × Good l g
+Good l (thing (steps at_end) d ∷ g) = (d ≤ suc l.deepest) × Good l g
+Good l (thing (steps text_end) d ∷ g) = (d ≤ suc l.deepest) × (g ≡ [])
 
 module _ (l : Limits) (d : ℕ) (g : List Goal) (h : d ≤ l.deepest) where
   deep : suc d ≤ suc l.deepest
@@ -84,12 +84,12 @@ module _ (name : Naming) (l : Limits) (some : (k : Kind) → SomeNumber l k) whe
   ends (mark t ∷ g) m q = let e = ends g m q in (e.0, a-mark-said name (two_deeper l) e.1)
   ends (number k ∷ g) m q = let e = ends g m q in let n = some k in (n.x ∷ e.0, number-said name (two_deeper l) n.x n.in-range e.1)
   ends (thing (expr node) d ∷ g) m q = an-all d g m (omega arith) (ends g m q.1)
-  ends (thing (expr arrow) d ∷ g) m q = let e = ends g m q.1 in let n = some arrowNumber in (0x11 ∷ n.x ∷ e.0, begin-said name (two_deeper l) (omega arith) (arrow_kind n.x n.in-range) e.1)
+  ends (thing (expr arrow) d ∷ g) m q = let e = ends g m q.1 in let n = some arrow_number in (0x11 ∷ n.x ∷ e.0, begin-said name (two_deeper l) (omega arith) (arrow_kind n.x n.in-range) e.1)
   ends (thing (expr rule) d ∷ g) m q =
       let e = ends g m q.1 in
       let f = an-all (suc d) (mark (ascii ")") ∷ g) m (omega arith) (e.0, a-mark-said name (two_deeper l) e.1) in
       let k = an-all (suc d) (mark (ascii ",") ∷ thing (expr node) (suc d) ∷ mark (ascii ")") ∷ g) m (omega arith) (f.0, a-mark-said name (two_deeper l) f.1) in
       (0x21 ∷ k.0, phrase-said name (two_deeper l) first (omega arith) (a-mark-said name (two_deeper l) k.1))
-  ends (thing (steps atElse) d ∷ g) m q = let e = ends g m q.1 in (0x30 ∷ e.0, begin-said name (two_deeper l) (omega arith) closing-else e.1)
-  ends (thing (steps atEnd) d ∷ g) m q = let e = ends g m q.1 in (0x30 ∷ e.0, begin-said name (two_deeper l) (omega arith) closing_end e.1)
-  ends (thing (steps textEnd) d ∷ g) m q = (0x30 ∷ [], record { tokens = []; says = last {d = d} (omega arith) (subst (λ z. Says name (two_deeper l) [] [] z m) (sym q.1) nothing) })
+  ends (thing (steps at_else) d ∷ g) m q = let e = ends g m q.1 in (0x30 ∷ e.0, begin-said name (two_deeper l) (omega arith) closing-else e.1)
+  ends (thing (steps at_end) d ∷ g) m q = let e = ends g m q.1 in (0x30 ∷ e.0, begin-said name (two_deeper l) (omega arith) closing_end e.1)
+  ends (thing (steps text_end) d ∷ g) m q = (0x30 ∷ [], record { tokens = []; says = last {d = d} (omega arith) (subst (λ z. Says name (two_deeper l) [] [] z m) (sym q.1) nothing) })

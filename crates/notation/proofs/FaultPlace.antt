@@ -15,7 +15,7 @@ use Rattle.names.specs.Token.{Token, same, Found, found, absent}
 use Rattle.names.specs.Scan.{Placed, tokens_of}
 use Rattle.names.proofs.TokenLaws.{same_true, same_refl}
 use Rattle.names.specs.Names.{Naming}
-use Rattle.notation.specs.Grammar.{atElse, atEnd, textEnd, Slot, expr, steps, Goal, mark, number, thing}
+use Rattle.notation.specs.Grammar.{at_else, at_end, text_end, Slot, expr, steps, Goal, mark, number, thing}
 use Rattle.notation.specs.Parse.{prefixed, ask_start, Start, starts, starts_nothing, number_of, start, parse}
 use Rattle.notation.proofs.Says.{Begins, Says, nothing, a-mark, a-number, begin, last, one-rule}
 use Rattle.notation.proofs.ReadSays.{number-found, StartRight, start_right}
@@ -182,9 +182,9 @@ module _ (name : Naming) (l : Limits) (law : Lawful name l) (some : (k : Kind) �
   Possible [] (mark t ∷ g) m = ⊥
   Possible [] (number k ∷ g) m = ⊥
   Possible [] (thing (expr s) d ∷ g) m = ⊥
-  Possible [] (thing (steps atElse) d ∷ g) m = ⊥
-  Possible [] (thing (steps atEnd) d ∷ g) m = ⊥
-  Possible [] (thing (steps textEnd) d ∷ g) m = d ≤ l.deepest
+  Possible [] (thing (steps at_else) d ∷ g) m = ⊥
+  Possible [] (thing (steps at_end) d ∷ g) m = ⊥
+  Possible [] (thing (steps text_end) d ∷ g) m = d ≤ l.deepest
   Possible (t ∷ ts) [] zero = ⊥
   Possible (t ∷ ts) [] (suc m) = Unit {0}
   Possible (t ∷ ts) (x ∷ g) m = Unit {0}
@@ -204,18 +204,18 @@ module _ (name : Naming) (l : Limits) (law : Lawful name l) (some : (k : Kind) �
   located [] (mark t ∷ g) m q = at-end (mark t ∷ g) m q (λ bytes h. possible h)
   located [] (number k ∷ g) m q = at-end (number k ∷ g) m q (λ bytes h. possible h)
   located [] (thing (expr s) d ∷ g) m q = at-end (thing (expr s) d ∷ g) m q (λ bytes h. possible h)
-  located [] (thing (steps atElse) d ∷ g) m q = at-end (thing (steps atElse) d ∷ g) m q (λ bytes h. possible h)
-  located [] (thing (steps atEnd) d ∷ g) m q = at-end (thing (steps atEnd) d ∷ g) m q (λ bytes h. possible h)
-  located [] (thing (steps textEnd) d ∷ g) m q = go (leb d l.deepest) refl
+  located [] (thing (steps at_else) d ∷ g) m q = at-end (thing (steps at_else) d ∷ g) m q (λ bytes h. possible h)
+  located [] (thing (steps at_end) d ∷ g) m q = at-end (thing (steps at_end) d ∷ g) m q (λ bytes h. possible h)
+  located [] (thing (steps text_end) d ∷ g) m q = go (leb d l.deepest) refl
     where
-      nothing_left : (g : List Goal) → g ≡ [] → Located [] (thing (steps textEnd) d ∷ g) m (prefixed (0x30 ∷ []) (parse name l end [] g m))
+      nothing_left : (g : List Goal) → g ≡ [] → Located [] (thing (steps text_end) d ∷ g) m (prefixed (0x30 ∷ []) (parse name l end [] g m))
       nothing_left [] e = tt
       nothing_left (x ∷ g) e = let z : ◌≡◌ {A = ℕ} 0 1 = cc in absurd (omega arith)
 
       go : (b : Bool) → leb d l.deepest ≡ b
-          → Located [] (thing (steps textEnd) d ∷ g) m (elim b as (λ z. Asked (List ℕ)) [ true ↦ prefixed (0x30 ∷ []) (parse name l end [] g m) | false ↦ refused 68 end ])
+          → Located [] (thing (steps text_end) d ∷ g) m (elim b as (λ z. Asked (List ℕ)) [ true ↦ prefixed (0x30 ∷ []) (parse name l end [] g m) | false ↦ refused 68 end ])
       go true i = nothing_left g q.1
-      go false i = at-end (thing (steps textEnd) d ∷ g) m q (λ bytes h. true-false (le-leb d l.deepest (possible h)) i)
+      go false i = at-end (thing (steps text_end) d ∷ g) m q (λ bytes h. true-false (le-leb d l.deepest (possible h)) i)
   located (t ∷ ts) [] zero q = at_first t ts [] zero tt (λ bytes more h. possible h)
   located (t ∷ ts) [] (suc m) q =
       rule-located t ts m (parse name l end (t ∷ ts) [] (suc m))

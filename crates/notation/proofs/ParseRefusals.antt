@@ -12,7 +12,7 @@ use Rattle.names.specs.Token.{same, Found, found, absent}
 use Rattle.names.specs.Scan.{Placed}
 use Rattle.names.specs.Names.{Naming}
 use Rattle.names.proofs.PlaceLaws.{Inside}
-use Rattle.notation.specs.Grammar.{atElse, atEnd, textEnd, expr, steps, Goal, mark, number, thing}
+use Rattle.notation.specs.Grammar.{at_else, at_end, text_end, expr, steps, Goal, mark, number, thing}
 use Rattle.notation.specs.Parse.{prefixed, ask_start, Start, starts, starts_nothing, number_of, start, parse}
 
 prefixed-refuses : {from to most : ℕ} (c : List ℕ) {r : Asked (List ℕ)} → Refuses from to most r → Refuses from to most (prefixed c r)
@@ -44,9 +44,9 @@ module _ (name : Naming) (l : Limits) (end : ℕ) where
   parse-refuses [] (mark t ∷ g) m h = at-end (omega arith) (omega arith)
   parse-refuses [] (number k ∷ g) m h = at-end (omega arith) (omega arith)
   parse-refuses [] (thing (expr s) d ∷ g) m h = at-end (omega arith) (omega arith)
-  parse-refuses [] (thing (steps atElse) d ∷ g) m h = at-end (omega arith) (omega arith)
-  parse-refuses [] (thing (steps atEnd) d ∷ g) m h = at-end (omega arith) (omega arith)
-  parse-refuses [] (thing (steps textEnd) d ∷ g) m h = go (leb d l.deepest) (parse-refuses [] g m tt)
+  parse-refuses [] (thing (steps at_else) d ∷ g) m h = at-end (omega arith) (omega arith)
+  parse-refuses [] (thing (steps at_end) d ∷ g) m h = at-end (omega arith) (omega arith)
+  parse-refuses [] (thing (steps text_end) d ∷ g) m h = go (leb d l.deepest) (parse-refuses [] g m tt)
     where
       go : (b : Bool) → Ok (parse name l end [] g m) → Ok (elim b as (λ z. Asked (List ℕ)) [ true ↦ prefixed (0x30 ∷ []) (parse name l end [] g m) | false ↦ refused 68 end ])
       go true r = prefixed-refuses (0x30 ∷ []) r

@@ -7,12 +7,12 @@ use lib.Dec.{T, leb, leb→le}
 use Rattle.answer.specs.Asked.{Asked, passed, refused}
 use Rattle.logic.proofs.Bools.{so}
 use Rattle.logic.specs.Syntax.{node, arrow, rule}
-use Rattle.logic.specs.Limits.{Kind, labelNumber, arrowNumber, nodeNumber, fits}
+use Rattle.logic.specs.Limits.{Kind, label_number, arrow_number, node_number, fits}
 use Rattle.text.specs.Reading.{Limits}
 use Rattle.names.specs.Token.{Token, same, Found, found, absent}
 use Rattle.names.proofs.TokenLaws.{same_true, found-hit}
 use Rattle.names.specs.Names.{Naming}
-use Rattle.notation.specs.Grammar.{atElse, atEnd, textEnd, else_word, end_word, Slot, expr, steps, Phrase, phrases, Goal, mark, number, thing, goals}
+use Rattle.notation.specs.Grammar.{at_else, at_end, text_end, else_word, end_word, Slot, expr, steps, Phrase, phrases, Goal, mark, number, thing, goals}
 use Rattle.names.specs.Scan.{Placed, tokens_of}
 use Rattle.notation.specs.Parse.{prefixed, ask_start, Start, starts, starts_nothing, number_of, phrase_for_def, by_name_def, bare_start, start, parse}
 use Rattle.notation.proofs.Says.{◌∈◌, first, later, Begins, by_word, label, nominal, arrow_kind, closing-else, closing_end, Says, nothing, a-mark, a-number, begin, last, one-rule}
@@ -69,12 +69,12 @@ module _ (name : Naming) (l : Limits) where
 
   bare-right : (s : Slot) (d : ℕ) (t : Token) → StartRight s d t (bare_start name l s t)
   unfolding bare_start
-  bare-right (expr node) d t = by_name (expr node) d 0x03 labelNumber t _ (λ x h. label x h) (by_name (expr node) d 0x04 nodeNumber t starts_nothing (λ x h. nominal x h) tt)
-  bare-right (expr arrow) d t = by_name (expr arrow) d 0x11 arrowNumber t starts_nothing (λ x h. arrow_kind x h) tt
+  bare-right (expr node) d t = by_name (expr node) d 0x03 label_number t _ (λ x h. label x h) (by_name (expr node) d 0x04 node_number t starts_nothing (λ x h. nominal x h) tt)
+  bare-right (expr arrow) d t = by_name (expr arrow) d 0x11 arrow_number t starts_nothing (λ x h. arrow_kind x h) tt
   bare-right (expr rule) d t = tt
-  bare-right (steps atElse) d t = by-closing (steps atElse) d else_word t closing-else
-  bare-right (steps atEnd) d t = by-closing (steps atEnd) d end_word t closing_end
-  bare-right (steps textEnd) d t = tt
+  bare-right (steps at_else) d t = by-closing (steps at_else) d else_word t closing-else
+  bare-right (steps at_end) d t = by-closing (steps at_end) d end_word t closing_end
+  bare-right (steps text_end) d t = tt
 
   pub start_right : (s : Slot) (d : ℕ) (t : Token) → StartRight s d t (start name l s d t)
   unfolding start
@@ -115,13 +115,13 @@ module _ (name : Naming) (l : Limits) where
   parse-right end [] (mark t ∷ g) m = tt
   parse-right end [] (number k ∷ g) m = tt
   parse-right end [] (thing (expr s) d ∷ g) m = tt
-  parse-right end [] (thing (steps atElse) d ∷ g) m = tt
-  parse-right end [] (thing (steps atEnd) d ∷ g) m = tt
-  parse-right end [] (thing (steps textEnd) d ∷ g) m = go (leb d l.deepest) (leb→le d l.deepest) (parse-right end [] g m)
+  parse-right end [] (thing (steps at_else) d ∷ g) m = tt
+  parse-right end [] (thing (steps at_end) d ∷ g) m = tt
+  parse-right end [] (thing (steps text_end) d ∷ g) m = go (leb d l.deepest) (leb→le d l.deepest) (parse-right end [] g m)
     where
       go : (b : Bool) → (T b → d ≤ l.deepest) → Right [] g m (parse name l end [] g m)
-          → Right [] (thing (steps textEnd) d ∷ g) m (elim b as (λ z. Asked (List ℕ)) [ true ↦ prefixed (0x30 ∷ []) (parse name l end [] g m) | false ↦ refused 68 end ])
-      go true i h = prefixed-right (0x30 ∷ []) [] [] g (thing (steps textEnd) d ∷ g) m (parse name l end [] g m) (λ bytes x. last (i tt) x) h
+          → Right [] (thing (steps text_end) d ∷ g) m (elim b as (λ z. Asked (List ℕ)) [ true ↦ prefixed (0x30 ∷ []) (parse name l end [] g m) | false ↦ refused 68 end ])
+      go true i h = prefixed-right (0x30 ∷ []) [] [] g (thing (steps text_end) d ∷ g) m (parse name l end [] g m) (λ bytes x. last (i tt) x) h
       go false i h = tt
   parse-right end (t ∷ ts) [] zero = tt
   parse-right end (t ∷ ts) [] (suc m) =

@@ -12,7 +12,7 @@ use mathlib.Core.Logic.{◌⊎◌, inl, inr}
 use Rattle.answer.specs.Asked.{refused, passed, ◌>>=◌, ◌>>◌, is}
 use Rattle.answer.proofs.AskedLaws.{passed-same, so-then, is-then, bind-on, bind-passed, bind-refused, refused-not-passed}
 use Rattle.logic.specs.Syntax.{Expr, rule, Edit}
-use Rattle.logic.specs.Limits.{Kind, labelNumber, arrowNumber, nodeNumber, leastCount, mostCount, ranges, max_nodes}
+use Rattle.logic.specs.Limits.{Kind, label_number, arrow_number, node_number, least_count, most_count, ranges, max_nodes}
 use Rattle.logic.proofs.Bools.{is_true}
 use Rattle.logic.proofs.ListLaws.{all_so}
 use Rattle.text.specs.Code.{code}
@@ -41,11 +41,11 @@ use Rattle.notation.proofs.FaultPlace.{NoWordsAt, FirstFault, Located, located}
 use Rattle.notation.proofs.TableNaming.{Small, lawful, Marks, says-proper}
 
 pub small : Small (ranges max_nodes)
-small labelNumber x f = omega (arith, ltb→lt x 48 f)
-small arrowNumber x f = omega (arith, ltb→lt x 16 f)
-small nodeNumber x f = omega (arith, ltb→lt x 60 f)
-small leastCount x f = omega (arith, leb-true x 60 ((and-eq-true_iff (leb 1 x) (leb x 60)).0 (is_true (leb 1 x && leb x 60) f)).1)
-small mostCount x f = omega (arith, leb→le x 59 f)
+small label_number x f = omega (arith, ltb→lt x 48 f)
+small arrow_number x f = omega (arith, ltb→lt x 16 f)
+small node_number x f = omega (arith, ltb→lt x 60 f)
+small least_count x f = omega (arith, leb-true x 60 ((and-eq-true_iff (leb 1 x) (leb x 60)).0 (is_true (leb 1 x && leb x 60) f)).1)
+small most_count x f = omega (arith, leb→le x 59 f)
 
 -- What is read, with its length checked last.
 module _ (l : Limits) (name : Naming) (text : List ℕ) (g : List Goal) (m : ℕ) {bytes : List ℕ} where
@@ -129,11 +129,11 @@ module _ (name : Naming) (text : List ℕ) {bytes : List ℕ} where
 
 -- A fault is at the first wrong token.
 some : (k : Kind) → SomeNumber word_limits k
-some labelNumber = record { x = 0; in-range = tt }
-some arrowNumber = record { x = 0; in-range = tt }
-some nodeNumber = record { x = 0; in-range = tt }
-some leastCount = record { x = 1; in-range = tt }
-some mostCount = record { x = 0; in-range = tt }
+some label_number = record { x = 0; in-range = tt }
+some arrow_number = record { x = 0; in-range = tt }
+some node_number = record { x = 0; in-range = tt }
+some least_count = record { x = 1; in-range = tt }
+some most_count = record { x = 0; in-range = tt }
 
 pub question-refused : {A : Type 0} (b : Bool) (n o : ℕ) (a : A) {q p : ℕ} → (is b n o >> passed a) ≡ refused q p → (b ≡ false) × (n ≡ q) × (o ≡ p)
 unfolding is ◌>>◌

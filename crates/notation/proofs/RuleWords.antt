@@ -14,7 +14,7 @@ use Rattle.text.specs.Reading.{Limits}
 use Rattle.names.specs.Token.{same, Found, found, absent}
 use Rattle.names.specs.Scan.{Placed}
 use Rattle.names.specs.Names.{Naming}
-use Rattle.notation.specs.Grammar.{atElse, atEnd, textEnd, Slot, expr, steps, Goal, mark, number, thing}
+use Rattle.notation.specs.Grammar.{at_else, at_end, text_end, Slot, expr, steps, Goal, mark, number, thing}
 use Rattle.notation.specs.Parse.{prefixed, ask_start, Start, starts, starts_nothing, number_of, start, parse}
 
 -- Bytes at the front.
@@ -125,16 +125,16 @@ module _ (name : Naming) (l : Limits) where
   stopped end [] (mark t ∷ g) j = inr (omega arith, λ m. refl)
   stopped end [] (number k ∷ g) j = inr (omega arith, λ m. refl)
   stopped end [] (thing (expr s) d ∷ g) j = inr (omega arith, λ m. refl)
-  stopped end [] (thing (steps atElse) d ∷ g) j = inr (omega arith, λ m. refl)
-  stopped end [] (thing (steps atEnd) d ∷ g) j = inr (omega arith, λ m. refl)
-  stopped end [] (thing (steps textEnd) d ∷ g) j = go (leb d l.deepest) refl (parse name l end [] g j) (stopped end [] g j)
+  stopped end [] (thing (steps at_else) d ∷ g) j = inr (omega arith, λ m. refl)
+  stopped end [] (thing (steps at_end) d ∷ g) j = inr (omega arith, λ m. refl)
+  stopped end [] (thing (steps text_end) d ∷ g) j = go (leb d l.deepest) refl (parse name l end [] g j) (stopped end [] g j)
     where
-      after : leb d l.deepest ≡ true → (r : Asked (List ℕ)) → Stopped end [] g j r → Stopped end [] (thing (steps textEnd) d ∷ g) j (prefixed (0x30 ∷ []) r)
+      after : leb d l.deepest ≡ true → (r : Asked (List ℕ)) → Stopped end [] g j r → Stopped end [] (thing (steps text_end) d ∷ g) j (prefixed (0x30 ∷ []) r)
       after f (passed b) s = tt
       after f (refused q p) (inl (e, s)) = absurd (omega (arith, ap length s.is, length-append s.before (s.t ∷ s.rest)))
       after f (refused q p) (inr (h, s)) = inr (h, λ m. ap (λ b. at_level end (0x30 ∷ []) b (parse name l end [] g (j + m))) f ∙ ap (prefixed (0x30 ∷ [])) (s m))
 
-      go : (b : Bool) → leb d l.deepest ≡ b → (r : Asked (List ℕ)) → Stopped end [] g j r → Stopped end [] (thing (steps textEnd) d ∷ g) j (at_level end (0x30 ∷ []) b r)
+      go : (b : Bool) → leb d l.deepest ≡ b → (r : Asked (List ℕ)) → Stopped end [] g j r → Stopped end [] (thing (steps text_end) d ∷ g) j (at_level end (0x30 ∷ []) b r)
       go true f r s = after f r s
       go false f r s = inr (omega arith, λ m. ap (λ b. at_level end (0x30 ∷ []) b (parse name l end [] g (j + m))) f)
   stopped end (t ∷ ts) [] zero =

@@ -7,7 +7,7 @@ use lib.ListN.{length}
 use lib.Dec.{T}
 use Rattle.logic.specs.Lists.{All}
 use Rattle.logic.specs.Arity.{by_arity}
-use Rattle.logic.specs.Syntax.{node, arrow, rule, Expr, all, none, label, nominal, complement, and, or, some, every, at_least, at_most, arrow_kind, reversed, union, common, minus, ending_in, pair, sub_nodes, sub_arrows, node_in, pair_in, both, either, not_rule, Edit, finish, addLabel, takeLabel, addArrow, takeArrow, choose}
+use Rattle.logic.specs.Syntax.{node, arrow, rule, Expr, all, none, label, nominal, complement, and, or, some, every, at_least, at_most, arrow_kind, reversed, union, common, minus, ending_in, pair, sub_nodes, sub_arrows, node_in, pair_in, both, either, not_rule, Edit, finish, add_label, take_label, add_arrow, take_arrow, choose}
 use Rattle.logic.specs.Limits.{fits, InRange, EditInRange}
 use Rattle.text.specs.Code.{code, edit_code, levels, edit_levels, book_code}
 use Rattle.text.specs.Reading.{Limits, Want, expr as exprWant, edit, Thing, most_rules}
@@ -17,7 +17,7 @@ use Rattle.text.proofs.TextSpelling.{EachAllowed, SpellsRules, spelled-book-pass
 use Rattle.answer.specs.Asked.{passed}
 use Rattle.names.specs.Token.{Token}
 use Rattle.names.specs.Names.{Naming}
-use Rattle.notation.specs.Grammar.{textEnd, Slot, expr, steps, Item, mark, number, deeper, more, phrases, bracketed, after_comma, Goal, thing, goals}
+use Rattle.notation.specs.Grammar.{text_end, Slot, expr, steps, Item, mark, number, deeper, more, phrases, bracketed, after_comma, Goal, thing, goals}
 use Rattle.notation.proofs.Says.{Begins, by_word, label as a-label, nominal as a-node, arrow_kind as an-arrow, closing-else, closing_end, Says, nothing, a-mark, a-number, begin, last, one-rule}
 use Rattle.notation.proofs.PhraseLaws.{all-at}
 
@@ -75,10 +75,10 @@ module _ (l : Limits) (d : ℕ) (h : d ≤ l.deepest) where
       & (λ E aE. makes (not_rule E) refl aE.numbers_fit (omega arith))
       & tt
   phrases-made (steps c) =
-      (λ x fx E aE Z aZ. makes (addLabel x E Z) refl (fx, aE.numbers_fit, aZ.numbers_fit) (omega arith))
-      & (λ x fx E aE Z aZ. makes (takeLabel x E Z) refl (fx, aE.numbers_fit, aZ.numbers_fit) (omega arith))
-      & (λ x fx E aE Z aZ. makes (addArrow x E Z) refl (fx, aE.numbers_fit, aZ.numbers_fit) (omega arith))
-      & (λ x fx E aE Z aZ. makes (takeArrow x E Z) refl (fx, aE.numbers_fit, aZ.numbers_fit) (omega arith))
+      (λ x fx E aE Z aZ. makes (add_label x E Z) refl (fx, aE.numbers_fit, aZ.numbers_fit) (omega arith))
+      & (λ x fx E aE Z aZ. makes (take_label x E Z) refl (fx, aE.numbers_fit, aZ.numbers_fit) (omega arith))
+      & (λ x fx E aE Z aZ. makes (add_arrow x E Z) refl (fx, aE.numbers_fit, aZ.numbers_fit) (omega arith))
+      & (λ x fx E aE Z aZ. makes (take_arrow x E Z) refl (fx, aE.numbers_fit, aZ.numbers_fit) (omega arith))
       & (λ K aK P aP Q aQ Z aZ. makes (choose K P Q Z) refl (aK.numbers_fit, aP.numbers_fit, aQ.numbers_fit, aZ.numbers_fit) (omega arith))
       & tt
 
@@ -140,12 +140,12 @@ module _ (name : Naming) (l : Limits) where
   no-rules [] h = refl
   no-rules (K ∷ book) h = absurd (omega arith)
 
-  pub says-edit : {bytes : List ℕ} {ts : List Token} → Says name l bytes ts (thing (steps textEnd) 1 ∷ []) 0 → SomeEdit l bytes
+  pub says-edit : {bytes : List ℕ} {ts : List Token} → Says name l bytes ts (thing (steps text_end) 1 ∷ []) 0 → SomeEdit l bytes
   says-edit h = says-fine name l (SomeEdit l) h [] (λ Z a book few each. record { what = Z; is_code = ap (edit_code Z ++◌) (no-rules book few) ∙ append-nil (edit_code Z); within = a })
 
   -- They pass the questions, if they are short enough.
   pub book-passes : {bytes : List ℕ} {ts : List Token} → length bytes ≤ l.longest → (h : Says name l bytes ts [] most_rules) → ask_book l bytes ≡ passed (says-book h).book
   book-passes {bytes} short h = spelled-book-passes l bytes (says-book h).book (record { short = short; spells = (says-book h).spells })
 
-  pub edit-passes : {bytes : List ℕ} {ts : List Token} → length bytes ≤ l.longest → (h : Says name l bytes ts (thing (steps textEnd) 1 ∷ []) 0) → ask_edit l bytes ≡ passed (says-edit h).what
+  pub edit-passes : {bytes : List ℕ} {ts : List Token} → length bytes ≤ l.longest → (h : Says name l bytes ts (thing (steps text_end) 1 ∷ []) 0) → ask_edit l bytes ≡ passed (says-edit h).what
   edit-passes {bytes} short h = spelled-edit-passes l bytes (says-edit h).what (record { text-is = (says-edit h).is_code; short = short; within = (says-edit h).within })

@@ -7,12 +7,12 @@ use native.Mathlib.Omega.{arith}
 use lib.Dec.{T, leb, le→leb}
 use Rattle.answer.specs.Asked.{Asked, passed, refused}
 use Rattle.logic.specs.Syntax.{node, arrow, rule}
-use Rattle.logic.specs.Limits.{Kind, labelNumber, arrowNumber, nodeNumber, fits}
+use Rattle.logic.specs.Limits.{Kind, label_number, arrow_number, node_number, fits}
 use Rattle.text.specs.Reading.{Limits}
 use Rattle.names.specs.Token.{Token, same, ascii, Found, found, absent}
 use Rattle.names.proofs.TokenLaws.{same_refl}
 use Rattle.names.specs.Names.{Naming}
-use Rattle.notation.specs.Grammar.{textEnd, Slot, expr, steps, Phrase, phrases, Goal, mark, number, thing, goals}
+use Rattle.notation.specs.Grammar.{text_end, Slot, expr, steps, Phrase, phrases, Goal, mark, number, thing, goals}
 use Rattle.names.specs.Scan.{Placed, tokens_of}
 use Rattle.notation.specs.Parse.{prefixed, ask_start, Start, starts, number_of, phrase_for_def, by_name_def, bare_start, start, parse}
 use Rattle.notation.proofs.Says.{Begins, by_word, label, nominal, arrow_kind, closing-else, closing_end, Says, nothing, a-mark, a-number, begin, last, one-rule}
@@ -23,10 +23,10 @@ use Rattle.notation.proofs.PhraseLaws.{phrase-of-word}
 module _ (name : Naming) (l : Limits) where
   pub record Lawful : Type 0 where
     pub back : (k : Kind) (x : ℕ) → T (fits l.numbers k x) → number_of name l k (name k x) ≡ found x
-    pub no_label : (x : ℕ) → T (fits l.numbers nodeNumber x) → number_of name l labelNumber (name nodeNumber x) ≡ absent
-    pub label-word : (x : ℕ) → phrase_for_def (name labelNumber x) (phrases (expr node)) ≡ absent
-    pub node-word : (x : ℕ) → phrase_for_def (name nodeNumber x) (phrases (expr node)) ≡ absent
-    pub arrow-word : (x : ℕ) → phrase_for_def (name arrowNumber x) (phrases (expr arrow)) ≡ absent
+    pub no_label : (x : ℕ) → T (fits l.numbers node_number x) → number_of name l label_number (name node_number x) ≡ absent
+    pub label-word : (x : ℕ) → phrase_for_def (name label_number x) (phrases (expr node)) ≡ absent
+    pub node-word : (x : ℕ) → phrase_for_def (name node_number x) (phrases (expr node)) ≡ absent
+    pub arrow-word : (x : ℕ) → phrase_for_def (name arrow_number x) (phrases (expr arrow)) ≡ absent
 
 module _ (name : Naming) (l : Limits) (law : Lawful name l) where
   -- the start of a thing
@@ -45,13 +45,13 @@ module _ (name : Naming) (l : Limits) (law : Lawful name l) where
   unfolding start bare_start phrases phrase_for_def same ascii
   starts-as {s} {d} (by_word r i) = ap (λ f. started f s d (bare_start name l s r.word)) (phrase-of-word s i)
   starts-as {d = d} (label x f) =
-      ap (λ f. started f (expr node) d (bare_start name l (expr node) (name labelNumber x))) (law.label-word x) ∙ name-found 0x03 x labelNumber _ _ (law.back labelNumber x f)
+      ap (λ f. started f (expr node) d (bare_start name l (expr node) (name label_number x))) (law.label-word x) ∙ name-found 0x03 x label_number _ _ (law.back label_number x f)
   starts-as {d = d} (nominal x f) =
-      ap (λ f. started f (expr node) d (bare_start name l (expr node) (name nodeNumber x))) (law.node-word x)
-      ∙ name-absent 0x03 labelNumber _ _ (law.no_label x f)
-      ∙ name-found 0x04 x nodeNumber _ _ (law.back nodeNumber x f)
+      ap (λ f. started f (expr node) d (bare_start name l (expr node) (name node_number x))) (law.node-word x)
+      ∙ name-absent 0x03 label_number _ _ (law.no_label x f)
+      ∙ name-found 0x04 x node_number _ _ (law.back node_number x f)
   starts-as {d = d} (arrow_kind x f) =
-      ap (λ f. started f (expr arrow) d (bare_start name l (expr arrow) (name arrowNumber x))) (law.arrow-word x) ∙ name-found 0x11 x arrowNumber _ _ (law.back arrowNumber x f)
+      ap (λ f. started f (expr arrow) d (bare_start name l (expr arrow) (name arrow_number x))) (law.arrow-word x) ∙ name-found 0x11 x arrow_number _ _ (law.back arrow_number x f)
   starts-as closing-else = refl
   starts-as closing_end = refl
 
@@ -103,7 +103,7 @@ module _ (name : Naming) (l : Limits) (law : Lawful name l) where
         go true i = refl
         go false i = elim i [ ]
 
-    last-read : (d : ℕ) (g : List Goal) (m : ℕ) (bytes : List ℕ) → d ≤ l.deepest → Reads bytes [] g m → Reads (0x30 ∷ bytes) [] (thing (steps textEnd) d ∷ g) m
+    last-read : (d : ℕ) (g : List Goal) (m : ℕ) (bytes : List ℕ) → d ≤ l.deepest → Reads bytes [] g m → Reads (0x30 ∷ bytes) [] (thing (steps text_end) d ∷ g) m
     unfolding parse prefixed
     last-read d g m bytes i h = go (leb d l.deepest) (le→leb d l.deepest i)
       where
@@ -128,4 +128,4 @@ module _ (name : Naming) (l : Limits) (law : Lawful name l) where
         let c = cut ps t ts e in
         subst (λ z. Reads (cs ++ bytes) z (thing s d ∷ g) m) (sym c.is)
         (begin-read c.head c.tail s d cs then g m bytes (ap (start name l s d) c.head-is ∙ starts-as b) i (says-read h c.tail c.tail-is))
-    says-read (last {bytes} {g} {m} {d} i h) ps e = subst (λ z. Reads (0x30 ∷ bytes) z (thing (steps textEnd) d ∷ g) m) (sym (uncut ps e)) (last-read d g m bytes i (says-read h [] refl))
+    says-read (last {bytes} {g} {m} {d} i h) ps e = subst (λ z. Reads (0x30 ∷ bytes) z (thing (steps text_end) d ∷ g) m) (sym (uncut ps e)) (last-read d g m bytes i (says-read h [] refl))

@@ -3,11 +3,11 @@ use mathlib.Core.List.{List, [], ◌∷◌, ◌++◌}
 use Prim.Native.Nat.{ℕ, suc, ◌≤◌}
 use lib.Dec.{T}
 use Rattle.logic.specs.Syntax.{node, arrow, rule}
-use Rattle.logic.specs.Limits.{Kind, labelNumber, arrowNumber, nodeNumber, fits}
+use Rattle.logic.specs.Limits.{Kind, label_number, arrow_number, node_number, fits}
 use Rattle.text.specs.Reading.{Limits}
 use Rattle.names.specs.Token.{Token}
 use Rattle.names.specs.Names.{Naming}
-use Rattle.notation.specs.Grammar.{atElse, atEnd, textEnd, Slot, expr, steps, Phrase, else_word, end_word, phrases, Goal, mark, number, thing, goals}
+use Rattle.notation.specs.Grammar.{at_else, at_end, text_end, Slot, expr, steps, Phrase, else_word, end_word, phrases, Goal, mark, number, thing, goals}
 
 -- A phrase in a list.
 infix 40 ◌∈◌
@@ -19,11 +19,11 @@ module _ (name : Naming) (l : Limits) where
   -- The token that begins a thing, the bytes it stands for, and what must follow.
   pub data Begins : Slot → (level : ℕ) → Token → List ℕ → List Goal → Type 0 where
     by_word : {s : Slot} {d : ℕ} (r : Phrase) → r ∈ phrases s → Begins s d r.word (r.byte ∷ []) (goals s d r.items)
-    label : {d : ℕ} (x : ℕ) → T (fits l.numbers labelNumber x) → Begins (expr node) d (name labelNumber x) (0x03 ∷ x ∷ []) []
-    nominal : {d : ℕ} (x : ℕ) → T (fits l.numbers nodeNumber x) → Begins (expr node) d (name nodeNumber x) (0x04 ∷ x ∷ []) []
-    arrow_kind : {d : ℕ} (x : ℕ) → T (fits l.numbers arrowNumber x) → Begins (expr arrow) d (name arrowNumber x) (0x11 ∷ x ∷ []) []
-    closing-else : {d : ℕ} → Begins (steps atElse) d else_word (0x30 ∷ []) []
-    closing_end : {d : ℕ} → Begins (steps atEnd) d end_word (0x30 ∷ []) []
+    label : {d : ℕ} (x : ℕ) → T (fits l.numbers label_number x) → Begins (expr node) d (name label_number x) (0x03 ∷ x ∷ []) []
+    nominal : {d : ℕ} (x : ℕ) → T (fits l.numbers node_number x) → Begins (expr node) d (name node_number x) (0x04 ∷ x ∷ []) []
+    arrow_kind : {d : ℕ} (x : ℕ) → T (fits l.numbers arrow_number x) → Begins (expr arrow) d (name arrow_number x) (0x11 ∷ x ∷ []) []
+    closing-else : {d : ℕ} → Begins (steps at_else) d else_word (0x30 ∷ []) []
+    closing_end : {d : ℕ} → Begins (steps at_end) d end_word (0x30 ∷ []) []
 
   -- Bytes and tokens say the same: they meet the goals, and then at most m rules follow.
   pub data Says : List ℕ → List Token → List Goal → (m : ℕ) → Type 0 where
@@ -33,4 +33,4 @@ module _ (name : Naming) (l : Limits) where
     a-number : {bytes : List ℕ} {ts : List Token} {g : List Goal} {m : ℕ} {k : Kind} (x : ℕ) → T (fits l.numbers k x) → Says bytes ts g m → Says (x ∷ bytes) (name k x ∷ ts) (number k ∷ g) m
     begin : {bytes : List ℕ} {ts : List Token} {g : List Goal} {m : ℕ} {s : Slot} {d : ℕ} {t : Token} {c : List ℕ} {then : List Goal}
         → d ≤ l.deepest → Begins s d t c then → Says bytes ts (then ++ g) m → Says (c ++ bytes) (t ∷ ts) (thing s d ∷ g) m
-    last : {bytes : List ℕ} {g : List Goal} {m : ℕ} {d : ℕ} → d ≤ l.deepest → Says bytes [] g m → Says (0x30 ∷ bytes) [] (thing (steps textEnd) d ∷ g) m
+    last : {bytes : List ℕ} {g : List Goal} {m : ℕ} {d : ℕ} → d ≤ l.deepest → Says bytes [] g m → Says (0x30 ∷ bytes) [] (thing (steps text_end) d ∷ g) m

@@ -9,7 +9,7 @@ use lib.Dec.{T}
 use Rattle.logic.specs.Lists.{All}
 use Rattle.logic.proofs.Bools.{true-false, is_true}
 use Rattle.logic.specs.Syntax.{node, arrow, rule}
-use Rattle.logic.specs.Limits.{Kind, labelNumber, arrowNumber, nodeNumber, Ranges, fits}
+use Rattle.logic.specs.Limits.{Kind, label_number, arrow_number, node_number, Ranges, fits}
 use Rattle.text.specs.Reading.{Limits}
 use Rattle.text.proofs.Converse.{◌&◌}
 use Rattle.names.specs.Token.{Token, ascii, same, Found, found, absent}
@@ -71,11 +71,11 @@ module _ (es : List Entry) (free : Free es) (l : Limits) (small : Small l.number
             ((and-eq-true_iff (fits l.numbers k x) (same (name_in es k x) (name_in es k x))).1 (is_true (fits l.numbers k x) f, same_refl (name_in es k x)))
             (λ y h e. sym (names-one es free k x y (omega (arith, small k x f)) (omega arith) (same_true _ _ ((and-eq-true_iff (fits l.numbers k y) _).0 e).1)));
         no_label = λ x f.
-            found_none (λ y. fits l.numbers labelNumber y && same (name_in es nodeNumber x) (name_in es labelNumber y)) 256
-            (λ y h e. no-label-is-node es free y x (omega arith) (omega (arith, small nodeNumber x f)) (sym (same_true _ _ ((and-eq-true_iff (fits l.numbers labelNumber y) _).0 e).1)));
-        label-word = no_word labelNumber tt (expr node);
-        node-word = no_word nodeNumber tt (expr node);
-        arrow-word = no_word arrowNumber tt (expr arrow);
+            found_none (λ y. fits l.numbers label_number y && same (name_in es node_number x) (name_in es label_number y)) 256
+            (λ y h e. no-label-is-node es free y x (omega arith) (omega (arith, small node_number x f)) (sym (same_true _ _ ((and-eq-true_iff (fits l.numbers label_number y) _).0 e).1)));
+        label-word = no_word label_number tt (expr node);
+        node-word = no_word node_number tt (expr node);
+        arrow-word = no_word arrow_number tt (expr arrow);
       }
 
 -- A word is not a mark.
@@ -128,9 +128,9 @@ module _ (name : Naming) (l : Limits) (words : (k : Kind) (x : ℕ) → is_word_
   begins-proper {s} {d} (by_word r i) =
       let q = all-at PhraseWord i (phrase-words s) in
       record { proper = inr (q.is-no-mark, q.is_word); marks = all-at (λ r. Marks (goals s d r.items)) i (phrase-marks s d) }
-  begins-proper (label x f) = record { proper = name-proper labelNumber x; marks = tt }
-  begins-proper (nominal x f) = record { proper = name-proper nodeNumber x; marks = tt }
-  begins-proper (arrow_kind x f) = record { proper = name-proper arrowNumber x; marks = tt }
+  begins-proper (label x f) = record { proper = name-proper label_number x; marks = tt }
+  begins-proper (nominal x f) = record { proper = name-proper node_number x; marks = tt }
+  begins-proper (arrow_kind x f) = record { proper = name-proper arrow_number x; marks = tt }
   begins-proper closing-else = record { proper = inr (refl, refl); marks = tt }
   begins-proper closing_end = record { proper = inr (refl, refl); marks = tt }
 

@@ -2,12 +2,12 @@
 use Rattle.std.specs.Prelude.{List, [], ◌∷◌, ◌++◌, ℕ, suc}
 use Prim.Native.String.{String}
 use Rattle.logic.specs.Syntax.{Sort, node, arrow, rule}
-use Rattle.logic.specs.Limits.{Kind, labelNumber, arrowNumber, nodeNumber, leastCount, mostCount}
+use Rattle.logic.specs.Limits.{Kind, label_number, arrow_number, node_number, least_count, most_count}
 use Rattle.names.specs.Token.{Token, ascii}
 
 -- Where the steps of an edit end: at `else`, at `end`, or with the text. Each of these ends is a 30.
 pub data Closing : Type 0 where
-  atElse atEnd textEnd : Closing
+  at_else at_end text_end : Closing
 
 -- What can be wanted: an expression of a sort; steps up to their end.
 pub data Slot : Type 0 where
@@ -53,13 +53,13 @@ abbrev K : Item
 K = deeper (expr rule)
 
 abbrev label_name : Item
-label_name = number labelNumber
+label_name = number label_number
 
 abbrev arrow_name : Item
-arrow_name = number arrowNumber
+arrow_name = number arrow_number
 
 abbrev node_name : Item
-node_name = number nodeNumber
+node_name = number node_number
 
 abbrev pub else_word : Token
 else_word = ascii "else"
@@ -77,8 +77,8 @@ phrases (expr node) =
     ∷ phrase 0x07 "or" (E ∷ E ∷ [])
     ∷ phrase 0x08 "some" (R ∷ E ∷ [])
     ∷ phrase 0x09 "every" (R ∷ E ∷ [])
-    ∷ phrase 0x0A "at-least" (number leastCount ∷ R ∷ E ∷ [])
-    ∷ phrase 0x0B "at-most" (number mostCount ∷ R ∷ E ∷ [])
+    ∷ phrase 0x0A "at-least" (number least_count ∷ R ∷ E ∷ [])
+    ∷ phrase 0x0B "at-most" (number most_count ∷ R ∷ E ∷ [])
     ∷ []
 phrases (expr arrow) =
     phrase 0x12 "reversed" (R ∷ [])
@@ -102,7 +102,7 @@ phrases (steps c) =
     ∷ step 0x32 "unmark" (label_name ∷ E ∷ []) []
     ∷ step 0x33 "add" (arrow_name ∷ R ∷ []) []
     ∷ step 0x34 "take" (arrow_name ∷ R ∷ []) []
-    ∷ step 0x35 "if" (K ∷ []) (deeper (steps atElse) ∷ deeper (steps atEnd) ∷ [])
+    ∷ step 0x35 "if" (K ∷ []) (deeper (steps at_else) ∷ deeper (steps at_end) ∷ [])
     ∷ []
 
 -- What the next tokens must be: a mark, a number, a thing at a level.

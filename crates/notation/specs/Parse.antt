@@ -3,12 +3,12 @@
 use Rattle.std.specs.Prelude.{true, false, ◌&&◌, cond, List, [], ◌∷◌, ◌++◌, ℕ, zero, suc, leb}
 use Rattle.answer.specs.Asked.{Asked, passed, refused}
 use Rattle.logic.specs.Syntax.{node, arrow, rule}
-use Rattle.logic.specs.Limits.{Kind, labelNumber, arrowNumber, nodeNumber, fits}
+use Rattle.logic.specs.Limits.{Kind, label_number, arrow_number, node_number, fits}
 use Rattle.text.specs.Reading.{Limits}
 use Rattle.names.specs.Token.{Token, same, Found, found, absent, first_below}
 use Rattle.names.specs.Scan.{Placed}
 use Rattle.names.specs.Names.{Naming}
-use Rattle.notation.specs.Grammar.{atElse, atEnd, textEnd, else_word, end_word, Slot, expr, steps, Phrase, phrases, Goal, mark, number, thing, goals}
+use Rattle.notation.specs.Grammar.{at_else, at_end, text_end, else_word, end_word, Slot, expr, steps, Phrase, phrases, Goal, mark, number, thing, goals}
 
 -- The bytes c, then those that are read.
 unfoldable pub prefixed : List ℕ → Asked (List ℕ) → Asked (List ℕ)
@@ -38,12 +38,12 @@ module _ (name : Naming) (l : Limits) where
   by_name_def c k t other = elim (number_of k t) [ found x ↦ starts (c ∷ x ∷ []) [] | absent ↦ other ]
 
   unfoldable pub bare_start : Slot → Token → Start
-  bare_start (expr node) t = by_name_def 0x03 labelNumber t (by_name_def 0x04 nodeNumber t starts_nothing)
-  bare_start (expr arrow) t = by_name_def 0x11 arrowNumber t starts_nothing
+  bare_start (expr node) t = by_name_def 0x03 label_number t (by_name_def 0x04 node_number t starts_nothing)
+  bare_start (expr arrow) t = by_name_def 0x11 arrow_number t starts_nothing
   bare_start (expr rule) t = starts_nothing
-  bare_start (steps atElse) t = cond (same t else_word) (starts (0x30 ∷ []) []) starts_nothing
-  bare_start (steps atEnd) t = cond (same t end_word) (starts (0x30 ∷ []) []) starts_nothing
-  bare_start (steps textEnd) t = starts_nothing
+  bare_start (steps at_else) t = cond (same t else_word) (starts (0x30 ∷ []) []) starts_nothing
+  bare_start (steps at_end) t = cond (same t end_word) (starts (0x30 ∷ []) []) starts_nothing
+  bare_start (steps text_end) t = starts_nothing
 
   unfoldable pub start : Slot → (level : ℕ) → Token → Start
   start s d t = elim (phrase_for_def t (phrases s)) [ found r ↦ starts (r.byte ∷ []) (goals s d r.items) | absent ↦ bare_start s t ]
@@ -55,9 +55,9 @@ module _ (name : Naming) (l : Limits) where
     parse [] (mark t ∷ g) m = refused 64 end
     parse [] (number k ∷ g) m = refused 64 end
     parse [] (thing (expr s) d ∷ g) m = refused 64 end
-    parse [] (thing (steps atElse) d ∷ g) m = refused 64 end
-    parse [] (thing (steps atEnd) d ∷ g) m = refused 64 end
-    parse [] (thing (steps textEnd) d ∷ g) m = elim (leb d l.deepest) [ true ↦ prefixed (0x30 ∷ []) (parse [] g m) | false ↦ refused 68 end ]
+    parse [] (thing (steps at_else) d ∷ g) m = refused 64 end
+    parse [] (thing (steps at_end) d ∷ g) m = refused 64 end
+    parse [] (thing (steps text_end) d ∷ g) m = elim (leb d l.deepest) [ true ↦ prefixed (0x30 ∷ []) (parse [] g m) | false ↦ refused 68 end ]
     parse (t ∷ ts) [] zero = refused 69 t.place
     parse (t ∷ ts) [] (suc m) = ask_start l 1 t.place (start (expr rule) 1 t.token) (λ then. parse ts (then ++ []) m)
     parse (t ∷ ts) (mark w ∷ g) m = elim (same t.token w) [ true ↦ parse ts g m | false ↦ refused 66 t.place ]

@@ -1,10 +1,10 @@
 -- The spelling of codes: their tokens.
 use Rattle.std.specs.Prelude.{true, false, List, [], ◌∷◌, ◌++◌, ℕ, zero, suc, eqb}
 use Rattle.logic.specs.Syntax.{node, arrow, rule}
-use Rattle.logic.specs.Limits.{Kind, labelNumber, arrowNumber, nodeNumber}
+use Rattle.logic.specs.Limits.{Kind, label_number, arrow_number, node_number}
 use Rattle.names.specs.Token.{Token, Found, found, absent}
 use Rattle.names.specs.Names.{Naming}
-use Rattle.notation.specs.Grammar.{atElse, atEnd, textEnd, else_word, end_word, Slot, expr, steps, Phrase, phrases, Goal, mark, number, thing, goals}
+use Rattle.notation.specs.Grammar.{at_else, at_end, text_end, else_word, end_word, Slot, expr, steps, Phrase, phrases, Goal, mark, number, thing, goals}
 
 -- What a code byte writes before its numbers and operands, and what must follow.
 pub record Opens : Type 0 where
@@ -17,12 +17,12 @@ phrase_of_def c (r ∷ rs) = elim (eqb c r.byte) [ true ↦ found r | false ↦ 
 
 -- 03, 04, 11 and 30, which do not have a phrase. In texts that pass their questions no other byte comes here.
 unfoldable pub bare : Slot → ℕ → Opens
-bare (expr node) c = elim (eqb c 0x03) [ true ↦ record { tokens = []; then = number labelNumber ∷ [] } | false ↦ record { tokens = []; then = number nodeNumber ∷ [] } ]
-bare (expr arrow) c = record { tokens = []; then = number arrowNumber ∷ [] }
+bare (expr node) c = elim (eqb c 0x03) [ true ↦ record { tokens = []; then = number label_number ∷ [] } | false ↦ record { tokens = []; then = number node_number ∷ [] } ]
+bare (expr arrow) c = record { tokens = []; then = number arrow_number ∷ [] }
 bare (expr rule) c = record { tokens = []; then = [] }
-bare (steps atElse) c = record { tokens = else_word ∷ []; then = [] }
-bare (steps atEnd) c = record { tokens = end_word ∷ []; then = [] }
-bare (steps textEnd) c = record { tokens = []; then = [] }
+bare (steps at_else) c = record { tokens = else_word ∷ []; then = [] }
+bare (steps at_end) c = record { tokens = end_word ∷ []; then = [] }
+bare (steps text_end) c = record { tokens = []; then = [] }
 
 unfoldable pub opens : Slot → (level : ℕ) → ℕ → Opens
 opens s d c = elim (phrase_of_def c (phrases s)) [ found r ↦ record { tokens = r.word ∷ []; then = goals s d r.items } | absent ↦ bare s c ]

@@ -9,7 +9,7 @@ use Rattle.text.specs.Reading.{Limits, text_limits, carried_limits_def, most_rul
 use Rattle.text.specs.Questions.{ask_book, ask_first, ask_edit}
 use Rattle.names.specs.Scan.{tokens}
 use Rattle.names.specs.Names.{Naming, name_in, ask_names}
-use Rattle.notation.specs.Grammar.{Goal, thing, expr, steps, textEnd}
+use Rattle.notation.specs.Grammar.{Goal, thing, expr, steps, text_end}
 use Rattle.notation.specs.Spell.{spell}
 use Rattle.notation.specs.Parse.{parse}
 use Rattle.notation.specs.Layout.{laid}
@@ -26,7 +26,7 @@ abbrev pub book_goals : List Goal
 book_goals = []
 
 abbrev pub edit_goals : List Goal
-edit_goals = thing (steps textEnd) 1 ∷ []
+edit_goals = thing (steps text_end) 1 ∷ []
 
 abbrev pub rule_goals : List Goal
 rule_goals = thing (expr rule) 1 ∷ []

@@ -7,7 +7,7 @@ use native.Mathlib.Omega.{arith}
 use lib.Dec.{T, leb, ltb}
 use lib.ListN.{length, get_or, take, drop, length-take}
 use borrow.Author.Tests.{ltb-true, leb-true, lt-ltb}
-use Rattle.logic.specs.Limits.{Kind, labelNumber, arrowNumber, nodeNumber, leastCount, mostCount, ranges, max_nodes, fits}
+use Rattle.logic.specs.Limits.{Kind, label_number, arrow_number, node_number, least_count, most_count, ranges, max_nodes, fits}
 use Rattle.logic.proofs.Bools.{is_true, both_so}
 use Rattle.names.specs.Token.{Token, ascii}
 use Rattle.names.specs.Names.{Naming, longest_name}
@@ -74,11 +74,11 @@ unfolding own
 own_held table s = record { slots = s; each = λ k x h. refl }
 
 slot-there : (k : Kind) (x : ℕ) → T (fits (ranges max_nodes) k x) → slot_base k + x < name_count
-slot-there labelNumber x h = omega (arith, ltb-true x 48 (is_true (ltb x 48) h))
-slot-there arrowNumber x h = omega (arith, ltb-true x 16 (is_true (ltb x 16) h))
-slot-there nodeNumber x h = omega (arith, ltb-true x 60 (is_true (ltb x 60) h))
-slot-there leastCount x h = omega (arith, leb-true x 60 (is_true (leb x 60) (both_so (leb 1 x) (leb x 60) h).1))
-slot-there mostCount x h = omega (arith, leb-true x 59 (is_true (leb x 59) h))
+slot-there label_number x h = omega (arith, ltb-true x 48 (is_true (ltb x 48) h))
+slot-there arrow_number x h = omega (arith, ltb-true x 16 (is_true (ltb x 16) h))
+slot-there node_number x h = omega (arith, ltb-true x 60 (is_true (ltb x 60) h))
+slot-there least_count x h = omega (arith, leb-true x 60 (is_true (leb x 60) (both_so (leb 1 x) (leb x 60) h).1))
+slot-there most_count x h = omega (arith, leb-true x 59 (is_true (leb x 59) h))
 
 pub name-short : {table token : List ℕ} (k : Kind) (x : ℕ) → Slots name_width name_count table → T (fits (ranges max_nodes) k x)
     → ((name : Naming) → Holds table name → token ≡ name k x) → length token ≤ longest_name

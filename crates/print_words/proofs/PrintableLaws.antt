@@ -5,7 +5,7 @@ use Prim.Native.Nat.{ℕ, suc, ◌≤◌}
 use native.Mathlib.Omega.{arith}
 use lib.Dec.{T}
 use Rattle.logic.specs.Syntax.{rule}
-use Rattle.logic.specs.Limits.{Kind, labelNumber, arrowNumber, nodeNumber, fits}
+use Rattle.logic.specs.Limits.{Kind, label_number, arrow_number, node_number, fits}
 use Rattle.text.specs.Reading.{Limits}
 use Rattle.names.specs.Token.{Token}
 use Rattle.names.specs.Names.{Naming}
@@ -30,9 +30,9 @@ module _ (name : Naming) (l l' : Limits) (same : l.numbers ≡ l'.numbers) (deep
       → Printable l' bytes (then ++ g) m → Printable l' (c ++ bytes) (thing s d ∷ g) m
   unfolding Printable opens bare phrase_of_def phrases
   begins-printable {s} {d} (by_word r i) e bytes g m h = (e, rw (phrase-of-byte s i, opens) h)
-  begins-printable (label x f) e bytes g m h = (e, (in-range labelNumber x f, h))
-  begins-printable (nominal x f) e bytes g m h = (e, (in-range nodeNumber x f, h))
-  begins-printable (arrow_kind x f) e bytes g m h = (e, (in-range arrowNumber x f, h))
+  begins-printable (label x f) e bytes g m h = (e, (in-range label_number x f, h))
+  begins-printable (nominal x f) e bytes g m h = (e, (in-range node_number x f, h))
+  begins-printable (arrow_kind x f) e bytes g m h = (e, (in-range arrow_number x f, h))
   begins-printable closing-else e bytes g m h = (e, h)
   begins-printable closing_end e bytes g m h = (e, h)
 

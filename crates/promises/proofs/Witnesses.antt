@@ -24,7 +24,7 @@ use Rattle.sheet.specs.Sheet.{present, graph_of}
 use Rattle.sheet.specs.Questions.{ask_sheet, Sound}
 use Rattle.sheet.proofs.SheetRefusals.{sheet-refuses}
 use Rattle.text.specs.Code.{code, levels, book_code, book_levels}
-use Rattle.text.specs.Reading.{carried_limits_def, text_limits, longest_text, longest_carried, deepest_carried, Limits, expr, Read, got, fault, missing, wrongSort, tooDeep, outOfRange, read_as}
+use Rattle.text.specs.Reading.{carried_limits_def, text_limits, longest_text, longest_carried, deepest_carried, Limits, expr, Read, got, fault, missing, wrong_sort, too_deep, out_of_range, read_as}
 use Rattle.text.specs.Questions.{first, ask_first, ask_book}
 use Rattle.text.proofs.Converse.{Allowed}
 use Rattle.text.proofs.TextSpelling.{EachAllowed, book-is-spelled, edit-is-spelled, first-is-spelled, spelled-first-passes}
@@ -55,9 +55,9 @@ first-numbers : (x : Read (Expr rule)) {q p : ℕ} → first x ≡ refused q p �
 unfolding first
 first-numbers (got K rest p) e = refused-not-passed (sym e)
 first-numbers (fault missing p) {q} e = let z : q ≡ 12 = cc in (omega arith, omega arith)
-first-numbers (fault wrongSort p) {q} e = let z : q ≡ 13 = cc in (omega arith, omega arith)
-first-numbers (fault tooDeep p) {q} e = let z : q ≡ 14 = cc in (omega arith, omega arith)
-first-numbers (fault outOfRange p) {q} e = let z : q ≡ 15 = cc in (omega arith, omega arith)
+first-numbers (fault wrong_sort p) {q} e = let z : q ≡ 13 = cc in (omega arith, omega arith)
+first-numbers (fault too_deep p) {q} e = let z : q ≡ 14 = cc in (omega arith, omega arith)
+first-numbers (fault out_of_range p) {q} e = let z : q ≡ 15 = cc in (omega arith, omega arith)
 
 pub first_refused : (l : Limits) (text : List ℕ) {q p : ℕ} → ask_first l (take l.longest text) ≡ refused q p → (12 ≤ q) × (q ≤ 15)
 unfolding ask_first

@@ -2,7 +2,7 @@
 -- (its Definition 4.1), which the contracts of the evaluators, of apply and of carry back cite. proofs/Demand2 proves what ties these to the papers.
 use Rattle.std.specs.Prelude.{◌≡◌, ◌↔◌, not, ◌&&◌, List, ℕ, suc}
 use Rattle.answer.specs.Asked.{passed}
-use Rattle.logic.specs.Syntax.{Sort, Expr, node, arrow, rule, all, complement, some, every, at_least, at_most, minus, pair, both, either, not_rule, Edit, takeLabel, takeArrow, choose}
+use Rattle.logic.specs.Syntax.{Sort, Expr, node, arrow, rule, all, complement, some, every, at_least, at_most, minus, pair, both, either, not_rule, Edit, take_label, take_arrow, choose}
 use Rattle.logic.specs.Graph.{Graph, Nodes, any_below}
 use Rattle.logic.specs.Limits.{Ranges, Within, EditInRange}
 use Rattle.logic.specs.Meaning.{value}
@@ -32,8 +32,8 @@ pub record Demand2 : Type 0 where
   pub at_least_one_is_some : (g : Graph) → Within g → (R : Expr arrow) (E : Expr node) → value g (at_least 1 R E) ≡ value g (some R E)
   pub at_most_is_not_at_least : (g : Graph) (m : ℕ) (R : Expr arrow) (E : Expr node) → value g (at_most m R E) ≡ value g (complement (at_least (suc m) R E))
   -- "the sheet after each edit": taking away is the difference, and an edit keeps a graph within the limits.
-  pub taken_label : (g : Graph) → Within g → (k : ℕ) (E : Expr node) (Z : Edit) → run (takeLabel k E Z) g ≡ run Z (relabel g k (λ i. g.labelled k i && not (value g E i)))
-  pub taken_arrow : (g : Graph) (a : ℕ) (R : Expr arrow) (Z : Edit) → run (takeArrow a R Z) g ≡ run Z (rejoin g a (λ i j. g.joined a i j && not (value g R i j)))
+  pub taken_label : (g : Graph) → Within g → (k : ℕ) (E : Expr node) (Z : Edit) → run (take_label k E Z) g ≡ run Z (relabel g k (λ i. g.labelled k i && not (value g E i)))
+  pub taken_arrow : (g : Graph) (a : ℕ) (R : Expr arrow) (Z : Edit) → run (take_arrow a R Z) g ≡ run Z (rejoin g a (λ i j. g.joined a i j && not (value g R i j)))
   pub run_within : (r : Ranges) (Z : Edit) → EditInRange r Z → (g : Graph) → Within g → Within (run Z g)
   -- "each carried-back rule": document 01's wording of 35, each way with its end replaced by Z.
   pub carry_choose : (K₁ : Expr rule) (P Q Z : Edit) (K : Expr rule) → carry (choose K₁ P Q Z) K ≡ both (either (not_rule K₁) (carry (followed_by P Z) K)) (either K₁ (carry (followed_by Q Z) K))

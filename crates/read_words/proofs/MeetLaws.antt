@@ -9,7 +9,7 @@ use native.Mathlib.Omega.{arith}
 use lib.Dec.{ltb}
 use lib.ListN.{take, drop}
 use borrow.Author.Tests.{lt-ltb, le-ltb, le-leb, lt-leb}
-use Rattle.logic.specs.Limits.{Kind, labelNumber, arrowNumber, nodeNumber}
+use Rattle.logic.specs.Limits.{Kind, label_number, arrow_number, node_number}
 use Rattle.names.specs.Token.{Token, ascii, same, Found, found, absent}
 use Rattle.names.specs.Names.{Naming}
 use Rattle.names.proofs.TokenLaws.{found-hit}
@@ -150,7 +150,7 @@ module _ (table : List ℕ) where
   unfolding bare_start slot_of kind_of
   label-meets {item} {t} {x} i e h q =
       subst (λ m. MeetsBare table item t m) (sym q) (subst (λ i. MeetsBare table i t (named_met 3 x)) (sym i) (record {
-        begins = λ name r d. by_name name labelNumber t x d (e name r) 3 _ h;
+        begins = λ name r d. by_name name label_number t x d (e name r) 3 _ h;
         alone = (named-alone 3 x).0;
         short = (named-alone 3 x).1;
       }))
@@ -159,7 +159,7 @@ module _ (table : List ℕ) where
   unfolding bare_start slot_of kind_of
   node-meets {item} {t} {x} {y} i e h f q =
       subst (λ m. MeetsBare table item t m) (sym q) (subst (λ i. MeetsBare table i t (named_met 4 y)) (sym i) (record {
-        begins = λ name r d. not-by-name name labelNumber t x d (e name r) 3 _ h ∙ only-by-name name nodeNumber t y d (f name r) 4;
+        begins = λ name r d. not-by-name name label_number t x d (e name r) 3 _ h ∙ only-by-name name node_number t y d (f name r) 4;
         alone = (named-alone 4 y).0;
         short = (named-alone 4 y).1;
       }))
@@ -168,7 +168,7 @@ module _ (table : List ℕ) where
   unfolding bare_start slot_of kind_of
   arrow-meets {item} {t} {x} i e q =
       subst (λ m. MeetsBare table item t m) (sym q) (subst (λ i. MeetsBare table i t (named_met 0x11 x)) (sym i) (record {
-        begins = λ name r d. only-by-name name arrowNumber t x d (e name r) 0x11;
+        begins = λ name r d. only-by-name name arrow_number t x d (e name r) 0x11;
         alone = (named-alone 0x11 x).0;
         short = (named-alone 0x11 x).1;
       }))

@@ -11,7 +11,7 @@ use Rattle.logic.specs.Syntax.{Sort, node, arrow, rule, Expr, all, none, at_leas
 use Rattle.logic.specs.Graph.{Graph, Nodes, is_node, count_below}
 use Rattle.logic.specs.Meaning.{value}
 use Rattle.logic.specs.Limits.{max_nodes, former_ranges, Within}
-use Rattle.logic.specs.Arity.{atLeast·, atMost·, build2}
+use Rattle.logic.specs.Arity.{at_least·, at_most·, build2}
 use Rattle.logic.proofs.ArityLaws.{value-1, value-2}
 use Rattle.logic.proofs.Dual.{at_least_none}
 use Rattle.text.specs.Code.{book_code}
@@ -54,8 +54,8 @@ module _ (g : Graph) (few : g.n ≤ max_nodes) where
   same-value = by_rewriting (λ s e e'. value g e' ≡ value g e) (λ s b. refl)
       (λ u t b x x' p. value-1 g g.labelled g.joined b x' x p)
       (λ u v t b _ _ x x' y y' p q. value-2 g g.labelled g.joined b x' x y' y p q)
-      (λ m R R' E E' p q. least-value m R' E' ∙ value-2 g g.labelled g.joined (atLeast· m) R' R E' E p q)
-      (λ m R R' E E' p q. most-value m R' E' ∙ value-2 g g.labelled g.joined (atMost· m) R' R E' E p q)
+      (λ m R R' E E' p q. least-value m R' E' ∙ value-2 g g.labelled g.joined (at_least· m) R' R E' E p q)
+      (λ m R R' E E' p q. most-value m R' E' ∙ value-2 g g.labelled g.joined (at_most· m) R' R E' E p q)
 
   pub same_truth : (rules : List (Expr rule)) → map (value g) (rewritten_book rules) ≡ map (value g) rules
   same_truth [] = refl

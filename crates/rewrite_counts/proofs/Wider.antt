@@ -5,8 +5,8 @@ use Prim.Native.Nat.{ℕ, ◌≤◌}
 use native.Mathlib.Omega.{arith}
 use lib.Dec.{T, leb, leb→le, le→leb, ltb→lt, lt→ltb}
 use Rattle.answer.specs.Asked.{passed}
-use Rattle.logic.specs.Syntax.{Sort, rule, Expr, Edit, finish, addLabel, takeLabel, addArrow, takeArrow, choose}
-use Rattle.logic.specs.Limits.{max_nodes, Kind, labelNumber, arrowNumber, nodeNumber, leastCount, mostCount, Ranges, ranges, former_ranges, fits, InRange, EditInRange}
+use Rattle.logic.specs.Syntax.{Sort, rule, Expr, Edit, finish, add_label, take_label, add_arrow, take_arrow, choose}
+use Rattle.logic.specs.Limits.{max_nodes, Kind, label_number, arrow_number, node_number, least_count, most_count, Ranges, ranges, former_ranges, fits, InRange, EditInRange}
 use Rattle.logic.specs.Arity.{numbers0, numbers1, numbers2, by_arity}
 use Rattle.logic.proofs.ArityLaws.{Fit, range-0, range-1, range-2}
 use Rattle.logic.proofs.ListLaws.{all_so}
@@ -38,10 +38,10 @@ module _ (r r' : Ranges) (w : Wider r r') where
   edit-in-wider : (Z : Edit) → EditInRange r Z → EditInRange r' Z
   unfolding EditInRange
   edit-in-wider finish h = tt
-  edit-in-wider (addLabel k E Z) h = (w labelNumber k h.0, in-wider E h.1, edit-in-wider Z h.2)
-  edit-in-wider (takeLabel k E Z) h = (w labelNumber k h.0, in-wider E h.1, edit-in-wider Z h.2)
-  edit-in-wider (addArrow a R Z) h = (w arrowNumber a h.0, in-wider R h.1, edit-in-wider Z h.2)
-  edit-in-wider (takeArrow a R Z) h = (w arrowNumber a h.0, in-wider R h.1, edit-in-wider Z h.2)
+  edit-in-wider (add_label k E Z) h = (w label_number k h.0, in-wider E h.1, edit-in-wider Z h.2)
+  edit-in-wider (take_label k E Z) h = (w label_number k h.0, in-wider E h.1, edit-in-wider Z h.2)
+  edit-in-wider (add_arrow a R Z) h = (w arrow_number a h.0, in-wider R h.1, edit-in-wider Z h.2)
+  edit-in-wider (take_arrow a R Z) h = (w arrow_number a h.0, in-wider R h.1, edit-in-wider Z h.2)
   edit-in-wider (choose K P Q Z) h = (in-wider K h.0, edit-in-wider P h.1, edit-in-wider Q h.2, edit-in-wider Z h.3)
 
   pub edit-wider : (t : List ℕ) (Z : Edit) → ask_edit (limits_by r) t ≡ passed Z → ask_edit (limits_by r') t ≡ passed Z
@@ -52,19 +52,19 @@ module _ (r r' : Ranges) (w : Wider r r') where
 
 -- The former ranges are wider,
 pub former-of-now : (n : ℕ) → Wider (ranges n) (former_ranges n)
-former-of-now n labelNumber x h = h
-former-of-now n arrowNumber x h = h
-former-of-now n nodeNumber x h = h
-former-of-now n leastCount x h = so-both (leb 0 x) (leb x 255) (le→leb 0 x (omega arith)) (le→leb x 255 (omega (arith, leb→le x max_nodes (both_so (leb 1 x) (leb x max_nodes) h).1)))
-former-of-now n mostCount x h = le→leb x 255 (omega (arith, leb→le x 59 h))
+former-of-now n label_number x h = h
+former-of-now n arrow_number x h = h
+former-of-now n node_number x h = h
+former-of-now n least_count x h = so-both (leb 0 x) (leb x 255) (le→leb 0 x (omega arith)) (le→leb x 255 (omega (arith, leb→le x max_nodes (both_so (leb 1 x) (leb x max_nodes) h).1)))
+former-of-now n most_count x h = le→leb x 255 (omega (arith, leb→le x 59 h))
 
 -- and so are those of more nodes.
 more-nodes : (n from to most : ℕ) → n ≤ max_nodes → Wider (record { nodes = n; least_from = from; least_to = to; most_to = most }) (record { nodes = max_nodes; least_from = from; least_to = to; most_to = most })
-more-nodes n from to most l labelNumber x h = h
-more-nodes n from to most l arrowNumber x h = h
-more-nodes n from to most l nodeNumber x h = lt→ltb x max_nodes (omega (arith, ltb→lt x n h))
-more-nodes n from to most l leastCount x h = h
-more-nodes n from to most l mostCount x h = h
+more-nodes n from to most l label_number x h = h
+more-nodes n from to most l arrow_number x h = h
+more-nodes n from to most l node_number x h = lt→ltb x max_nodes (omega (arith, ltb→lt x n h))
+more-nodes n from to most l least_count x h = h
+more-nodes n from to most l most_count x h = h
 
 pub former-below : (n : ℕ) → n ≤ max_nodes → Wider (former_ranges n) (former_ranges max_nodes)
 former-below n l = more-nodes n _ _ _ l

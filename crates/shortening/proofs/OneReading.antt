@@ -10,7 +10,7 @@ use Rattle.answer.specs.Asked.{passed}
 use Rattle.logic.specs.Syntax.{Expr, rule}
 use Rattle.logic.specs.Limits.{fits}
 use Rattle.text.specs.Code.{code, book_code}
-use Rattle.text.specs.Reading.{Limits, expr, Format, done, number, operand, ◌>>=◌, Entry, Fault, Read, got, fault, wrongSort, tooDeep, outOfRange, codes, choice, follow, read_as}
+use Rattle.text.specs.Reading.{Limits, expr, Format, done, number, operand, ◌>>=◌, Entry, Fault, Read, got, fault, wrong_sort, too_deep, out_of_range, codes, choice, follow, read_as}
 use Rattle.text.specs.Questions.{ask_book, ask_rule}
 use Rattle.text.proofs.TextReadBack.{reads}
 use Rattle.text.proofs.TextSpelling.{EachAllowed, rule-is-spelled, book-is-spelled}
@@ -61,9 +61,9 @@ module _ (l l' : Limits) where
   agree [] (number k f) at = tt
   agree [] (operand w d f) at = tt
   agree (x ∷ t) (done a) at = refl
-  agree (x ∷ t) (number k f) at = agree-both (fits l.numbers k x) (fits l'.numbers k x) (follow l t (f x) (suc at)) (follow l' t (f x) (suc at)) outOfRange at (agree t (f x) (suc at))
+  agree (x ∷ t) (number k f) at = agree-both (fits l.numbers k x) (fits l'.numbers k x) (follow l t (f x) (suc at)) (follow l' t (f x) (suc at)) out_of_range at (agree t (f x) (suc at))
   agree (c ∷ t) (operand w d f) at =
-      agree-choice c (codes d w) _ _ wrongSort at (λ p. agree-both (leb d l.deepest) (leb d l'.deepest) (follow l t (p >>= f) (suc at)) (follow l' t (p >>= f) (suc at)) tooDeep at (agree t (p >>= f) (suc at)))
+      agree-choice c (codes d w) _ _ wrong_sort at (λ p. agree-both (leb d l.deepest) (leb d l'.deepest) (follow l t (p >>= f) (suc at)) (follow l' t (p >>= f) (suc at)) too_deep at (agree t (p >>= f) (suc at)))
 
   got_same : {A : Type 0} (t : List ℕ) (p : Format A) (at : ℕ) (a b : A) (r s : List ℕ) (x y : ℕ) → follow l t p at ≡ got a r x → follow l' t p at ≡ got b s y → got a r x ≡ got b s y
   got_same t p at a b r s x y e e' = subst (λ z. Agree z (got b s y)) e (subst (Agree (follow l t p at)) e' (agree t p at))

@@ -7,10 +7,10 @@ use native.Mathlib.Omega.{arith}
 use lib.ListN.{length, length-map}
 use lib.Dec.{T, eqb}
 use Rattle.answer.specs.Asked.{passed}
-use Rattle.logic.specs.Syntax.{Sort, node, arrow, rule, Expr, label, complement, and, or, arrow_kind, union, minus, Edit, finish, addLabel, takeLabel, addArrow, takeArrow, choose}
+use Rattle.logic.specs.Syntax.{Sort, node, arrow, rule, Expr, label, complement, and, or, arrow_kind, union, minus, Edit, finish, add_label, take_label, add_arrow, take_arrow, choose}
 use Rattle.logic.specs.Steps.{update}
 use Rattle.logic.specs.Carry.{substitute, put_label, put_arrow, carry}
-use Rattle.logic.specs.Limits.{Kind, labelNumber, arrowNumber, Ranges, fits, InRange, EditInRange}
+use Rattle.logic.specs.Limits.{Kind, label_number, arrow_number, Ranges, fits, InRange, EditInRange}
 use Rattle.logic.specs.Lists.{All}
 use Rattle.logic.specs.Arity.{Nullary, all·, none·, label·, nominal·, arrow_kind·, pair·, build0, by_arity}
 use Rattle.logic.proofs.ListLaws.{all_map}
@@ -21,7 +21,7 @@ use Rattle.text.specs.Questions.{ask_first, ask_book}
 use Rattle.text.proofs.Converse.{Allowed}
 use Rattle.text.proofs.TextSpelling.{spelled-first-passes, spelled-book-passes}
 
-module _ (q : Ranges) (f : ℕ → Expr node) (h : ℕ → Expr arrow) (f-in : (k : ℕ) → T (fits q labelNumber k) → InRange q (f k)) (h-in : (a : ℕ) → T (fits q arrowNumber a) → InRange q (h a)) where
+module _ (q : Ranges) (f : ℕ → Expr node) (h : ℕ → Expr arrow) (f-in : (k : ℕ) → T (fits q label_number k) → InRange q (f k)) (h-in : (a : ℕ) → T (fits q arrow_number a) → InRange q (h a)) where
   substitute-in : {s : Sort} (e : Expr s) → InRange q e → InRange q (substitute f h e)
   unfolding InRange substitute build0
   substitute-in e = by_arity (λ s e. InRange q e → InRange q (substitute f h e)) (λ s b. leaf b)
@@ -45,18 +45,18 @@ update-in r κ f k F h i x l = go (eqb x k) where
 
 module _ (r : Ranges) where
   put_label-in : (k : ℕ) (F : Expr node) (K : Expr rule) → InRange r F → InRange r K → InRange r (put_label k F K)
-  put_label-in k F K i q = unfold put_label InRange in substitute-in r (update label k F) arrow_kind (update-in r labelNumber label k F (λ x l. l) i) (λ a l. l) K q
+  put_label-in k F K i q = unfold put_label InRange in substitute-in r (update label k F) arrow_kind (update-in r label_number label k F (λ x l. l) i) (λ a l. l) K q
 
   put_arrow-in : (a : ℕ) (S : Expr arrow) (K : Expr rule) → InRange r S → InRange r K → InRange r (put_arrow a S K)
-  put_arrow-in a S K i q = unfold put_arrow InRange in substitute-in r label (update arrow_kind a S) (λ x l. l) (update-in r arrowNumber arrow_kind a S (λ x l. l) i) K q
+  put_arrow-in a S K i q = unfold put_arrow InRange in substitute-in r label (update arrow_kind a S) (λ x l. l) (update-in r arrow_number arrow_kind a S (λ x l. l) i) K q
 
   pub carry-in : (Z : Edit) (K : Expr rule) → EditInRange r Z → InRange r K → InRange r (carry Z K)
   unfolding carry EditInRange InRange
   carry-in finish K z q = q
-  carry-in (addLabel k E Z) K z q = put_label-in k (or (label k) E) (carry Z K) (z.0, z.1) (carry-in Z K z.2 q)
-  carry-in (takeLabel k E Z) K z q = put_label-in k (and (label k) (complement E)) (carry Z K) (z.0, z.1) (carry-in Z K z.2 q)
-  carry-in (addArrow a R Z) K z q = put_arrow-in a (union (arrow_kind a) R) (carry Z K) (z.0, z.1) (carry-in Z K z.2 q)
-  carry-in (takeArrow a R Z) K z q = put_arrow-in a (minus (arrow_kind a) R) (carry Z K) (z.0, z.1) (carry-in Z K z.2 q)
+  carry-in (add_label k E Z) K z q = put_label-in k (or (label k) E) (carry Z K) (z.0, z.1) (carry-in Z K z.2 q)
+  carry-in (take_label k E Z) K z q = put_label-in k (and (label k) (complement E)) (carry Z K) (z.0, z.1) (carry-in Z K z.2 q)
+  carry-in (add_arrow a R Z) K z q = put_arrow-in a (union (arrow_kind a) R) (carry Z K) (z.0, z.1) (carry-in Z K z.2 q)
+  carry-in (take_arrow a R Z) K z q = put_arrow-in a (minus (arrow_kind a) R) (carry Z K) (z.0, z.1) (carry-in Z K z.2 q)
   carry-in (choose K₁ P Q Z) K z q =
       let k : InRange r (carry Z K) = carry-in Z K z.3 q in
       ((z.0, carry-in P (carry Z K) z.1 k), (z.0, carry-in Q (carry Z K) z.2 k))

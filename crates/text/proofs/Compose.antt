@@ -9,7 +9,7 @@ use lib.ListN.{length, drop, length-drop, length-append}
 use Rattle.logic.specs.Limits.{Kind, fits}
 use Rattle.text.specs.declared.Turn.{Turn}
 use Rattle.text.specs.declared.Turn.TheVariants.{Next, Stopped}
-use Rattle.text.specs.Reading.{Limits, Want, Thing, Format, done, number, operand, ◌>>=◌, Entry, Read, got, fault, Fault, tooDeep, wrongSort, outOfRange, codes, choice, follow}
+use Rattle.text.specs.Reading.{Limits, Want, Thing, Format, done, number, operand, ◌>>=◌, Entry, Read, got, fault, Fault, too_deep, wrong_sort, out_of_range, codes, choice, follow}
 use Rattle.text.specs.Patterns.{turn_of, turn_at}
 use Rattle.text.proofs.TextPlaces.{place_behind-is}
 use Rattle.text.proofs.StandingLaws.{behind}
@@ -44,10 +44,10 @@ module _ (l : Limits) where
   follow-bind [] (number k p) f at = refl
   follow-bind [] (operand w d p) f at = refl
   follow-bind (x ∷ t) (done a) f at = refl
-  follow-bind (x ∷ t) (number k p) f at = continue-if f (fits l.numbers k x) (follow l t (p x) (suc at)) (fault outOfRange at) (follow l t (p x >>= f) (suc at)) (fault outOfRange at) (follow-bind t (p x) f (suc at)) refl
+  follow-bind (x ∷ t) (number k p) f at = continue-if f (fits l.numbers k x) (follow l t (p x) (suc at)) (fault out_of_range at) (follow l t (p x >>= f) (suc at)) (fault out_of_range at) (follow-bind t (p x) f (suc at)) refl
   follow-bind (c ∷ t) (operand w d p) f at =
-      continue-choice f c (codes d w) _ _ wrongSort at
-      (λ q. continue-if f (leb d l.deepest) (follow l t (q >>= p) (suc at)) (fault tooDeep at) (follow l t (q >>= (λ e. p e >>= f)) (suc at)) (fault tooDeep at) (ap (λ z. follow l t z (suc at)) (sym (bind_assoc q p f)) ∙ follow-bind t (q >>= p) f (suc at)) refl)
+      continue-choice f c (codes d w) _ _ wrong_sort at
+      (λ q. continue-if f (leb d l.deepest) (follow l t (q >>= p) (suc at)) (fault too_deep at) (follow l t (q >>= (λ e. p e >>= f)) (suc at)) (fault too_deep at) (ap (λ z. follow l t z (suc at)) (sym (bind_assoc q p f)) ∙ follow-bind t (q >>= p) f (suc at)) refl)
 
   follow-operand : {A : Type 0} (w : Want) (d : ℕ) (f : Thing w → Format A) (t : List ℕ) (at : ℕ) → follow l t (operand w d f) at ≡ continue (follow l t (operand w d done) at) f
   follow-operand w d f t at = unfold ◌>>=◌ in follow-bind t (operand w d done) f at
@@ -75,7 +75,7 @@ unfolding follow turn_of continue
 alike-turns l same_end [] at = refl
 alike-turns l same_end (x ∷ t) at = refl
 alike-turns l (same_number h) [] at = refl
-alike-turns l (same_number {k} {f} {g} h) (x ∷ t) at = turn-if (fits l.numbers k x) (follow l t (f x) (suc at)) (follow l t (g x) (suc at)) outOfRange at (alike-turns l (h x) t (suc at))
+alike-turns l (same_number {k} {f} {g} h) (x ∷ t) at = turn-if (fits l.numbers k x) (follow l t (f x) (suc at)) (follow l t (g x) (suc at)) out_of_range at (alike-turns l (h x) t (suc at))
 alike-turns {A} {B} l (same_operand {w} {d} {f} {g} h) t at = ap turn_of (follow-operand l w d f t at) ∙ go (follow l t (operand w d done) at) (λ e r p. alike-turns l (h e) r p) ∙ sym (ap turn_of (follow-operand l w d g t at))
   where
     go : (x : Read (Thing w)) → ((e : Thing w) (r : List ℕ) (p : ℕ) → turn_of (follow l r (f e) p) ≡ turn_of (follow l r (g e) p)) → turn_of (continue l x f) ≡ turn_of (continue l x g)

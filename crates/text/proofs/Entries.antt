@@ -13,7 +13,7 @@ use Rattle.logic.specs.Lists.{All}
 use Rattle.logic.proofs.ListLaws.{all_append, all_drop}
 use Rattle.text.specs.declared.Turn.{Turn}
 use Rattle.text.specs.Reading.{Want, expr, edit, Thing, Format, ◌>>=◌, Entry, Read, codes, choice}
-use Rattle.text.specs.Patterns.{items, item_of, node_patterns, arrow_patterns, rule_patterns, edit_patterns, CodeSort, nodes, arrows, rules, edits, noCode, code_sort, pattern_in, sort_digit, pattern_of_def, item_format, pattern_format, sort_of_def, turn_of}
+use Rattle.text.specs.Patterns.{items, item_of, node_patterns, arrow_patterns, rule_patterns, edit_patterns, CodeSort, nodes, arrows, rules, edits, no_code_def, code_sort, pattern_in, sort_digit, pattern_of_def, item_format, pattern_format, sort_of_def, turn_of}
 use Rattle.text.proofs.Compose.{Alike, same_end, same_number, same_operand}
 use Rattle.text.proofs.CodeSorts.{in-range}
 use Rattle.text.proofs.Items.{digit}
@@ -59,7 +59,7 @@ module _ (w : Want) (d c : ℕ) {B : Type 0} (found : Format (Thing w) → Read 
 abbrev Chosen : ℕ → Bool → Bool → Bool → Bool → Type 0
 Chosen x p q r s = ((x ≡ 0xC → p ≡ true) × (x ≡ 0xD → q ≡ true)) × ((x ≡ 0xE → r ≡ true) × (x ≡ 0xF → s ≡ true))
 
-chosen : (p q r s : Bool) → Chosen (sort_digit (cond p nodes (cond q arrows (cond r rules (cond s edits noCode))))) p q r s
+chosen : (p q r s : Bool) → Chosen (sort_digit (cond p nodes (cond q arrows (cond r rules (cond s edits no_code_def))))) p q r s
 unfolding sort_digit
 chosen true q r s = ((λ h. refl, λ h. absurd (omega arith)), (λ h. absurd (omega arith), λ h. absurd (omega arith)))
 chosen false true r s = ((λ h. absurd (omega arith), λ h. refl), (λ h. absurd (omega arith), λ h. absurd (omega arith)))
@@ -101,7 +101,7 @@ no_code c n = go (code_sort c) refl where
   go arrows e = absurd (has-entry (expr arrow) 0 c (ap sort_digit e) (all_append (λ b. c ≢ b) (from 0x11 7) (drop 18 code_bytes) (all_drop (λ b. c ≢ b) 11 code_bytes n)).0)
   go rules e = absurd (has-entry (expr rule) 0 c (ap sort_digit e) (all_append (λ b. c ≢ b) (from 0x21 7) (drop 25 code_bytes) (all_drop (λ b. c ≢ b) 18 code_bytes n)).0)
   go edits e = absurd (has-entry edit 0 c (ap sort_digit e) (all_drop (λ b. c ≢ b) 25 code_bytes n))
-  go noCode e = sym (ap (λ s. pattern_in s c) e)
+  go no_code_def e = sym (ap (λ s. pattern_in s c) e)
 
 -- Patterns have at most four digits.
 unfoldable small : List ℕ → Bool
@@ -122,4 +122,4 @@ pattern-small c = go (code_sort c) where
   go arrows = small_at arrow_patterns (c - 0x11) refl
   go rules = small_at rule_patterns (c - 0x21) refl
   go edits = small_at edit_patterns (c - 0x30) refl
-  go noCode = omega arith
+  go no_code_def = omega arith

@@ -5,7 +5,7 @@ use Prim.Native.Nat.{suc, max, ◌≤◌}
 use native.Mathlib.Omega.{arith}
 use lib.ListN.{length}
 use Rattle.logic.specs.Syntax.{Sort, Expr}
-use Rattle.logic.specs.Arity.{Nullary, all·, none·, label·, nominal·, arrow_kind·, pair·, Unary, complement·, reversed·, node_in·, pair_in·, not_rule·, Binary, and·, or·, some·, every·, atLeast·, atMost·, union·, common·, minus·, ending_in·, sub_nodes·, sub_arrows·, both·, either·, build0, build1, build2, by_arity}
+use Rattle.logic.specs.Arity.{Nullary, all·, none·, label·, nominal·, arrow_kind·, pair·, Unary, complement·, reversed·, node_in·, pair_in·, not_rule·, Binary, and·, or·, some·, every·, at_least·, at_most·, union·, common·, minus·, ending_in·, sub_nodes·, sub_arrows·, both·, either·, build0, build1, build2, by_arity}
 use Rattle.logic.proofs.ArityLaws.{by_arity-0, by_arity-1, by_arity-2}
 use Rattle.text.specs.Code.{code, levels}
 use Rattle.text.specs.Heads.{head0, head1, head2}
@@ -33,8 +33,8 @@ code-2 and· x y = refl
 code-2 or· x y = refl
 code-2 some· x y = refl
 code-2 every· x y = refl
-code-2 (atLeast· m) x y = refl
-code-2 (atMost· m) x y = refl
+code-2 (at_least· m) x y = refl
+code-2 (at_most· m) x y = refl
 code-2 union· x y = refl
 code-2 common· x y = refl
 code-2 minus· x y = refl

@@ -4,7 +4,7 @@ use Prim.Native.Nat.{ℕ, zero, suc, ◌+◌, ◌-◌, ◌/◌, ◌%◌, ◌≤�
 use native.Mathlib.Decide.{dec_lt}
 use native.Mathlib.Omega.{arith}
 use Rattle.logic.specs.Syntax.{node, arrow, rule}
-use Rattle.logic.specs.Limits.{Kind, labelNumber, arrowNumber, nodeNumber, leastCount, mostCount}
+use Rattle.logic.specs.Limits.{Kind, label_number, arrow_number, node_number, least_count, most_count}
 use Rattle.text.specs.Reading.{Want, expr, edit, Format, operand, ◌>>=◌}
 use Rattle.text.specs.Patterns.{Item, nothing, takes, deeper, here, items, item_of, item_format, finished, pattern_format}
 
@@ -30,7 +30,7 @@ pub record IsNumber (x : ℕ) : Type 0 where
 
 pub is_number : (x : ℕ) → 3 ≤ x → x < 8 → IsNumber x
 unfolding item_of items
-is_number = each_from IsNumber 3 5 (((((tt, of labelNumber refl), of arrowNumber refl), of nodeNumber refl), of leastCount refl), of mostCount refl) where
+is_number = each_from IsNumber 3 5 (((((tt, of label_number refl), of arrow_number refl), of node_number refl), of least_count refl), of most_count refl) where
   of : {x : ℕ} (k : Kind) → item_of x ≡ takes k → IsNumber x
   of k e = record { kind = k; item-is = e }
 

@@ -12,7 +12,7 @@ use borrow.Author.Tests.{le-leb, lt-leb}
 use Rattle.logic.specs.Limits.{Kind, label_count, arrow_count, Ranges, fits}
 use Rattle.text.specs.declared.Stop.TheVariants.{Missing, OutOfRange}
 use Rattle.text.specs.declared.Turn.TheVariants.{Next, Stopped}
-use Rattle.text.specs.Reading.{Limits, number, Read, fault, outOfRange, follow}
+use Rattle.text.specs.Reading.{Limits, number, Read, fault, out_of_range, follow}
 use Rattle.text.specs.Patterns.{takes, items, item_of, item_format, finished, number_fits, stop_of, turn_of, turn_at}
 use Rattle.text.proofs.Items.{is_number}
 
@@ -28,7 +28,7 @@ module _ (text : List ℕ) (ρ : Limits) where
     next [] = ap Next (sym (add-one at))
     next (x ∷ t) = ap Next (sym (add-one at))
 
-    go : (b : Bool) (t : List ℕ) → turn_of {A = Unit {0}} (elim b as (λ z. Read (Unit {0})) [ true ↦ follow ρ t finished (suc at) | false ↦ fault outOfRange at ]) ≡ cond b (Next (at + 1)) (Stopped (OutOfRange at))
+    go : (b : Bool) (t : List ℕ) → turn_of {A = Unit {0}} (elim b as (λ z. Read (Unit {0})) [ true ↦ follow ρ t finished (suc at) | false ↦ fault out_of_range at ]) ≡ cond b (Next (at + 1)) (Stopped (OutOfRange at))
     go true t = next t
     go false t = refl
 

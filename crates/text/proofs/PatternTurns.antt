@@ -13,7 +13,7 @@ use borrow.Author.Tests.{lt-ltb, le-ltb, eqb-true, eqb-false}
 use Rattle.text.specs.declared.Stop.TheVariants.{Missing, WrongSort, TooDeep}
 use Rattle.text.specs.declared.Turn.{Turn}
 use Rattle.text.specs.declared.Turn.TheVariants.{Next, Stopped}
-use Rattle.text.specs.Reading.{Limits, Want, Thing, Format, operand, ◌>>=◌, Read, fault, tooDeep, codes, follow}
+use Rattle.text.specs.Reading.{Limits, Want, Thing, Format, operand, ◌>>=◌, Read, fault, too_deep, codes, follow}
 use Rattle.text.specs.Patterns.{item_of, pattern_of_def, item_format, finished, pattern_format, sort_of_def, stop_of, turn_of, turn_at, head_at}
 use Rattle.text.proofs.Compose.{Alike, alike-bind, alike-turns, and_then, turn-then}
 use Rattle.text.proofs.Items.{is-deeper, is-here, digit, here-pattern, end-pattern, pattern-opens, goes_on, item-then}
@@ -35,7 +35,7 @@ module _ (text : List ℕ) (ρ : Limits) where
   unfolding follow turn_of stop_of
   at_byte w d at c t = go (eqb (sort_of_def c) (digit w)) (eqb-true (sort_of_def c) (digit w)) (eqb-false (sort_of_def c) (digit w)) where
     opened : (b : Bool) (p : Format (Thing w)) → Alike p (pattern_format (pattern_of_def c) d)
-        → turn_of {A = Unit {0}} (elim b as (λ z. Read (Unit {0})) [ true ↦ follow ρ t (p >>= (λ e. finished)) (suc at) | false ↦ fault tooDeep at ])
+        → turn_of {A = Unit {0}} (elim b as (λ z. Read (Unit {0})) [ true ↦ follow ρ t (p >>= (λ e. finished)) (suc at) | false ↦ fault too_deep at ])
         ≡ cond b (turn_of (follow ρ t (pattern_format (pattern_of_def c) d) (suc at))) (Stopped (TooDeep at))
     opened true p a = alike-turns ρ (alike-bind tt a) t (suc at)
     opened false p a = refl

@@ -6,10 +6,10 @@ use Prim.Native.Nat.{ℕ, suc, ◌+◌, ◌≤◌}
 use native.Mathlib.Omega.{arith}
 use lib.ListN.{length}
 use lib.Dec.{T, leb, le→leb}
-use Rattle.logic.specs.Syntax.{Sort, node, arrow, rule, Expr, Edit, finish, addLabel, takeLabel, addArrow, takeArrow, choose}
-use Rattle.logic.specs.Arity.{Nullary, all·, none·, label·, nominal·, arrow_kind·, pair·, Unary, complement·, reversed·, node_in·, pair_in·, not_rule·, Binary, and·, or·, some·, every·, atLeast·, atMost·, union·, common·, minus·, ending_in·, sub_nodes·, sub_arrows·, both·, either·, build0, build1, build2, numbers0, numbers1, numbers2, by_arity}
+use Rattle.logic.specs.Syntax.{Sort, node, arrow, rule, Expr, Edit, finish, add_label, take_label, add_arrow, take_arrow, choose}
+use Rattle.logic.specs.Arity.{Nullary, all·, none·, label·, nominal·, arrow_kind·, pair·, Unary, complement·, reversed·, node_in·, pair_in·, not_rule·, Binary, and·, or·, some·, every·, at_least·, at_most·, union·, common·, minus·, ending_in·, sub_nodes·, sub_arrows·, both·, either·, build0, build1, build2, numbers0, numbers1, numbers2, by_arity}
 use Rattle.logic.proofs.ArityLaws.{Fit, range-0, range-1, range-2}
-use Rattle.logic.specs.Limits.{Kind, labelNumber, arrowNumber, nodeNumber, leastCount, mostCount, fits, InRange, EditInRange}
+use Rattle.logic.specs.Limits.{Kind, label_number, arrow_number, node_number, least_count, most_count, fits, InRange, EditInRange}
 use Rattle.text.specs.Code.{code, edit_code, levels, edit_levels}
 use Rattle.text.specs.Heads.{head0, head1, head2}
 use Rattle.text.proofs.HeadLaws.{code-0, code-1, code-2, levels-0, levels-1, levels-2}
@@ -50,18 +50,18 @@ module _ (l : Limits) where
     unfolding head0 build0 place_behind follow choice codes ◌>>=◌
     head-0 all· r f t at = opened d h _ _
     head-0 none· r f t at = opened d h _ _
-    head-0 (label· k) r f t at = opened d h _ _ ∙ fitting labelNumber k r.0 _ _
-    head-0 (nominal· i) r f t at = opened d h _ _ ∙ fitting nodeNumber i r.0 _ _
-    head-0 (arrow_kind· a) r f t at = opened d h _ _ ∙ fitting arrowNumber a r.0 _ _
-    head-0 (pair· i j) r f t at = opened d h _ _ ∙ fitting nodeNumber i r.0 _ _ ∙ fitting nodeNumber j r.1.0 _ _
+    head-0 (label· k) r f t at = opened d h _ _ ∙ fitting label_number k r.0 _ _
+    head-0 (nominal· i) r f t at = opened d h _ _ ∙ fitting node_number i r.0 _ _
+    head-0 (arrow_kind· a) r f t at = opened d h _ _ ∙ fitting arrow_number a r.0 _ _
+    head-0 (pair· i j) r f t at = opened d h _ _ ∙ fitting node_number i r.0 _ _ ∙ fitting node_number j r.1.0 _ _
 
     head-1 : {u v : Sort} (b : Unary u v) → Fit l.numbers (numbers1 b) → (f : Expr v → Format A) (t : List ℕ) (at : ℕ)
         → follow l (head1 b ++ t) (operand (expr v) d f) at ≡ follow l t (operand (expr u) (suc d) (λ x. f (build1 b x))) (place_behind (head1 b) at)
     unfolding head1 build1 place_behind follow choice codes ◌>>=◌
     head-1 complement· r f t at = opened d h _ _
     head-1 reversed· r f t at = opened d h _ _
-    head-1 (node_in· i) r f t at = opened d h _ _ ∙ fitting nodeNumber i r.0 _ _
-    head-1 (pair_in· i j) r f t at = opened d h _ _ ∙ fitting nodeNumber i r.0 _ _ ∙ fitting nodeNumber j r.1.0 _ _
+    head-1 (node_in· i) r f t at = opened d h _ _ ∙ fitting node_number i r.0 _ _
+    head-1 (pair_in· i j) r f t at = opened d h _ _ ∙ fitting node_number i r.0 _ _ ∙ fitting node_number j r.1.0 _ _
     head-1 not_rule· r f t at = opened d h _ _
 
     head-2 : {u v w : Sort} (b : Binary u v w) → Fit l.numbers (numbers2 b) → (f : Expr w → Format A) (t : List ℕ) (at : ℕ)
@@ -72,8 +72,8 @@ module _ (l : Limits) where
     head-2 or· r f t at = opened d h _ _
     head-2 some· r f t at = opened d h _ _
     head-2 every· r f t at = opened d h _ _
-    head-2 (atLeast· m) r f t at = opened d h _ _ ∙ fitting leastCount m r.0 _ _
-    head-2 (atMost· m) r f t at = opened d h _ _ ∙ fitting mostCount m r.0 _ _
+    head-2 (at_least· m) r f t at = opened d h _ _ ∙ fitting least_count m r.0 _ _
+    head-2 (at_most· m) r f t at = opened d h _ _ ∙ fitting most_count m r.0 _ _
     head-2 union· r f t at = opened d h _ _
     head-2 common· r f t at = opened d h _ _
     head-2 minus· r f t at = opened d h _ _
@@ -113,18 +113,18 @@ module _ (l : Limits) where
   edit-back : (Z : Edit) (d : ℕ) → d + edit_levels Z ≤ suc l.deepest → EditInRange l.numbers Z → Back edit d Z
   unfolding edit_code edit_levels EditInRange place_behind follow choice codes ◌>>=◌
   edit-back finish d h r A f t at = opened d (omega arith) _ _
-  edit-back (addLabel k E Z) d h r A f t at =
-      opened d (omega arith) _ _ ∙ fitting labelNumber k r.0 _ _
-      ∙ two (expr node) edit (suc d) d E Z (expr-back E (suc d) (omega arith) r.1) (edit-back Z d (omega arith) r.2) A (λ x y. f (addLabel k x y)) t (suc (suc at))
-  edit-back (takeLabel k E Z) d h r A f t at =
-      opened d (omega arith) _ _ ∙ fitting labelNumber k r.0 _ _
-      ∙ two (expr node) edit (suc d) d E Z (expr-back E (suc d) (omega arith) r.1) (edit-back Z d (omega arith) r.2) A (λ x y. f (takeLabel k x y)) t (suc (suc at))
-  edit-back (addArrow a R Z) d h r A f t at =
-      opened d (omega arith) _ _ ∙ fitting arrowNumber a r.0 _ _
-      ∙ two (expr arrow) edit (suc d) d R Z (expr-back R (suc d) (omega arith) r.1) (edit-back Z d (omega arith) r.2) A (λ x y. f (addArrow a x y)) t (suc (suc at))
-  edit-back (takeArrow a R Z) d h r A f t at =
-      opened d (omega arith) _ _ ∙ fitting arrowNumber a r.0 _ _
-      ∙ two (expr arrow) edit (suc d) d R Z (expr-back R (suc d) (omega arith) r.1) (edit-back Z d (omega arith) r.2) A (λ x y. f (takeArrow a x y)) t (suc (suc at))
+  edit-back (add_label k E Z) d h r A f t at =
+      opened d (omega arith) _ _ ∙ fitting label_number k r.0 _ _
+      ∙ two (expr node) edit (suc d) d E Z (expr-back E (suc d) (omega arith) r.1) (edit-back Z d (omega arith) r.2) A (λ x y. f (add_label k x y)) t (suc (suc at))
+  edit-back (take_label k E Z) d h r A f t at =
+      opened d (omega arith) _ _ ∙ fitting label_number k r.0 _ _
+      ∙ two (expr node) edit (suc d) d E Z (expr-back E (suc d) (omega arith) r.1) (edit-back Z d (omega arith) r.2) A (λ x y. f (take_label k x y)) t (suc (suc at))
+  edit-back (add_arrow a R Z) d h r A f t at =
+      opened d (omega arith) _ _ ∙ fitting arrow_number a r.0 _ _
+      ∙ two (expr arrow) edit (suc d) d R Z (expr-back R (suc d) (omega arith) r.1) (edit-back Z d (omega arith) r.2) A (λ x y. f (add_arrow a x y)) t (suc (suc at))
+  edit-back (take_arrow a R Z) d h r A f t at =
+      opened d (omega arith) _ _ ∙ fitting arrow_number a r.0 _ _
+      ∙ two (expr arrow) edit (suc d) d R Z (expr-back R (suc d) (omega arith) r.1) (edit-back Z d (omega arith) r.2) A (λ x y. f (take_arrow a x y)) t (suc (suc at))
   edit-back (choose K P Q Z) d h r A f t at =
       opened d (omega arith) _ _
       ∙ ap (λ z. follow l z (operand (expr rule) (suc d) (λ x. operand edit (suc d) (λ y. operand edit (suc d) (λ z. operand edit d (λ u. f (choose x y z u)))))) (suc at)) (regroup (code K ++ edit_code P) (edit_code Q) (edit_code Z) t)

@@ -12,7 +12,7 @@ use Rattle.answer.specs.Asked.{◌>>=◌, passed, refused}
 use Rattle.answer.proofs.Refusals.{Refuses, passes, refuses, asked-refuses, bind-refuses, wider}
 use Rattle.logic.specs.Syntax.{Expr, rule}
 use Rattle.logic.specs.Limits.{fits}
-use Rattle.text.specs.Reading.{Limits, Want, Thing, expr, edit, Format, done, number, operand, Entry, Fault, missing, wrongSort, tooDeep, outOfRange, Read, got, fault, codes, choice, follow, read_as}
+use Rattle.text.specs.Reading.{Limits, Want, Thing, expr, edit, Format, done, number, operand, Entry, Fault, missing, wrong_sort, too_deep, out_of_range, Read, got, fault, codes, choice, follow, read_as}
 use Rattle.text.specs.Reading as reading
 use Rattle.text.specs.Questions.{fault_number, most_rules, whole, read_rules, ask_book, ask_one, ask_edit}
 
@@ -43,9 +43,9 @@ module _ (l : Limits) {A : Type 0} where
 
 fault-refuses : {A : Type 0} {most : ℕ} (base : ℕ) (why : Fault) (p : ℕ) → p ≤ most → Refuses (base + 1) (base + 6) most {A = A} (refused (fault_number base why) p)
 fault-refuses base missing p h = refuses (base + 2) p (omega arith) (omega arith) h
-fault-refuses base wrongSort p h = refuses (base + 3) p (omega arith) (omega arith) h
-fault-refuses base tooDeep p h = refuses (base + 4) p (omega arith) (omega arith) h
-fault-refuses base outOfRange p h = refuses (base + 5) p (omega arith) (omega arith) h
+fault-refuses base wrong_sort p h = refuses (base + 3) p (omega arith) (omega arith) h
+fault-refuses base too_deep p h = refuses (base + 4) p (omega arith) (omega arith) h
+fault-refuses base out_of_range p h = refuses (base + 5) p (omega arith) (omega arith) h
 
 module _ (l : Limits) where
   rules-refuse : (m : ℕ) (t : List ℕ) (at : ℕ) {end : ℕ} → at + length t ≡ end → Refuses 11 16 end (read_rules l m t at)

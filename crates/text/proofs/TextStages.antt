@@ -14,7 +14,7 @@ use Rattle.text.specs.declared.Stop.{Stop}
 use Rattle.text.specs.declared.Turn.{Turn}
 use Rattle.text.specs.declared.Turn.TheVariants.{Next, Stopped}
 use Rattle.text.specs.Code.{code}
-use Rattle.text.specs.Reading.{most_rules, Limits, text_limits, Want, Thing, expr, operand, done, Fault, missing, wrongSort, tooDeep, outOfRange, Read, got, fault, follow, read_as}
+use Rattle.text.specs.Reading.{most_rules, Limits, text_limits, Want, Thing, expr, operand, done, Fault, missing, wrong_sort, too_deep, out_of_range, Read, got, fault, follow, read_as}
 use Rattle.text.specs.Questions.{fault_number, first, whole, read_rules, rules_end, ask_book, ask_first, ask_one, ask_rule_end, first_rule}
 use Rattle.text.specs.Patterns.{pattern_format, stop_of, turn_of, turn_at, turn_answer}
 use Rattle.text.proofs.Converse.{read-is-written}
@@ -27,9 +27,9 @@ use Rattle.text.proofs.Items.{digit, here-pattern, here-digit}
 stop-answer : (base : ℕ) (why : Fault) (p : ℕ) → turn_answer base (Stopped (stop_of why p)) ≡ refused (fault_number base why) p
 unfolding stop_of
 stop-answer base missing p = refl
-stop-answer base wrongSort p = refl
-stop-answer base tooDeep p = refl
-stop-answer base outOfRange p = refl
+stop-answer base wrong_sort p = refl
+stop-answer base too_deep p = refl
+stop-answer base out_of_range p = refl
 
 -- the answer to a turn, when turn and stop are given by equations
 pub answer-told : (base : ℕ) {t : Turn} {s s' : Stop} → t ≡ Stopped s → s ≡ s' → turn_answer base (Stopped s') ≡ turn_answer base t

@@ -1,6 +1,6 @@
 -- The codes of document 01 ("The code"), in prefix order: a code byte, its number bytes, its operands. Also their levels.
 use Rattle.std.specs.Prelude.{List, [], ◌∷◌, ◌++◌, ℕ, suc, max}
-use Rattle.logic.specs.Syntax.{Sort, rule, Expr, all, none, label, nominal, complement, and, or, some, every, at_least, at_most, arrow_kind, reversed, union, common, minus, ending_in, pair, sub_nodes, sub_arrows, node_in, pair_in, both, either, not_rule, Edit, finish, addLabel, takeLabel, addArrow, takeArrow, choose}
+use Rattle.logic.specs.Syntax.{Sort, rule, Expr, all, none, label, nominal, complement, and, or, some, every, at_least, at_most, arrow_kind, reversed, union, common, minus, ending_in, pair, sub_nodes, sub_arrows, node_in, pair_in, both, either, not_rule, Edit, finish, add_label, take_label, add_arrow, take_arrow, choose}
 use Rattle.logic.specs.Arity.{by_arity}
 
 unfoldable pub code : {s : Sort} → Expr s → List ℕ
@@ -32,10 +32,10 @@ code (not_rule K) = 0x27 ∷ code K
 
 unfoldable pub edit_code : Edit → List ℕ
 edit_code finish = 0x30 ∷ []
-edit_code (addLabel k E Z) = 0x31 ∷ k ∷ code E ++ edit_code Z
-edit_code (takeLabel k E Z) = 0x32 ∷ k ∷ code E ++ edit_code Z
-edit_code (addArrow a R Z) = 0x33 ∷ a ∷ code R ++ edit_code Z
-edit_code (takeArrow a R Z) = 0x34 ∷ a ∷ code R ++ edit_code Z
+edit_code (add_label k E Z) = 0x31 ∷ k ∷ code E ++ edit_code Z
+edit_code (take_label k E Z) = 0x32 ∷ k ∷ code E ++ edit_code Z
+edit_code (add_arrow a R Z) = 0x33 ∷ a ∷ code R ++ edit_code Z
+edit_code (take_arrow a R Z) = 0x34 ∷ a ∷ code R ++ edit_code Z
 edit_code (choose K P Q Z) = 0x35 ∷ code K ++ edit_code P ++ edit_code Q ++ edit_code Z
 
 -- The number of levels of an expression: its first code is level 1, an operand is one level deeper than its code.
@@ -45,10 +45,10 @@ levels e = by_arity (λ s e. ℕ) (λ s b. 1) (λ u t b x l. suc l) (λ u v t b 
 -- The number of levels of an edit: Z is at the level of its step.
 unfoldable pub edit_levels : Edit → ℕ
 edit_levels finish = 1
-edit_levels (addLabel k E Z) = max (suc (levels E)) (edit_levels Z)
-edit_levels (takeLabel k E Z) = max (suc (levels E)) (edit_levels Z)
-edit_levels (addArrow a R Z) = max (suc (levels R)) (edit_levels Z)
-edit_levels (takeArrow a R Z) = max (suc (levels R)) (edit_levels Z)
+edit_levels (add_label k E Z) = max (suc (levels E)) (edit_levels Z)
+edit_levels (take_label k E Z) = max (suc (levels E)) (edit_levels Z)
+edit_levels (add_arrow a R Z) = max (suc (levels R)) (edit_levels Z)
+edit_levels (take_arrow a R Z) = max (suc (levels R)) (edit_levels Z)
 edit_levels (choose K P Q Z) = max (suc (max (levels K) (max (edit_levels P) (edit_levels Q)))) (edit_levels Z)
 
 -- The bytes of a book: its rules, one after the other.

@@ -1,7 +1,7 @@
 -- The bytes of a code before its operands: the code byte, then its numbers.
 use Rattle.std.specs.Prelude.{List, ◌∷◌, map, ℕ}
 use Rattle.logic.specs.Syntax.{Sort}
-use Rattle.logic.specs.Arity.{Nullary, all·, none·, label·, nominal·, arrow_kind·, pair·, Unary, complement·, reversed·, node_in·, pair_in·, not_rule·, Binary, and·, or·, some·, every·, atLeast·, atMost·, union·, common·, minus·, ending_in·, sub_nodes·, sub_arrows·, both·, either·, numbers0, numbers1, numbers2}
+use Rattle.logic.specs.Arity.{Nullary, all·, none·, label·, nominal·, arrow_kind·, pair·, Unary, complement·, reversed·, node_in·, pair_in·, not_rule·, Binary, and·, or·, some·, every·, at_least·, at_most·, union·, common·, minus·, ending_in·, sub_nodes·, sub_arrows·, both·, either·, numbers0, numbers1, numbers2}
 
 abbrev pub byte0 : {s : Sort} → Nullary s → ℕ
 byte0 all· = 0x01
@@ -23,8 +23,8 @@ byte2 and· = 0x06
 byte2 or· = 0x07
 byte2 some· = 0x08
 byte2 every· = 0x09
-byte2 (atLeast· m) = 0x0A
-byte2 (atMost· m) = 0x0B
+byte2 (at_least· m) = 0x0A
+byte2 (at_most· m) = 0x0B
 byte2 union· = 0x13
 byte2 common· = 0x14
 byte2 minus· = 0x15

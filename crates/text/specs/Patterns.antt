@@ -2,14 +2,14 @@
 use Rattle.std.specs.Prelude.{Bool, true, ◌&&◌, cond, List, [], ◌∷◌, ℕ, suc, ◌+◌, ◌-◌, ◌/◌, ◌%◌, leb, ltb, eqb, length, get_or, drop}
 use Rattle.answer.specs.Asked.{Asked, passed, refused}
 use Rattle.logic.specs.Syntax.{node, arrow, rule}
-use Rattle.logic.specs.Limits.{Kind, labelNumber, arrowNumber, nodeNumber, leastCount, mostCount, Ranges, fits}
+use Rattle.logic.specs.Limits.{Kind, label_number, arrow_number, node_number, least_count, most_count, Ranges, fits}
 use Rattle.text.specs.declared.Limits as declared
 use Rattle.text.specs.declared.Stop.{Stop}
 use Rattle.text.specs.declared.Stop.TheVariants.{Missing, WrongSort, TooDeep, OutOfRange}
 use Rattle.text.specs.declared.Turn.{Turn}
 use Rattle.text.specs.declared.Turn.TheVariants.{Next, Stopped}
 use Rattle.text.specs.Questions.{fault_number}
-use Rattle.text.specs.Reading.{Limits, Want, expr, edit, Format, done, number, operand, Fault, missing, wrongSort, tooDeep, outOfRange, Read, got, fault, follow}
+use Rattle.text.specs.Reading.{Limits, Want, expr, edit, Format, done, number, operand, Fault, missing, wrong_sort, too_deep, out_of_range, Read, got, fault, follow}
 
 -- What can follow a code: nothing, which ends its pattern; a number of a kind; a thing one level deeper; a thing at the code's own level,
 -- which also ends its pattern.
@@ -23,7 +23,7 @@ pub data Item : Type 0 where
 unfoldable pub items : List Item
 items =
     nothing ∷ nothing ∷ nothing
-    ∷ takes labelNumber ∷ takes arrowNumber ∷ takes nodeNumber ∷ takes leastCount ∷ takes mostCount
+    ∷ takes label_number ∷ takes arrow_number ∷ takes node_number ∷ takes least_count ∷ takes most_count
     ∷ deeper (expr node) ∷ deeper (expr arrow) ∷ deeper (expr rule) ∷ deeper edit
     ∷ here (expr node) ∷ here (expr arrow) ∷ here (expr rule) ∷ here edit
     ∷ []
@@ -81,14 +81,14 @@ edit_patterns =
 
 -- The sort of a code byte.
 pub data CodeSort : Type 0 where
-  nodes arrows rules edits noCode : CodeSort
+  nodes arrows rules edits no_code_def : CodeSort
 
 unfoldable pub code_sort : ℕ → CodeSort
 code_sort c =
     cond (leb 0x01 c && leb c 0x0B) nodes
     (cond (leb 0x11 c && leb c 0x17) arrows
     (cond (leb 0x21 c && leb c 0x27) rules
-    (cond (leb 0x30 c && leb c 0x35) edits noCode)))
+    (cond (leb 0x30 c && leb c 0x35) edits no_code_def)))
 
 -- The pattern of a code of a sort; the sort as the digit of an item at the code's own level. Both are 0 if the byte is not a code.
 unfoldable pub pattern_in : CodeSort → ℕ → ℕ
@@ -96,14 +96,14 @@ pattern_in nodes c = get_or node_patterns (c - 0x01) 0
 pattern_in arrows c = get_or arrow_patterns (c - 0x11) 0
 pattern_in rules c = get_or rule_patterns (c - 0x21) 0
 pattern_in edits c = get_or edit_patterns (c - 0x30) 0
-pattern_in noCode c = 0
+pattern_in no_code_def c = 0
 
 unfoldable pub sort_digit : CodeSort → ℕ
 sort_digit nodes = 0xC
 sort_digit arrows = 0xD
 sort_digit rules = 0xE
 sort_digit edits = 0xF
-sort_digit noCode = 0
+sort_digit no_code_def = 0
 
 abbrev pub pattern_of_def : ℕ → ℕ
 pattern_of_def c = pattern_in (code_sort c) c
@@ -139,9 +139,9 @@ number_fits r (here w) x = true
 -- The code's view of a reading: the next place, or the fault and its place.
 unfoldable pub stop_of : Fault → ℕ → Stop
 stop_of missing p = Missing p
-stop_of wrongSort p = WrongSort p
-stop_of tooDeep p = TooDeep p
-stop_of outOfRange p = OutOfRange p
+stop_of wrong_sort p = WrongSort p
+stop_of too_deep p = TooDeep p
+stop_of out_of_range p = OutOfRange p
 
 unfoldable pub turn_of : {A : Type 0} → Read A → Turn
 turn_of (got a rest p) = Next p
@@ -151,9 +151,9 @@ turn_of (fault why p) = Stopped (stop_of why p)
 abbrev pub turn_answer : ℕ → Turn → Asked (Unit {0})
 turn_answer base (Next p) = passed tt
 turn_answer base (Stopped (Missing p)) = refused (fault_number base missing) p
-turn_answer base (Stopped (WrongSort p)) = refused (fault_number base wrongSort) p
-turn_answer base (Stopped (TooDeep p)) = refused (fault_number base tooDeep) p
-turn_answer base (Stopped (OutOfRange p)) = refused (fault_number base outOfRange) p
+turn_answer base (Stopped (WrongSort p)) = refused (fault_number base wrong_sort) p
+turn_answer base (Stopped (TooDeep p)) = refused (fault_number base too_deep) p
+turn_answer base (Stopped (OutOfRange p)) = refused (fault_number base out_of_range) p
 
 -- The turn that a format gives when followed from a place of a text.
 unfoldable pub turn_at : {A : Type 0} → List ℕ → Limits → Format A → ℕ → Turn

@@ -6,14 +6,14 @@ use Rattle.logic.specs.Limits.{max_nodes}
 use Rattle.text.specs.Code.{code}
 use Rattle.text.specs.Part.{Part}
 pub use Rattle.text.specs.Reading.{most_rules}
-use Rattle.text.specs.Reading.{Limits, text_limits, Want, Thing, expr, edit, Fault, missing, wrongSort, tooDeep, outOfRange, Read, got, fault, read_as}
+use Rattle.text.specs.Reading.{Limits, text_limits, Want, Thing, expr, edit, Fault, missing, wrong_sort, too_deep, out_of_range, Read, got, fault, read_as}
 
 -- The number of a fault: 12 to 15 in a book (base 10), 22 to 25 in an edit (base 20).
 abbrev pub fault_number : ℕ → Fault → ℕ
 fault_number base missing = base + 2
-fault_number base wrongSort = base + 3
-fault_number base tooDeep = base + 4
-fault_number base outOfRange = base + 5
+fault_number base wrong_sort = base + 3
+fault_number base too_deep = base + 4
+fault_number base out_of_range = base + 5
 
 -- What is read at the start of a text, whatever follows.
 unfoldable pub first : {A : Type 0} → Read A → Asked A

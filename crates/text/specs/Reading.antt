@@ -2,8 +2,8 @@
 use Rattle.std.proofs.Math.Bool.{true, false}
 use mathlib.Core.List.{List, [], ◌∷◌}
 use Rattle.std.specs.Prelude.{ℕ, suc, leb, eqb}
-use Rattle.logic.specs.Syntax.{Sort, node, arrow, rule, Expr, all, none, label, nominal, complement, and, or, some, every, at_least, at_most, arrow_kind, reversed, union, common, minus, ending_in, pair, sub_nodes, sub_arrows, node_in, pair_in, both, either, not_rule, Edit, finish, addLabel, takeLabel, addArrow, takeArrow, choose}
-use Rattle.logic.specs.Limits.{Kind, labelNumber, arrowNumber, nodeNumber, leastCount, mostCount, Ranges, ranges, former_ranges, fits}
+use Rattle.logic.specs.Syntax.{Sort, node, arrow, rule, Expr, all, none, label, nominal, complement, and, or, some, every, at_least, at_most, arrow_kind, reversed, union, common, minus, ending_in, pair, sub_nodes, sub_arrows, node_in, pair_in, both, either, not_rule, Edit, finish, add_label, take_label, add_arrow, take_arrow, choose}
+use Rattle.logic.specs.Limits.{Kind, label_number, arrow_number, node_number, least_count, most_count, Ranges, ranges, former_ranges, fits}
 
 -- Document 01's limits: the bytes and levels of a book or an edit, the rules of a book, the bytes and levels of a carried book.
 abbrev pub longest_text : ℕ
@@ -85,47 +85,47 @@ module _ (l : ℕ) where
   codes (expr node) =
       0x01 ⇒ done all
       ∷ 0x02 ⇒ done none
-      ∷ 0x03 ⇒ (do k ← num labelNumber; done (label k))
-      ∷ 0x04 ⇒ (do i ← num nodeNumber; done (nominal i))
+      ∷ 0x03 ⇒ (do k ← num label_number; done (label k))
+      ∷ 0x04 ⇒ (do i ← num node_number; done (nominal i))
       ∷ 0x05 ⇒ (do E ← sub (expr node); done (complement E))
       ∷ 0x06 ⇒ (do E ← sub (expr node); F ← sub (expr node); done (and E F))
       ∷ 0x07 ⇒ (do E ← sub (expr node); F ← sub (expr node); done (or E F))
       ∷ 0x08 ⇒ (do R ← sub (expr arrow); E ← sub (expr node); done (some R E))
       ∷ 0x09 ⇒ (do R ← sub (expr arrow); E ← sub (expr node); done (every R E))
-      ∷ 0x0A ⇒ (do m ← num leastCount; R ← sub (expr arrow); E ← sub (expr node); done (at_least m R E))
-      ∷ 0x0B ⇒ (do m ← num mostCount; R ← sub (expr arrow); E ← sub (expr node); done (at_most m R E))
+      ∷ 0x0A ⇒ (do m ← num least_count; R ← sub (expr arrow); E ← sub (expr node); done (at_least m R E))
+      ∷ 0x0B ⇒ (do m ← num most_count; R ← sub (expr arrow); E ← sub (expr node); done (at_most m R E))
       ∷ []
   codes (expr arrow) =
-      0x11 ⇒ (do a ← num arrowNumber; done (arrow_kind a))
+      0x11 ⇒ (do a ← num arrow_number; done (arrow_kind a))
       ∷ 0x12 ⇒ (do R ← sub (expr arrow); done (reversed R))
       ∷ 0x13 ⇒ (do R ← sub (expr arrow); S ← sub (expr arrow); done (union R S))
       ∷ 0x14 ⇒ (do R ← sub (expr arrow); S ← sub (expr arrow); done (common R S))
       ∷ 0x15 ⇒ (do R ← sub (expr arrow); S ← sub (expr arrow); done (minus R S))
       ∷ 0x16 ⇒ (do R ← sub (expr arrow); E ← sub (expr node); done (ending_in R E))
-      ∷ 0x17 ⇒ (do i ← num nodeNumber; j ← num nodeNumber; done (pair i j))
+      ∷ 0x17 ⇒ (do i ← num node_number; j ← num node_number; done (pair i j))
       ∷ []
   codes (expr rule) =
       0x21 ⇒ (do E ← sub (expr node); F ← sub (expr node); done (sub_nodes E F))
       ∷ 0x22 ⇒ (do R ← sub (expr arrow); S ← sub (expr arrow); done (sub_arrows R S))
-      ∷ 0x23 ⇒ (do i ← num nodeNumber; E ← sub (expr node); done (node_in i E))
-      ∷ 0x24 ⇒ (do i ← num nodeNumber; j ← num nodeNumber; R ← sub (expr arrow); done (pair_in i j R))
+      ∷ 0x23 ⇒ (do i ← num node_number; E ← sub (expr node); done (node_in i E))
+      ∷ 0x24 ⇒ (do i ← num node_number; j ← num node_number; R ← sub (expr arrow); done (pair_in i j R))
       ∷ 0x25 ⇒ (do K ← sub (expr rule); L ← sub (expr rule); done (both K L))
       ∷ 0x26 ⇒ (do K ← sub (expr rule); L ← sub (expr rule); done (either K L))
       ∷ 0x27 ⇒ (do K ← sub (expr rule); done (not_rule K))
       ∷ []
   codes edit =
       0x30 ⇒ done finish
-      ∷ 0x31 ⇒ (do k ← num labelNumber; E ← sub (expr node); Z ← operand edit l done; done (addLabel k E Z))
-      ∷ 0x32 ⇒ (do k ← num labelNumber; E ← sub (expr node); Z ← operand edit l done; done (takeLabel k E Z))
-      ∷ 0x33 ⇒ (do a ← num arrowNumber; R ← sub (expr arrow); Z ← operand edit l done; done (addArrow a R Z))
-      ∷ 0x34 ⇒ (do a ← num arrowNumber; R ← sub (expr arrow); Z ← operand edit l done; done (takeArrow a R Z))
+      ∷ 0x31 ⇒ (do k ← num label_number; E ← sub (expr node); Z ← operand edit l done; done (add_label k E Z))
+      ∷ 0x32 ⇒ (do k ← num label_number; E ← sub (expr node); Z ← operand edit l done; done (take_label k E Z))
+      ∷ 0x33 ⇒ (do a ← num arrow_number; R ← sub (expr arrow); Z ← operand edit l done; done (add_arrow a R Z))
+      ∷ 0x34 ⇒ (do a ← num arrow_number; R ← sub (expr arrow); Z ← operand edit l done; done (take_arrow a R Z))
       ∷ 0x35 ⇒ (do K ← sub (expr rule); P ← sub edit; Q ← sub edit; Z ← operand edit l done; done (choose K P Q Z))
       ∷ []
 
 -- The question at which reading stops: is a byte there, is its code of the sort wanted, is its level within the limit,
 -- is the number in range?
 pub data Fault : Type 0 where
-  missing wrongSort tooDeep outOfRange : Fault
+  missing wrong_sort too_deep out_of_range : Fault
 
 -- What was read, with the bytes after it and their place; or the first fault and its place.
 pub data Read (A : Type 0) : Type 0 where
@@ -145,9 +145,9 @@ module _ (l : Limits) where
   follow [] (number k f) at = fault missing at
   follow [] (operand w d f) at = fault missing at
   follow (x ∷ t) (done a) at = got a (x ∷ t) at
-  follow (x ∷ t) (number k f) at = elim (fits l.numbers k x) [ true ↦ follow t (f x) (suc at) | false ↦ fault outOfRange at ]
+  follow (x ∷ t) (number k f) at = elim (fits l.numbers k x) [ true ↦ follow t (f x) (suc at) | false ↦ fault out_of_range at ]
   follow (c ∷ t) (operand w d f) at =
-      choice c (codes d w) (λ p. elim (leb d l.deepest) [ true ↦ follow t (p >>= f) (suc at) | false ↦ fault tooDeep at ]) (fault wrongSort at)
+      choice c (codes d w) (λ p. elim (leb d l.deepest) [ true ↦ follow t (p >>= f) (suc at) | false ↦ fault too_deep at ]) (fault wrong_sort at)
 
   -- The thing at the start of a text, with its first code at level 1.
   abbrev pub read_as : (w : Want) → List ℕ → ℕ → Read (Thing w)

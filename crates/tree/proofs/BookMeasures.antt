@@ -6,7 +6,7 @@ use Prim.Native.Nat.{ℕ, suc, ◌+◌, ◌*◌, max}
 use native.Mathlib.Omega.{arith}
 use native.Mathlib.Nat.{add-mul}
 use lib.ListN.{length, length-append}
-use Rattle.logic.specs.Syntax.{rule, Expr, Edit, finish, addLabel, takeLabel, addArrow, takeArrow, choose}
+use Rattle.logic.specs.Syntax.{rule, Expr, Edit, finish, add_label, take_label, add_arrow, take_arrow, choose}
 use Rattle.logic.specs.Carry.{carry}
 use Rattle.text.specs.Code.{code, book_code, book_levels}
 use Rattle.tree.specs.Tree.{same, under, tree}
@@ -68,10 +68,10 @@ chosen-together r s K T U T' U' =
 pub back-together : (r s : ℕ) (Z : Edit) (M N : Measure) → back (r + s) Z (together M N) ≡ together (back r Z M) (back s Z N)
 unfolding back
 back-together r s finish M N = refl
-back-together r s (addLabel k E Z) M N = ap (substituted 0x03 k 1 (measure (tree E))) (back-together r s Z M N) ∙ substituted-together 0x03 k 1 (measure (tree E)) (back r Z M) (back s Z N)
-back-together r s (takeLabel k E Z) M N = ap (substituted 0x03 k 2 (measure (tree E))) (back-together r s Z M N) ∙ substituted-together 0x03 k 2 (measure (tree E)) (back r Z M) (back s Z N)
-back-together r s (addArrow a R Z) M N = ap (substituted 0x11 a 1 (measure (tree R))) (back-together r s Z M N) ∙ substituted-together 0x11 a 1 (measure (tree R)) (back r Z M) (back s Z N)
-back-together r s (takeArrow a R Z) M N = ap (substituted 0x11 a 1 (measure (tree R))) (back-together r s Z M N) ∙ substituted-together 0x11 a 1 (measure (tree R)) (back r Z M) (back s Z N)
+back-together r s (add_label k E Z) M N = ap (substituted 0x03 k 1 (measure (tree E))) (back-together r s Z M N) ∙ substituted-together 0x03 k 1 (measure (tree E)) (back r Z M) (back s Z N)
+back-together r s (take_label k E Z) M N = ap (substituted 0x03 k 2 (measure (tree E))) (back-together r s Z M N) ∙ substituted-together 0x03 k 2 (measure (tree E)) (back r Z M) (back s Z N)
+back-together r s (add_arrow a R Z) M N = ap (substituted 0x11 a 1 (measure (tree R))) (back-together r s Z M N) ∙ substituted-together 0x11 a 1 (measure (tree R)) (back r Z M) (back s Z N)
+back-together r s (take_arrow a R Z) M N = ap (substituted 0x11 a 1 (measure (tree R))) (back-together r s Z M N) ∙ substituted-together 0x11 a 1 (measure (tree R)) (back r Z M) (back s Z N)
 back-together r s (choose K P Q Z) M N =
     ap₂ (chosen (r + s) (measure (tree K))) (ap (back (r + s) P) (back-together r s Z M N) ∙ back-together r s P (back r Z M) (back s Z N)) (ap (back (r + s) Q) (back-together r s Z M N) ∙ back-together r s Q (back r Z M) (back s Z N))
     ∙ chosen-together r s (measure (tree K)) (back r P (back r Z M)) (back s P (back s Z N)) (back r Q (back r Z M)) (back s Q (back s Z N))

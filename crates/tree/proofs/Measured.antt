@@ -7,7 +7,7 @@ use native.Mathlib.Omega.{arith}
 use native.Mathlib.Nat.{zero-max, max-zero, suc-max-suc}
 use lib.Dec.{eqb}
 use borrow.Author.Tests.{eq-eqb, ne_eqb, eqb-true, eqb-false}
-use Rattle.logic.specs.Syntax.{rule, Expr, label, complement, and, or, arrow_kind, union, minus, Edit, finish, addLabel, takeLabel, addArrow, takeArrow, choose}
+use Rattle.logic.specs.Syntax.{rule, Expr, label, complement, and, or, arrow_kind, union, minus, Edit, finish, add_label, take_label, add_arrow, take_arrow, choose}
 use Rattle.logic.specs.Carry.{carry}
 use Rattle.logic.specs.Arity.{by_arity}
 use Rattle.text.specs.Heads.{head1, head2}
@@ -210,10 +210,10 @@ choice-measure K T U = same-measure (omega arith) (omega arith) (λ c k. omega a
 pub measured : (Z : Edit) (K : Expr rule) → measure (tree (carry Z K)) ≡ back 1 Z (measure (tree K))
 unfolding carry back tree by_arity bare head1 head2
 measured finish K = refl
-measured (addLabel k E Z) K = ap measure (tree-put_label k (or (label k) E) (carry Z K)) ∙ plain_step 0x07 0x03 k (tree E) (tree (carry Z K)) ∙ ap (substituted 0x03 k 1 (measure (tree E))) (measured Z K)
-measured (takeLabel k E Z) K = ap measure (tree-put_label k (and (label k) (complement E)) (carry Z K)) ∙ not_step 0x03 k (tree E) (tree (carry Z K)) ∙ ap (substituted 0x03 k 2 (measure (tree E))) (measured Z K)
-measured (addArrow a R Z) K = ap measure (tree-put_arrow a (union (arrow_kind a) R) (carry Z K)) ∙ plain_step 0x13 0x11 a (tree R) (tree (carry Z K)) ∙ ap (substituted 0x11 a 1 (measure (tree R))) (measured Z K)
-measured (takeArrow a R Z) K = ap measure (tree-put_arrow a (minus (arrow_kind a) R) (carry Z K)) ∙ plain_step 0x15 0x11 a (tree R) (tree (carry Z K)) ∙ ap (substituted 0x11 a 1 (measure (tree R))) (measured Z K)
+measured (add_label k E Z) K = ap measure (tree-put_label k (or (label k) E) (carry Z K)) ∙ plain_step 0x07 0x03 k (tree E) (tree (carry Z K)) ∙ ap (substituted 0x03 k 1 (measure (tree E))) (measured Z K)
+measured (take_label k E Z) K = ap measure (tree-put_label k (and (label k) (complement E)) (carry Z K)) ∙ not_step 0x03 k (tree E) (tree (carry Z K)) ∙ ap (substituted 0x03 k 2 (measure (tree E))) (measured Z K)
+measured (add_arrow a R Z) K = ap measure (tree-put_arrow a (union (arrow_kind a) R) (carry Z K)) ∙ plain_step 0x13 0x11 a (tree R) (tree (carry Z K)) ∙ ap (substituted 0x11 a 1 (measure (tree R))) (measured Z K)
+measured (take_arrow a R Z) K = ap measure (tree-put_arrow a (minus (arrow_kind a) R) (carry Z K)) ∙ plain_step 0x15 0x11 a (tree R) (tree (carry Z K)) ∙ ap (substituted 0x11 a 1 (measure (tree R))) (measured Z K)
 measured (choose K₁ P Q Z) K =
     choice-measure (tree K₁) (tree (carry P (carry Z K))) (tree (carry Q (carry Z K)))
     ∙ ap₂ (chosen 1 (measure (tree K₁))) (measured P (carry Z K) ∙ ap (back 1 P) (measured Z K)) (measured Q (carry Z K) ∙ ap (back 1 Q) (measured Z K))

@@ -6,7 +6,7 @@ use Prim.Native.Nat.{ℕ, ◌+◌}
 use lib.Dec.{eqb}
 use borrow.Author.Tests.{eqb-true}
 use Rattle.tree.proofs.Measured.{same-eq}
-use Rattle.logic.specs.Syntax.{node, arrow, rule, Expr, label, complement, and, or, arrow_kind, union, minus, Edit, finish, addLabel, takeLabel, addArrow, takeArrow, choose}
+use Rattle.logic.specs.Syntax.{node, arrow, rule, Expr, label, complement, and, or, arrow_kind, union, minus, Edit, finish, add_label, take_label, add_arrow, take_arrow, choose}
 use Rattle.logic.specs.Carry.{carry, followed_by}
 use Rattle.logic.specs.Arity.{by_arity}
 use Rattle.logic.proofs.Theorem.{carry_choose}
@@ -55,19 +55,19 @@ written-code Z K = unfold written env in ap tree_code (graft-name (tree (carry Z
 pub written-finish : (σ : List Substitution) (K : Expr rule) → written σ finish K ≡ shown σ K
 written-finish σ K = unfold written shown carry in refl
 
-pub written-add_label : (σ : List Substitution) (k : ℕ) (E : Expr node) (Z : Edit) (K : Expr rule) → written σ (addLabel k E Z) K ≡ written (record { op = 0x31; number = k; what = tree E } ∷ σ) Z K
+pub written-add_label : (σ : List Substitution) (k : ℕ) (E : Expr node) (Z : Edit) (K : Expr rule) → written σ (add_label k E Z) K ≡ written (record { op = 0x31; number = k; what = tree E } ∷ σ) Z K
 unfolding written carry tree by_arity bare head1 head2 graft
 written-add_label σ k E Z K = ap tree_code (ap (graft (env σ)) (tree-put_label k (or (label k) E) (carry Z K)) ∙ under-step σ (record { op = 0x31; number = k; what = tree E }) (tree (or (label k) E)) refl (tree (carry Z K)))
 
-pub written-take_label : (σ : List Substitution) (k : ℕ) (E : Expr node) (Z : Edit) (K : Expr rule) → written σ (takeLabel k E Z) K ≡ written (record { op = 0x32; number = k; what = tree E } ∷ σ) Z K
+pub written-take_label : (σ : List Substitution) (k : ℕ) (E : Expr node) (Z : Edit) (K : Expr rule) → written σ (take_label k E Z) K ≡ written (record { op = 0x32; number = k; what = tree E } ∷ σ) Z K
 unfolding written carry tree by_arity bare head1 head2 graft
 written-take_label σ k E Z K = ap tree_code (ap (graft (env σ)) (tree-put_label k (and (label k) (complement E)) (carry Z K)) ∙ under-step σ (record { op = 0x32; number = k; what = tree E }) (tree (and (label k) (complement E))) refl (tree (carry Z K)))
 
-pub written-add_arrow : (σ : List Substitution) (a : ℕ) (R : Expr arrow) (Z : Edit) (K : Expr rule) → written σ (addArrow a R Z) K ≡ written (record { op = 0x33; number = a; what = tree R } ∷ σ) Z K
+pub written-add_arrow : (σ : List Substitution) (a : ℕ) (R : Expr arrow) (Z : Edit) (K : Expr rule) → written σ (add_arrow a R Z) K ≡ written (record { op = 0x33; number = a; what = tree R } ∷ σ) Z K
 unfolding written carry tree by_arity bare head1 head2 graft
 written-add_arrow σ a R Z K = ap tree_code (ap (graft (env σ)) (tree-put_arrow a (union (arrow_kind a) R) (carry Z K)) ∙ under-step σ (record { op = 0x33; number = a; what = tree R }) (tree (union (arrow_kind a) R)) refl (tree (carry Z K)))
 
-pub written-take_arrow : (σ : List Substitution) (a : ℕ) (R : Expr arrow) (Z : Edit) (K : Expr rule) → written σ (takeArrow a R Z) K ≡ written (record { op = 0x34; number = a; what = tree R } ∷ σ) Z K
+pub written-take_arrow : (σ : List Substitution) (a : ℕ) (R : Expr arrow) (Z : Edit) (K : Expr rule) → written σ (take_arrow a R Z) K ≡ written (record { op = 0x34; number = a; what = tree R } ∷ σ) Z K
 unfolding written carry tree by_arity bare head1 head2 graft
 written-take_arrow σ a R Z K = ap tree_code (ap (graft (env σ)) (tree-put_arrow a (minus (arrow_kind a) R) (carry Z K)) ∙ under-step σ (record { op = 0x34; number = a; what = tree R }) (tree (minus (arrow_kind a) R)) refl (tree (carry Z K)))
 

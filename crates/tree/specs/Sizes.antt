@@ -1,7 +1,7 @@
 -- Measures a carried rule without writing its text. Of a text it keeps only the length, the levels, and for each name how often and how deep it occurs.
 -- A book of r rules is measured as one text.
 use Rattle.std.specs.Prelude.{cond, List, [], ◌∷◌, ℕ, suc, ◌+◌, ◌*◌, max, min}
-use Rattle.logic.specs.Syntax.{rule, Expr, Edit, finish, addLabel, takeLabel, addArrow, takeArrow, choose}
+use Rattle.logic.specs.Syntax.{rule, Expr, Edit, finish, add_label, take_label, add_arrow, take_arrow, choose}
 use Rattle.text.specs.Reading.{longest_carried}
 use Rattle.tree.specs.Tree.{Tree, same, size, height, count, under, deep, tree}
 
@@ -36,10 +36,10 @@ chosen r K T U = record {
 -- The measure of r rules carried back through an edit, from their measure M.
 unfoldable pub back : ℕ → Edit → Measure → Measure
 back r finish M = M
-back r (addLabel k E Z) M = substituted 0x03 k 1 (measure (tree E)) (back r Z M)
-back r (takeLabel k E Z) M = substituted 0x03 k 2 (measure (tree E)) (back r Z M)
-back r (addArrow a R Z) M = substituted 0x11 a 1 (measure (tree R)) (back r Z M)
-back r (takeArrow a R Z) M = substituted 0x11 a 1 (measure (tree R)) (back r Z M)
+back r (add_label k E Z) M = substituted 0x03 k 1 (measure (tree E)) (back r Z M)
+back r (take_label k E Z) M = substituted 0x03 k 2 (measure (tree E)) (back r Z M)
+back r (add_arrow a R Z) M = substituted 0x11 a 1 (measure (tree R)) (back r Z M)
+back r (take_arrow a R Z) M = substituted 0x11 a 1 (measure (tree R)) (back r Z M)
 back r (choose K P Q Z) M = chosen r (measure (tree K)) (back r P (back r Z M)) (back r Q (back r Z M))
 
 -- A book measured as one text: the measures of its rules taken together.

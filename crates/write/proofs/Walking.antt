@@ -8,7 +8,7 @@ use lib.Dec.{eqb}
 use lib.ListN.{length, get_or, set}
 use lib.Seq.{get_or-set_same}
 use borrow.Author.Tests.{eqb-true, eqb-false, ne_eqb}
-use Rattle.logic.specs.Syntax.{rule, Expr, Edit, finish, addLabel, takeLabel, addArrow, takeArrow, choose}
+use Rattle.logic.specs.Syntax.{rule, Expr, Edit, finish, add_label, take_label, add_arrow, take_arrow, choose}
 use Rattle.logic.specs.Carry.{followed_by}
 use Rattle.logic.proofs.Bools.{true-false}
 use Rattle.text.specs.Code.{edit_code}
@@ -52,10 +52,10 @@ one_code text at s e l t a =
 written_step : (Z : Edit) → (edit_tag Z ≡ 0x30 → ⊥) → (edit_tag Z ≡ 0x35 → ⊥) → (σ : List Substitution) (Ws : List Edit) (K : Expr rule) → written σ (followed Z Ws) K ≡ written (step_of Z ∷ σ) (followed (behind_step Z) Ws) K
 unfolding followed_by behind_step
 written_step finish n m σ Ws K = absurd (n refl)
-written_step (addLabel k E Z) n m σ Ws K = ap (λ (Y : Edit). written σ Y K) (followed-through (addLabel k E) (λ P Y. refl) Z Ws) ∙ written-add_label σ k E (followed Z Ws) K
-written_step (takeLabel k E Z) n m σ Ws K = ap (λ (Y : Edit). written σ Y K) (followed-through (takeLabel k E) (λ P Y. refl) Z Ws) ∙ written-take_label σ k E (followed Z Ws) K
-written_step (addArrow a R Z) n m σ Ws K = ap (λ (Y : Edit). written σ Y K) (followed-through (addArrow a R) (λ P Y. refl) Z Ws) ∙ written-add_arrow σ a R (followed Z Ws) K
-written_step (takeArrow a R Z) n m σ Ws K = ap (λ (Y : Edit). written σ Y K) (followed-through (takeArrow a R) (λ P Y. refl) Z Ws) ∙ written-take_arrow σ a R (followed Z Ws) K
+written_step (add_label k E Z) n m σ Ws K = ap (λ (Y : Edit). written σ Y K) (followed-through (add_label k E) (λ P Y. refl) Z Ws) ∙ written-add_label σ k E (followed Z Ws) K
+written_step (take_label k E Z) n m σ Ws K = ap (λ (Y : Edit). written σ Y K) (followed-through (take_label k E) (λ P Y. refl) Z Ws) ∙ written-take_label σ k E (followed Z Ws) K
+written_step (add_arrow a R Z) n m σ Ws K = ap (λ (Y : Edit). written σ Y K) (followed-through (add_arrow a R) (λ P Y. refl) Z Ws) ∙ written-add_arrow σ a R (followed Z Ws) K
+written_step (take_arrow a R Z) n m σ Ws K = ap (λ (Y : Edit). written σ Y K) (followed-through (take_arrow a R) (λ P Y. refl) Z Ws) ∙ written-take_arrow σ a R (followed Z Ws) K
 written_step (choose K P Q Z) n m σ Ws L = absurd (m refl)
 
 module _ {edit stack behind : List ℕ} {at h d : ℕ} where

@@ -25,5 +25,6 @@ exchange_blocks-requires-5 c = (six.of-2, c.exchange_blocks-4.ensures.1)
 
 pub exchange_blocks-requires-6 : goal.exchange_blocks-requires-6
 exchange_blocks-requires-6 c = (six.of-1, c.exchange_blocks-5.ensures.1)
+
 pub returns : goal.returns
 returns c = (done c, c.exchange_blocks-6.ensures.1)
