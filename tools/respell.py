@@ -15,7 +15,7 @@ IDENT = r"[^\s(){}.,;:\[\]⌜⌝λ@]+"
 DEFINED = re.compile(r"^(\s*)((?:(?:abbrev|pub|unfoldable|record|data|ruleset)\s+)*)(" + IDENT + r")\s*(?:\{|\(|:(?!:)|=)")
 SEVERAL = re.compile(r"^\s+((?:[A-Za-z][\w'·\-]* )+): ")  # constructors of one type
 TOKEN = re.compile(r"[A-Za-z_][\w'·\-]*")
-FIELDS = {"inUse"}  # a field, always written with its dot
+APART = {"inUse", "logBlocks"}  # a field, always written with its dot, and a definition that only a path is spelled like
 
 
 def antt(kind):
@@ -68,7 +68,7 @@ def the_map():
         here = tokens(file)
         for new in here & by_new.keys():
             fall |= {old for old in by_new[new] & here if re.search(r"[A-Z]", old)}
-    for old in fall - FIELDS:
+    for old in fall - APART:
         turned[old] += "_def"
     return turned
 

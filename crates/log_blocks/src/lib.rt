@@ -27,7 +27,7 @@ const LAST: usize = 65534;
 pub const KEPT: usize = Text::LONGEST + 1;
 
 // What a block says: the edit goes on or has finished, and that many bytes of it are kept; or why the block is bad.
-#[derive(Drop)]
+#[derive(Clone, Copy)]
 enum Taken {
     GoesOn(usize),
     Finished(usize),
@@ -35,14 +35,14 @@ enum Taken {
 }
 
 // What is held between blocks: the number of the next one, and how many bytes of the begun edit are kept.
-#[derive(Drop)]
+#[derive(Clone, Copy)]
 pub struct Held {
     pub number: usize,
     pub kept: usize,
 }
 
 // The result of a round: whether a line is due, and the line, zeros where none is; whether to go on, and what is then held.
-#[derive(Drop)]
+#[derive(Clone, Copy)]
 pub struct Told {
     pub prints: bool,
     pub line: [u8; printed::line::BYTES],
