@@ -17,4 +17,4 @@ pub returns : goal.returns
 returns c =
     let sound : Sound c.args.sheet.now = sym c.check-sound.ensures ∙ ap asked c.in-Done.is in
     let n = c.node_count-n.ensures.0 in
-    goal-last _ _ _ n (book-learned _ _ sound n c.check_book-rules.ensures c.in-Done-rules.is) c.check_rule.result c.check_rule.ensures
+    goal-last _ _ _ n (book-learned _ _ sound n c.check_book-rules.ensures c.in-Done-rules.is) _ (cc)

@@ -10,19 +10,19 @@ pub goes_well-holds-reached-requires : goal.goes_well-holds-reached-requires
 goes_well-holds-reached-requires t c = let q = c.requires.1 in (c.requires.0, record { what = q.what.goal ∷ []; stand = q.stands.aim })
 
 pub goes_well-returns-then-ours : goal.goes_well-returns-then-ours
-goes_well-returns-then-ours t c G st = over-ours G _ _ _ c.if-moves-eq0.true (c.holds-reached.ensures (G.goal ∷ []) st.aim) c.if-ours.true
+goes_well-returns-then-ours t c G st = over-ours G _ _ _ (omega arith) (c.holds-reached.ensures (G.goal ∷ []) st.aim) c.if-ours.true
 
 pub goes_well-returns-then-moves-eq0 : goal.goes_well-returns-then-moves-eq0
-goes_well-returns-then-moves-eq0 t c G st = over-theirs G _ _ _ c.if-moves-eq0.true (c.holds-reached.ensures (G.goal ∷ []) st.aim) c.if-ours.false
+goes_well-returns-then-moves-eq0 t c G st = over-theirs G _ _ _ (omega arith) (c.holds-reached.ensures (G.goal ∷ []) st.aim) c.if-ours.false
 
 pub goes_well-returns-in-Cannot : goal.goes_well-returns-in-Cannot
-goes_well-returns-in-Cannot t c G st = goes_by G _ _ _ c.if-moves-eq0.false _ (c.search.ensures G st) _ c.in-Cannot.is
+goes_well-returns-in-Cannot t c G st = goes_by G _ _ _ (λ z. omega arith) _ (c.search.ensures G st) _ c.in-Cannot.is
 
 pub goes_well-returns-in-Edit : goal.goes_well-returns-in-Edit
-goes_well-returns-in-Edit t c G st = goes_by G _ _ _ c.if-moves-eq0.false _ (c.search.ensures G st) _ c.in-Edit.is
+goes_well-returns-in-Edit t c G st = goes_by G _ _ _ (λ z. omega arith) _ (c.search.ensures G st) _ c.in-Edit.is
 
 pub goes_well-returns-in-Pass : goal.goes_well-returns-in-Pass
-goes_well-returns-in-Pass t c G st = goes_by G _ _ _ c.if-moves-eq0.false _ (c.search.ensures G st) _ c.in-Pass.is
+goes_well-returns-in-Pass t c G st = goes_by G _ _ _ (λ z. omega arith) _ (c.search.ensures G st) _ c.in-Pass.is
 
 pub search-loop-i-init : goal.search-loop-i-init
 search-loop-i-init t c = (omega arith, refl, λ G st. none_tried _ _ _ _ _ _ _ G st _ c.start_of-at.ensures)
