@@ -1,8 +1,0 @@
-use borrow.Author.Rules.{rules}
-use Rattle.suite.proofs.NumberLaws.{answered}
-use Rattle.suite.proofs.nodes.zamiathen_close.Statement.{statement}
-use Rattle.suite.proofs.nodes.zamiathen_close.Tie as tie
-
-pub zamiathen-close-spec : {M : Type 1} → statement M
-zamiathen-close-spec = tie.close (tie.spec (λ c κs. search rules) (λ c κs. search rules) (λ c. search rules)
-    (λ c. answered c.answer-numbers.ensures c.before.before.before.close.ensures))

@@ -1,8 +1,0 @@
-use borrow.Author.Rules.{rules}
-use Rattle.suite.proofs.NumberLaws.{answered}
-use Rattle.suite.proofs.sheets.zamiathen_convert_255.Statement.{statement}
-use Rattle.suite.proofs.sheets.zamiathen_convert_255.Tie as tie
-
-pub zamiathen-convert-255-spec : {M : Type 1} → statement M
-zamiathen-convert-255-spec = tie.close (tie.spec (λ c κs. search rules) (λ c κs. search rules) (λ c. search rules)
-    (λ c. answered c.answer-numbers.ensures c.before.before.before.convert.ensures))

@@ -1,8 +1,0 @@
-use borrow.Author.Rules.{rules}
-use Rattle.suite.proofs.NumberLaws.{written}
-use Rattle.suite.proofs.words.zamiathen_book_to_words.Statement.{statement}
-use Rattle.suite.proofs.words.zamiathen_book_to_words.Tie as tie
-
-pub zamiathen-book-to-words-spec : {M : Type 1} → statement M
-zamiathen-book-to-words-spec = tie.close (tie.spec (λ c κs. search rules) (λ c κs. search rules) (λ c. search rules)
-    (λ c. written c.written-numbers.ensures c.before.before.before.book-to-words.ensures))
