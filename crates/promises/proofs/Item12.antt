@@ -9,7 +9,7 @@ use lib.Dec.{T, leb}
 use Rattle.answer.specs.Asked.{passed}
 use Rattle.logic.specs.Syntax.{Expr, rule, Edit}
 use Rattle.logic.specs.Graph.{Graph}
-use Rattle.logic.specs.Meaning.{value, hold_all}
+use Rattle.logic.specs.Meaning.{hold_all}
 use Rattle.logic.specs.Steps.{run}
 use Rattle.logic.specs.Limits.{Within}
 use Rattle.logic.proofs.Bools.{true-false, so, is_true}

@@ -3,7 +3,7 @@ use mathlib.Core.Path.{◌≡◌, sym, ◌∙◌, ap, subst}
 use mathlib.Core.Logic.{◌↔◌}
 use mathlib.Core.List.{List}
 use Prim.Native.Nat.{ℕ, ◌≤◌}
-use Rattle.answer.specs.Asked.{passed, ◌>>◌, outcome}
+use Rattle.answer.specs.Asked.{passed, outcome}
 use Rattle.logic.specs.Syntax.{Edit}
 use Rattle.logic.specs.Steps.{run}
 use Rattle.logic.specs.Carry.{followed_by}

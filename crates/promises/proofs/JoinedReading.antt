@@ -19,7 +19,7 @@ use Rattle.promises.specs.Chained.{Passes}
 
 -- an edit that passes for n is the same edit for 60
 one-edit : (n : ℕ) → n ≤ max_nodes → (t : List ℕ) (Z Y : Edit) → ask_edit (text_limits n) t ≡ passed Z → ask_edit (text_limits max_nodes) t ≡ passed Y → Z ≡ Y
-one-edit n l t Z Y e f = let w : ask_edit (text_limits max_nodes) t ≡ passed Z = edit-wider (now-below n l) t Z e in cc
+one-edit n l t Z Y e f = let w : ask_edit (text_limits max_nodes) t ≡ passed Z = edit-wider (ranges n) (ranges max_nodes) (now-below n l) t Z e in cc
 
 module _ {p q joined : List ℕ} (j : Joins p q joined) where
   -- read for n: both edits, and the joined one

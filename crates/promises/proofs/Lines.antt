@@ -4,7 +4,7 @@ use mathlib.Core.List.{List}
 use Prim.Native.Nat.{ℕ}
 use native.Mathlib.Omega.{arith}
 use lib.ListN.{length}
-use Rattle.answer.specs.Asked.{Asked, passed, refused, asked_number, asked_place}
+use Rattle.answer.specs.Asked.{Asked, passed, asked_number, asked_place}
 use Rattle.answer.proofs.Refusals.{Refuses, passes, refuses, number_by, place-by, outcome-refuses, wider}
 use Rattle.runs.specs.Enter.{enter_answer}
 use Rattle.runs.proofs.EnterRefusals.{enter-refuses}
@@ -13,7 +13,6 @@ use Rattle.decimal.specs.Digits.{digits, said}
 use Rattle.printed.specs.AnswerLine.{answer_line, asked_line, early_line}
 use Rattle.printed.proofs.AnswerLineLaws.{says-number, says-place, lines-tell, not_early}
 use Rattle.printed.specs.Printed.{scratch_bytes}
-use Rattle.log_blocks.specs.Log.{read_log}
 use Rattle.log_blocks.specs.Replay.{stop_line}
 use Rattle.log_blocks.proofs.LogRefusals.{log-refuses}
 use Rattle.promises.specs.Lines.{Says, Lines}

@@ -7,17 +7,14 @@ use Prim.Native.Nat.{ℕ, suc, ◌+◌, ◌-◌, ◌≤◌}
 use native.Mathlib.Omega.{arith}
 use lib.ListN.{length, take, drop, length-append, length-take, take-append-drop}
 use lib.Seq.{take_all, take-append-add}
-use lib.Dec.{leb}
 use borrow.Author.Tests.{leb-true, le-leb}
 use Rattle.answer.specs.Asked.{Asked, passed, refused, ◌>>=◌, ◌>>◌, is}
 use Rattle.answer.proofs.AskedLaws.{passed-same, refused-not-passed, so-then, bind-refused, then-passed, is-then, is-yes}
 use Rattle.logic.specs.Syntax.{Expr, rule, Edit}
 use Rattle.logic.specs.Graph.{Graph}
 use Rattle.logic.specs.Meaning.{value}
-use Rattle.logic.specs.Steps.{run}
 use Rattle.logic.specs.Carry.{carry, carried_book}
-use Rattle.logic.specs.Limits.{ranges, InRange}
-use Rattle.logic.specs.Witness.{nothing, breaks}
+use Rattle.logic.specs.Witness.{breaks}
 use Rattle.logic.proofs.Theorem.{carried}
 use Rattle.logic.proofs.WitnessLaws.{holds-nothing, carried-breaks}
 use Rattle.sheet.specs.Sheet.{present, graph_of}
@@ -25,7 +22,7 @@ use Rattle.sheet.specs.Questions.{ask_sheet, Sound}
 use Rattle.sheet.proofs.SheetRefusals.{sheet-refuses}
 use Rattle.text.specs.Code.{code, levels, book_code, book_levels}
 use Rattle.text.specs.Reading.{carried_limits_def, text_limits, longest_text, longest_carried, deepest_carried, Limits, expr, Read, got, fault, missing, wrong_sort, too_deep, out_of_range, read_as}
-use Rattle.text.specs.Questions.{first, ask_first, ask_book}
+use Rattle.text.specs.Questions.{first, ask_first}
 use Rattle.text.proofs.Converse.{Allowed}
 use Rattle.text.proofs.TextSpelling.{EachAllowed, book-is-spelled, edit-is-spelled, first-is-spelled, spelled-first-passes}
 use Rattle.text.proofs.CarriedRanges.{carried-rule-is-read}

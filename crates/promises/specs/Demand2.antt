@@ -2,7 +2,7 @@
 -- (its Definition 4.1), which the contracts of the evaluators, of apply and of carry back cite. proofs/Demand2 proves what ties these to the papers.
 use Rattle.std.specs.Prelude.{◌≡◌, ◌↔◌, not, ◌&&◌, List, ℕ, suc}
 use Rattle.answer.specs.Asked.{passed}
-use Rattle.logic.specs.Syntax.{Sort, Expr, node, arrow, rule, all, complement, some, every, at_least, at_most, minus, pair, both, either, not_rule, Edit, take_label, take_arrow, choose}
+use Rattle.logic.specs.Syntax.{Expr, node, arrow, rule, all, complement, some, every, at_least, at_most, minus, pair, both, either, not_rule, Edit, take_label, take_arrow, choose}
 use Rattle.logic.specs.Graph.{Graph, Nodes, any_below}
 use Rattle.logic.specs.Limits.{Ranges, Within, EditInRange}
 use Rattle.logic.specs.Meaning.{value}
