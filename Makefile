@@ -38,7 +38,7 @@ help:
 	@echo "make demo        the same, and runs the example station through the command (examples/demo.sh)"
 	@echo "make counts      the same, and prints what an edit does to every small sheet (examples/small)"
 	@echo "make replay      proves and builds the program replay, and runs the example station's week of edits again through it"
-	@echo "make test        the gate: proves every crate from nothing, tries the must-fail edits, runs all tests"
+	@echo "make test        the gate: proves every crate, tries the must-fail edits, runs all tests"
 	@echo "make bench       times and instructions of each call, and of a region of sheets, beside plain Rust on the same inputs (needs rustc and valgrind)"
 	@echo "make install     command, manual page, archive, shared library, extension for SQLite with its schema, header, pkg-config file, guides, bindings and examples, under PREFIX or prefix ($(PREFIX)); DESTDIR is put before it;"
 	@echo "                 ARCHIVE=FILE takes a built archive, and nothing is proved"
