@@ -1,17 +1,38 @@
 -- The fields of a block, as the code checks them.
-use mathlib.Core.Path.{◌≡◌, ap}
+use mathlib.Core.Path.{◌≡◌, refl, ap}
 use mathlib.Core.Bool.{Bool, true, false, ◌&&◌, ◌||◌, and-eq-true_iff}
 use mathlib.Core.List.{List}
 use Prim.Native.Nat.{ℕ, ◌+◌, ◌≤◌, ◌<◌}
 use native.Mathlib.Numerals.{add-one}
 use native.Mathlib.Omega.{arith}
-use borrow.Author.Tests.{leb-true, eqb-true, le-leb, ne_eqb}
+use borrow.Author.Tests.{leb-true, eqb-true, le-leb, lt-leb, ne_eqb}
 use lib.Dec.{eqb, leb}
 use lib.ListN.{length, get_or, take, drop, drop_of_length-le}
 use lib.Seq.{slice-cons, length-take-le}
 use Rattle.log_blocks.specs.Log.{is_last, mark_right_def, count, count_right_def, all_zero, zeros_behind, fields_right_def}
 
+-- a question with two yeses, asked one after the other
+pub or_yes : (a b : Bool) → a ≡ true → a ≡ (a || b)
+or_yes true b e = refl
+or_yes false b e = cc
+
+pub or_no : (a b : Bool) → a ≡ false → b ≡ (a || b)
+or_no false b e = refl
+or_no true b e = cc
+
+pub mark-begun : (begun : Bool) (m : ℕ) → begun ≡ true → mark_right_def begun m ≡ (eqb m 0 || eqb m 2)
+mark-begun begun m e = unfold mark_right_def in cc
+
+pub mark-not-begun : (begun : Bool) (m : ℕ) → begun ≡ false → mark_right_def begun m ≡ (eqb m 1 || eqb m 3)
+mark-not-begun begun m e = unfold mark_right_def in cc
+
 module _ (last : Bool) (c : ℕ) where
+  pub none-counted : c < 1 → count_right_def last c ≡ false
+  none-counted h = unfold count_right_def in rw (lt-leb 1 c h)
+
+  pub too-many-counted : 504 < c → count_right_def last c ≡ false
+  too-many-counted h = unfold count_right_def in rw (le-leb 1 c (omega arith), lt-leb c 504 h)
+
   pub counted : 1 ≤ c → c ≤ 504 → count_right_def last c ≡ (eqb c 504 || last)
   counted h k = unfold count_right_def in rw (le-leb 1 c h, le-leb c 504 k)
 
