@@ -13,7 +13,7 @@ import re
 
 IDENT = r"[^\s(){}.,;:\[\]⌜⌝λ@]+"
 DEFINED = re.compile(r"^(\s*)((?:(?:abbrev|pub|unfoldable|record|data|ruleset)\s+)*)(" + IDENT + r")\s*(?:\{|\(|:(?!:)|=)")
-SEVERAL = re.compile(r"^\s+((?:[A-Za-z][\w'·\-]* )+): ")  # constructors of one type
+SEVERAL = re.compile(r"^\s+(?!let )((?:[A-Za-z][\w'·\-]* )+): ")  # constructors of one type
 TOKEN = re.compile(r"[A-Za-z_][\w'·\-]*")
 APART = {"inUse", "logBlocks"}  # a field, always written with its dot, and a definition that only a path is spelled like
 
