@@ -4,7 +4,7 @@ PREFIX ?= $(prefix)
 CC = gcc
 CFLAGS = -std=c11 -Wall -Wextra -O2
 
-sources := crates.txt $(shell find crates -type f)
+sources := crates.txt $(shell find crates -name out -prune -o -type f -print)
 archive := target/staticlib/libsuite.a
 # another archive, built elsewhere, is used as it is, and what is linked with it is kept apart; its name may have a blank
 ARCHIVE ?= $(archive)
