@@ -4,5 +4,5 @@ use Rattle.log_blocks.proofs.RoundLaws.{counts-on}
 use Rattle.replay.proofs.replay_log.Goals as goal
 
 -- a round that goes on counts its block
-pub loop-held-smaller : goal.loop-held-smaller
-loop-held-smaller g c = let on = counts-on _ _ _ _ _ _ c.round-s.ensures.sheet_after (not-false _ c.if-not-s.false) in omega (arith, on.0, on.1)
+pub loop-block-smaller : goal.loop-block-smaller
+loop-block-smaller g c = let on = counts-on _ _ _ _ _ _ c.round-s.ensures.sheet_after (not-false _ c.if-not-s.false) in omega (arith, on.0, on.1)

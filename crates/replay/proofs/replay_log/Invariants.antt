@@ -1,8 +1,8 @@
 use Rattle.std.proofs.Common.{◌≡◌, ◌-◌, ◌≤◌, length}
 use Rattle.replay.proofs.replay_log.Given as goal
 
-abbrev pub invariant-loop-held : goal.invariant-loop-held
-invariant-loop-held g l = (length l.sheet ≡ length l.initial.sheet) × (length l.block ≡ 512) × (length l.edit ≡ 4097) × (l.held.kept ≤ 4097)
+abbrev pub invariant-loop-block : goal.invariant-loop-block
+invariant-loop-block g l = (length l.sheet ≡ length l.initial.sheet) × (length l.block ≡ 512) × (length l.edit ≡ 4097) × (l.held.kept ≤ 4097)
 
-abbrev pub decreases-loop-held : goal.decreases-loop-held
-decreases-loop-held g l = 65536 - l.held.number
+abbrev pub decreases-loop-block : goal.decreases-loop-block
+decreases-loop-block g l = 65536 - l.held.number
