@@ -1,6 +1,6 @@
--- The papers' number and place of each answer. A contract that gives an `Answer` cites `asked`. A bit read and a call that writes an output have
--- answer types with a bit or a length inside; their contracts cite `bit_asked` and `written_asked`, with the same numbers and places for refusals.
-use Rattle.std.specs.Prelude.{ℕ}
+-- The papers' number and place of each answer. A contract that gives an `Answer` cites `asked`; that of a call with a value, as a bit read or one that
+-- writes an output, cites `result_asked`, with the same numbers and places for refusals.
+use Rattle.std.specs.Prelude.{ℕ, Result, Ok, Err}
 use Rattle.answer.specs.declared.Refusal.{Refusal}
 use Rattle.answer.specs.declared.Refusal.TheVariants.{SheetLength, CheckBytes, BlockHead, NotZero, NodeCount, BitRange, BookLength, BookEnds, BookCode, BookLevel, BookNumber, BookRules, EditLength, EditEnds, EditCode, EditLevel, EditNumber, EditExtra, CarriedLength, CarriedLevels, OutputLength, RuleBroken, PageLine, LogSums, LogBlock, NodeTaken, StoreBytes, PlanName, PlanUnfilled, NodesTotal, LawStep, TextSent, SmallSheets, GameRange, NameTable, WordsEnd, WordsStart, WordsMark, WordsNumber, WordsLevel, WordsRules, WordsLength}
 use Rattle.answer.specs.declared.Answer.{Answer}
@@ -107,3 +107,8 @@ answer_place (Refused r) = refusal_place_def r
 abbrev pub asked : Answer → Asked (Unit {0})
 asked Done = passed tt
 asked (Refused r) = refused (refusal_number_def r) (refusal_place_def r)
+
+-- The same for a call that gives a value when all pass.
+abbrev pub result_asked : {A : Type 0} → Result A Refusal → Asked A
+result_asked (Ok a) = passed a
+result_asked (Err r) = refused (refusal_number_def r) (refusal_place_def r)

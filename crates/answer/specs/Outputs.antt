@@ -1,20 +1,12 @@
 -- A call that writes an output: its questions result in the bytes, which it writes at the output's start. Its answer is their length.
 use Rattle.std.specs.Prelude.{List, ◌++◌, ℕ, leb, length, drop}
-use Rattle.answer.specs.declared.Written.{Written}
-use Rattle.answer.specs.declared.Written.TheVariants.{Length, Refused}
 use Rattle.answer.specs.Asked.{Asked, passed, refused, ◌>>=◌, ◌>>◌, is, after}
-use Rattle.answer.specs.Answers.{refusal_number_def, refusal_place_def}
 
 -- Is there room for the bytes? If not, 33; the place is their length.
 unfoldable pub ask_room : List ℕ → (room : ℕ) → Asked (List ℕ)
 ask_room bytes room = do
   is (leb (length bytes) room) 33 (length bytes)
   passed bytes
-
--- What the call's answer says about the questions: the length, or the number and place of the refusal.
-abbrev pub written_asked : Written → Asked ℕ
-written_asked (Length n) = passed n
-written_asked (Refused r) = refused (refusal_number_def r) (refusal_place_def r)
 
 -- The answer that the questions call for.
 unfoldable pub written_length : Asked (List ℕ) → Asked ℕ

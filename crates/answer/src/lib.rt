@@ -3,7 +3,7 @@
 #![tactic(auto)]
 
 ghost use Rattle.std.specs.Prelude.{◌≡◌};
-ghost use Rattle.answer.specs.Answers.{refusal_number_def, refusal_place_def, answer_number, answer_place};
+ghost use Rattle.answer.specs.Answers.{refusal_number_def, refusal_place_def, answer_number, answer_place, asked, result_asked};
 
 // What is wrong: a case for each number of "The questions, in order", each with its place.
 #[derive(Clone, Copy)]
@@ -90,135 +90,143 @@ pub enum Refusal {
     WordsLength { place: usize },
 }
 
+// An enum of its own and no Result: the form that document 01 names ("Some places and their forms").
 #[derive(Clone, Copy)]
 pub enum Answer {
     Done,
     Refused(Refusal),
 }
 
-// The answer of a call that writes at the start of an output: how many bytes it wrote, or why it wrote none.
-#[derive(Clone, Copy)]
-pub enum Written {
-    Length(usize),
-    Refused(Refusal),
-}
+impl Refusal {
+    // The papers' number.
+    pub fn number(self) -> usize
+        ensures { result ≡ refusal_number_def self }
+    {
+        match self {
+            Refusal::SheetLength { place: _ } => 1,
+            Refusal::CheckBytes { place: _ } => 2,
+            Refusal::BlockHead { place: _ } => 3,
+            Refusal::NotZero { place: _ } => 4,
+            Refusal::NodeCount { place: _ } => 5,
+            Refusal::BitRange { place: _ } => 7,
+            Refusal::BookLength { place: _ } => 11,
+            Refusal::BookEnds { place: _ } => 12,
+            Refusal::BookCode { place: _ } => 13,
+            Refusal::BookLevel { place: _ } => 14,
+            Refusal::BookNumber { place: _ } => 15,
+            Refusal::BookRules { place: _ } => 16,
+            Refusal::EditLength { place: _ } => 21,
+            Refusal::EditEnds { place: _ } => 22,
+            Refusal::EditCode { place: _ } => 23,
+            Refusal::EditLevel { place: _ } => 24,
+            Refusal::EditNumber { place: _ } => 25,
+            Refusal::EditExtra { place: _ } => 26,
+            Refusal::CarriedLength { place: _ } => 31,
+            Refusal::CarriedLevels { place: _ } => 32,
+            Refusal::OutputLength { place: _ } => 33,
+            Refusal::RuleBroken { place: _ } => 41,
+            Refusal::PageLine { place: _ } => 51,
+            Refusal::LogSums { place: _ } => 52,
+            Refusal::LogBlock { place: _ } => 53,
+            Refusal::NodeTaken { place: _ } => 54,
+            Refusal::StoreBytes { place: _ } => 55,
+            Refusal::PlanName { place: _ } => 56,
+            Refusal::PlanUnfilled { place: _ } => 57,
+            Refusal::NodesTotal { place: _ } => 58,
+            Refusal::LawStep { place: _ } => 59,
+            Refusal::TextSent { place: _ } => 60,
+            Refusal::SmallSheets { place: _ } => 61,
+            Refusal::GameRange { place: _ } => 62,
+            Refusal::NameTable { place: _ } => 63,
+            Refusal::WordsEnd { place: _ } => 64,
+            Refusal::WordsStart { place: _ } => 65,
+            Refusal::WordsMark { place: _ } => 66,
+            Refusal::WordsNumber { place: _ } => 67,
+            Refusal::WordsLevel { place: _ } => 68,
+            Refusal::WordsRules { place: _ } => 69,
+            Refusal::WordsLength { place: _ } => 70,
+        }
+    }
 
-// The papers' number of a refusal.
-pub fn refusal_number(r: Refusal) -> usize
-    ensures { result ≡ refusal_number_def r }
-{
-    match r {
-        Refusal::SheetLength { place: _ } => 1,
-        Refusal::CheckBytes { place: _ } => 2,
-        Refusal::BlockHead { place: _ } => 3,
-        Refusal::NotZero { place: _ } => 4,
-        Refusal::NodeCount { place: _ } => 5,
-        Refusal::BitRange { place: _ } => 7,
-        Refusal::BookLength { place: _ } => 11,
-        Refusal::BookEnds { place: _ } => 12,
-        Refusal::BookCode { place: _ } => 13,
-        Refusal::BookLevel { place: _ } => 14,
-        Refusal::BookNumber { place: _ } => 15,
-        Refusal::BookRules { place: _ } => 16,
-        Refusal::EditLength { place: _ } => 21,
-        Refusal::EditEnds { place: _ } => 22,
-        Refusal::EditCode { place: _ } => 23,
-        Refusal::EditLevel { place: _ } => 24,
-        Refusal::EditNumber { place: _ } => 25,
-        Refusal::EditExtra { place: _ } => 26,
-        Refusal::CarriedLength { place: _ } => 31,
-        Refusal::CarriedLevels { place: _ } => 32,
-        Refusal::OutputLength { place: _ } => 33,
-        Refusal::RuleBroken { place: _ } => 41,
-        Refusal::PageLine { place: _ } => 51,
-        Refusal::LogSums { place: _ } => 52,
-        Refusal::LogBlock { place: _ } => 53,
-        Refusal::NodeTaken { place: _ } => 54,
-        Refusal::StoreBytes { place: _ } => 55,
-        Refusal::PlanName { place: _ } => 56,
-        Refusal::PlanUnfilled { place: _ } => 57,
-        Refusal::NodesTotal { place: _ } => 58,
-        Refusal::LawStep { place: _ } => 59,
-        Refusal::TextSent { place: _ } => 60,
-        Refusal::SmallSheets { place: _ } => 61,
-        Refusal::GameRange { place: _ } => 62,
-        Refusal::NameTable { place: _ } => 63,
-        Refusal::WordsEnd { place: _ } => 64,
-        Refusal::WordsStart { place: _ } => 65,
-        Refusal::WordsMark { place: _ } => 66,
-        Refusal::WordsNumber { place: _ } => 67,
-        Refusal::WordsLevel { place: _ } => 68,
-        Refusal::WordsRules { place: _ } => 69,
-        Refusal::WordsLength { place: _ } => 70,
+    // The place.
+    pub fn place(self) -> usize
+        ensures { result ≡ refusal_place_def self }
+    {
+        match self {
+            Refusal::SheetLength { place } => place,
+            Refusal::CheckBytes { place } => place,
+            Refusal::BlockHead { place } => place,
+            Refusal::NotZero { place } => place,
+            Refusal::NodeCount { place } => place,
+            Refusal::BitRange { place } => place,
+            Refusal::BookLength { place } => place,
+            Refusal::BookEnds { place } => place,
+            Refusal::BookCode { place } => place,
+            Refusal::BookLevel { place } => place,
+            Refusal::BookNumber { place } => place,
+            Refusal::BookRules { place } => place,
+            Refusal::EditLength { place } => place,
+            Refusal::EditEnds { place } => place,
+            Refusal::EditCode { place } => place,
+            Refusal::EditLevel { place } => place,
+            Refusal::EditNumber { place } => place,
+            Refusal::EditExtra { place } => place,
+            Refusal::CarriedLength { place } => place,
+            Refusal::CarriedLevels { place } => place,
+            Refusal::OutputLength { place } => place,
+            Refusal::RuleBroken { place } => place,
+            Refusal::PageLine { place } => place,
+            Refusal::LogSums { place } => place,
+            Refusal::LogBlock { place } => place,
+            Refusal::NodeTaken { place } => place,
+            Refusal::StoreBytes { place } => place,
+            Refusal::PlanName { place } => place,
+            Refusal::PlanUnfilled { place } => place,
+            Refusal::NodesTotal { place } => place,
+            Refusal::LawStep { place } => place,
+            Refusal::TextSent { place } => place,
+            Refusal::SmallSheets { place } => place,
+            Refusal::GameRange { place } => place,
+            Refusal::NameTable { place } => place,
+            Refusal::WordsEnd { place } => place,
+            Refusal::WordsStart { place } => place,
+            Refusal::WordsMark { place } => place,
+            Refusal::WordsNumber { place } => place,
+            Refusal::WordsLevel { place } => place,
+            Refusal::WordsRules { place } => place,
+            Refusal::WordsLength { place } => place,
+        }
     }
 }
 
-// The place of a refusal.
-pub fn refusal_place(r: Refusal) -> usize
-    ensures { result ≡ refusal_place_def r }
-{
-    match r {
-        Refusal::SheetLength { place } => place,
-        Refusal::CheckBytes { place } => place,
-        Refusal::BlockHead { place } => place,
-        Refusal::NotZero { place } => place,
-        Refusal::NodeCount { place } => place,
-        Refusal::BitRange { place } => place,
-        Refusal::BookLength { place } => place,
-        Refusal::BookEnds { place } => place,
-        Refusal::BookCode { place } => place,
-        Refusal::BookLevel { place } => place,
-        Refusal::BookNumber { place } => place,
-        Refusal::BookRules { place } => place,
-        Refusal::EditLength { place } => place,
-        Refusal::EditEnds { place } => place,
-        Refusal::EditCode { place } => place,
-        Refusal::EditLevel { place } => place,
-        Refusal::EditNumber { place } => place,
-        Refusal::EditExtra { place } => place,
-        Refusal::CarriedLength { place } => place,
-        Refusal::CarriedLevels { place } => place,
-        Refusal::OutputLength { place } => place,
-        Refusal::RuleBroken { place } => place,
-        Refusal::PageLine { place } => place,
-        Refusal::LogSums { place } => place,
-        Refusal::LogBlock { place } => place,
-        Refusal::NodeTaken { place } => place,
-        Refusal::StoreBytes { place } => place,
-        Refusal::PlanName { place } => place,
-        Refusal::PlanUnfilled { place } => place,
-        Refusal::NodesTotal { place } => place,
-        Refusal::LawStep { place } => place,
-        Refusal::TextSent { place } => place,
-        Refusal::SmallSheets { place } => place,
-        Refusal::GameRange { place } => place,
-        Refusal::NameTable { place } => place,
-        Refusal::WordsEnd { place } => place,
-        Refusal::WordsStart { place } => place,
-        Refusal::WordsMark { place } => place,
-        Refusal::WordsNumber { place } => place,
-        Refusal::WordsLevel { place } => place,
-        Refusal::WordsRules { place } => place,
-        Refusal::WordsLength { place } => place,
+impl Answer {
+    // The papers' number; 0 is done.
+    pub fn number(self) -> usize
+        ensures { result ≡ answer_number self }
+    {
+        match self {
+            Answer::Done => 0,
+            Answer::Refused(r) => r.number(),
+        }
     }
-}
 
-// The papers' number of an answer; 0 is done.
-pub fn number(a: Answer) -> usize
-    ensures { result ≡ answer_number a }
-{
-    match a {
-        Answer::Done => 0,
-        Answer::Refused(r) => refusal_number(r),
+    // The place; 0 for done.
+    pub fn place(self) -> usize
+        ensures { result ≡ answer_place self }
+    {
+        match self {
+            Answer::Done => 0,
+            Answer::Refused(r) => r.place(),
+        }
     }
-}
 
-// The place of an answer; 0 for done.
-pub fn place(a: Answer) -> usize
-    ensures { result ≡ answer_place a }
-{
-    match a {
-        Answer::Done => 0,
-        Answer::Refused(r) => refusal_place(r),
+    // The answer as a result: `?` then ends a call at its first refusal.
+    pub fn passed(self) -> Result<(), Refusal>
+        ensures { result_asked result ≡ asked self }
+    {
+        match self {
+            Answer::Done => Ok(()),
+            Answer::Refused(r) => Err(r),
+        }
     }
 }

@@ -17,9 +17,8 @@ use Rattle.bitset.specs.Words.{Bytes, set_of, combined}
 use Rattle.bitset.proofs.SetLaws.{set_of-cong, combined-sets}
 use Rattle.rows.specs.Operations.{arrow_operation}
 use Rattle.rows.proofs.OperationLaws.{arrow-operation-none}
-use Rattle.sheet.specs.Sheet.{present, sheet_bytes, store, graph_of, Rows}
+use Rattle.sheet.specs.Sheet.{present, store, graph_of, Rows}
 use Rattle.sheet.specs.Questions.{Sound}
-use Rattle.sheet.proofs.BlockLaws.{length-store}
 use Rattle.store.proofs.StoredReads.{read_back}
 use Rattle.store.proofs.StoredPasses.{stored-passes}
 use Rattle.sheet.proofs.SoundSheets.{sound-is-stored}
@@ -40,9 +39,6 @@ pub ready-first : (t : List ℕ) (n all : ℕ) → Bytes t → Sound t → n ≡
 ready-first t n all small sound c a =
     let o = sound-is-stored present t small sound in
     record { stored = o.stored; within = o.within; count = c; nodes = a ∙ ap (λ (m : ℕ). set_of m (is_node (graph_of t))) (sym c) }
-
-pub ready-length : (t : List ℕ) (n all : ℕ) → Ready t n all → length t ≡ sheet_bytes
-ready-length t n all r = ap length r.stored ∙ length-store present (graph_of t)
 
 -- from one law for each edit that stands there
 pub each-made : (n all : ℕ) (edit : List ℕ) (at next : ℕ) (t t' : List ℕ) → SomeEditStands (ranges n) edit at → ((Z : Edit) → EditStands (ranges n) edit at Z → Ready t' n all × StepMade n edit at Z next t t')
@@ -143,9 +139,6 @@ pub record Making (n all : ℕ) (edit : List ℕ) (at p : ℕ) (t₀ t : List �
   pub left : (Z : Edit) → EditStands (ranges n) edit at Z → Left n edit p (at + length (edit_code Z)) t (run Z (graph_of t₀))
 
 module _ (n all : ℕ) (edit : List ℕ) (at : ℕ) (t₀ : List ℕ) where
-  pub making-first : Ready t₀ n all → SomeEditStands (ranges n) edit at → Making n all edit at at t₀ t₀
-  making-first r s = record { le = omega arith; ready = r; some = s; left = λ Z h. record { tail = Z; stands = h; ends = refl; runs = refl } }
-
   module _ (p : ℕ) (t : List ℕ) (m : Making n all edit at p t₀ t) where
     pub making-more : (next : ℕ) (t' : List ℕ) → Ready t' n all → ((Z : Edit) → EditStands (ranges n) edit p Z → StepMade n edit p Z next t t') → Making n all edit at next t₀ t'
     making-more next t' r f =

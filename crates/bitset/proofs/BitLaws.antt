@@ -2,15 +2,15 @@
 use mathlib.Core.Path.{◌≡◌, refl, sym, ap, ap₂, ◌∙◌}
 use mathlib.Core.Bool.{Bool, true, false, not, ◌&&◌, ◌||◌}
 use mathlib.Core.Logic.{◌⊎◌, inl, inr}
-use Prim.Native.Nat.{ℕ, zero, suc, ◌+◌, ◌-◌, ◌*◌, ◌/◌, ◌%◌, ◌^◌, ◌≤◌, ◌<◌}
+use Prim.Native.Nat.{ℕ, suc, ◌+◌, ◌-◌, ◌*◌, ◌/◌, ◌%◌, ◌^◌, ◌≤◌, ◌<◌}
 use native.Mathlib.Nat.{mod-lt, mul_assoc, add_comm}
 use native.Mathlib.Omega.{arith}
 use lib.Dec.{eqb, leb, ltb, lit<}
 use lib.Pow.{pow-add, shr-shr, shl-shr}
 use lib.Bits.{bit_and, bit_or, bit_xor, and_shr, or_shr, xor_shr, and_mod, or_mod, xor_mod, and_lt, or_lt, xor_lt, shifted_even}
 use borrow.Author.Tests.{leb-true, leb-false, ltb-true, ltb-false}
-use Rattle.bitset.specs.Words.{digit, set_of, member, combined}
-use Rattle.bitset.proofs.SetLaws.{digit-bit, is-set_of, member-low, member-set_of}
+use Rattle.bitset.specs.Words.{digit, member, combined}
+use Rattle.bitset.proofs.SetLaws.{digit-bit, is-set_of, member-low}
 
 pub below_or_not : (i n : ℕ) → (i < n) ⊎ (n ≤ i)
 below_or_not i n = go (ltb i n) refl where

@@ -12,7 +12,7 @@ use lib.Bits.{bit_and, bit_or, and_lt, or_lt}
 use lib.ListN.{length, get_or, set, length-set}
 use lib.Pow.{pow_pos, shr_le}
 use lib.Seq.{get_or-set_same, get_or-set_other}
-use borrow.Author.Tests.{le-leb, lt-leb}
+use borrow.Author.Tests.{le-leb}
 use Rattle.bitset.specs.Words.{set_of, member}
 use Rattle.bitset.specs.Transpose.{low_half, from_row, from_column, Blocks, LowFrom, exchanged_row, MovedFrom}
 use Rattle.bitset.proofs.SetLaws.{set_of-cong, is-set_of, member-set_of}
@@ -74,17 +74,7 @@ module _ {s m : ℕ} (B : Blocks s m) where
       sym (not-not (low_half s (i + s)))
       ∙ ap not (sym (B.halves (i + s) h) ∙ ap₂ ◌&&◌ (le-leb s (i + s) (omega arith)) (ap (low_half s) e))
 
-  pub low-none : LowFrom s 0
-  low-none = record { low = λ i h l k. sym (not-not (low_half s i)) ∙ ap not (sym (B.halves i k) ∙ ap (◌&& low_half s (i - s)) (lt-leb s i (omega arith))) }
-
   module _ (b : ℕ) (L : LowFrom s b) where
-    -- a low half that starts within 64 leaves room for the high half after it
-    pub low-room : b < 64 → b + s + s ≤ 64
-    low-room h =
-        let r : b + s < 64 = B.room b h (L.low b (omega arith) (omega (arith, B.some)) h) in
-        let q : b + s - 1 < 64 = omega arith in
-        omega (arith, B.some, B.room (b + s - 1) q (L.low (b + s - 1) (omega (arith, B.some)) (omega (arith, B.some)) q))
-
     pub low-more : LowFrom s (b + 2 * s)
     low-more = record {
       low = λ i h l k.
@@ -110,12 +100,6 @@ pub record Moving (b i s : ℕ) (a r : List ℕ) : Type 0 where
   pub before : (k : ℕ) → k < b → get_or r k 0 ≡ get_or a k 0
   pub between : (k : ℕ) → i ≤ k → k < b + s → get_or r k 0 ≡ get_or a k 0
   pub behind : (k : ℕ) → i + s ≤ k → get_or r k 0 ≡ get_or a k 0
-
-pub moving-none : {b s : ℕ} {a : List ℕ} → Moving b b s a a
-moving-none = record { low = λ k h l. absurd (omega arith); high = λ k h l. absurd (omega arith); before = λ k h. refl; between = λ k h l. refl; behind = λ k h. refl }
-
-pub moving-end : {b i s : ℕ} {a r : List ℕ} → b + s ≤ i → i ≤ b + s → Moving b i s a r → MovedFrom b s a r
-moving-end h l d = record { low = λ k p q. d.low k p (omega arith); high = λ k p q. d.high k p (omega arith); before = d.before; behind = λ k p. d.behind k (omega arith) }
 
 module _ {s m : ℕ} (B : Blocks s m) (b : ℕ) (L : LowFrom s b) (i : ℕ) (a r : List ℕ) (h : b ≤ i) (l : i < b + s) (room : b + s + s ≤ 64) (size : length r ≡ 64) (d : Moving b i s a r) where
   is-low : low_half s i ≡ true

@@ -3,6 +3,5 @@ pub mod BitLaws
 pub mod MemberLaws
 pub mod WordLaws
 pub mod ZeroBytes
-mod WipeLaws
 mod ExchangedBlocks
 mod ExchangeLaws

@@ -1,15 +1,17 @@
 -- The laws of words in bytes.
 use mathlib.Core.Path.{◌≡◌, refl, sym, ap, ap₂, ◌∙◌}
-use mathlib.Core.List.{List, [], ◌∷◌, ◌++◌}
+use mathlib.Core.List.{List, [], ◌∷◌, ◌++◌, append_assoc}
 use mathlib.Core.Logic.{◌⊎◌, inl, inr, ⊎_elim}
 use Prim.Native.Nat.{ℕ, zero, suc, ◌+◌, ◌-◌, ◌*◌, ◌/◌, ◌%◌, ◌^◌, ◌≤◌, ◌<◌}
 use native.Mathlib.Nat.{pow-suc, mod-one, mod-eq_of_lt}
 use native.Mathlib.Omega.{arith}
 use lib.Arith.{mod-mul}
 use lib.Dec.{lit<}
-use lib.ListN.{length, get_or, take, drop, set, length-append, length-take, length-drop, get_or-append, get_or-eq_default}
+use lib.ListN.{length, get_or, take, drop, length-append, length-take, length-drop, get_or-append, get_or-eq_default}
 use lib.Pow.{shr-shr}
-use lib.Seq.{sets, sets-eq, drop-cons, length-take-le, get_or-take, get_or-drop, get_or-append-add, ext_get_or}
+use lib.Seq.{drop-drop, drop-cons, length-take-le, get_or-take, get_or-drop, get_or-append-add, ext_get_or}
+use Rattle.std.specs.Int.{w64, to_le_bytes}
+use borrow.Rule.Slice.PartMut.{put_mid}
 use Rattle.bitset.specs.Words.{Bytes, member, bytes, number_of, word_at, put_word_def}
 use Rattle.bitset.proofs.SetLaws.{member-low, member-zero}
 use Rattle.bitset.proofs.BitLaws.{below_or_not, member-shr}
@@ -128,15 +130,6 @@ sum_of_bytes l at =
     get_or l at 0 + get_or l (at + 1) 0 * 0x100 + get_or l (at + 2) 0 * 0x10000 + get_or l (at + 3) 0 * 0x1000000
     + get_or l (at + 4) 0 * 0x100000000 + get_or l (at + 5) 0 * 0x10000000000 + get_or l (at + 6) 0 * 0x1000000000000 + get_or l (at + 7) 0 * 0x100000000000000
 
-pub halves : (l : List ℕ) (at : ℕ) → get_or l at 0 + get_or l (at + 1) 0 * 0x100 + get_or l (at + 2) 0 * 0x10000 + get_or l (at + 3) 0 * 0x1000000
-    + (get_or l (at + 4) 0 + get_or l (at + 4 + 1) 0 * 0x100 + get_or l (at + 4 + 2) 0 * 0x10000 + get_or l (at + 4 + 3) 0 * 0x1000000) * 0x100000000 ≡ sum_of_bytes l at
-unfolding sum_of_bytes
-halves l at =
-    let i1 : at + 4 + 1 ≡ at + 5 = omega arith in
-    let i2 : at + 4 + 2 ≡ at + 6 = omega arith in
-    let i3 : at + 4 + 3 ≡ at + 7 = omega arith in
-    rw (i1, i2, i3) (omega arith)
-
 -- k bytes of a list from i + j on
 bytes_from : ℕ → List ℕ → ℕ → ℕ → List ℕ
 bytes_from zero l i j = []
@@ -156,15 +149,13 @@ loaded l at r h e =
     let b = bytes-from 8 l at 0 (omega arith) in
     e ∙ rw (rw z at b) (omega arith)
 
-pub stored : (l : List ℕ) (at x : ℕ) → at + 8 ≤ length l → set (set (set (set (set (set (set (set l at (x % 0x100)) (at + 1) (x / 0x100 % 0x100)) (at + 2) (x / 0x10000 % 0x100))
-    (at + 3) (x / 0x1000000 % 0x100)) (at + 4) (x / 0x100000000 % 0x100)) (at + 5) (x / 0x10000000000 % 0x100)) (at + 6) (x / 0x1000000000000 % 0x100))
-    (at + 7) (x / 0x100000000000000 % 0x100) ≡ put_word_def l at x
+pub stored : (l : List ℕ) (at x : ℕ) (b : List ℕ) → b ≡ to_le_bytes w64 x → put_mid at (at + 8 - at) l b ≡ put_word_def l at x
 unfolding put_word_def bytes
-stored l at x h =
-    let p : (at + 1 ≡ suc at) × (at + 2 ≡ suc (suc at)) × (at + 3 ≡ suc (suc (suc at))) × (at + 4 ≡ suc (suc (suc (suc at)))) × (at + 5 ≡ suc (suc (suc (suc (suc at)))))
-    × (at + 6 ≡ suc (suc (suc (suc (suc (suc at)))))) × (at + 7 ≡ suc (suc (suc (suc (suc (suc (suc at))))))) = omega arith in
+stored l at x b e =
     let q : (x / 0x10000 ≡ x / 256 / 256) × (x / 0x1000000 ≡ x / 256 / 256 / 256) × (x / 0x100000000 ≡ x / 256 / 256 / 256 / 256)
     × (x / 0x10000000000 ≡ x / 256 / 256 / 256 / 256 / 256) × (x / 0x1000000000000 ≡ x / 256 / 256 / 256 / 256 / 256 / 256)
     × (x / 0x100000000000000 ≡ x / 256 / 256 / 256 / 256 / 256 / 256 / 256) = omega arith in
-    let e : sets l at (bytes 8 x) ≡ take at l ++ bytes 8 x ++ drop (at + 8) l = sets-eq (bytes 8 x) l at h in
-    cc
+    let n : at + 8 - at ≡ 8 = omega arith in
+    let d : drop (at + 8 - at) (drop at l) ≡ drop (at + 8) l = ap (λ k. drop k (drop at l)) n ∙ drop-drop 8 at l in
+    let f : b ≡ bytes 8 x = e ∙ cc in
+    ap₂ (λ y z. take at l ++ (y ++ z)) f d ∙ sym (append_assoc (take at l) (bytes 8 x) (drop (at + 8) l))

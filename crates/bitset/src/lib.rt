@@ -2,7 +2,7 @@
 
 #![tactic(auto)]
 
-ghost use Rattle.std.specs.Prelude.{◌≡◌, true, not, ◌&&◌, ◌||◌, cond, ℕ, ◌+◌, ◌-◌, ◌*◌, ◌<◌, ◌≤◌, eqb, ltb, length, get_or, replicate};
+ghost use Rattle.std.specs.Prelude.{◌≡◌, true, not, ◌&&◌, ◌||◌, cond, ℕ, ◌+◌, ◌-◌, ◌<◌, ◌≤◌, eqb, ltb, length, replicate};
 ghost use Rattle.std.specs.Int.Count.{count_trailing_zeros};
 ghost use Rattle.logic.specs.Graph.{count_below};
 ghost use Rattle.bitset.specs.Words.{set_of, member, combined, word_at, put_word_def};
@@ -76,31 +76,22 @@ pub fn but_first(x: u64) -> u64
     x & (x - 1)
 }
 
-// A byte as a word, and the fact that it is below 256.
-fn wide(x: u8) -> u64
-    ensures { (result ≡ x) × (result < 256) }
-{
-    x as u64
-}
-
-// Four bytes from `at` on as a number, the lowest first. Inner: the callers' bytes reach that far.
-// A word is made of two halves because the compiler then turns them into one load of 8 bytes, before it looks at how the word is used.
-fn half(s: &[u8], at: usize) -> u64
-    requires { at + 4 ≤ length s.now }
-    ensures { (result ≡ get_or s.now at 0 + get_or s.now (at + 1) 0 * 0x100 + get_or s.now (at + 2) 0 * 0x10000 + get_or s.now (at + 3) 0 * 0x1000000) × (result < 0x100000000) }
-{
-    wide(s[at])
-        + wide(s[at + 1]) * 0x100
-        + wide(s[at + 2]) * 0x1_0000
-        + wide(s[at + 3]) * 0x100_0000
-}
-
 // The word in the 8 bytes from `at` on. Inner: the callers' bytes reach that far.
+// The array is written out because the compiler then makes one load of it; `copy_from_slice` into an array costs a branch and a copy.
 pub fn load(s: &[u8], at: usize) -> u64
     requires { at + 8 ≤ length s.now }
     ensures { result ≡ word_at s.now at }
 {
-    half(s, at) + half(s, at + 4) * 0x1_0000_0000
+    u64::from_le_bytes([
+        s[at],
+        s[at + 1],
+        s[at + 2],
+        s[at + 3],
+        s[at + 4],
+        s[at + 5],
+        s[at + 6],
+        s[at + 7],
+    ])
 }
 
 // Puts x into the 8 bytes from `at` on. Inner: the callers' bytes reach that far.
@@ -108,25 +99,14 @@ pub fn store(s: &mut [u8], at: usize, x: u64)
     requires { at + 8 ≤ length s.old }
     ensures { s.new ≡ put_word_def s.old at x }
 {
-    s[at] = (x % 0x100) as u8;
-    s[at + 1] = (x / 0x100 % 0x100) as u8;
-    s[at + 2] = (x / 0x1_0000 % 0x100) as u8;
-    s[at + 3] = (x / 0x100_0000 % 0x100) as u8;
-    s[at + 4] = (x / 0x1_0000_0000 % 0x100) as u8;
-    s[at + 5] = (x / 0x100_0000_0000 % 0x100) as u8;
-    s[at + 6] = (x / 0x1_0000_0000_0000 % 0x100) as u8;
-    s[at + 7] = (x / 0x100_0000_0000_0000 % 0x100) as u8;
+    s[at..at + 8].copy_from_slice(&x.to_le_bytes());
 }
 
 // Makes every byte zero.
 pub fn wipe(s: &mut [u8])
     ensures { s.new ≡ replicate (length s.old) 0 }
 {
-    let mut i = 0;
-    while i < s.len() {
-        s[i] = 0;
-        i += 1;
-    }
+    s.fill(0);
 }
 
 // The new row in the low half of its block, from its old value x and the row y, which is s rows further on. Inner: m is the mask for s.
@@ -150,14 +130,11 @@ fn exchange_rows(rows: &mut [u64], b: usize, s: usize, m: u64)
     requires { Blocks s m × LowFrom s b × (b + s + s ≤ 64) × (length rows.old ≡ 64) }
     ensures { MovedFrom b s rows.old rows.new × (length rows.new ≡ 64) }
 {
-    let end = b + s;
-    let mut i = b;
-    while i < end {
+    for i in b..b + s {
         let x = rows[i];
         let y = rows[i + s];
         rows[i] = low_row(x, y, s, m);
         rows[i + s] = high_row(x, y, s, m);
-        i += 1;
     }
 }
 
@@ -166,10 +143,8 @@ fn exchange_blocks(rows: &mut [u64], s: usize, m: u64)
     requires { Blocks s m × (length rows.old ≡ 64) }
     ensures { Moved rows.old rows.new (from_row s) (from_column s) × (length rows.new ≡ 64) }
 {
-    let mut b = 0;
-    while b < 64 {
+    for b in (0..64).step_by(2 * s) {
         exchange_rows(rows, b, s, m);
-        b += 2 * s;
     }
 }
 

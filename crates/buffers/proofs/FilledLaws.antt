@@ -1,20 +1,18 @@
 -- Bytes written one part after the other, as far as there is room.
-use mathlib.Core.Path.{◌≡◌, refl, sym, ap, ◌∙◌}
-use mathlib.Core.List.{List, [], ◌∷◌, ◌++◌}
-use Prim.Native.Nat.{ℕ, suc, ◌+◌, ◌≤◌, ◌<◌}
+use mathlib.Core.Path.{◌≡◌, refl, sym, ap, ap₂, ◌∙◌}
+use mathlib.Core.List.{List, [], ◌∷◌, ◌++◌, append_assoc}
+use Prim.Native.Nat.{ℕ, suc, ◌+◌, ◌-◌, ◌≤◌, ◌<◌, min}
 use native.Mathlib.Omega.{arith}
 use native.Mathlib.Nat.{add-zero}
-use native.Mathlib.Numerals.{add-one}
-use lib.ListN.{length, get_or, set, take, drop, length-set, length-take, take-append-drop}
-use lib.Seq.{sets, sets-eq, length-sets, set_out, take-suc, take_all}
+use native.Mathlib.Decide.{dec_lt}
+use borrow.Rule.Slice.PartMut.{put_mid}
+use lib.ListN.{length, set, take, drop, length-set, length-take, take-append-drop}
+use lib.Seq.{sets, sets-eq, length-sets, set_out, length-take-le, take_all, drop-drop}
 use Rattle.answer.specs.Outputs.{written_at_start}
 use Rattle.buffers.specs.Filled.{filled_from}
 
 pub filled_none : (at : ℕ) (b : List ℕ) → filled_from at [] b ≡ b
 filled_none at b = unfold filled_from in refl
-
-pub filled-one : (at x : ℕ) (b : List ℕ) → filled_from at (x ∷ []) b ≡ set b at x
-filled-one at x b = unfold filled_from in refl
 
 pub filled-length : (at : ℕ) (bytes b : List ℕ) → length (filled_from at bytes b) ≡ length b
 filled-length at bytes b = unfold filled_from in length-sets b at bytes
@@ -34,18 +32,8 @@ filled-out at (x ∷ bytes) b h = filled-out (suc at) bytes (set b at x) (omega 
 pub filled-at-start : (bytes b : List ℕ) → length bytes ≤ length b → filled_from 0 bytes b ≡ written_at_start bytes b
 filled-at-start bytes b h = unfold filled_from in sets-eq bytes b 0 (omega arith) ∙ ap (λ (n : ℕ). bytes ++ drop n b) (let e : 0 + length bytes ≡ length bytes = omega arith in e)
 
--- one more of the bytes is written
+-- the first i of the bytes, if the rest does not fit
 module _ (at : ℕ) (bytes b : List ℕ) (i : ℕ) (h : i < length bytes) where
-  pub filled_next : {o : List ℕ} → o ≡ filled_from at (take i bytes) b → set o (at + i) (get_or bytes i 0) ≡ filled_from at (take (i + 1) bytes) b
-  filled_next {o} e =
-      let n : length (take i bytes) ≡ i = length-take i bytes ∙ (omega arith) in
-      sym (filled-one (at + i) (get_or bytes i 0) o)
-      ∙ ap (λ z. filled_from (at + i) (get_or bytes i 0 ∷ []) z) e
-      ∙ ap (λ (k : ℕ). filled_from (at + k) (get_or bytes i 0 ∷ []) (filled_from at (take i bytes) b)) (sym n)
-      ∙ filled_more at (take i bytes) (get_or bytes i 0 ∷ []) b
-      ∙ ap (λ l. filled_from at l b) (sym (take-suc bytes i 0 h) ∙ ap (λ k. take k bytes) (sym (add-one i)))
-
-  -- the rest does not fit
   pub filled-rest : {o : List ℕ} → o ≡ filled_from at (take i bytes) b → length o ≤ at + i → o ≡ filled_from at bytes b
   filled-rest {o} e k =
       let n : length (take i bytes) ≡ i = length-take i bytes ∙ (omega arith) in
@@ -56,3 +44,26 @@ module _ (at : ℕ) (bytes b : List ℕ) (i : ℕ) (h : i < length bytes) where
 
 pub filled-whole : (at : ℕ) (bytes b : List ℕ) (i : ℕ) → length bytes ≤ i → filled_from at (take i bytes) b ≡ filled_from at bytes b
 filled-whole at bytes b i h = ap (λ l. filled_from at l b) (take_all i bytes h)
+
+-- the part of the buffer that the bytes reach is overwritten
+module _ (at : ℕ) (bytes b : List ℕ) where
+  part-filled : (n : ℕ) → n ≤ length bytes → at + n ≤ length b → put_mid at n b (take n bytes) ≡ filled_from at (take n bytes) b
+  unfolding filled_from
+  part-filled n h k =
+      let l : length (take n bytes) ≡ n = length-take-le n bytes h in
+      ap (λ z. take at b ++ (take n bytes ++ z)) (drop-drop n at b ∙ ap (λ m. drop (at + m) b) (sym l)) ∙ sym (sets-eq (take n bytes) b at (omega arith) ∙ append_assoc (take at b) (take n bytes) _)
+
+  pub filled-part : {from to : ℕ} {ys : List ℕ} → from ≡ min at (length b) → to ≡ min (at + length bytes) (length b) → ys ≡ take (to - from) bytes → put_mid from (to - from) b ys ≡ filled_from at bytes b
+  filled-part {from} {to} {ys} e f q =
+      elim (dec_lt at (length b)) [
+        | yes l ↦
+            let g : from ≡ at = omega arith in
+            ap₂ (λ i z. put_mid i (to - from) b z) g q ∙ part-filled (to - from) (omega arith) (omega arith)
+            ∙ elim (dec_lt (to - from) (length bytes)) [
+              | yes k ↦ filled-rest at bytes b (to - from) k refl (omega (arith, filled-length at (take (to - from) bytes) b))
+              | no k ↦ filled-whole at bytes b (to - from) (omega arith)
+            ]
+        | no l ↦
+            let n : to - from ≡ 0 = omega arith in
+            ap₂ (λ k z. put_mid from k b z) n (q ∙ ap (λ k. take k bytes) n) ∙ take-append-drop from b ∙ sym (filled-out at bytes b (omega arith))
+      ]

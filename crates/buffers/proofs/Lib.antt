@@ -1,3 +1,3 @@
 pub mod FilledLaws
 pub mod SlotLaws
-pub mod SameLaws
+pub mod FoundLaws

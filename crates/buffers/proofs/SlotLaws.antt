@@ -2,7 +2,7 @@
 use mathlib.Core.Path.{◌≡◌, sym, ◌∙◌, ap, subst}
 use mathlib.Core.List.{List, ◌∷◌, ◌++◌}
 use Prim.Native.Nat.{ℕ, suc, ◌+◌, ◌*◌, ◌-◌, ◌≤◌, ◌<◌, min}
-use native.Mathlib.Nat.{mul-le-mul, mul-suc, one-mul, le_trans, le_refl}
+use native.Mathlib.Nat.{mul-le-mul, mul-suc, le_trans}
 use native.Mathlib.Omega.{arith}
 use native.Mathlib.Decide.{dec_lt}
 use lib.ListN.{length, get_or, take, drop, length-append, length-take, length-drop, get_or-append}
@@ -13,10 +13,6 @@ use Rattle.buffers.specs.Slots.{Slots, slot_at, put_slot_def}
 -- No slot ends after the last one.
 pub slot-end : (width count i : ℕ) → i < count → width * i + width ≤ width * count
 slot-end width count i h = subst (λ x. x ≤ width * count) (mul-suc width i) (mul-le-mul {n₂ = width} (omega arith) h)
-
--- If there is a slot, there are no more slots than bytes.
-pub slots-few : {width count : ℕ} {table : List ℕ} → Slots width count table → (i : ℕ) → i < count → count ≤ length table
-slots-few {width} {count} {table} s i h = le_trans (subst (λ x. x ≤ width * count) (one-mul count) (mul-le-mul {n₂ = width} (omega (arith, s.short i h)) (le_refl count))) s.room
 
 pub slot-inside : {width count : ℕ} {table : List ℕ} → Slots width count table → (i : ℕ) → i < count → width * i + 1 + get_or table (width * i) 0 ≤ length table
 slot-inside {width} {count} {table} s i h = omega (arith, s.room, s.short i h, slot-end width count i h)

@@ -1,5 +1,5 @@
 -- Words in slots of one width: the first byte of a slot is the length of its word, which follows.
-use Rattle.std.specs.Prelude.{List, ◌∷◌, ◌++◌, ℕ, ◌+◌, ◌*◌, ◌≤◌, ◌<◌, length, get_or, take, drop}
+use Rattle.std.specs.Prelude.{List, ◌∷◌, ◌++◌, ℕ, ◌+◌, ◌*◌, ◌≤◌, ◌<◌, length, get_or, take, drop, Option, Some, None}
 use Rattle.names.specs.Token.{Token, Found, found, absent}
 
 -- The word in a slot.
@@ -15,7 +15,7 @@ pub record Slots (width count : ℕ) (table : List ℕ) : Type 0 where
 unfoldable pub put_slot_def : (width : ℕ) → List ℕ → ℕ → Token → List ℕ
 put_slot_def width table i word = take (width * i) table ++ (length word ∷ (word ++ drop (width * i + 1 + length word) table))
 
--- What was found, or the bound if nothing was.
-abbrev pub or_bound : ℕ → Found ℕ → ℕ
-or_bound n (found x) = x
-or_bound n absent = n
+-- What was found, as the code has it.
+abbrev pub found_option : {A : Type 0} → Found A → Option A
+found_option (found x) = Some x
+found_option absent = None

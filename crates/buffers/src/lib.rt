@@ -4,24 +4,14 @@
 
 ghost use Rattle.std.specs.Prelude.{◌≡◌, ◌+◌, ◌*◌, ◌^◌, ◌≤◌, ◌<◌, length, get_or};
 ghost use Rattle.names.specs.Token.{same, first_below};
-ghost use Rattle.buffers.specs.Slots.{Slots, slot_at, put_slot_def, or_bound};
+ghost use Rattle.buffers.specs.Slots.{Slots, slot_at, put_slot_def, found_option};
 ghost use Rattle.buffers.specs.Filled.{filled_from};
 
-// Whether two words are the same.
+// Whether two words are the same. `==` does not compare a slice with an array, as `same(word, b"else")` does.
 pub fn same(a: &[u8], b: &[u8]) -> bool
     ensures { result ≡ same a.now b.now }
 {
-    if a.len() != b.len() {
-        return false;
-    }
-    let mut i = 0;
-    while i < a.len() {
-        if a[i] != b[i] {
-            return false;
-        }
-        i += 1;
-    }
-    true
+    a == b
 }
 
 // The word in a slot. Inner: the table has the slot, and the word fits into it.
@@ -35,20 +25,17 @@ pub fn slot(table: &[u8], width: usize, i: usize) -> &[u8]
     &table[from..to]
 }
 
-// The first of `count` slots from number `base` on that holds the word, counted from `base`; `count` if none does. Inner: the table has the slots.
-pub fn find(table: &[u8], width: usize, base: usize, count: usize, word: &[u8]) -> usize
+// The first of `count` slots from number `base` on that holds the word, counted from `base`. Inner: the table has the slots.
+pub fn find(table: &[u8], width: usize, base: usize, count: usize, word: &[u8]) -> Option<usize>
     requires { Slots width (base + count) table.now }
-    ensures { result ≡ or_bound count (first_below (λ x. same word.now (slot_at width table.now (base + x))) count) }
+    ensures { result ≡ found_option (first_below (λ x. same word.now (slot_at width table.now (base + x))) count) }
 {
-    let mut x = 0;
-    while x < count {
-        let other = slot(table, width, base + x);
-        if same(word, other) {
-            return x;
+    for x in 0..count {
+        if word == slot(table, width, base + x) {
+            return Some(x);
         }
-        x += 1;
     }
-    count
+    None
 }
 
 // Writes bytes from a place on, as far as there is room, and returns where they end. Inner: that place fits into a usize.
@@ -57,15 +44,9 @@ pub fn put(output: &mut [u8], at: usize, bytes: &[u8]) -> usize
     ensures value { result ≡ at + length bytes.now }
     ensures output_after { output.new ≡ filled_from at bytes.now output.old }
 {
-    let mut i = 0;
-    while i < bytes.len() {
-        let p = at + i;
-        if p >= output.len() {
-            return at + bytes.len();
-        }
-        output[p] = bytes[i];
-        i += 1;
-    }
+    let from = at.min(output.len());
+    let to = (at + bytes.len()).min(output.len());
+    output[from..to].copy_from_slice(&bytes[..to - from]);
     at + bytes.len()
 }
 

@@ -1,6 +1,7 @@
 -- 31 to 33 by the measured size, and writing with the edit without its idle steps.
 use mathlib.Core.Path.{◌≡◌, refl, sym, ap, ◌∙◌}
 use mathlib.Core.List.{List, [], ◌∷◌}
+use Rattle.std.specs.Prelude.{Ok, Err}
 use Prim.Native.Nat.{ℕ, ◌≤◌, ◌<◌}
 use native.Mathlib.Omega.{arith}
 use lib.Dec.{leb}
@@ -10,7 +11,6 @@ use Rattle.answer.specs.Asked.{Asked, passed, refused, ◌>>◌, is}
 use Rattle.answer.specs.Answers.{refusal_number_def, refusal_place_def}
 use Rattle.answer.specs.declared.Refusal.{Refusal}
 use Rattle.answer.specs.declared.Refusal.TheVariants.{CarriedLength, CarriedLevels, OutputLength}
-use Rattle.answer.specs.declared.Written.TheVariants.{Length, Refused}
 use Rattle.answer.specs.Outputs.{written_at_start}
 use Rattle.answer.proofs.AskedLaws.{then-on, then-ends, after_on, after-ends}
 use Rattle.logic.specs.Syntax.{rule, Expr, Edit}
@@ -32,7 +32,7 @@ use Rattle.carry.specs.Carrying.{ask_carried, ask_size}
 use Rattle.carry.specs.Into.{Into}
 
 module _ (carried : List (Expr rule)) (out : List ℕ) where
-  into-refused : (r : Refusal) → ask_size carried (length out) ≡ refused (refusal_number_def r) (refusal_place_def r) → Into carried (Refused r) out out
+  into-refused : (r : Refusal) → ask_size carried (length out) ≡ refused (refusal_number_def r) (refusal_place_def r) → Into carried (Err r) out out
   into-refused r e = record { answer_is = sym (then-ends e _); output_is = sym (after-ends e _ out) }
 
 -- the questions about a length, a number of levels, the length needed and a room
@@ -65,7 +65,7 @@ module _ {Z : Edit} {rules : List (Expr rule)} {len tall : ℕ} (s : BookSized Z
   asks = unfold ask_carried ask_size sized ◌>>◌ in refl
 
   -- 31
-  pub too_long : longest_carried < len → Into (carried_book Z rules) (Refused (CarriedLength 0)) out out
+  pub too_long : longest_carried < len → Into (carried_book Z rules) (Err (CarriedLength 0)) out out
   too_long h = into-refused (carried_book Z rules) out (CarriedLength 0) (asks ∙ no-31 len_of levels-of len_of (length out) (omega (arith, s.len_is)))
 
   module _ (h : len ≤ longest_carried) where
@@ -73,25 +73,25 @@ module _ {Z : Edit} {rules : List (Expr rule)} {len tall : ℕ} (s : BookSized Z
     len-exact = omega (arith, s.len_is)
 
     -- 32
-    pub too-deep : deepest_carried < tall → Into (carried_book Z rules) (Refused (CarriedLevels 0)) out out
+    pub too-deep : deepest_carried < tall → Into (carried_book Z rules) (Err (CarriedLevels 0)) out out
     too-deep k = into-refused (carried_book Z rules) out (CarriedLevels 0) (asks ∙ no-32 len_of levels-of len_of (length out) (omega (arith, s.len_is)) (omega (arith, s.tall_is)))
 
     module _ (k : tall ≤ deepest_carried) where
       -- 33, with the length needed
-      pub no_room : length out < len → Into (carried_book Z rules) (Refused (OutputLength len)) out out
+      pub no_room : length out < len → Into (carried_book Z rules) (Err (OutputLength len)) out out
       no_room i = into-refused (carried_book Z rules) out (OutputLength len) (asks ∙ no-33 len_of levels-of len_of (length out) (omega (arith, s.len_is)) (omega (arith, s.tall_is)) (omega (arith, len-exact)) ∙ ap (refused 33) (sym len-exact))
 
       module _ (i : len ≤ length out) where
         pub fits_out : len_of ≤ length out
         fits_out = omega (arith, len-exact)
 
-        pub into-written : (n : ℕ) (out' : List ℕ) → n ≡ len_of → out' ≡ written_at_start (book_code (carried_book Z rules)) out → Into (carried_book Z rules) (Length n) out out'
+        pub into-written : (n : ℕ) (out' : List ℕ) → n ≡ len_of → out' ≡ written_at_start (book_code (carried_book Z rules)) out → Into (carried_book Z rules) (Ok n) out out'
         into-written n out' l w =
             let e = asks ∙ all_so len_of levels-of len_of (length out) (omega (arith, s.len_is)) (omega (arith, s.tall_is)) fits_out in
             record { answer_is = ap passed l ∙ sym (then-on e _); output_is = w ∙ sym (after_on e _ out) }
 
 -- the empty book
-pub empty-into : (book : List ℕ) → length book ≡ 0 → (rules : List (Expr rule)) (Z : Edit) → BookIs book rules → (out : List ℕ) → Into (carried_book Z rules) (Length 0) out out
+pub empty-into : (book : List ℕ) → length book ≡ 0 → (rules : List (Expr rule)) (Z : Edit) → BookIs book rules → (out : List ℕ) → Into (carried_book Z rules) (Ok 0) out out
 empty-into book e rules Z h out =
     let s = (no-book book e rules Z h 0 []).0 in
     let l = len-exact s out (omega arith) in

@@ -1,14 +1,13 @@
 -- What the questions of a book and an edit mean for their texts, and carry back by its questions.
 use mathlib.Core.Path.{◌≡◌, refl, sym, ap, ◌∙◌}
 use mathlib.Core.List.{List}
+use Rattle.std.specs.Prelude.{Result, Err}
 use Prim.Native.Nat.{ℕ, ◌≤◌}
 use lib.ListN.{length}
 use Rattle.answer.specs.Asked.{Asked, passed, refused, ◌>>=◌, ◌>>◌, after, outcome}
-use Rattle.answer.specs.Answers.{refusal_number_def, refusal_place_def}
+use Rattle.answer.specs.Answers.{refusal_number_def, refusal_place_def, result_asked}
 use Rattle.answer.specs.declared.Refusal.{Refusal}
-use Rattle.answer.specs.declared.Written.{Written}
-use Rattle.answer.specs.declared.Written.TheVariants.{Refused}
-use Rattle.answer.specs.Outputs.{written_asked, written_at_start, written_length, written_output}
+use Rattle.answer.specs.Outputs.{written_at_start, written_length, written_output}
 use Rattle.answer.proofs.AnswerLaws.{Learned, learned, not-learned}
 use Rattle.answer.proofs.OutputLaws.{not_written}
 use Rattle.logic.specs.Syntax.{rule, Expr, Edit}
@@ -42,20 +41,20 @@ output-of (refused n p) bytes out = refl
 
 -- Carry back, by its answer.
 module _ (book edit out : List ℕ) where
-  abbrev Back : Written → List ℕ → Type 0
-  Back r out' = (written_asked r ≡ carry_answer book edit (length out)) × (out' ≡ carry_output book edit out)
+  abbrev Back : Result ℕ Refusal → List ℕ → Type 0
+  Back r out' = (result_asked r ≡ carry_answer book edit (length out)) × (out' ≡ carry_output book edit out)
 
-  refused-back : (r : Refusal) → ask_carry book edit (length out) ≡ refused (refusal_number_def r) (refusal_place_def r) → Back (Refused r) out
+  refused-back : (r : Refusal) → ask_carry book edit (length out) ≡ refused (refusal_number_def r) (refusal_place_def r) → Back (Err r) out
   refused-back r e = unfold carry_answer carry_output in not_written (ask_carry book edit (length out)) out (refusal_number_def r) (refusal_place_def r) e
 
-  pub book-refused : (r : Refusal) → refused (refusal_number_def r) (refusal_place_def r) ≡ outcome (ask_book (text_limits max_nodes) book) → Back (Refused r) out
+  pub book-refused : (r : Refusal) → refused (refusal_number_def r) (refusal_place_def r) ≡ outcome (ask_book (text_limits max_nodes) book) → Back (Err r) out
   book-refused r e = unfold ask_carry ◌>>=◌ in refused-back r (rw (not-learned _ _ _ e))
 
   module _ (b : passed tt ≡ outcome (ask_book (text_limits max_nodes) book)) where
     rules : Learned (ask_book (text_limits max_nodes) book)
     rules = learned (ask_book (text_limits max_nodes) book) b
 
-    pub edit-refused : (r : Refusal) → refused (refusal_number_def r) (refusal_place_def r) ≡ outcome (ask_edit (text_limits max_nodes) edit) → Back (Refused r) out
+    pub edit-refused : (r : Refusal) → refused (refusal_number_def r) (refusal_place_def r) ≡ outcome (ask_edit (text_limits max_nodes) edit) → Back (Err r) out
     edit-refused r e = unfold ask_carry ◌>>=◌ in refused-back r (rw (rules.is, not-learned _ _ _ e))
 
     module _ (e : passed tt ≡ outcome (ask_edit (text_limits max_nodes) edit)) where
@@ -68,7 +67,7 @@ module _ (book edit out : List ℕ) where
       asks : ask_carry book edit (length out) ≡ (ask_size (carried_book Z.what rules.what) (length out) >> passed (book_code (carried_book Z.what rules.what)))
       asks = unfold ask_carry ◌>>=◌ in rw (rules.is, Z.is)
 
-      pub into_back : {r : Written} {out' : List ℕ} → ((rules : List (Expr rule)) (Z : Edit) → BookIs book rules → EditAt edit 0 Z → Into (carried_book Z rules) r out out') → Back r out'
+      pub into_back : {r : Result ℕ Refusal} {out' : List ℕ} → ((rules : List (Expr rule)) (Z : Edit) → BookIs book rules → EditAt edit 0 Z → Into (carried_book Z rules) r out out') → Back r out'
       unfolding carry_answer carry_output written_length written_output
       into_back f =
           let i = f rules.what Z.what (book-passed (text_limits max_nodes) rules.is) (edit-passed max_nodes Z.is).0 in

@@ -1,8 +1,9 @@
 -- Comparing the text with the one sent, byte by byte.
-use mathlib.Core.Path.{◌≡◌, refl, ap, ◌∙◌}
+use mathlib.Core.Path.{◌≡◌, ap, ◌∙◌}
 use mathlib.Core.List.{List, [], ◌∷◌}
-use Prim.Native.Nat.{ℕ, suc, ◌+◌, ◌%◌, ◌≤◌, ◌<◌}
+use Prim.Native.Nat.{ℕ, suc, ◌+◌, ◌%◌, ◌≤◌, ◌<◌, min}
 use native.Mathlib.Numerals.{add-one}
+use native.Mathlib.Decide.{dec_lt}
 use native.Mathlib.Omega.{arith}
 use lib.ListN.{length, get_or, drop, length-map, drop_of_length-le, get_or-map}
 use lib.Seq.{drop-cons}
@@ -16,9 +17,6 @@ pub record Comparing (t sent : List ℕ) (i : ℕ) : Type 0 where
   pub on : i ≤ length t
   pub on-sent : i ≤ length sent
   pub rest : ask_same (drop i (lowered t)) (drop i sent) i ≡ ask_same (lowered t) sent 0
-
-pub comparing-first : (t sent : List ℕ) → Comparing t sent 0
-comparing-first t sent = record { on = omega arith; on-sent = omega arith; rest = refl }
 
 module _ {t sent : List ℕ} {i : ℕ} (c : Comparing t sent i) where
   long : length (lowered t) ≡ length t
@@ -41,6 +39,15 @@ module _ {t sent : List ℕ} {i : ℕ} (c : Comparing t sent i) where
 
   pub comparing-end : length t ≤ i → length sent ≤ i → passed tt ≡ ask_same (lowered t) sent 0
   comparing-end h k = unfold ask_same in cc (closed h, drop_of_length-le sent k, c.rest)
+
+  uneven : i ≡ min (length t) (length sent) → (length t ≡ length sent → ⊥) → refused 60 i ≡ ask_same (lowered t) sent 0
+  uneven e n = elim (dec_lt (length t) (length sent)) [
+    | yes h ↦ comparing-long (omega arith) (omega arith)
+    | no h ↦ comparing-short (omega arith) (omega arith)
+  ]
+
+  pub comparing-uneven : (m : ℕ) → m ≡ min (length t) (length sent) → m ≤ i → (length t ≡ length sent → ⊥) → refused 60 m ≡ ask_same (lowered t) sent 0
+  comparing-uneven m e h n = let f : m ≡ i = omega (arith, c.on, c.on-sent) in ap (refused 60) f ∙ uneven (omega (arith, e, f)) n
 
   module _ (h : i < length t) (k : i < length sent) where
     pub comparing-differs : (get_or t i 0 % 128 ≡ get_or sent i 0 → ⊥) → refused 60 i ≡ ask_same (lowered t) sent 0

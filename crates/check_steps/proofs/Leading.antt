@@ -68,10 +68,6 @@ pub record Leading (work₀ : List ℕ) (len₀ : ℕ) (steps work : List ℕ) (
   pub same_length : length work ≡ length work₀
   pub leads : (K : Expr rule) → RuleIs work₀ len₀ K → Reached K steps work len p i
 
-pub leading-first : {work : List ℕ} {len : ℕ} (steps : List ℕ) → SomeRuleIs work len → Leading work len steps work len 0 0
-leading-first steps some =
-    record { some = some; on = omega arith; count = omega arith; same_length = refl; leads = λ K k. record { now-rule = K; stands = k; asks = refl } }
-
 module _ {work₀ : List ℕ} {len₀ : ℕ} {steps work : List ℕ} {len p i : ℕ} (l : Leading work₀ len₀ steps work len p i) where
   pub leading_end : length steps ≤ p → (K : Expr rule) → RuleIs work₀ len₀ K → Led K steps work len
   unfolding ask_steps

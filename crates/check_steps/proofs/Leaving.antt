@@ -68,12 +68,6 @@ module _ (t : List ℕ) (at n : ℕ) where
     bytes_left = unfold step_leaves in cc (ne_eqb from 0 some)
 
 module _ (t : List ℕ) (from law : ℕ) where
-  pub byte-4 : law ≡ 4 → set t from 0x02 ≡ with_byte t from law
-  byte-4 e = unfold with_byte in cc
-
-  pub byte-5 : law ≡ 5 → set t from 0x01 ≡ with_byte t from law
-  byte-5 e = unfold with_byte in cc
-
   pub byte-none : (law ≡ 4 → ⊥) → (law ≡ 5 → ⊥) → t ≡ with_byte t from law
   byte-none n m = unfold with_byte in cc (ne_eqb law 4 n, ne_eqb law 5 m)
 

@@ -1,14 +1,13 @@
 -- The right side of a law in each case of the code, and what is known if it is found; and moving bytes down.
-use mathlib.Core.Path.{◌≡◌, sym, ap, ap₂, ◌∙◌}
+use mathlib.Core.Path.{◌≡◌, sym, ap, ◌∙◌}
 use mathlib.Core.Bool.{cond}
 use mathlib.Core.List.{List, ◌++◌}
 use Prim.Native.Nat.{ℕ, ◌+◌, ◌-◌, ◌≤◌, ◌<◌}
-use native.Mathlib.Numerals.{add-one}
 use native.Mathlib.Decide.{dec_lt, ℕ_discrete}
 use native.Mathlib.Omega.{arith}
 use lib.Dec.{eqb}
-use lib.ListN.{length, get_or, set, take, drop, length-drop}
-use lib.Seq.{take-length, paste, paste-zero, paste-suc, length-paste, length_paste_head, get_or-append-add, get_or-drop}
+use lib.ListN.{length, get_or, take, drop, length-drop}
+use lib.Seq.{take-length, paste}
 use borrow.Author.Tests.{le-leb, lt-leb, eq-eqb, ne_eqb}
 use Rattle.check_steps.specs.Raised.{behind_at, again_at, first_bytes_def, second_bytes_def, contrary_at, right_of_def, right_at, moved_down}
 
@@ -86,33 +85,7 @@ found t at n h = go (dec_lt (length t) (at + 3)) (dec_lt 8 n) (ℕ_discrete (get
     go (no a) (no b) (yes c) (no d) (no e) = absurd (h (sym (side-second t at n (omega arith) (omega arith) c d e)))
     go (no a) (no b) (yes c) (no d) (yes e) = there (omega arith) (omega arith) c (λ q. e) (side-both t at n (omega arith) (omega arith) c d e)
 
--- Some of the bytes have been moved down.
-pub record Moving (t : List ℕ) (at from i : ℕ) (t' : List ℕ) : Type 0 where
-  pub some : i ≤ length t - from
-  pub moved : t' ≡ paste t at (drop from t) i
-
-module _ (t : List ℕ) (at from : ℕ) (low : at ≤ from) (inside : from ≤ length t) where
-  pub moving-first : Moving t at from 0 t
-  moving-first = record { some = omega arith; moved = paste-zero t at (drop from t) }
-
-  module _ {i : ℕ} {t' : List ℕ} (m : Moving t at from i t') where
-    pub moving-length : length t' ≡ length t
-    moving-length = ap length m.moved ∙ length-paste t at (drop from t) i (omega (arith, m.some)) (omega (arith, m.some, length-drop from t))
-
-    pub moving-next : i < length t - from → Moving t at from (i + 1) (set t' (at + i) (get_or t' (from + i) 0))
-    moving-next l =
-        let long = length-drop from t in
-        let head : List ℕ = take at t ++ take i (drop from t) in
-        let far : from + i ≡ length head + (from - at) = omega (arith, length_paste_head t at (drop from t) i (omega arith) (omega arith)) in
-        let back : at + i + (from - at) ≡ from + i = omega arith in
-        let read : get_or (paste t at (drop from t) i) (from + i) 0 ≡ get_or (drop from t) i 0 =
-        cc (get_or-append-add head (drop (at + i) t) (from - at) 0, get_or-drop (at + i) t (from - at) 0, get_or-drop from t i 0) in
-        record { some = omega arith; moved = cc (m.moved, paste-suc t at (drop from t) i 0 (omega arith) (omega arith), add-one i) }
-
-    pub moving-end : length t - from ≤ i → t' ≡ moved_down t at from
-    unfolding moved_down
-    moving-end h =
-        let e : i ≡ length (drop from t) = omega (arith, m.some, length-drop from t) in
-        m.moved
-        ∙ ap (paste t at (drop from t)) e
-        ∙ ap₂ (λ z k. take at t ++ z ++ drop (at + k) t) (take-length (drop from t)) (length-drop from t)
+-- The bytes moved down at once.
+pub moved-by : (t : List ℕ) (at from : ℕ) → paste t at (drop from t) (length t - from) ≡ moved_down t at from
+unfolding moved_down
+moved-by t at from = ap (λ z. take at t ++ z ++ drop (at + (length t - from)) t) (ap (λ k. take k (drop from t)) (sym (length-drop from t)) ∙ take-length (drop from t))

@@ -1,18 +1,20 @@
 -- What the loops over a raised text keep.
 use mathlib.Core.Path.{◌≡◌, refl, sym, ap, ap₂, ◌∙◌}
-use mathlib.Core.Bool.{Bool, true, false, ◌&&◌, cond}
+use mathlib.Core.Bool.{Bool, true, false, not, ◌&&◌, cond}
 use mathlib.Core.List.{List, [], ◌∷◌}
 use Prim.Native.Nat.{ℕ, zero, suc, ◌+◌, ◌-◌, ◌*◌, ◌%◌, ◌≤◌, ◌<◌}
 use native.Mathlib.Nat.{zero-add}
 use native.Mathlib.Numerals.{add-one}
 use native.Mathlib.Omega.{arith}
 use lib.Dec.{leb, eqb}
-use lib.ListN.{length, get_or, set, drop, length-drop, drop_of_length-le, get_or-eq_default}
-use lib.Seq.{drop-cons, take-length, paste, paste-zero, paste-suc, length-paste}
-use borrow.Author.Tests.{le-leb, lt-leb, eq-eqb, ne_eqb, leb-true}
+use lib.Pointwise.{pointwise, bytes_decides}
+use lib.ListN.{length, get_or, set, take, drop, length-take, length-drop, drop_of_length-le, get_or-eq_default}
+use lib.Seq.{drop-cons, ext_get_or, get_or-take, get_or-drop, take-length, paste, paste-suc}
+use borrow.Author.Tests.{le-leb, lt-leb, eq-eqb, ne_eqb, leb-true, eqb-true}
 use Rattle.ends.specs.Shapes.{shapes, shape_of}
 use Rattle.answer.specs.Outputs.{written_at_start}
-use Rattle.logic.proofs.Below.{all-stop, all_end}
+use Rattle.logic.proofs.Bools.{is_false, true-false}
+use Rattle.logic.proofs.Below.{all_true, all-each, all_end}
 use Rattle.logic.proofs.Tables.{cond_both}
 use Rattle.check_steps.specs.Raised.{numbers_of, operands_of, next_numbers_def, raised_byte_def, raised, next_wanted_def, width, behind_at, alike, again_at}
 
@@ -41,13 +43,7 @@ pub record Raising (text work₀ : List ℕ) (p n : ℕ) (work : List ℕ) : Typ
   pub written : work ≡ paste work₀ 0 (raised 0 text) p
   pub to-come : drop p (raised 0 text) ≡ raised n (drop p text)
 
-pub raising-first : (text work₀ : List ℕ) → Raising text work₀ 0 0 work₀
-raising-first text work₀ = record { on = omega arith; written = paste-zero work₀ 0 (raised 0 text); to-come = refl }
-
 module _ {text work₀ work : List ℕ} {p n : ℕ} (r : Raising text work₀ p n work) where
-  pub raising-length : length text ≤ length work₀ → length work ≡ length work₀
-  raising-length h = ap length r.written ∙ length-paste work₀ 0 (raised 0 text) p (omega (arith, r.on)) (omega (arith, r.on, raised-length 0 text))
-
   module _ (l : p < length text) (room : length text ≤ length work₀) where
     opened : ◌≡◌ {A = List ℕ} (get_or (raised 0 text) p 0 ∷ drop (suc p) (raised 0 text)) (raised_byte_def n (get_or text p 0) ∷ raised (next_numbers_def n (get_or text p 0)) (drop (suc p) text))
     opened = unfold raised in sym (drop-cons (raised 0 text) p 0 (omega (arith, l, raised-length 0 text))) ∙ r.to-come ∙ ap (raised n) (drop-cons text p 0 l)
@@ -100,6 +96,33 @@ module _ (text : List ℕ) (at : ℕ) where
         let turned : width n w (drop p text) ≡ suc (width m v (drop (p + 1) text)) = cc (drop-cons text p 0 l, ne_eqb (n + w) 0 some, add-one p) in
         omega (arith, r.from, r.few, r.ends, few-next n w (get_or text p 0) r.low)
 
+-- Whether two slices of a text are equal, as the code finds it.
+pub alike-slices : (t : List ℕ) (a b n : ℕ) → a + n ≤ length t → b + n ≤ length t → {r : Bool} → r ≡ not (pointwise eqb (take (a + n - a) (drop a t)) (take (b + n - b) (drop b t))) → alike t a b n ≡ not r
+alike-slices t a b n ha hb {r} e = go (pointwise eqb xs ys) refl where
+  xs : List ℕ
+  xs = take (a + n - a) (drop a t)
+
+  ys : List ℕ
+  ys = take (b + n - b) (drop b t)
+
+  x-at : (i : ℕ) → i < n → get_or xs i 0 ≡ get_or t (a + i) 0
+  x-at i h = get_or-take (a + n - a) (drop a t) i 0 (omega arith) ∙ get_or-drop a t i 0
+
+  y-at : (i : ℕ) → i < n → get_or ys i 0 ≡ get_or t (b + i) 0
+  y-at i h = get_or-take (b + n - b) (drop b t) i 0 (omega arith) ∙ get_or-drop b t i 0
+
+  x-long : length xs ≡ n
+  x-long = omega (arith, length-take (a + n - a) (drop a t), length-drop a t)
+
+  y-long : length ys ≡ n
+  y-long = omega (arith, length-take (b + n - b) (drop b t), length-drop b t)
+
+  go : (p : Bool) → pointwise eqb xs ys ≡ p → alike t a b n ≡ not r
+  go true p = let s = (bytes_decides xs ys).0 p in all_true n _ (λ i h. eq-eqb _ _ (sym (x-at i h) ∙ ap (λ z. get_or z i 0) s ∙ y-at i h)) ∙ sym (ap not (e ∙ ap not p))
+  go false p = is_false (alike t a b n) (λ h.
+      let s : xs ≡ ys = ext_get_or 0 xs ys (x-long ∙ sym y-long) (λ i j. let m : i < n = omega (arith, x-long) in x-at i m ∙ eqb-true _ _ (all-each n _ h i m) ∙ sym (y-at i m)) in
+      true-false ((bytes_decides xs ys).1 s) p) ∙ sym (ap not (e ∙ ap not p))
+
 -- An expression that occurs again.
 module _ (text : List ℕ) (at gap end : ℕ) (is : end ≡ behind_at text at) where
   again-is : again_at text at gap ≡ cond (leb (end + gap + (end - at)) (length text) && alike text at (end + gap) (end - at)) (end + gap) 0
@@ -112,8 +135,8 @@ module _ (text : List ℕ) (at gap end : ℕ) (is : end ≡ behind_at text at) w
     whole : (b : Bool) → alike text at (end + gap) (end - at) ≡ b → again_at text at gap ≡ cond b (end + gap) 0
     whole b e = again-is ∙ ap₂ (λ a b. cond (a && b) (end + gap) 0) (le-leb (end + gap + (end - at)) (length text) room) e
 
-    pub again-differs : (i : ℕ) → i < end - at → (get_or text (at + i) 0 ≡ get_or text (end + gap + i) 0 → ⊥) → 0 ≡ again_at text at gap
-    again-differs i h d = sym (whole false (all-stop (λ i. eqb (get_or text (at + i) 0) (get_or text (end + gap + i) 0)) (end - at) i h (ne_eqb (get_or text (at + i) 0) (get_or text (end + gap + i) 0) d)))
+    pub again-differs : alike text at (end + gap) (end - at) ≡ false → 0 ≡ again_at text at gap
+    again-differs d = sym (whole false d)
 
     pub again-found : (i : ℕ) → i ≤ end - at → end - at ≤ i → alike text at (end + gap) i ≡ true → end + gap ≡ again_at text at gap
     again-found i h l e = sym (whole true (all_end (λ i. eqb (get_or text (at + i) 0) (get_or text (end + gap + i) 0)) (end - at) i h l e))

@@ -1,9 +1,14 @@
 -- The text on which the code makes steps: a rule's bytes with each number raised by 128, so that no number is taken for a code.
 -- Also what the code finds in such a text.
-use Rattle.std.specs.Prelude.{Bool, ◌&&◌, cond, List, [], ◌∷◌, ◌++◌, map, ℕ, zero, suc, ◌+◌, ◌-◌, ◌/◌, ◌%◌, leb, eqb, length, get_or, set, take, drop}
+use Rattle.std.specs.Prelude.{Bool, ◌&&◌, cond, List, [], ◌∷◌, ◌++◌, map, ℕ, zero, suc, ◌+◌, ◌-◌, ◌/◌, ◌%◌, leb, eqb, length, get_or, set, take, drop, Option, Some, None}
 use Rattle.logic.specs.Graph.{all_below}
 use Rattle.ends.specs.Shapes.{shape_of}
 use Rattle.shortening.specs.Laws.{Made, made, unfit}
+
+-- What the code answers with where these definitions give a place or a length, which is never 0, or 0 for none.
+abbrev pub found_at : ℕ → Option ℕ
+found_at zero = None
+found_at (suc n) = Some (suc n)
 
 -- How many numbers and how many operands follow a code.
 abbrev pub numbers_of : ℕ → ℕ

@@ -1,13 +1,11 @@
 -- A rule in the work text, and what the steps turn it into.
-use Rattle.std.specs.Prelude.{◌≡◌, List, ℕ, ◌≤◌, length, take}
+use Rattle.std.specs.Prelude.{◌≡◌, List, ℕ, ◌≤◌, length, take, Result, Ok, Err}
 use Rattle.answer.specs.Asked.{passed, refused}
 use Rattle.logic.specs.Syntax.{Expr, rule}
 use Rattle.logic.specs.Limits.{max_nodes, ranges, InRange}
 use Rattle.text.specs.Code.{code}
 use Rattle.text.specs.Reading.{longest_carried}
 use Rattle.shortening.specs.Questions.{ask_steps}
-use Rattle.check_steps.specs.declared.Outcome.{Outcome}
-use Rattle.check_steps.specs.declared.Outcome.TheVariants.{Length, Unfit}
 use Rattle.check_steps.specs.Raised.{raised}
 
 -- The first bytes of the work text are a rule with its numbers raised.
@@ -27,6 +25,6 @@ pub record Led (K : Expr rule) (steps work : List ℕ) (len : ℕ) : Type 0 wher
   pub asked : ask_steps steps 0 K ≡ passed last
   pub stands : RuleIs work len last
 
-abbrev pub Stepped : Expr rule → (steps : List ℕ) → Outcome → (work : List ℕ) → Type 0
-Stepped K steps (Length len) work = Led K steps work len
-Stepped K steps (Unfit i) work = ask_steps steps 0 K ≡ refused 59 i
+abbrev pub Stepped : Expr rule → (steps : List ℕ) → Result ℕ ℕ → (work : List ℕ) → Type 0
+Stepped K steps (Ok len) work = Led K steps work len
+Stepped K steps (Err i) work = ask_steps steps 0 K ≡ refused 59 i

@@ -8,7 +8,7 @@ ghost use Rattle.answer.specs.Outputs.{written_at_start};
 ghost use Rattle.text.specs.Reading.{longest_carried};
 ghost use Rattle.ends.specs.Shapes.{shape_of};
 ghost use Rattle.shortening.specs.Questions.{ask_same, ask_check};
-ghost use Rattle.check_steps.specs.Raised.{next_numbers_def, raised_byte_def, raised, lowered, next_wanted_def, behind_at, again_at, contrary_at, right_of_def, right_at, with_byte, moved_down, step_length, step_leaves};
+ghost use Rattle.check_steps.specs.Raised.{next_numbers_def, raised_byte_def, raised, lowered, next_wanted_def, behind_at, again_at, contrary_at, right_of_def, right_at, with_byte, step_length, step_leaves, found_at};
 ghost use Rattle.check_steps.specs.Steps.{RuleIs, SomeRuleIs, Stepped};
 ghost use Rattle.logic.specs.Syntax.{Expr, rule};
 
@@ -16,6 +16,7 @@ use answer::{Answer, Refusal};
 use text::Text;
 
 // The first byte of each law's left side, by the law's number; the second if it is fixed, else 0.
+// No code is 0, so the rows stay bytes: as Options they read no plainer, and each test would unwrap one.
 const FIRST: [u8; 9] = [0, 0x05, 0x06, 0x07, 0x06, 0x07, 0x06, 0x27, 0x26];
 
 const SECOND: [u8; 9] = [0, 0x05, 0, 0, 0, 0x01, 0x01, 0x27, 0];
@@ -51,13 +52,10 @@ fn raise_numbers(text: &[u8], work: &mut [u8])
     requires { length text.now ≤ length work.old }
     ensures { work.new ≡ written_at_start (raised 0 text.now) work.old }
 {
-    let mut p = 0;
     let mut numbers = 0;
-    while p < text.len() {
-        let byte = text[p];
+    for (p, &byte) in text.iter().enumerate() {
         work[p] = raised_byte(numbers, byte);
         numbers = next_numbers(numbers, byte);
-        p += 1;
     }
 }
 
@@ -80,208 +78,149 @@ fn behind(text: &[u8], at: usize) -> usize
     requires { (at ≤ length text.now) × (length text.now ≤ longest_carried) }
     ensures { result ≡ behind_at text.now at }
 {
-    let mut p = at;
     let mut numbers = 0;
     let mut wanted = 1;
-    while p < text.len() {
+    for p in at..text.len() {
         if numbers + wanted == 0 {
             return p;
         }
         let byte = text[p];
         wanted = next_wanted(numbers, wanted, byte);
         numbers = next_numbers(numbers, byte);
-        p += 1;
     }
-    p
+    text.len()
 }
 
-// Where the expression at `at` occurs again, `gap` bytes after its end; 0 if it does not.
+// Where the expression behind the byte at `at` occurs again, `gap` bytes after its end.
 // Inner: the work text has at most 16,384 bytes, and a gap is 0 or 1.
-fn again(text: &[u8], at: usize, gap: usize) -> usize
-    requires { (at ≤ length text.now) × (length text.now ≤ longest_carried) × (gap ≤ 1) }
-    ensures { result ≡ again_at text.now at gap }
+fn again(text: &[u8], at: usize, gap: usize) -> Option<usize>
+    requires { (at + 1 ≤ length text.now) × (length text.now ≤ longest_carried) × (gap ≤ 1) }
+    ensures { result ≡ found_at (again_at text.now (at + 1) gap) }
 {
-    let end = behind(text, at);
-    let n = end - at;
+    let first = at + 1;
+    let end = behind(text, first);
+    let n = end - first;
     let second = end + gap;
     if second + n > text.len() {
-        return 0;
+        return None;
     }
-    let mut i = 0;
-    while i < n {
-        if text[at + i] != text[second + i] {
-            return 0;
-        }
-        i += 1;
+    if text[first..first + n] != text[second..second + n] {
+        return None;
     }
-    second
+    Some(second)
 }
 
-// One less than the place where 06 E 05 E at `at` ends; 0 if the text does not have it there.
+// One less than the place where 06 E 05 E at `at` ends.
 // Inner: the work text has at most 16,384 bytes, and E begins within it.
-fn contrary(text: &[u8], at: usize) -> usize
+fn contrary(text: &[u8], at: usize) -> Option<usize>
     requires { (at + 1 ≤ length text.now) × (length text.now ≤ longest_carried) }
-    ensures { result ≡ contrary_at text.now at }
+    ensures { result ≡ found_at (contrary_at text.now at) }
 {
-    let second = again(text, at + 1, 1);
-    if second == 0 {
-        return 0;
-    }
+    let second = again(text, at, 1)?;
     if text[second - 1] != 0x05 {
-        return 0;
+        return None;
     }
-    second + (second - (at + 2)) - 1
+    Some(second + (second - (at + 2)) - 1)
 }
 
-// Where the right side of a law begins, if the law's first bytes are at `at`; 0 if the left side is not there.
+// Where the right side of a law begins, if the law's first bytes are at `at` and the rest of its left side follows.
 // Inner: the work text has at most 16,384 bytes, and the law is one of the eight.
-fn right_of(text: &[u8], at: usize, law: usize) -> usize
+fn right_of(text: &[u8], at: usize, law: usize) -> Option<usize>
     requires { (at + 3 ≤ length text.now) × (length text.now ≤ longest_carried) × (law ≤ 8) }
-    ensures { result ≡ right_of_def text.now at law }
+    ensures { result ≡ found_at (right_of_def text.now at law) }
 {
-    if law == 4 {
-        return contrary(text, at);
+    match law {
+        4 => contrary(text, at),
+        5 => Some(behind(text, at + 2) - 1),
+        _ if SECOND[law] == 0 => again(text, at, 0),
+        _ => Some(at + 2),
     }
-    if law == 5 {
-        return behind(text, at + 2) - 1;
-    }
-    if SECOND[law] == 0 {
-        return again(text, at + 1, 0);
-    }
-    at + 2
 }
 
 // The same, with the first bytes checked.
 // Inner: the work text has at most 16,384 bytes.
-fn right_side(text: &[u8], at: usize, law: usize) -> usize
+fn right_side(text: &[u8], at: usize, law: usize) -> Option<usize>
     requires { (at ≤ 65535) × (length text.now ≤ longest_carried) }
-    ensures { result ≡ right_at text.now at law }
+    ensures { result ≡ found_at (right_at text.now at law) }
 {
-    if at + 3 > text.len() {
-        return 0;
+    if at + 3 > text.len() || law > 8 || text[at] != FIRST[law] {
+        return None;
     }
-    if law > 8 {
-        return 0;
-    }
-    if text[at] != FIRST[law] {
-        return 0;
-    }
-    if SECOND[law] == 0 {
-        return right_of(text, at, law);
-    }
-    if text[at + 1] != SECOND[law] {
-        return 0;
+    if SECOND[law] != 0 && text[at + 1] != SECOND[law] {
+        return None;
     }
     right_of(text, at, law)
 }
 
-// Cuts out the bytes from `at` up to `from` and moves those after them down. The bytes left over at the end stay.
-// Inner: both places are in the text.
-fn cut(text: &mut [u8], at: usize, from: usize)
-    requires { (at ≤ from) × (from ≤ length text.old) }
-    ensures { text.new ≡ moved_down text.old at from }
-{
-    let n = text.len() - from;
-    let mut i = 0;
-    while i < n {
-        text[at + i] = text[from + i];
-        i += 1;
-    }
-}
-
 // Puts the byte that law 4 or 5 makes at the start of its right side.
 // Inner: the place is in the text.
+#[tactic(auto, unfolding(crate::specs::Raised::with_byte))]
 fn put_byte(text: &mut [u8], from: usize, law: usize)
     requires { from < length text.old }
     ensures { text.new ≡ with_byte text.old from law }
 {
-    if law == 4 {
-        text[from] = 0x02;
-        return;
-    }
-    if law == 5 {
-        text[from] = 0x01;
+    match law {
+        4 => text[from] = 0x02,
+        5 => text[from] = 0x01,
+        _ => {}
     }
 }
 
-// Makes a step and returns the new length of the text; 0 if the step does not fit.
+// Makes a step and returns the new length of the text. What follows the right side moves down; the bytes left over at the end stay.
 // Inner: the work text has at most 16,384 bytes.
-fn make_step(text: &mut [u8], at: usize, law: usize) -> usize
+fn make_step(text: &mut [u8], at: usize, law: usize) -> Option<usize>
     requires { (at ≤ 65535) × (length text.old ≤ longest_carried) }
-    ensures value { result ≡ step_length text.old at law }
+    ensures value { result ≡ found_at (step_length text.old at law) }
     ensures text_after { text.new ≡ step_leaves text.old at law }
 {
-    let from = right_side(text, at, law);
-    if from == 0 {
-        return 0;
-    }
+    let from = right_side(text, at, law)?;
     put_byte(text, from, law);
-    cut(text, at, from);
-    text.len() - (from - at)
+    text.copy_within(from.., at);
+    Some(text.len() - (from - at))
 }
 
-// The length of the text after all steps; or the first step that is cut, unknown or does not fit.
-#[derive(Drop)]
-pub enum Outcome {
-    Length(usize),
-    Unfit(usize),
-}
-
-// A step's offset and its law's number, from its bytes.
+// A step's offset, from its bytes.
 fn offset(low: u8, high: u8) -> usize
     ensures { (result ≡ low + 256 * high) × (result ≤ 65535) }
 {
-    low as usize + 256 * (high as usize)
+    usize::from(u16::from_le_bytes([low, high]))
 }
 
-fn law_number(byte: u8) -> usize
-    ensures { result ≡ byte }
-{
-    byte as usize
-}
-
-// Makes the steps one after the other. Work bytes after the text do not matter.
+// Makes the steps one after the other: the length of the text after all of them, or the first step that is cut, unknown or does not fit.
+// Work bytes after the text do not matter.
 // Inner: the work text begins with a rule of this length.
-fn make_steps(work: &mut [u8], length: usize, steps: &[u8]) -> Outcome
+fn make_steps(work: &mut [u8], length: usize, steps: &[u8]) -> Result<usize, usize>
     requires { SomeRuleIs work.old length }
     ensures { (K : Expr rule) → RuleIs work.old length K → Stepped K steps.now result work.new }
 {
     let mut len = length;
-    let mut p = 0;
-    let mut i = 0;
-    while p < steps.len() {
+    for i in 0..steps.len().div_ceil(3) {
+        let p = 3 * i;
         if steps.len() - p < 3 {
-            return Outcome::Unfit(i);
+            return Err(i);
         }
         let at = offset(steps[p], steps[p + 1]);
-        let law = law_number(steps[p + 2]);
-        let next = make_step(&mut work[0..len], at, law);
-        if next == 0 {
-            return Outcome::Unfit(i);
-        }
+        let law = usize::from(steps[p + 2]);
+        let Some(next) = make_step(&mut work[0..len], at, law) else {
+            return Err(i);
+        };
         len = next;
-        p += 3;
-        i += 1;
     }
-    Outcome::Length(len)
+    Ok(len)
 }
 
 // Is the text, with its numbers lowered, the one sent? 60.
 fn compare(text: &[u8], sent: &[u8]) -> Answer
     ensures { asked result ≡ ask_same (lowered text.now) sent.now 0 }
 {
-    let mut i = 0;
-    while i < text.len() {
-        if i >= sent.len() {
-            return Answer::Refused(Refusal::TextSent { place: i });
-        }
+    let n = text.len().min(sent.len());
+    for i in 0..n {
         if text[i] % 128 != sent[i] {
             return Answer::Refused(Refusal::TextSent { place: i });
         }
-        i += 1;
     }
-    if i < sent.len() {
-        return Answer::Refused(Refusal::TextSent { place: i });
+    if text.len() != sent.len() {
+        return Answer::Refused(Refusal::TextSent { place: n });
     }
     Answer::Done
 }
@@ -297,9 +236,8 @@ pub fn check_steps(rule: &[u8], steps: &[u8], sent: &[u8]) -> Answer
     }
     let mut work = [0u8; Text::LONGEST_CARRIED];
     raise_numbers(rule, &mut work);
-    let outcome = make_steps(&mut work, rule.len(), steps);
-    match outcome {
-        Outcome::Length(len) => compare(&work[0..len], sent),
-        Outcome::Unfit(step) => Answer::Refused(Refusal::LawStep { place: step }),
+    match make_steps(&mut work, rule.len(), steps) {
+        Ok(len) => compare(&work[0..len], sent),
+        Err(step) => Answer::Refused(Refusal::LawStep { place: step }),
     }
 }

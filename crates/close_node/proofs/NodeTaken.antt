@@ -1,9 +1,7 @@
 -- Whether a node has a label or an arrow or is the only one in use, as the code finds it.
 use mathlib.Core.Path.{◌≡◌, refl, sym, ap, ◌∙◌}
 use mathlib.Core.Bool.{Bool, true, false, not, ◌&&◌, ◌||◌, cond}
-use Prim.Native.Nat.{ℕ, ◌+◌, ◌<◌}
-use native.Mathlib.Decide.{dec_lt}
-use native.Mathlib.Omega.{arith}
+use Prim.Native.Nat.{ℕ, ◌<◌}
 use lib.Dec.{eqb}
 use borrow.Author.Tests.{eq-eqb, ne_eqb, lt-ltb}
 use Rattle.logic.specs.Graph.{Graph, Nodes, is_node, any_below}
@@ -14,13 +12,6 @@ use Rattle.logic.proofs.Below.{any-cong, any_none, any_found, any-one, any-not}
 use Rattle.bitset.specs.Words.{set_of, member}
 use Rattle.bitset.proofs.SetLaws.{set_of-empty, member-set_of}
 use Rattle.rows.proofs.OperationLaws.{not_is}
-
--- None so far, one by one.
-pub none-next : (v : Nodes) (k : ℕ) → ((j : ℕ) → j < k → v j ≡ false) → v k ≡ false → (j : ℕ) → j < k + 1 → v j ≡ false
-none-next v k f e j l = go (dec_lt j k) where
-  go : Dec (j < k) → v j ≡ false
-  go (yes m) = f j m
-  go (no m) = let q : j ≡ k = omega arith in ap v q ∙ e
 
 -- A word that is not 0 has a member, and 0 has none.
 pub word_some : (n x : ℕ) (p : Nodes) → x ≡ set_of n p → (x ≡ 0 → ⊥) → any_below n p ≡ true

@@ -86,9 +86,9 @@ module _ (sheet book : List ℕ) (i : ℕ) (used : Bool) (within : Within (set_u
     asked_of : ask_rules h rules 0 ≡ asked a
     asked_of = ap (λ (g : Graph). ask_rules g rules 0) (sym changed-graph) ∙ sym judged
 
-    pub judged-done : a ≡ Done → Judged rules h Done sheet t
+    pub judged-done : a ≡ Done → Judged rules h a sheet t
     unfolding after
-    judged-done d = record { answer_is = sym (asked_of ∙ ap asked d); sheet_is = stores ∙ sym (ap (λ (x : Asked (Unit {0})). after x (λ u. store h) sheet) (asked_of ∙ ap asked d)) }
+    judged-done d = record { answer_is = sym asked_of; sheet_is = stores ∙ sym (ap (λ (x : Asked (Unit {0})). after x (λ u. store h) sheet) (asked_of ∙ ap asked d)) }
 
     pub judged-broken : {r : Refusal} (t' : List ℕ) → Bytes sheet → Sound sheet → (graph_of sheet).in_use i ≡ not used → a ≡ Refused r → t' ≡ store (set_use (graph_of t) i (not used)) → Judged rules h a sheet t'
     unfolding after

@@ -51,12 +51,10 @@ fn has_label(sheet: &[u8], node: Node) -> bool
     requires { Sound sheet.now × (node.0 < (graph_of sheet.now).n) }
     ensures { result ≡ has_label_def (graph_of sheet.now) node.0 }
 {
-    let mut k = 0;
-    while k < Sheet::LABELS {
+    for k in 0..Sheet::LABELS {
         if bitset::member(Sheet::label_word(sheet, Label(k as u8)), node.0 as usize) {
             return true;
         }
-        k += 1;
     }
     false
 }
@@ -66,13 +64,11 @@ fn touched(sheet: &[u8], n: usize, a: Arrow, node: Node) -> bool
     requires { OfSheet sheet.now n a.0 × (node.0 < n) }
     ensures { result ≡ any_below n (λ j. (graph_of sheet.now).joined a.0 node.0 j || (graph_of sheet.now).joined a.0 j node.0) }
 {
-    if Sheet::row_word(sheet, a, node) != 0 {
-        return true;
-    }
-    bitset::member(
-        rows::over_kinds::kind_all_ends(sheet, n, a),
-        node.0 as usize,
-    )
+    Sheet::row_word(sheet, a, node) != 0
+        || bitset::member(
+            rows::over_kinds::kind_all_ends(sheet, n, a),
+            node.0 as usize,
+        )
 }
 
 // Whether an arrow of any kind does.
@@ -81,12 +77,10 @@ fn has_arrow(sheet: &[u8], node: Node) -> bool
     ensures { result ≡ has_arrow_def (graph_of sheet.now) node.0 }
 {
     let n = Sheet::node_count(sheet);
-    let mut a = 0;
-    while a < Sheet::ARROWS {
+    for a in 0..Sheet::ARROWS {
         if touched(sheet, n, Arrow(a as u8), node) {
             return true;
         }
-        a += 1;
     }
     false
 }
@@ -96,13 +90,9 @@ fn can_close(sheet: &[u8], node: Node) -> bool
     requires { Sound sheet.now × (node.0 < (graph_of sheet.now).n) }
     ensures { result ≡ can_close_def (graph_of sheet.now) node.0 }
 {
-    if has_label(sheet, node) {
-        return false;
-    }
-    if has_arrow(sheet, node) {
-        return false;
-    }
-    with_use(Sheet::all_nodes(sheet), node, false) != 0
+    !has_label(sheet, node)
+        && !has_arrow(sheet, node)
+        && with_use(Sheet::all_nodes(sheet), node, false) != 0
 }
 
 // Whether the node is in use.
@@ -144,12 +134,10 @@ fn judge_with(sheet: &mut [u8], book: &[u8], node: Node, used: bool) -> Answer
 {
     put_use(sheet, node, used);
     let verdict = judge::judge_rules(sheet, book, book.len());
-    let answer = verdict.answer;
-    let Answer::Done = answer else {
+    if let Answer::Refused(_) = verdict.answer {
         put_use(sheet, node, !used);
-        return answer;
-    };
-    Answer::Done
+    }
+    verdict.answer
 }
 
 // Closes a node of the sheet, or leaves the sheet as it is.

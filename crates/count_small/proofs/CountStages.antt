@@ -5,41 +5,40 @@ use mathlib.Core.List.{List}
 use Prim.Native.Nat.{ℕ, ◌≤◌, ◌<◌}
 use lib.Dec.{leb}
 use borrow.Author.Tests.{le-leb, lt-leb, leb-true}
-use Rattle.answer.specs.Asked.{passed, refused, ◌>>=◌, ◌>>◌, is, outcome}
-use Rattle.answer.specs.Answers.{asked}
-use Rattle.answer.specs.declared.Refusal.{Refusal}
-use Rattle.answer.specs.declared.Answer.{Answer}
-use Rattle.answer.specs.declared.Answer.TheVariants.{Refused}
-use Rattle.answer.proofs.AnswerLaws.{Learned, learned}
-use Rattle.answer.proofs.AskedLaws.{is-then, bind-passed, after_on, after-ends}
+use mathlib.Core.Logic.{◌⊎◌, ⊎_elim}
+use Rattle.answer.specs.Asked.{Asked, passed, refused, ◌>>=◌, ◌>>◌, is, outcome, after, asked_number, asked_place}
+use Rattle.answer.proofs.AnswerLaws.{Learned, learned, not-learned}
+use Rattle.answer.proofs.AskedLaws.{is-then, bind-passed}
 use Rattle.text.specs.Reading.{text_limits}
 use Rattle.text.specs.Questions.{ask_book, ask_edit}
 use Rattle.text.proofs.TextSpelling.{rules-in-range, book-is-spelled, edit-is-spelled, read-edit-stands}
 use Rattle.judge.proofs.RulesJudged.{read-book-stands}
-use Rattle.judge.proofs.SheetAndBook.{refused-asked}
 use Rattle.count_small.specs.declared.Four.{Four}
 use Rattle.count_small.specs.Small.{four_counts}
 use Rattle.count_small.specs.Names.{rules_only_first, edit_only_first}
-use Rattle.count_small.specs.Questions.{most_small, Texts, ask_count, no_counts, counts_of}
+use Rattle.count_small.specs.Questions.{most_small, Texts, ask_count, no_counts, counts_of, ask_four}
 use Rattle.count_small.specs.Walk.{walk}
 use Rattle.count_small.specs.Counting.{TextsStand}
 use Rattle.count_small.proofs.NameWalks.{walk-rules, walk-whole-edit}
 
 module _ (n : ℕ) (book edit : List ℕ) where
   -- 61 for n
-  pub too_few : n < 1 → refused 61 0 ≡ outcome (ask_count n book edit)
+  too_few : n < 1 → refused 61 0 ≡ outcome (ask_count n book edit)
   too_few l = unfold ask_count is ◌>>◌ outcome in rw (lt-leb 1 n l)
 
-  pub too_many : most_small < n → refused 61 0 ≡ outcome (ask_count n book edit)
+  too_many : most_small < n → refused 61 0 ≡ outcome (ask_count n book edit)
   too_many l = unfold ask_count is ◌>>◌ outcome in rw (lt-leb n most_small l, and-false (leb 1 n))
 
+  pub out_of_range : (n < 1) ⊎ (most_small < n) → refused 61 0 ≡ outcome (ask_count n book edit)
+  out_of_range = ⊎_elim too_few too_many
+
   module _ (some : 1 ≤ n) (few : n ≤ most_small) where
-    pub book-stops : (a : Answer) → asked a ≡ outcome (ask_book (text_limits n) book) → {r : Refusal} → a ≡ Refused r → asked a ≡ outcome (ask_count n book edit)
-    book-stops a s e = unfold ask_count is ◌>>◌ ◌>>=◌ outcome in rw (le-leb 1 n some, le-leb n most_small few, refused-asked {q = ask_book (text_limits n) book} s e, e)
+    pub book-stops : (q p : ℕ) → refused q p ≡ outcome (ask_book (text_limits n) book) → refused q p ≡ outcome (ask_count n book edit)
+    book-stops q p e = unfold ask_count is ◌>>◌ ◌>>=◌ outcome in rw (le-leb 1 n some, le-leb n most_small few, not-learned (ask_book (text_limits n) book) q p e)
 
     module _ (B : Learned (ask_book (text_limits n) book)) where
-      pub edit-stops : (b : Answer) → asked b ≡ outcome (ask_edit (text_limits n) edit) → {r : Refusal} → b ≡ Refused r → asked b ≡ outcome (ask_count n book edit)
-      edit-stops b s e = unfold ask_count is ◌>>◌ ◌>>=◌ outcome in rw (le-leb 1 n some, le-leb n most_small few, B.is, refused-asked {q = ask_edit (text_limits n) edit} s e, e)
+      pub edit-stops : (q p : ℕ) → refused q p ≡ outcome (ask_edit (text_limits n) edit) → refused q p ≡ outcome (ask_count n book edit)
+      edit-stops q p e = unfold ask_count is ◌>>◌ ◌>>=◌ outcome in rw (le-leb 1 n some, le-leb n most_small few, B.is, not-learned (ask_edit (text_limits n) edit) q p e)
 
       module _ (E : Learned (ask_edit (text_limits n) edit)) where
         book-names : rules_only_first B.what ≡ walk 0 book
@@ -85,9 +84,19 @@ module _ (n : ℕ) (book edit : List ℕ) where
         stand = record { rules_stand = read-book-stands (text_limits n) book_read; edit_stands = read-edit-stands (text_limits n) edit_read; first = ((and-eq-true_iff (rules_only_first rules) (edit_only_first Z)).0 names).1 };
       }
 
-  -- The counts.
-  pub refused_none : (a : Answer) (r : Refusal) → asked a ≡ outcome (ask_count n book edit) → a ≡ Refused r → no_counts ≡ counts_of n book edit
-  refused_none a r s e = unfold counts_of in sym (after-ends (refused-asked s e) _ _)
+  -- The answer's number and place, and the counts, 0 after a refusal.
+  of_passed : (a : Asked Texts) (f : Four) → passed f ≡ (a >>= λ t. passed (four_counts n t.rules t.edit)) → (asked_number a ≡ 0) × (asked_place a ≡ 0) × (after a (λ t. four_counts n t.rules t.edit) no_counts ≡ f)
+  unfolding ◌>>=◌ asked_number asked_place after
+  of_passed (passed t) f e = (refl, refl, cc)
+  of_passed (refused q p) f e = ((cc), (cc), (cc))
 
-  pub counts-are : (q : Ready) (four : Four) → four ≡ four_counts n q.texts.rules q.texts.edit → four ≡ counts_of n book edit
-  counts-are q four e = unfold counts_of in e ∙ sym (after_on q.is_read _ _)
+  of_refused : (a : Asked Texts) (q p : ℕ) → refused q p ≡ (a >>= λ t. passed (four_counts n t.rules t.edit)) → (asked_number a ≡ q) × (asked_place a ≡ p) × (after a (λ t. four_counts n t.rules t.edit) no_counts ≡ no_counts)
+  unfolding ◌>>=◌ asked_number asked_place after
+  of_refused (passed t) q p e = ((cc), (cc), (cc))
+  of_refused (refused r s) q p e = ((cc), (cc), refl)
+
+  pub counts-are : (f : Four) → passed f ≡ ask_four n book edit → (asked_number (ask_count n book edit) ≡ 0) × (asked_place (ask_count n book edit) ≡ 0) × (counts_of n book edit ≡ f)
+  counts-are f e = unfold ask_four counts_of in of_passed (ask_count n book edit) f e
+
+  pub refused_none : (q p : ℕ) → refused q p ≡ ask_four n book edit → (asked_number (ask_count n book edit) ≡ q) × (asked_place (ask_count n book edit) ≡ p) × (counts_of n book edit ≡ no_counts)
+  refused_none q p e = unfold ask_four counts_of in of_refused (ask_count n book edit) q p e

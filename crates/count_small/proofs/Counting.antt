@@ -1,5 +1,5 @@
 -- One sheet after another: judged, made the next, counted.
-use mathlib.Core.Path.{◌≡◌, refl, sym, ap, ap₂, ◌∙◌, subst}
+use mathlib.Core.Path.{◌≡◌, sym, ap, ap₂, ◌∙◌, subst}
 use mathlib.Core.Bool.{Bool, not, ◌&&◌, cond, and_comm}
 use mathlib.Core.List.{List}
 use Prim.Native.Nat.{ℕ, zero, suc, ◌+◌, ◌*◌, ◌/◌, ◌^◌, ◌≤◌, ◌<◌}
@@ -17,7 +17,7 @@ use Rattle.bitset.proofs.SetLaws.{set_of-cong, set_of-wide, member-set_of, count
 use Rattle.bitset.proofs.BitLaws.{member-shr}
 use Rattle.count_small.specs.declared.Four.{Four}
 use Rattle.count_small.specs.Small.{bits, small_sheet, four_of, four_counts}
-use Rattle.count_small.specs.Questions.{most_small, no_counts}
+use Rattle.count_small.specs.Questions.{most_small}
 use Rattle.count_small.specs.Counting.{tallied, Room, Turned}
 
 -- n is small
@@ -69,8 +69,9 @@ room x before next f l e =
       broken_room = omega (arith, count-le x (λ y. not (before y) && not (next y)));
     })
 
-pub none-counted : (before next : Nodes) → no_counts ≡ four_of 0 before next
-none-counted before next = unfold four_of count_below in refl
+pub none-counted : (before next : Nodes) (f : Four) → (f.kept ≡ 0) × ((f.lost ≡ 0) × ((f.repaired ≡ 0) × (f.broken ≡ 0))) → f ≡ four_of 0 before next
+unfolding four_of count_below
+none-counted before next f e = λ t. record { kept = e.0 t; lost = e.1.0 t; repaired = e.1.1.0 t; broken = e.1.1.1 t }
 
 -- The counts so far, with sheet x; and all of them.
 pub counted-more : (n x : ℕ) (rules : List (Expr rule)) (Z : Edit) (four four' : Four) (b a : Bool) → four ≡ four_of x (λ y. hold_all (small_sheet n y) rules) (λ y. hold_all (run Z (small_sheet n y)) rules) → Turned n x rules Z b a

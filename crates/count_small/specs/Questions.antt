@@ -26,6 +26,12 @@ ask_count n book edit = do
   is (rules_only_first rules && edit_only_first Z) 61 0
   passed (record { rules = rules; edit = Z })
 
+-- The four counts, if all questions pass.
+unfoldable pub ask_four : (n : ℕ) (book edit : List ℕ) → Asked Four
+ask_four n book edit = do
+  t ← ask_count n book edit
+  passed (four_counts n t.rules t.edit)
+
 -- The four counts after a refusal, each 0.
 abbrev pub no_counts : Four
 no_counts = record { kept = 0; lost = 0; repaired = 0; broken = 0 }

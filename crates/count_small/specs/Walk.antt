@@ -1,12 +1,21 @@
 -- For the inner function that looks for names: a text read byte by byte, as codes and the numbers after them.
 use Rattle.std.specs.Prelude.{Bool, true, false, not, ◌&&◌, cond, List, [], ◌∷◌, ℕ, ◌+◌, ◌%◌, eqb, ltb}
 use Rattle.ends.specs.Shapes.{shape_of}
+use Rattle.count_small.specs.declared.names.Due.{Due}
+use Rattle.count_small.specs.declared.names.Due.TheVariants.{Code, Number, Two, Name}
 
 -- How a code goes on, in the form of `shapes`; of an edit's codes, 31 to 34 have a name and the others have no number.
 unfoldable pub code_shape : ℕ → ℕ
 code_shape c = cond (ltb c 40) (shape_of c) (cond (ltb c 0x31) 1 (cond (ltb c 0x35) 18 1))
 
 -- What is due at a byte: a code (0), a number before a code (1), two of them (2), or the number of a name (3).
+abbrev pub number : Due → ℕ
+number Code = 0
+number Number = 1
+number Two = 2
+number Name = 3
+
+-- after a code of that shape
 abbrev pub due_behind : ℕ → ℕ
 due_behind s = cond (ltb s 16) ((s + 3) % 4) 3
 

@@ -5,7 +5,7 @@ ghost use Rattle.logic.specs.Syntax.{Edit, Expr, rule};
 ghost use Rattle.bitset.specs.Words.{set_of, member};
 ghost use Rattle.sheet.specs.Sheet.{store, Rows};
 ghost use Rattle.count_small.specs.Small.{bits, small_sheet, four_counts};
-ghost use Rattle.count_small.specs.Questions.{most_small, no_counts};
+ghost use Rattle.count_small.specs.Questions.{most_small};
 ghost use Rattle.count_small.specs.Counting.{Loaded, TextsStand, SomeTextsStand, Turned, tallied, Room};
 
 use crate::Four;
@@ -13,21 +13,10 @@ use logic::{Arrow, Label};
 use store::Store;
 
 // Whether the book was kept before the edit, and after it.
-#[derive(Drop)]
+#[derive(Clone, Copy)]
 struct Judged {
     before: bool,
     next: bool,
-}
-
-pub fn none() -> Four
-    ensures { result ≡ no_counts }
-{
-    Four {
-        kept: 0,
-        lost: 0,
-        repaired: 0,
-        broken: 0,
-    }
 }
 
 // n bits of a number, starting at bit `from`.
@@ -44,10 +33,8 @@ fn rows_of(x: u64, n: usize) -> [u64; 64]
     ensures { Rows n ((small_sheet n x).joined 0) result }
 {
     let mut rows = [0u64; 64];
-    let mut i = 0;
-    while i < n {
+    for i in 0..n {
         rows[i] = part(x, n + n * i, n);
-        i += 1;
     }
     rows
 }
@@ -74,39 +61,28 @@ fn turn(sheet: &mut [u8], n: usize, x: u64, book: &[u8], edit: &[u8]) -> Judged
 }
 
 // Counts one more sheet. Inner: there is room.
-fn tally(four: Four, before: bool, next: bool) -> Four
+#[tactic(auto, unfolding(crate::specs::Counting::tallied))]
+fn tally(four: Four, t: Judged) -> Four
     requires { Room four }
-    ensures { result ≡ tallied four before next }
+    ensures { result ≡ tallied four t.before t.next }
 {
-    if before {
-        if next {
-            return Four {
-                kept: four.kept + 1,
-                lost: four.lost,
-                repaired: four.repaired,
-                broken: four.broken,
-            };
-        }
-        return Four {
-            kept: four.kept,
+    match (t.before, t.next) {
+        (true, true) => Four {
+            kept: four.kept + 1,
+            ..four
+        },
+        (true, false) => Four {
             lost: four.lost + 1,
-            repaired: four.repaired,
-            broken: four.broken,
-        };
-    }
-    if next {
-        return Four {
-            kept: four.kept,
-            lost: four.lost,
+            ..four
+        },
+        (false, true) => Four {
             repaired: four.repaired + 1,
-            broken: four.broken,
-        };
-    }
-    Four {
-        kept: four.kept,
-        lost: four.lost,
-        repaired: four.repaired,
-        broken: four.broken + 1,
+            ..four
+        },
+        (false, false) => Four {
+            broken: four.broken + 1,
+            ..four
+        },
     }
 }
 
@@ -124,12 +100,9 @@ pub fn count_all(sheet: &mut [u8], n: usize, book: &[u8], edit: &[u8]) -> Four
     ensures { (rules : List (Expr rule)) (Z : Edit) → TextsStand n book.now edit.now rules Z → result ≡ four_counts n rules Z }
 {
     let most = how_many(n);
-    let mut four = none();
-    let mut x = 0;
-    while x < most {
-        let t = turn(sheet, n, x, book, edit);
-        four = tally(four, t.before, t.next);
-        x += 1;
+    let mut four = Four::default();
+    for x in 0..most {
+        four = tally(four, turn(sheet, n, x, book, edit));
     }
     four
 }

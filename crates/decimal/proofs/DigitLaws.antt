@@ -29,12 +29,6 @@ module _ (o : List ℕ) (rest : ℕ) where
       (ap (λ (l : List ℕ). digits k (rest / 10) ++ l) (written_at k h)
       ∙ sym (append_assoc (digits k (rest / 10)) ((48 + rest % 10) ∷ []) (drop (suc k) o)))
 
--- All of them.
-pub all-written : (o : List ℕ) {l : List ℕ} (at rest : ℕ) → at ≤ 0 → digits at rest ++ drop at o ≡ l → o ≡ l
-unfolding digits
-all-written o zero rest h e = e
-all-written o (suc k) rest h e = absurd (omega arith)
-
 -- How many digits there are.
 pub digits-length : (w n : ℕ) → length (digits w n) ≡ w
 unfolding digits

@@ -1,5 +1,5 @@
 -- The end of an edit, step by step.
-use mathlib.Core.Path.{◌≡◌, refl, ap, ◌∙◌}
+use mathlib.Core.Path.{◌≡◌, ap, ◌∙◌}
 use mathlib.Core.List.{List}
 use Prim.Native.Nat.{ℕ, ◌+◌, ◌≤◌}
 use native.Mathlib.Omega.{arith}
@@ -20,9 +20,6 @@ pub record Rest (text : List ℕ) (at p : ℕ) : Type 0 where
   pub le : at ≤ p
   pub some : SomeEdit text p
   pub ends : (Z : Edit) → EditAt text at Z → Tail text p (at + length (edit_code Z))
-
-pub rest-first : (text : List ℕ) (at : ℕ) → SomeEdit text at → Rest text at at
-rest-first text at s = record { le = omega arith; some = s; ends = λ Z h. record { tail = Z; stands = h; is = refl } }
 
 pub rest_more : (text : List ℕ) (at p next : ℕ) → Rest text at p → ((Z : Edit) → EditAt text p Z → NextAt text p Z next) → Rest text at next
 rest_more text at p next r f =

@@ -112,6 +112,7 @@ fn arrow_cell(a: Arrow) -> usize
 }
 
 // The cell of a name in a text, 03 k or 11 a: the code gives the sort of the number.
+#[tactic(auto, unfolding(crate::specs::Shapes::cell))]
 pub fn cell_of(code: u8, number: u8) -> usize
     ensures { result ≡ cell code number }
 {

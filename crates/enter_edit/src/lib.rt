@@ -34,12 +34,11 @@ fn longest_rule(book: &[u8], edit: &[u8], from: usize, work: &mut [u16], out: &m
         → result ≡ longest_rule_def (carried_book Z rules) }
 {
     let rest = write::start(edit, from, work);
-    let mut most = 0;
+    let mut most: usize = 0;
     let mut at = 0;
     while at < book.len() {
         let written = write::write_rule(book, edit, rest, work, out, Place { at, pos: 0 });
-        let len = written.pos;
-        most = if len > most { len } else { most };
+        most = most.max(written.pos);
         at = written.at;
     }
     most

@@ -85,9 +85,6 @@ module _ (n : ℕ) (text : List ℕ) (at : ℕ) where
     leaf-relation h r = record { rows_are = rw (h.means (graph_of sheet)) r; ends = omega (arith, h.size) }
 
     -- in rows or in columns
-    pub straight-way : {nx : ℕ} → IsRelation sheet n at e out nx → IsEitherWay sheet n at e out false nx
-    straight-way r = record { rows_are = r.rows_are; ends = r.ends }
-
     pub reversed-way : IsReversed e → (turned : Bool) (nx : ℕ) → WayAt n text sheet (at + 1) out turned nx → IsEitherWay sheet n at e out (not turned) nx
     reversed-way h turned nx p =
         let a = p h.A h.first in

@@ -8,14 +8,9 @@ use lib.ListN.{get_or}
 use Rattle.logic.specs.Syntax.{arrow, Expr}
 use Rattle.logic.specs.Graph.{Pairs}
 use Rattle.logic.specs.Meaning.{value}
-use Rattle.logic.specs.Limits.{ranges}
-use Rattle.text.specs.Stands.{Stands}
 use Rattle.rows.specs.Operations.{turn}
 use Rattle.eval.specs.Evaluated.{IsTurned}
 use Rattle.eval.proofs.ArrowCases.{as_reversed}
-
-pub turned_none : (n : ℕ) (text : List ℕ) (at : ℕ) (e : Expr arrow) → Stands (ranges n) text at e → IsTurned n text at e false at
-turned_none n text at e h = record { R = e; stands = h; means = λ g. refl; on = omega arith; ends = refl }
 
 pub turned_more : (n : ℕ) (text : List ℕ) (at : ℕ) (e : Expr arrow) (b : Bool) (p : ℕ) → IsTurned n text at e b p → get_or text p 0 ≡ 0x12 → IsTurned n text at e (not b) (p + 1)
 turned_more n text at e b p t c =

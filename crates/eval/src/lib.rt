@@ -18,20 +18,20 @@ use logic::{Arrow, Label, Node};
 use sheet::Sheet;
 
 // A set of nodes, and where the text goes on.
-#[derive(Drop)]
+#[derive(Clone, Copy)]
 pub struct NodeSet {
     pub set: u64,
     pub next: usize,
 }
 
-#[derive(Drop)]
+#[derive(Clone, Copy)]
 pub struct Truth {
     pub holds: bool,
     pub next: usize,
 }
 
 // Whether a rule holds, and how many rules are left to skip from `next` on to where it ends.
-#[derive(Drop)]
+#[derive(Clone, Copy)]
 struct Settled {
     holds: bool,
     next: usize,
@@ -39,7 +39,7 @@ struct Settled {
 }
 
 // Whether an arrow expression is turned, as by leading 12s of an odd number, and where the text goes on.
-#[derive(Drop)]
+#[derive(Clone, Copy)]
 pub struct Turned {
     pub turned: bool,
     pub next: usize,
@@ -122,10 +122,7 @@ fn combine_pair(
 fn one_row(c: u8, code: u8) -> bool
     ensures { result ≡ true → (0x16 < code) × (c ≡ 0x14 → ⊥) }
 {
-    if code <= 0x16 {
-        return false;
-    }
-    c != 0x14
+    code > 0x16 && c != 0x14
 }
 
 // How far after a quantifier's code its operands stand: 0A and 0B have a count between.
@@ -410,10 +407,8 @@ fn past_rules(text: &[u8], at: usize, rules: usize) -> usize
     ensures { (l : Ranges) (end : ℕ) → Upto l text.now end rules at → result ≡ end }
 {
     let mut p = at;
-    let mut left = rules;
-    while 0 < left {
+    for _ in 0..rules {
         p = ends::past(text, p);
-        left -= 1;
     }
     p
 }

@@ -1,28 +1,21 @@
-// The input of the programs: a sheet, then texts, each with its length before it. Only the bytes due are read, and none after them.
+// The input of the programs: a sheet, then texts, each with its length before it. Only the bytes due are read, and none after them. And their output.
 
 #![tactic(auto)]
 
-ghost use Rattle.std.specs.Prelude.{◌≡◌, ◌+◌, ◌*◌, ◌≤◌, length};
-ghost use Rattle.input.specs.Input.{text_bytes, got_length};
+ghost use Rattle.std.specs.Prelude.{◌≡◌, ◌+◌, ◌*◌, ◌≤◌, length, IfSome};
+ghost use Rattle.input.specs.Input.{text_bytes};
 
-use std::io::{ErrorKind, Read};
+use std::io::{ErrorKind, Read, Write};
 
 // The longest text that a length of two bytes can announce.
 pub const TEXT_BYTES: usize = 65535;
-
-// The result of reading a text: its length, or that the input ended early.
-#[derive(Clone, Copy)]
-pub enum Got {
-    Length(usize),
-    Early,
-}
 
 // The length in two bytes, the low one first.
 fn text_length(low: u8, high: u8) -> usize
     ensures value { result ≡ low + 256 * high }
     ensures upper_bound { result ≤ text_bytes }
 {
-    low as usize + 256 * (high as usize)
+    usize::from(u16::from_le_bytes([low, high]))
 }
 
 // Reads into the buffer as far as the input goes, and returns how many bytes came. An error ends the input, as its end does.
@@ -47,36 +40,37 @@ pub fn read_up_to<R: Read>(input: &mut R, buf: &mut [u8]) -> usize
     got
 }
 
-// Fills the buffer; false when the input ends before it is full. No contract can say what was read.
-fn fill<R: Read>(input: &mut R, buf: &mut [u8]) -> bool {
-    read_up_to(input, buf) == buf.len()
+// Fills the buffer; none when the input ends before it is full. No contract can say what was read.
+fn fill<R: Read>(input: &mut R, buf: &mut [u8]) -> Option<()> {
+    (read_up_to(input, buf) == buf.len()).then_some(())
 }
 
-// Reads a two-byte length and that many bytes, to the start of the buffer. Inner: it has room for every such length.
-pub fn read_text<R: Read>(input: &mut R, buf: &mut [u8]) -> Got
+// Reads a two-byte length and that many bytes, to the start of the buffer; none when the input ends early. Inner: it has room for every such length.
+pub fn read_text<R: Read>(input: &mut R, buf: &mut [u8]) -> Option<usize>
     requires { text_bytes ≤ length buf.old }
-    ensures { got_length result ≤ length buf.new }
+    ensures { IfSome result (λ n. n ≤ length buf.new) }
 {
     let mut two = [0u8; 2];
-    if !fill(input, &mut two) {
-        return Got::Early;
-    }
+    fill(input, &mut two)?;
     let n = text_length(two[0], two[1]);
-    if fill(input, &mut buf[0..n]) {
-        Got::Length(n)
-    } else {
-        Got::Early
-    }
+    fill(input, &mut buf[0..n])?;
+    Some(n)
 }
 
 // Reads a sheet and a book, as every program does first. Inner: the book's buffer has room for a text of any length.
-pub fn read_sheet_and_book<R: Read>(input: &mut R, sheet: &mut [u8], book: &mut [u8]) -> Got
+pub fn read_sheet_and_book<R: Read>(
+    input: &mut R,
+    sheet: &mut [u8],
+    book: &mut [u8],
+) -> Option<usize>
     requires { text_bytes ≤ length book.old }
-    ensures { got_length result ≤ length book.new }
+    ensures { IfSome result (λ n. n ≤ length book.new) }
 {
-    if fill(input, sheet) {
-        read_text(input, book)
-    } else {
-        Got::Early
-    }
+    fill(input, sheet)?;
+    read_text(input, book)
+}
+
+// Writes bytes to the output. A write that fails is let go: its reader has gone, and nobody is left to tell.
+pub fn write<W: Write>(out: &mut W, bytes: &[u8]) {
+    let _failed = out.write_all(bytes).is_err();
 }

@@ -1,15 +1,13 @@
 -- Joining, by its questions.
 use mathlib.Core.Path.{◌≡◌, sym, ◌∙◌, ap, ap₂}
-use mathlib.Core.List.{List, ◌++◌}
+use mathlib.Core.List.{List, ◌++◌, append_assoc}
 use Prim.Native.Nat.{ℕ, ◌+◌, ◌-◌, ◌≤◌, ◌<◌}
 use native.Mathlib.Omega.{arith}
 use borrow.Author.Tests.{le-leb, lt-leb}
 use lib.ListN.{length, take, drop, length-take}
-use lib.Seq.{take-length}
-use Rattle.answer.specs.declared.Answer.{Answer}
-use Rattle.answer.specs.declared.Answer.TheVariants.{Done, Refused}
+use lib.Seq.{take_at, drop_at, drop-drop}
 use Rattle.answer.specs.declared.Refusal.{Refusal}
-use Rattle.answer.specs.Answers.{refusal_number_def, refusal_place_def, asked}
+use Rattle.answer.specs.Answers.{refusal_number_def, refusal_place_def}
 use Rattle.answer.specs.Asked.{passed, refused, ◌>>=◌, ◌>>◌, is, outcome}
 use Rattle.answer.specs.Outputs.{ask_room, written_at_start}
 use Rattle.answer.proofs.AnswerLaws.{learned, not-learned}
@@ -21,9 +19,6 @@ use Rattle.text.specs.Code.{edit_code}
 use Rattle.text.specs.Reading.{longest_text, text_limits}
 use Rattle.text.specs.Questions.{ask_edit}
 use Rattle.text.proofs.TextSpelling.{edit-is-spelled}
-use Rattle.write.specs.Laid.{Wrote}
-use Rattle.write.proofs.Laying.{wrote_as, wrote-more}
-use Rattle.write.proofs.Rules.{at_start}
 use Rattle.join_edits.specs.Chain.{ask_joined, ask_join_edits, without_last}
 use Rattle.join_edits.proofs.JoinedBytes.{some_byte, joined_bytes, joined_length}
 
@@ -32,8 +27,8 @@ pub record Passed (t : List ℕ) : Type 0 where
   pub what : Edit
   pub is : ask_edit (text_limits max_nodes) t ≡ passed what
 
-pub edit-passed : (t : List ℕ) (a : Answer) → asked a ≡ outcome (ask_edit (text_limits max_nodes) t) → a ≡ Done → Passed t
-edit-passed t a check e = let l = learned _ (sym (ap asked e) ∙ check) in record { what = l.what; is = l.is }
+pub edit-passed : (t : List ℕ) → passed tt ≡ outcome (ask_edit (text_limits max_nodes) t) → Passed t
+edit-passed t e = let l = learned _ e in record { what = l.what; is = l.is }
 
 -- its text is the edit's bytes
 pub spelled : (t : List ℕ) (s : Passed t) → t ≡ edit_code s.what
@@ -44,12 +39,12 @@ passed-some t s = omega (arith, ap length (spelled t s), some_byte s.what)
 
 module _ (p q : List ℕ) (room : ℕ) where
   -- 21 to 26 for the first
-  pub first_refused : (a : Answer) → asked a ≡ outcome (ask_edit (text_limits max_nodes) p) → (r : Refusal) → a ≡ Refused r → ask_join_edits p q room ≡ refused (refusal_number_def r) (refusal_place_def r)
-  first_refused a check r e = unfold ask_join_edits ask_joined ◌>>=◌ in rw (not-learned _ _ _ (sym (ap asked e) ∙ check))
+  pub first_refused : (r : Refusal) → refused (refusal_number_def r) (refusal_place_def r) ≡ outcome (ask_edit (text_limits max_nodes) p) → ask_join_edits p q room ≡ refused (refusal_number_def r) (refusal_place_def r)
+  first_refused r e = unfold ask_join_edits ask_joined ◌>>=◌ in rw (not-learned _ _ _ e)
 
   -- and for the second
-  pub second-refused : Passed p → (b : Answer) → asked b ≡ outcome (ask_edit (text_limits max_nodes) q) → (r : Refusal) → b ≡ Refused r → ask_join_edits p q room ≡ refused (refusal_number_def r) (refusal_place_def r)
-  second-refused s b check r e = unfold ask_join_edits ask_joined ◌>>=◌ in rw (s.is, not-learned _ _ _ (sym (ap asked e) ∙ check))
+  pub second-refused : Passed p → (r : Refusal) → refused (refusal_number_def r) (refusal_place_def r) ≡ outcome (ask_edit (text_limits max_nodes) q) → ask_join_edits p q room ≡ refused (refusal_number_def r) (refusal_place_def r)
+  second-refused s r e = unfold ask_join_edits ask_joined ◌>>=◌ in rw (s.is, not-learned _ _ _ e)
 
 module _ {p q : List ℕ} (s : Passed p) (t : Passed q) where
   abbrev pub joined : List ℕ
@@ -78,10 +73,15 @@ module _ {p q : List ℕ} (s : Passed p) (t : Passed q) where
       enough h = to_room ∙ room-enough joined room _ size_is h
 
   -- What the two copies leave.
-  pub written-so : {output out₁ out₂ : List ℕ} {r₁ r₂ : ℕ} → length p - 1 + length q ≤ length output
-      → Wrote output 0 (take (length p - 1) (drop 0 p)) r₁ out₁ → Wrote out₁ (length p - 1) (take (length q) (drop 0 q)) r₂ out₂ → out₂ ≡ written_at_start joined output
-  written-so {output} {out₁} {out₂} {r₁} {r₂} h u v =
-      let w : Wrote output 0 (without_last p) (length p - 1) out₁ = record { counted = omega (arith, length-take (length p - 1) p); stored = u.stored } in
-      let x : Wrote output 0 (without_last p ++ q) r₂ out₂ = wrote-more w (wrote_as (take-length q) v) in
-      let y : Wrote output 0 joined r₂ out₂ = wrote_as (sym bytes-are) x in
-      at_start y (omega (arith, h, size_is))
+  pub written-so : (output : List ℕ) {out₁ out₂ : List ℕ} → out₁ ≡ without_last p → out₂ ≡ q
+      → take (length p - 1) (out₁ ++ drop (length p - 1) output) ++ (out₂ ++ drop (length p - 1 + length q - (length p - 1)) (drop (length p - 1) (out₁ ++ drop (length p - 1) output))) ≡ written_at_start joined output
+  written-so output {out₁} {out₂} u v =
+      let end = length p - 1 in
+      let n : length out₁ ≡ end = ap length u ∙ omega (arith, length-take end p) in
+      let m : end + length q - end ≡ length q = omega arith in
+      ap₂ (λ (x y : List ℕ). x ++ (out₂ ++ drop (end + length q - end) y)) (take_at out₁ (drop end output) end n) (drop_at out₁ (drop end output) end n)
+      ∙ ap (λ (k : ℕ). out₁ ++ (out₂ ++ drop k (drop end output))) m
+      ∙ ap₂ (λ (x y : List ℕ). x ++ (y ++ drop (length q) (drop end output))) u v
+      ∙ ap (λ (l : List ℕ). without_last p ++ (q ++ l)) (drop-drop (length q) end output)
+      ∙ sym (append_assoc (without_last p) q _)
+      ∙ ap₂ (λ (x : List ℕ) (k : ℕ). x ++ drop k output) (sym bytes-are) size_is

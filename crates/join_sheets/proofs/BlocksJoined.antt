@@ -27,23 +27,19 @@ pub record Begun (n m : ℕ) (t second u : List ℕ) : Type 0 where
 
 -- b blocks are done
 pub record Inv (n m : ℕ) (t second l : List ℕ) (b : ℕ) : Type 0 where
-  pub some : 0 < b
-  pub within : b ≤ block_count
   pub u : List ℕ
   pub begun : Begun n m t second u
   pub made : Upto (block_of u) t l b
 
 pub one-made : (n m : ℕ) (t second u : List ℕ) → Begun n m t second u → Inv n m t second t 1
-one-made n m t second u v = record { some = omega arith; within = omega arith; u = u; begun = v; made = record { size = v.size; done = λ j h. let z : 0 ≡ j = omega arith in subst (λ i. block_of t i ≡ block_of u i) z v.lines; left = λ j h. refl } }
+one-made n m t second u v = record { u = u; begun = v; made = record { size = v.size; done = λ j h. let z : 0 ≡ j = omega arith in subst (λ i. block_of t i ≡ block_of u i) z v.lines; left = λ j h. refl } }
 
 module _ (n m : ℕ) (t second l : List ℕ) (b : ℕ) (v : Inv n m t second l b) where
-  pub one_more : (k : List ℕ) (y : ℕ) → b < block_count → y ≡ block_bytes → k ≡ reseal present.sums (put_beside_def n n (take y (drop (block_bytes * b) second)) m (take y (drop (block_bytes * b) l)))
+  pub one_more : (k : List ℕ) (y : ℕ) → 0 < b → b < block_count → y ≡ block_bytes → k ≡ reseal present.sums (put_beside_def n n (take y (drop (block_bytes * b) second)) m (take y (drop (block_bytes * b) l)))
       → Inv n m t second (take (block_bytes * b) l ++ (k ++ drop y (drop (block_bytes * b) l))) (b + 1)
-  one_more k y few e q =
-      let k-is : k ≡ block_of v.u b = q ∙ rw (e, v.made.left b (omega arith)) (v.begun.rows b v.some few) in
+  one_more k y some few e q =
+      let k-is : k ≡ block_of v.u b = q ∙ rw (e, v.made.left b (omega arith)) (v.begun.rows b some few) in
       record {
-        some = omega arith;
-        within = omega arith;
         u = v.u;
         begun = v.begun;
         made = upto-more (block_of v.u) t l k b (block_bytes * b) y v.made few refl e (ap length k-is ∙ length-block v.u v.begun.u-size b few) k-is;

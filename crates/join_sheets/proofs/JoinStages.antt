@@ -25,9 +25,6 @@ module _ (first second : List ℕ) where
   first_stops e s = unfold ask_join ◌>>◌ in rw (← s, e)
 
   module _ (sound : Sound first) where
-    pub second-stops : {a : Answer} {r : Refusal} → a ≡ Refused r → asked a ≡ ask_sheet second → asked a ≡ ask_join first second
-    second-stops e s = unfold ask_join ◌>>◌ in rw (sound, ← s, e)
-
     module _ (other : Sound second) where
       pub passes : nodes_total first second ≤ max_nodes → ask_join first second ≡ passed tt
       passes h = unfold ask_join ◌>>◌ is in rw (sound, other, le-leb (nodes_total first second) max_nodes h)

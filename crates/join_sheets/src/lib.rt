@@ -27,17 +27,16 @@ fn raised(x: u64, n: usize) -> u64
 }
 
 // Joins the first m words of the other block, raised by n, to the words from `at` on. Inner: both are whole blocks and have those words.
+#[tactic(auto, unfolding(crate::specs::BesideWrites::put_beside_def))]
 fn put_beside(block: &mut [u8], at: usize, other: &[u8], m: usize, n: usize)
     requires { (length block.old ≡ block_bytes) × (length other.now ≡ block_bytes) × (at + m ≤ word_count) × (n < 64) }
     ensures { block.new ≡ put_beside_def at n other.now m block.old }
 {
-    let mut i = 0;
-    while i < m {
+    for i in 0..m {
         let own = seal::word_place(at + i);
         let x = bitset::load(other, seal::word_place(i));
         let y = bitset::either(bitset::load(block, own), raised(x, n));
         bitset::store(block, own, y);
-        i += 1;
     }
 }
 
@@ -68,12 +67,10 @@ fn join_blocks(first: &mut [u8], second: &[u8])
     let n = Sheet::node_count(first);
     let m = Sheet::node_count(second);
     join_lines(&mut first[0..Sheet::BLOCK], &second[0..Sheet::BLOCK], n, m);
-    let mut b = 1;
-    while b < Sheet::BLOCKS {
+    for b in 1..Sheet::BLOCKS {
         let from = Sheet::BLOCK * b;
         let to = from + Sheet::BLOCK;
         join_rows(&mut first[from..to], &second[from..to], n, m);
-        b += 1;
     }
 }
 

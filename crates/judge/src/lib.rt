@@ -9,7 +9,7 @@ ghost use Rattle.logic.specs.Meaning.{hold_all};
 ghost use Rattle.logic.specs.Limits.{ranges};
 ghost use Rattle.sheet.specs.Sheet.{graph_of};
 ghost use Rattle.sheet.specs.Questions.{Sound};
-ghost use Rattle.text.specs.Part.{PartOf};
+ghost use Rattle.text.specs.Part.{PartOf, no_part};
 ghost use Rattle.judge.specs.Questions.{ask_rules, ask_judge};
 ghost use Rattle.judge.specs.Judging.{RulesStand, SomeRulesStand, broken_part, judged_part, part_named};
 
@@ -23,6 +23,17 @@ pub struct Verdict {
     pub answer: Answer,
     pub start: usize,
     pub size: usize,
+}
+
+// A verdict that names no rule.
+fn without_rule(answer: Answer) -> Verdict
+    ensures { (result.answer ≡ answer) × (part_named result ≡ no_part) }
+{
+    Verdict {
+        answer,
+        start: 0,
+        size: 0,
+    }
 }
 
 // Judges the rules that stand in a text before `end`, of any number and length. Inner: the sheet is sound and the rules are in range.
@@ -48,11 +59,7 @@ pub fn judge_rules(sheet: &[u8], text: &[u8], end: usize) -> Verdict
         at = k.next;
         i += 1;
     }
-    Verdict {
-        answer: Answer::Done,
-        start: 0,
-        size: 0,
-    }
+    without_rule(Answer::Done)
 }
 
 // Whether each rule of a book holds on the sheet. Inner: the sheet is sound, and the book was read for its n.
@@ -62,11 +69,7 @@ pub fn holds(sheet: &[u8], book: &[u8]) -> bool
         → result ≡ hold_all (graph_of sheet.now) rules }
 {
     let verdict = judge_rules(sheet, book, book.len());
-    let answer = verdict.answer;
-    let Answer::Done = answer else {
-        return false;
-    };
-    true
+    matches!(verdict.answer, Answer::Done)
 }
 
 // Judges a book: for callers that do not want a reference inside a struct.
@@ -76,19 +79,11 @@ pub fn decide(sheet: &[u8], book: &[u8]) -> Verdict
 {
     let first = Sheet::check(sheet);
     let Answer::Done = first else {
-        return Verdict {
-            answer: first,
-            start: 0,
-            size: 0,
-        };
+        return without_rule(first);
     };
     let second = Text::check_book(book, Sheet::node_count(sheet));
     let Answer::Done = second else {
-        return Verdict {
-            answer: second,
-            start: 0,
-            size: 0,
-        };
+        return without_rule(second);
     };
     judge_rules(sheet, book, book.len())
 }
@@ -104,20 +99,10 @@ fn part_of<'b>(book: &'b [u8], v: Verdict) -> &'b [u8]
 }
 
 // The answer of judge: the first broken rule as a part of the book itself; the part is empty in every other outcome.
-#[derive(Drop)]
+#[derive(Clone, Copy)]
 pub struct Judged<'b> {
     pub answer: Answer,
     pub rule: &'b [u8],
-}
-
-// A verdict's answer with its part.
-fn with_part<'b>(v: Verdict, rule: &'b [u8]) -> Judged<'b>
-    ensures { (result.answer ≡ v.answer) × (result.rule ≡ rule.entry) }
-{
-    Judged {
-        answer: v.answer,
-        rule,
-    }
 }
 
 // Judge: sheet and book have separate lifetimes, and the result is a part of the book only.
@@ -126,6 +111,8 @@ pub fn judge<'s, 'b>(sheet: &'s [u8], book: &'b [u8]) -> Judged<'b>
         × PartOf book.entry (judged_part sheet.now book.now) result.rule }
 {
     let v = decide(sheet, book);
-    let rule = part_of(book, v);
-    with_part(v, rule)
+    Judged {
+        answer: v.answer,
+        rule: part_of(book, v),
+    }
 }

@@ -2,38 +2,33 @@
 use mathlib.Core.Path.{◌≡◌, refl, sym, ◌∙◌, ap, subst}
 use mathlib.Core.Bool.{Bool, true, false, ◌&&◌, ◌||◌, cond}
 use mathlib.Core.List.{List, [], ◌∷◌}
-use Prim.Native.Nat.{ℕ, suc, ◌+◌}
+use Prim.Native.Nat.{ℕ, ◌+◌}
 use native.Mathlib.Nat.{zero-add}
 use native.Mathlib.Omega.{arith}
-use lib.Dec.{ltb, leb-suc-suc}
 use lib.ListN.{length, get_or}
-use borrow.Author.Tests.{lt-ltb}
+use Rattle.std.specs.Prelude.{is_some}
 use Rattle.logic.proofs.Bools.{true-false, and_left, and_right}
 use Rattle.names.specs.Token.{Token, same, ascii, Found, found, absent, first_below}
 use Rattle.names.specs.Names.{among, notation_words}
 use Rattle.names.proofs.TokenLaws.{same_true}
 use Rattle.names.proofs.FirstLaws.{up_one, first-front, first-same}
 use Rattle.notation.specs.Grammar.{phrases}
-use Rattle.buffers.specs.Slots.{or_bound, slot_at}
+use Rattle.buffers.specs.Slots.{found_option, slot_at}
 use Rattle.keywords.specs.Phrases.{all_phrases, words, word_table, slot_width}
 use Rattle.keywords.proofs.WordSlots.{slot-word}
 
--- A word is found below the bound exactly when it is in the list.
-found_among : (t : Token) (ws : List Token) → ltb (or_bound (length ws) (first_below (λ x. same t (get_or ws x [])) (length ws))) (length ws) ≡ among t ws
+-- A word is found exactly when it is in the list.
+found_among : (t : Token) (ws : List Token) → is_some (found_option (first_below (λ x. same t (get_or ws x [])) (length ws))) ≡ among t ws
 unfolding among
 found_among t [] = unfold first_below in refl
 found_among t (w ∷ ws) =
-    ap (λ (f : Found ℕ). ltb (or_bound (suc (length ws)) f) (suc (length ws))) (first-front (λ x. same t (get_or (w ∷ ws) x [])) (length ws))
+    ap (λ (f : Found ℕ). is_some (found_option f)) (first-front (λ x. same t (get_or (w ∷ ws) x [])) (length ws))
     ∙ go (same t w) (first_below (λ x. same t (get_or ws x [])) (length ws)) (found_among t ws)
   where
-    up : (f : Found ℕ) → ltb (or_bound (suc (length ws)) (up_one f)) (suc (length ws)) ≡ ltb (or_bound (length ws) f) (length ws)
-    up (found x) = leb-suc-suc (suc x) (length ws)
-    up absent = leb-suc-suc (suc (length ws)) (length ws)
-
-    go : (b : Bool) (f : Found ℕ) → ltb (or_bound (length ws) f) (length ws) ≡ among t ws
-        → ltb (or_bound (suc (length ws)) (cond b (found 0) (up_one f))) (suc (length ws)) ≡ (b || among t ws)
-    go true f h = lt-ltb 0 (suc (length ws)) (omega arith)
-    go false f h = up f ∙ h
+    go : (b : Bool) (f : Found ℕ) → is_some (found_option f) ≡ among t ws → is_some (found_option (cond b (found 0) (up_one f))) ≡ (b || among t ws)
+    go true f h = refl
+    go false (found x) h = h
+    go false absent h = h
 
 -- If each word of one list is in another, whatever is in the first is in the other.
 all_among : (us ws : List Token) → Bool
@@ -58,10 +53,10 @@ same-words t = go (among t words) (among t notation_words) (among-all t words no
     go false true f g = g refl
     go false false f g = refl
 
-pub keyword-found : (t : Token) → ltb (or_bound 29 (first_below (λ x. same t (slot_at slot_width word_table (0 + x))) 29)) 29 ≡ among t notation_words
+pub keyword-found : (t : Token) → is_some (found_option (first_below (λ x. same t (slot_at slot_width word_table (0 + x))) 29)) ≡ among t notation_words
 keyword-found t =
     let n : length words ≡ 29 = unfold words all_phrases phrases in refl in
-    ap (λ (f : Found ℕ). ltb (or_bound 29 f) 29)
+    ap (λ (f : Found ℕ). is_some (found_option f))
     (first-same (λ x. same t (slot_at slot_width word_table (0 + x))) (λ x. same t (get_or words x [])) 29
     (λ x l. ap (same t) (slot-word (0 + x) (omega arith) ∙ ap (λ (i : ℕ). get_or words i []) (zero-add x))))
-    ∙ ap (λ (n : ℕ). ltb (or_bound n (first_below (λ x. same t (get_or words x [])) n)) n) (sym n) ∙ found_among t words ∙ same-words t
+    ∙ ap (λ (n : ℕ). is_some (found_option (first_below (λ x. same t (get_or words x [])) n))) (sym n) ∙ found_among t words ∙ same-words t

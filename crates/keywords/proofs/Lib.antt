@@ -5,4 +5,3 @@ pub mod RowItems
 pub mod WordSlots
 pub mod PickLaws
 pub mod KeywordLaws
-pub mod SearchLaws

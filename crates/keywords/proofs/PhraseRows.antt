@@ -1,21 +1,22 @@
 -- The goals of a phrase are those of its row; so the number of its phrase determines what a word or a code begins.
-use mathlib.Core.Path.{◌≡◌, refl, ◌∙◌, ap, subst}
-use mathlib.Core.Bool.{Bool, true, ◌&&◌, cond}
+use mathlib.Core.Path.{◌≡◌, refl, ap, subst}
+use mathlib.Core.Bool.{Bool, true, ◌&&◌}
 use mathlib.Core.List.{List, [], ◌∷◌}
-use Prim.Native.Nat.{ℕ, zero, suc, ◌+◌, ◌-◌, ◌^◌, ◌≤◌, ◌<◌}
+use Prim.Native.Nat.{ℕ, zero, suc, ◌+◌, ◌-◌, ◌^◌, ◌<◌}
 use native.Mathlib.Omega.{arith}
 use lib.Dec.{ltb}
 use lib.ListN.{get_or}
-use borrow.Author.Tests.{lt-ltb, le-ltb, ltb-true}
+use borrow.Author.Tests.{ltb-true}
 use Rattle.logic.proofs.Bools.{and_left, and_right}
 use Rattle.text.specs.Reading.{Limits}
-use Rattle.names.specs.Token.{Token, Found, found, absent, ascii}
+use Rattle.names.specs.Token.{Token, ascii}
 use Rattle.names.specs.Names.{Naming}
-use Rattle.notation.specs.Grammar.{Phrase, phrases, bracketed, after_comma, Goal, goals}
+use Rattle.notation.specs.Grammar.{phrases, bracketed, after_comma, Goal, goals}
 use Rattle.notation.specs.Spell.{phrase_of_def, bare, opens}
 use Rattle.notation.specs.Parse.{starts, phrase_for_def, bare_start, start}
 use Rattle.keywords.specs.Rows.{mark_of, kind_of, slot_of, level_of, goal_of, goals_of, row_goals, row_table, closings, closing_of, row_of}
-use Rattle.keywords.specs.Phrases.{all_phrases, phrase_at, code_at, phrase_count, first_of, count_of, InSlot, Picked}
+use Rattle.std.specs.Prelude.{Some, None}
+use Rattle.keywords.specs.Phrases.{all_phrases, phrase_at, code_at, first_of, count_of, InSlot, Picked}
 use Rattle.keywords.proofs.Each.{Each, each_at}
 
 -- The goals of phrase p if an item is wanted.
@@ -61,29 +62,22 @@ pub row_small : (item p : ℕ) → row_of item p < 2 ^ 64
 unfolding row_of row_table closing_of all_below
 row_small item p = omega (arith, all-below (2 ^ 63) row_table refl (omega arith) p, all-below (2 ^ 63) closings refl (omega arith) (item - 9))
 
--- What was looked for, by its number.
-picked-found : (item p : ℕ) (f : Found Phrase) → Picked item f p → p < phrase_count → f ≡ found (phrase_at p)
-picked-found item p f h l = h.is ∙ ap (λ (b : Bool). cond b (found (phrase_at p)) absent) (lt-ltb p phrase_count l)
-
-picked-absent : (item p : ℕ) (f : Found Phrase) → Picked item f p → phrase_count ≤ p → f ≡ absent
-picked-absent item p f h l = h.is ∙ ap (λ (b : Bool). cond b (found (phrase_at p)) absent) (le-ltb p phrase_count l)
-
 -- What a word begins.
-module _ (name : Naming) (l : Limits) (item p d : ℕ) (t : Token) (h : Picked item (phrase_for_def t (phrases (slot_of item))) p) where
-  pub start-by-word : p < phrase_count → start name l (slot_of item) d t ≡ starts (code_at p ∷ []) (row_goals (row_of item p) d)
+module _ (name : Naming) (l : Limits) (item d : ℕ) (t : Token) where
+  pub start-by-word : {p : ℕ} → Picked item (phrase_for_def t (phrases (slot_of item))) (Some p) → start name l (slot_of item) d t ≡ starts (code_at p ∷ []) (row_goals (row_of item p) d)
   unfolding start
-  start-by-word k = rw (picked-found item p _ h k, start) (ap (starts (code_at p ∷ [])) (row-goals item p d (h.inside k)))
+  start-by-word {p} h = rw (h.0, start) (ap (starts (code_at p ∷ [])) (row-goals item p d h.1))
 
-  pub start-bare : phrase_count ≤ p → start name l (slot_of item) d t ≡ bare_start name l (slot_of item) t
+  pub start-bare : Picked item (phrase_for_def t (phrases (slot_of item))) None → start name l (slot_of item) d t ≡ bare_start name l (slot_of item) t
   unfolding start
-  start-bare k = rw (picked-absent item p _ h k, start)
+  start-bare h = rw (h, start)
 
 -- What a code writes.
-module _ (item p d c : ℕ) (h : Picked item (phrase_of_def c (phrases (slot_of item))) p) where
-  pub opens-by-phrase : p < phrase_count → opens (slot_of item) d c ≡ record { tokens = (phrase_at p).word ∷ []; then = row_goals (row_of item p) d }
+module _ (item d c : ℕ) where
+  pub opens-by-phrase : {p : ℕ} → Picked item (phrase_of_def c (phrases (slot_of item))) (Some p) → opens (slot_of item) d c ≡ record { tokens = (phrase_at p).word ∷ []; then = row_goals (row_of item p) d }
   unfolding opens
-  opens-by-phrase k = rw (picked-found item p _ h k, opens) (ap (λ (g : List Goal). record { tokens = (phrase_at p).word ∷ []; then = g }) (row-goals item p d (h.inside k)))
+  opens-by-phrase {p} h = rw (h.0, opens) (ap (λ (g : List Goal). record { tokens = (phrase_at p).word ∷ []; then = g }) (row-goals item p d h.1))
 
-  pub opens-bare : phrase_count ≤ p → opens (slot_of item) d c ≡ bare (slot_of item) c
+  pub opens-bare : Picked item (phrase_of_def c (phrases (slot_of item))) None → opens (slot_of item) d c ≡ bare (slot_of item) c
   unfolding opens
-  opens-bare k = rw (picked-absent item p _ h k, opens)
+  opens-bare h = rw (h, opens)

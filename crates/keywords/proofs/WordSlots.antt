@@ -36,11 +36,3 @@ pub phrase-word : (p : ℕ) → p < phrase_count → slot_at slot_width word_tab
 unfolding words phrase_at all_phrases phrases
 phrase-word p l =
     slot-word p (omega arith) ∙ get_or-append (map (λ r. r.word) all_phrases) (else_word ∷ end_word ∷ []) [] p l ∙ get_or-map (λ r. r.word) all_phrases p no_phrase
-
-pub else-slot : slot_at slot_width word_table 27 ≡ else_word
-unfolding words all_phrases phrases
-else-slot = slot-word 27 (omega arith)
-
-pub end-slot : slot_at slot_width word_table 28 ≡ end_word
-unfolding words all_phrases phrases
-end-slot = slot-word 28 (omega arith)

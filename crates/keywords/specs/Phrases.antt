@@ -1,5 +1,5 @@
 -- The phrases, numbered: first those of nodes, then of arrows, of rules, of steps.
-use Rattle.std.specs.Prelude.{◌≡◌, cond, List, [], ◌∷◌, ◌++◌, map, ℕ, ◌+◌, ◌-◌, ◌≤◌, ◌<◌, ltb, length, get_or, replicate}
+use Rattle.std.specs.Prelude.{◌≡◌, List, [], ◌∷◌, ◌++◌, map, ℕ, ◌+◌, ◌-◌, ◌≤◌, ◌<◌, length, get_or, replicate, Option, Some, None}
 use Rattle.logic.specs.Syntax.{node, arrow, rule}
 use Rattle.names.specs.Token.{Token, Found, found, absent}
 use Rattle.notation.specs.Grammar.{text_end, else_word, end_word, expr, steps, Phrase, phrases}
@@ -33,11 +33,10 @@ pub record InSlot (item p : ℕ) : Type 0 where
   pub from : first_of item ≤ p
   pub to : p < first_of item + count_of item
 
--- The phrase found among those of an item, by its number; `phrase_count` if there is none.
-pub record Picked (item : ℕ) (f : Found Phrase) (p : ℕ) : Type 0 where
-  pub is : f ≡ cond (ltb p phrase_count) (found (phrase_at p)) absent
-  pub inside : p < phrase_count → InSlot item p
-  pub most : p ≤ phrase_count
+-- The phrase found among those of an item, by its number, or that none is.
+abbrev pub Picked : (item : ℕ) → Found Phrase → Option ℕ → Type 0
+Picked item f (Some p) = (f ≡ found (phrase_at p)) × InSlot item p
+Picked item f None = f ≡ absent
 
 -- The words of the phrases, and those that end steps; each of them in a slot, padded with blanks.
 unfoldable pub words : List Token

@@ -2,14 +2,13 @@
 
 #![tactic(auto)]
 
-ghost use Rattle.std.specs.Prelude.{◌≡◌, ◌+◌, ◌<◌, ◌≤◌, length};
+ghost use Rattle.std.specs.Prelude.{◌≡◌, ◌<◌, ◌≤◌, ◌==◌, position};
 ghost use Rattle.names.specs.Names.{among, notation_words};
 ghost use Rattle.notation.specs.Grammar.{phrases};
 ghost use Rattle.notation.specs.Parse.{phrase_for_def};
 ghost use Rattle.notation.specs.Spell.{phrase_of_def};
 ghost use Rattle.keywords.specs.Rows.{slot_of, row_of};
 ghost use Rattle.keywords.specs.Phrases.{code_at, InSlot, Picked};
-ghost use Rattle.keywords.specs.Search.{index_of, slice};
 
 // Slots of a length byte and ten bytes: the words of the phrases of nodes, of arrows, of rules, of steps, in the order of their codes; then the ends of steps.
 pub const WIDTH: usize = 11;
@@ -45,7 +44,7 @@ pub const WORDS: [u8; 319] = *b"\
     \x04else      \
     \x03end       ";
 
-// How many phrases there are; also the number for a word that begins none.
+// How many phrases there are.
 pub const PHRASES: usize = 27;
 
 const CODES: [u8; PHRASES] = *b"\
@@ -56,7 +55,7 @@ const CODES: [u8; PHRASES] = *b"\
 
 // What follows a word, a byte for each item, the first item in the lowest byte. 01 to 03 are the marks ( , and ); 04 to 06 the name of a label, an arrow,
 // a node; 07, 08 the counts of 0A and 0B; 09 nodes, 0A arrows, 0B a rule, 0C steps up to `else`, 0D steps up to `end`, one level deeper; at the word's
-// own level 0E steps up to `else`, 0F up to `end`, 10 up to the text's end, 11 a rule.
+// own level 0E steps up to `else`, 0F up to `end`, 10 up to the text's end, 11 a rule. As bytes of a table, items stay numbers.
 const ROWS: [u64; PHRASES] = [
     0x00000000000000, // all
     0x00000000000000, // none
@@ -100,40 +99,33 @@ const TO_TEXT_END: u64 = 0x020000000000;
 const CLOSING: [u64; 9] = [0, 0, 0, 0, TO_END, 0, TO_END, TO_TEXT_END, 0];
 
 // The number of the phrase that a word begins if an item is wanted. Inner: the item is a thing.
-pub fn phrase_for(item: usize, word: &[u8]) -> usize
+pub fn phrase_for(item: usize, word: &[u8]) -> Option<usize>
     requires { (9 ≤ item) × (item < 18) }
     ensures { Picked item (phrase_for_def word.now (phrases (slot_of item))) result }
 {
     let i = item - 9;
     let first = FIRST[i];
-    let count = COUNT[i];
-    let x = buffers::find(&WORDS, WIDTH, first, count, word);
-    if x < count { first + x } else { PHRASES }
+    let x = buffers::find(&WORDS, WIDTH, first, COUNT[i], word)?;
+    Some(first + x)
 }
 
-// The first place from `from` up to `to` that has the byte; `to` if none has. Inner: the bytes have these places.
-fn find(bytes: &[u8], from: usize, to: usize, byte: u8) -> usize
-    requires { (from ≤ to) × (to ≤ length bytes.now) }
-    ensures { result ≡ from + index_of byte (slice from to bytes.now) }
+// The first place that has the byte.
+fn find(bytes: &[u8], byte: u8) -> Option<usize>
+    ensures { result ≡ position (λ b. b == byte) bytes.now }
 {
-    for p in from..to {
-        if bytes[p] == byte {
-            return p;
-        }
-    }
-    to
+    bytes.iter().position(|b| *b == byte)
 }
 
 // The number of the phrase of a code if an item is wanted. Inner: the item is a thing.
-pub fn phrase_of(item: usize, code: u8) -> usize
+pub fn phrase_of(item: usize, code: u8) -> Option<usize>
     requires { (9 ≤ item) × (item < 18) }
     ensures { Picked item (phrase_of_def code (phrases (slot_of item))) result }
 {
     let i = item - 9;
     let first = FIRST[i];
     let end = first + COUNT[i];
-    let p = find(&CODES, first, end, code);
-    if p < end { p } else { PHRASES }
+    let p = find(&CODES[first..end], code)?;
+    Some(first + p)
 }
 
 // The code of a phrase. Inner: a phrase has that number.
@@ -158,5 +150,5 @@ pub fn is_keyword(word: &[u8]) -> bool
     ensures { result ≡ among word.now notation_words }
 {
     let count = PHRASES + 2;
-    buffers::find(&WORDS, WIDTH, 0, count, word) < count
+    buffers::find(&WORDS, WIDTH, 0, count, word).is_some()
 }

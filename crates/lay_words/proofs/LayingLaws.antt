@@ -5,9 +5,7 @@ use mathlib.Core.Logic.{◌⊎◌, inl, inr}
 use mathlib.Core.List.{List, [], ◌∷◌, ◌++◌, append_assoc}
 use Prim.Native.Nat.{ℕ, zero, suc, ◌+◌, ◌*◌, ◌-◌, ◌≤◌}
 use native.Mathlib.Omega.{arith}
-use borrow.Author.Tests.{eq-eqb, ne_eqb}
-use lib.Dec.{eqb}
-use lib.ListN.{length, replicate, length-append, length-replicate, replicate-append-replicate}
+use lib.ListN.{length, replicate, length-append, length-replicate}
 use Rattle.names.specs.Token.{Token, ascii, same}
 use Rattle.notation.specs.Grammar.{else_word, end_word}
 use Rattle.notation.specs.Layout.{Before, at_start, opened, other, is_mark_def, brackets, ifs, margin, gap, after_token, lay}
@@ -15,11 +13,8 @@ use Rattle.buffers.specs.Filled.{filled_from}
 use Rattle.buffers.proofs.FilledLaws.{filled_none, filled_more}
 use Rattle.lay_words.specs.Laying.{before_of, lead, piece, laid_from, After}
 use Rattle.lay_words.specs.declared.Laid.{Laid}
-
--- taking one from zero leaves zero
-none-less : (x : Bool) → ◌≡◌ {A = ℕ} 0 (cond x (0 - 1) 0)
-none-less true = refl
-none-less false = refl
+use Rattle.lay_words.specs.declared.Before.{Before as LaidBefore}
+use Rattle.lay_words.specs.declared.Before.TheVariants.{Start, Opened, Other}
 
 -- The tests of a token, in the order of the code.
 module _ (t : Token) where
@@ -35,11 +30,11 @@ module _ (t : Token) where
   unfolding is_mark_def
   mark-else h k e = rw (h, k) e
 
-  pub after-opening : same t (ascii "(") ≡ true → before_of 1 ≡ after_token t
+  pub after-opening : same t (ascii "(") ≡ true → before_of Opened ≡ after_token t
   unfolding after_token before_of
   after-opening h = rw h
 
-  pub after-other : same t (ascii "(") ≡ false → before_of 2 ≡ after_token t
+  pub after-other : same t (ascii "(") ≡ false → before_of Other ≡ after_token t
   unfolding after_token before_of
   after-other h = rw h
 
@@ -47,10 +42,6 @@ module _ (t : Token) where
     pub brackets-more : same t (ascii "(") ≡ true → b + 1 ≡ brackets b t
     unfolding brackets
     brackets-more h = rw h
-
-    pub brackets-none : same t (ascii "(") ≡ false → b ≡ 0 → 0 ≡ brackets b t
-    unfolding brackets
-    brackets-none h e = rw (h, e) (none-less (same t (ascii ")")))
 
     pub brackets-less : same t (ascii "(") ≡ false → same t (ascii ")") ≡ true → b - 1 ≡ brackets b t
     unfolding brackets
@@ -70,10 +61,6 @@ module _ (t : Token) where
     unfolding ifs
     ifs-more h = rw (e, h)
 
-    pub ifs-none : same t (ascii "if") ≡ false → i ≡ 0 → 0 ≡ ifs b i t
-    unfolding ifs
-    ifs-none h k = rw (e, h, k) (none-less (same t end_word))
-
     pub ifs-less : same t (ascii "if") ≡ false → same t end_word ≡ true → i - 1 ≡ ifs b i t
     unfolding ifs
     ifs-less h k = rw (e, h, k)
@@ -82,21 +69,10 @@ module _ (t : Token) where
     unfolding ifs
     ifs-same h k = rw (e, h, k)
 
--- One more blank is written.
-pub blank-more : (at i : ℕ) (b : List ℕ) {out out' : List ℕ} → out ≡ filled_from at (replicate i 0x20) b → out' ≡ filled_from (at + i) (0x20 ∷ []) out → out' ≡ filled_from at (replicate (i + 1) 0x20) b
-blank-more at i b h k =
-    k ∙ ap (filled_from (at + i) (0x20 ∷ [])) h
-    ∙ ap (λ (n : ℕ). filled_from (at + n) (0x20 ∷ []) (filled_from at (replicate i 0x20) b)) (sym (length-replicate i 0x20))
-    ∙ filled_more at (replicate i 0x20) (0x20 ∷ []) b
-    ∙ ap (λ l. filled_from at l b) (replicate-append-replicate i 1 0x20)
-
 -- How many `if`s the line of a word is inside.
 module _ (t : Token) (i : ℕ) where
   abbrev pub around : ℕ
   around = cond (same t else_word || same t end_word) (i - 1) i
-
-  pub around-none : i ≡ 0 → 0 ≡ around
-  around-none e = rw e (none-less (same t else_word || same t end_word))
 
   pub around-else : same t else_word ≡ true → i - 1 ≡ around
   around-else h = rw h
@@ -114,32 +90,24 @@ module _ (t : Token) (i : ℕ) where
       go true = omega arith
       go false = omega arith
 
--- What comes before a token, by its number.
-before-start : (x : ℕ) → x ≡ 0 → before_of x ≡ at_start
+-- What comes before a token, if something does.
+before-later : (x : LaidBefore) → (x ≡ Start → ⊥) → (before_of x ≡ opened) ⊎ (before_of x ≡ other)
 unfolding before_of
-before-start x e = rw (eq-eqb x 0 e)
+before-later Start h = absurd (h refl)
+before-later Opened h = inl refl
+before-later Other h = inr refl
 
-before-opened : (x : ℕ) → x ≡ 1 → before_of x ≡ opened
+before-other : (x : LaidBefore) → (x ≡ Start → ⊥) → (x ≡ Opened → ⊥) → before_of x ≡ other
 unfolding before_of
-before-opened x e = rw e
-
-before-other : (x : ℕ) → (x ≡ 0 → ⊥) → (x ≡ 1 → ⊥) → before_of x ≡ other
-unfolding before_of
-before-other x h k = rw (ne_eqb x 0 h, ne_eqb x 1 k)
-
-before-later : (x : ℕ) → (x ≡ 0 → ⊥) → (before_of x ≡ opened) ⊎ (before_of x ≡ other)
-unfolding before_of
-before-later x h = rw (ne_eqb x 0 h) (go (eqb x 1))
-  where
-    go : (y : Bool) → (cond y opened other ≡ opened) ⊎ (cond y opened other ≡ other)
-    go true = inl refl
-    go false = inr refl
+before-other Start h k = absurd (h refl)
+before-other Opened h k = absurd (k refl)
+before-other Other h k = refl
 
 -- The bytes before a token.
 module _ (s : Laid) (t : Token) where
-  pub lead-start : s.before ≡ 0 → lead s t ≡ []
-  unfolding gap
-  lead-start e = rw (before-start s.before e) (go (is_mark_def t))
+  pub lead-start : s.before ≡ Start → lead s t ≡ []
+  unfolding gap before_of
+  lead-start e = rw (ap before_of e) (go (is_mark_def t))
     where
       go : (x : Bool) → cond {A = List ℕ} x [] [] ≡ []
       go true = refl
@@ -149,19 +117,19 @@ module _ (s : Laid) (t : Token) where
   lead-mark h = rw h
 
   module _ (m : is_mark_def t ≡ false) where
-    pub lead-line : (s.before ≡ 0 → ⊥) → s.brackets ≡ 0 → lead s t ≡ 0x0A ∷ replicate (2 * around t s.ifs) 0x20
+    pub lead-line : (s.before ≡ Start → ⊥) → s.brackets ≡ 0 → lead s t ≡ 0x0A ∷ replicate (2 * around t s.ifs) 0x20
     unfolding gap margin
     lead-line h e = elim (before-later s.before h) [ inl p ↦ rw (m, p, e) | inr p ↦ rw (m, p, e) ]
 
-    pub lead-opened : (s.brackets ≡ 0 → ⊥) → s.before ≡ 1 → lead s t ≡ []
-    unfolding gap
-    lead-opened h e = rw (m, before-opened s.before e) (go s.brackets h)
+    pub lead-opened : (s.brackets ≡ 0 → ⊥) → s.before ≡ Opened → lead s t ≡ []
+    unfolding gap before_of
+    lead-opened h e = rw (m, ap before_of e) (go s.brackets h)
       where
         go : (b : ℕ) → (b ≡ 0 → ⊥) → gap opened b s.ifs t ≡ []
         go zero k = absurd (k refl)
         go (suc b) k = refl
 
-    pub lead-blank : (s.before ≡ 0 → ⊥) → (s.brackets ≡ 0 → ⊥) → (s.before ≡ 1 → ⊥) → lead s t ≡ 0x20 ∷ []
+    pub lead-blank : (s.before ≡ Start → ⊥) → (s.brackets ≡ 0 → ⊥) → (s.before ≡ Opened → ⊥) → lead s t ≡ 0x20 ∷ []
     unfolding gap
     lead-blank h k e = rw (m, before-other s.before h e) (go s.brackets k)
       where
@@ -221,12 +189,12 @@ unfolding piece
 laid_on {s} {r} {t} ts a = rw (a.before, a.brackets_are, a.ifs_are) (lay-token (before_of s.before) s.brackets s.ifs t ts)
 
 -- The end of the text.
-module _ (x b i : ℕ) where
-  pub end-start : x ≡ 0 → lay (before_of x) b i [] ≡ []
-  unfolding lay
-  end-start e = rw (before-start x e)
+module _ (x : LaidBefore) (b i : ℕ) where
+  pub end-start : x ≡ Start → lay (before_of x) b i [] ≡ []
+  unfolding lay before_of
+  end-start e = rw (ap before_of e)
 
-  pub end_later : (x ≡ 0 → ⊥) → lay (before_of x) b i [] ≡ 0x0A ∷ []
+  pub end_later : (x ≡ Start → ⊥) → lay (before_of x) b i [] ≡ 0x0A ∷ []
   unfolding lay
   end_later h = elim (before-later x h) [ inl p ↦ rw p | inr p ↦ rw p ]
 

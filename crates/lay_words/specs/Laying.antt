@@ -1,12 +1,16 @@
 -- The layout of tokens, token by token.
-use Rattle.std.specs.Prelude.{◌≡◌, cond, List, [], ◌++◌, ℕ, ◌+◌, eqb, length}
+use Rattle.std.specs.Prelude.{◌≡◌, cond, List, [], ◌++◌, ℕ, ◌+◌, length}
 use Rattle.names.specs.Token.{Token}
 use Rattle.notation.specs.Layout.{Before, at_start, opened, other, is_mark_def, gap, after_token, brackets, ifs, lay}
 use Rattle.lay_words.specs.declared.Laid as declared
+use Rattle.lay_words.specs.declared.Before as declared_before
+use Rattle.lay_words.specs.declared.Before.TheVariants.{Start, Opened, Other}
 
--- What comes before a token, by its number: 0 nothing, 1 `(`, 2 another token.
-unfoldable pub before_of : ℕ → Before
-before_of x = cond (eqb x 0) at_start (cond (eqb x 1) opened other)
+-- What comes before a token, as the layout has it.
+unfoldable pub before_of : declared_before.Before → Before
+before_of Start = at_start
+before_of Opened = opened
+before_of Other = other
 
 -- The bytes before a token; those and the token.
 abbrev pub lead : declared.Laid → Token → List ℕ

@@ -9,12 +9,19 @@ ghost use Rattle.notation.specs.Layout.{is_mark_def, brackets, ifs, after_token,
 ghost use Rattle.buffers.specs.Filled.{filled_from};
 ghost use Rattle.lay_words.specs.Laying.{before_of, lead, piece, After};
 
-// How far the text has come: its length, what comes before the next token (0 nothing, 1 an opening bracket, 2 another token), and how many brackets
-// and how many `if`s are open there.
+// What comes before the next token: nothing, an opening bracket, another token.
+#[derive(Clone, Copy)]
+pub enum Before {
+    Start,
+    Opened,
+    Other,
+}
+
+// How far the text has come: its length, what comes before the next token, and how many brackets and how many `if`s are open there.
 #[derive(Clone, Copy)]
 pub struct Laid {
     pub size: usize,
-    pub before: u8,
+    pub before: Before,
     pub brackets: usize,
     pub ifs: usize,
 }
@@ -22,19 +29,17 @@ pub struct Laid {
 fn is_mark(token: &[u8]) -> bool
     ensures { result ≡ is_mark_def token.now }
 {
-    if buffers::same(token, b"(") {
-        return true;
-    }
-    if buffers::same(token, b",") {
-        return true;
-    }
-    buffers::same(token, b")")
+    buffers::same(token, b"(") || buffers::same(token, b",") || buffers::same(token, b")")
 }
 
-fn before_after(token: &[u8]) -> u8
+fn before_after(token: &[u8]) -> Before
     ensures { before_of result ≡ after_token token.now }
 {
-    if buffers::same(token, b"(") { 1 } else { 2 }
+    if buffers::same(token, b"(") {
+        Before::Opened
+    } else {
+        Before::Other
+    }
 }
 
 // Inner: one more bracket fits into a usize.
@@ -43,15 +48,12 @@ fn brackets_after(count: usize, token: &[u8]) -> usize
     ensures { result ≡ brackets count token.now }
 {
     if buffers::same(token, b"(") {
-        return count + 1;
+        count + 1
+    } else if buffers::same(token, b")") {
+        count.saturating_sub(1)
+    } else {
+        count
     }
-    if count == 0 {
-        return 0;
-    }
-    if buffers::same(token, b")") {
-        return count - 1;
-    }
-    count
 }
 
 // Inner: one more `if` fits into a usize.
@@ -60,34 +62,25 @@ fn ifs_after(count: usize, opened: usize, token: &[u8]) -> usize
     ensures { result ≡ ifs opened count token.now }
 {
     if opened != 0 {
-        return count;
+        count
+    } else if buffers::same(token, b"if") {
+        count + 1
+    } else if buffers::same(token, b"end") {
+        count.saturating_sub(1)
+    } else {
+        count
     }
-    if buffers::same(token, b"if") {
-        return count + 1;
-    }
-    if count == 0 {
-        return 0;
-    }
-    if buffers::same(token, b"end") {
-        return count - 1;
-    }
-    count
 }
 
 // How many `if`s a word's line is inside: `else` and `end` are aligned with their `if`.
 fn ifs_around(count: usize, token: &[u8]) -> usize
     ensures { result ≡ cond (same token.now else_word || same token.now end_word) (count - 1) count }
 {
-    if count == 0 {
-        return 0;
+    if buffers::same(token, b"else") || buffers::same(token, b"end") {
+        count.saturating_sub(1)
+    } else {
+        count
     }
-    if buffers::same(token, b"else") {
-        return count - 1;
-    }
-    if buffers::same(token, b"end") {
-        return count - 1;
-    }
-    count
 }
 
 // Writes blanks, as far as there is room, and returns where they end. Inner: that place fits into a usize.
@@ -96,11 +89,9 @@ fn put_blanks(output: &mut [u8], at: usize, count: usize) -> usize
     ensures value { result ≡ at + count }
     ensures output_after { output.new ≡ filled_from at (replicate count 0x20) output.old }
 {
-    let mut i = 0;
-    while i < count {
-        buffers::put(output, at + i, b" ");
-        i += 1;
-    }
+    let from = at.min(output.len());
+    let to = (at + count).min(output.len());
+    output[from..to].fill(b' ');
     at + count
 }
 
@@ -110,7 +101,7 @@ fn put_lead(output: &mut [u8], state: Laid, token: &[u8]) -> usize
     ensures value { result ≡ state.size + length (lead state token.now) }
     ensures output_after { output.new ≡ filled_from state.size (lead state token.now) output.old }
 {
-    if state.before == 0 {
+    if let Before::Start = state.before {
         return state.size;
     }
     if is_mark(token) {
@@ -120,7 +111,7 @@ fn put_lead(output: &mut [u8], state: Laid, token: &[u8]) -> usize
         let at = buffers::put(output, state.size, b"\n");
         return put_blanks(output, at, 2 * ifs_around(state.ifs, token));
     }
-    if state.before == 1 {
+    if let Before::Opened = state.before {
         return state.size;
     }
     buffers::put(output, state.size, b" ")
@@ -147,7 +138,7 @@ pub fn put_end(output: &mut [u8], state: Laid) -> usize
     ensures value { result ≡ state.size + length (lay (before_of state.before) state.brackets state.ifs []) }
     ensures output_after { output.new ≡ filled_from state.size (lay (before_of state.before) state.brackets state.ifs []) output.old }
 {
-    if state.before == 0 {
+    if let Before::Start = state.before {
         return state.size;
     }
     buffers::put(output, state.size, b"\n")

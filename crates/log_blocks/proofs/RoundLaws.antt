@@ -1,6 +1,7 @@
 -- A round of a replay: what it is at the log's end, at a bad block, at an edit's last block and at another.
 use mathlib.Core.Path.{◌≡◌, refl, sym, ◌∙◌, ap, ap₂}
 use mathlib.Core.Bool.{Bool, true, false, cond}
+use Rattle.std.specs.Prelude.{Some}
 use mathlib.Core.List.{List, [], ◌∷◌}
 use Prim.Native.Nat.{ℕ, suc, ◌+◌, ◌-◌, ◌≤◌, ◌<◌}
 use native.Mathlib.Numerals.{add-one}
@@ -8,35 +9,22 @@ use native.Mathlib.Omega.{arith}
 use lib.Dec.{ltb}
 use lib.ListN.{length, take, drop}
 use lib.Seq.{take_at}
-use Rattle.answer.specs.declared.Answer.{Answer}
-use Rattle.answer.specs.declared.Answer.TheVariants.{Done, Refused}
-use Rattle.answer.specs.declared.Refusal.{Refusal}
-use Rattle.answer.specs.Answers.{asked}
-use Rattle.answer.specs.Asked.{Asked, passed, refused, ◌>>◌, after, asked_number, asked_place}
+use Rattle.answer.specs.Asked.{Asked, passed, refused, ◌>>◌, after}
 use Rattle.answer.specs.Outputs.{written_at_start}
 use Rattle.answer.proofs.AskedLaws.{then-refused}
 use Rattle.logic.proofs.Bools.{true-false, is_false}
-use Rattle.printed.specs.AnswerLine.{asked_line}
 use Rattle.printed.specs.Printed.{printed_line, printed_sheet}
 use Rattle.log_blocks.specs.Log.{is_last, is_begun, ask_log_block, ask_log_end}
-use Rattle.log_blocks.specs.Taken.{kept_behind, Says, goes_on_def, finished, ask_taken}
+use Rattle.log_blocks.specs.Taken.{kept_behind, ask_taken}
+use Rattle.log_blocks.specs.declared.Taken.{Taken}
+use Rattle.log_blocks.specs.declared.Taken.TheVariants.{GoesOn, Finished}
 use Rattle.log_blocks.specs.Round.{Round, stopped, gathered, answered, block_round, replay_round, edit_then}
 use Rattle.log_blocks.proofs.TakeLaws.{begun_kept}
 use Rattle.log_blocks.proofs.ReadLaws.{Block, bad, last, more, block-is}
 use Rattle.log_blocks.proofs.PassedLaws.{passes}
 
-abbrev stops_with : (line : List ℕ) (number : ℕ) (part sheet : List ℕ) → Round
-stops_with line number part sheet = record { prints = true; line = line; goes_on_def = false; number = number; part = part; sheet = sheet }
-
 abbrev answers : (line : List ℕ) (number : ℕ) (sheet : List ℕ) → Round
-answers line number sheet = record { prints = true; line = line; goes_on_def = true; number = number; part = []; sheet = sheet }
-
--- the line of a refusal
-pub with-line : (a : Answer) (r : Refusal) → a ≡ Refused r → (line : List ℕ) → line ≡ asked_line (asked a) → (number : ℕ) (part sheet : List ℕ)
-    → stops_with line number part sheet ≡ stopped (asked a) number part sheet
-unfolding stopped asked_number asked_place
-with-line Done r e line l number part sheet = cc
-with-line (Refused x) r e line l number part sheet = ap (λ y. stops_with y number part sheet) l
+answers line number sheet = record { line = Some line; goes_on_def = true; number = number; part = []; sheet = sheet }
 
 pub stopped-no-more : (x : Asked (Unit {0})) (number : ℕ) (part sheet : List ℕ) → (stopped x number part sheet).goes_on_def ≡ false
 unfolding stopped
@@ -73,8 +61,8 @@ module _ (before : List ℕ) (number : ℕ) (k : List ℕ) where
   abbrev Said : Bool → ℕ → Type 0
   Said l n = (ask_log_block (is_begun before) number k ≡ passed tt) × (is_last k ≡ l) × (kept_then_def ≡ n)
 
-  abbrev says : Bool → ℕ → Says
-  says l n = cond l (finished n) (goes_on_def n)
+  abbrev says : Bool → ℕ → Taken
+  says l n = cond l (Finished n) (GoesOn n)
 
   taken : (x : Asked (Unit {0})) (m : Bool) → ask_log_block (is_begun before) number k ≡ x → is_last k ≡ m → (l : Bool) (n : ℕ) → passed (says l n) ≡ (x >> passed (says m kept_then_def)) → Said l n
   unfolding ◌>>◌
@@ -135,13 +123,13 @@ module _ (edit : List ℕ) (n number : ℕ) (sheet book : List ℕ) where
           let e = bad-taken before number k q p t in
           ap (λ x. stopped (refused q p) number (take n x) sheet) (unmoved q p e) ∙ sym (round-bad number before sheet book k some q p e)
 
-      pub round-more-told : (m : ℕ) → passed (goes_on_def m) ≡ ask_taken before number k → gathered (number + 1) (take m out) sheet ≡ replay_round number before sheet book k
+      pub round-more-told : (m : ℕ) → passed (GoesOn m) ≡ ask_taken before number k → gathered (number + 1) (take m out) sheet ≡ replay_round number before sheet book k
       round-more-told m t =
           let e = taken-says before number k false m t in
           ap₂ (λ x y. gathered x y sheet) (add-one number) (part_then m e.0 e.2) ∙ sym (round-more number before sheet book k some e.0 e.1)
 
       -- the part is cut from place 0 to m
-      pub round-last-told : (m : ℕ) → passed (finished m) ≡ ask_taken before number k → (line left : List ℕ) → line ≡ printed_line sheet book (take (m - 0) out) → left ≡ printed_sheet sheet book (take (m - 0) out)
+      pub round-last-told : (m : ℕ) → passed (Finished m) ≡ ask_taken before number k → (line left : List ℕ) → line ≡ printed_line sheet book (take (m - 0) out) → left ≡ printed_sheet sheet book (take (m - 0) out)
           → answers line (number + 1) left ≡ replay_round number before sheet book k
       round-last-told m t line left a b =
           let e = taken-says before number k true m t in

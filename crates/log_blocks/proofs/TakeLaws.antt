@@ -1,20 +1,20 @@
 -- A block taken after what is kept: the questions one by one, and the bytes then kept.
-use mathlib.Core.Path.{◌≡◌, sym, ◌∙◌, ap}
+use mathlib.Core.Path.{◌≡◌, sym, ◌∙◌, ap, ap₂}
 use mathlib.Core.Bool.{Bool, true, false}
-use mathlib.Core.List.{List, ◌++◌}
+use mathlib.Core.List.{List, ◌++◌, append_assoc}
 use Prim.Native.Nat.{ℕ, ◌+◌, ◌-◌, ◌≤◌, ◌<◌, min}
-use native.Mathlib.Numerals.{add-one}
 use native.Mathlib.Omega.{arith}
 use native.Mathlib.Decide.{dec_lt}
 use borrow.Author.Tests.{le-leb, lt-leb, ne_eqb}
 use lib.Dec.{ltb}
-use lib.ListN.{length, get_or, take, drop, set, length-take, length-drop}
-use lib.Seq.{take_all, take-take, take-append-add, length-take-le, get_or-drop, paste, paste-suc, length_paste_head}
+use lib.ListN.{length, take, drop, length-take, length-drop}
+use lib.Seq.{take_all, take-take, take-append-add, length-take-le, drop-drop, length_paste_head}
 use Rattle.answer.specs.Asked.{passed, refused, ◌>>◌, is, after}
 use Rattle.answer.specs.Outputs.{written_at_start}
 use Rattle.seal.specs.Seal.{modulo257, seal_right_def}
 use Rattle.log_blocks.specs.Log.{is_last, count, content, fields_right_def, is_begun, ask_log_block}
-use Rattle.log_blocks.specs.Taken.{kept, kept_behind, goes_on_def, finished, ask_taken}
+use Rattle.log_blocks.specs.Taken.{kept, kept_behind, ask_taken}
+use Rattle.log_blocks.specs.declared.Taken.TheVariants.{GoesOn, Finished}
 
 -- the questions one by one
 module _ (begun : Bool) (number : ℕ) (k : List ℕ) where
@@ -48,17 +48,17 @@ module _ (edit : List ℕ) (n number : ℕ) (k : List ℕ) where
   abbrev kept_then_def : List ℕ
   kept_then_def = after (ask_log_block (is_begun before) number k) (λ _. written_at_start (kept_behind before k) edit) edit
 
-  pub not_taken : (q p : ℕ) → ask_log_block (is_begun before) number k ≡ refused q p → ((refused q p ≡ ask_taken before number k) × (0 ≤ 4097)) × (edit ≡ kept_then_def)
-  not_taken q p e = unfold ask_taken ◌>>◌ after in (((cc), omega arith), (cc))
+  pub not_taken : (q p : ℕ) → ask_log_block (is_begun before) number k ≡ refused q p → (refused q p ≡ ask_taken before number k) × (edit ≡ kept_then_def)
+  not_taken q p e = unfold ask_taken ◌>>◌ after in ((cc), (cc))
 
   module _ (e : ask_log_block (is_begun before) number k ≡ passed tt) where
     pub kept_then : written_at_start (kept_behind before k) edit ≡ kept_then_def
     kept_then = unfold after in cc
 
-    pub ends-edit : is_last k ≡ true → (m : ℕ) → m ≡ length (kept_behind before k) → (passed (finished m) ≡ ask_taken before number k) × (m ≤ 4097)
+    pub ends-edit : is_last k ≡ true → (m : ℕ) → m ≡ length (kept_behind before k) → (passed (Finished m) ≡ ask_taken before number k) × (m ≤ 4097)
     ends-edit l m d = unfold ask_taken ◌>>◌ in ((cc), omega (arith, kept-few before k))
 
-    pub goes_on : is_last k ≡ false → (m : ℕ) → m ≡ length (kept_behind before k) → (passed (goes_on_def m) ≡ ask_taken before number k) × (m ≤ 4097)
+    pub goes_on : is_last k ≡ false → (m : ℕ) → m ≡ length (kept_behind before k) → (passed (GoesOn m) ≡ ask_taken before number k) × (m ≤ 4097)
     goes_on l m d = unfold ask_taken ◌>>◌ in ((cc), omega (arith, kept-few before k))
 
 -- an edit is begun when bytes of it are kept
@@ -82,14 +82,12 @@ module _ (edit k : List ℕ) (c n m : ℕ) (h : length edit ≡ 4097) (le : n �
       cc (take-append-add (take n edit) (take c (drop 4 k)) (4097 - n), take_min (drop 4 k) (4097 - n) c m e)
 
   module _ (whole : length k ≡ 512) (small : c ≤ 504) where
-    kept-count : n + m ≡ length (kept_behind (take n edit) k)
+    pub kept-count : n + m ≡ length (kept_behind (take n edit) k)
     kept-count = sym (ap length kept-part ∙ length_paste_head edit n (drop 4 k) m (omega arith) (omega (arith, length-drop 4 k)))
 
-    pub kept-all : (i : ℕ) (out : List ℕ) → i ≤ m → m ≤ i → out ≡ paste edit n (drop 4 k) i
-        → (n + m ≡ length (kept_behind (take n edit) k)) × (out ≡ written_at_start (kept_behind (take n edit) k) edit)
-    kept-all i out a b o =
-        let f : i ≡ m = omega arith in
-        (kept-count, cc (kept-part, kept-count))
-
-    pub kept_more : (i : ℕ) (out : List ℕ) → i < m → out ≡ paste edit n (drop 4 k) i → set out (n + i) (get_or k (4 + i) 0) ≡ paste edit n (drop 4 k) (i + 1)
-    kept_more i out l o = cc (get_or-drop 4 k i 0, paste-suc edit n (drop 4 k) i 0 (omega arith) (omega (arith, length-drop 4 k)), add-one i)
+    pub kept-copied : (part : List ℕ) → part ≡ take (4 + m - 4) (drop 4 k) → take n edit ++ (part ++ drop (n + m - n) (drop n edit)) ≡ written_at_start (kept_behind (take n edit) k) edit
+    kept-copied part p =
+        let a : 4 + m - 4 ≡ m = omega arith in
+        let b : n + m - n ≡ m = omega arith in
+        rw (p, a, b, drop-drop m n edit)
+        (sym (append_assoc (take n edit) (take m (drop 4 k)) (drop (n + m) edit)) ∙ ap₂ (λ x y. x ++ drop y edit) (sym kept-part) kept-count)

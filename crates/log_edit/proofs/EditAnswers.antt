@@ -1,10 +1,11 @@
 -- The questions of an edit's blocks, by where they stop.
-use mathlib.Core.Path.{◌≡◌, refl, sym, ◌∙◌}
+use mathlib.Core.Path.{◌≡◌, refl, ◌∙◌}
 use mathlib.Core.List.{List, [], ◌∷◌}
-use Prim.Native.Nat.{ℕ, ◌+◌, ◌*◌, ◌/◌, ◌≤◌, ◌<◌}
+use Prim.Native.Nat.{ℕ, ◌*◌, ◌≤◌, ◌<◌}
 use native.Mathlib.Omega.{arith}
 use borrow.Author.Tests.{lt-ltb, le-ltb, le-leb, lt-leb}
 use lib.ListN.{length}
+use Rattle.std.specs.Int.{div_ceil}
 use Rattle.answer.specs.Asked.{passed, refused, ◌>>◌, is}
 use Rattle.answer.specs.Outputs.{ask_room}
 use Rattle.answer.proofs.OutputLaws.{room-short, room-enough}
@@ -21,15 +22,15 @@ module _ (edit : List ℕ) (room : ℕ) where
     pub too_long : longest_text < length edit → ask_log_edit edit room ≡ refused 21 0
     too_long h = unfold ask_log_edit ◌>>◌ is in rw (lt-ltb 0 (length edit) (omega arith), lt-leb (length edit) longest_text h) refl
 
-    size_is : 512 * ((length edit + 503) / 504) ≡ length (log_of (edit ∷ []))
-    size_is = sym (log-length edit (omega arith))
+    module _ (short : length edit ≤ longest_text) {size : ℕ} (size_is : size ≡ 512 * div_ceil (length edit) 504) where
+      long : size ≡ length (log_of (edit ∷ []))
+      long = omega (arith, log-length edit (omega arith), size_is)
 
-    module _ (short : length edit ≤ longest_text) where
       to_room : ask_log_edit edit room ≡ ask_room (log_of (edit ∷ [])) room
       to_room = unfold ask_log_edit ◌>>◌ is in rw (lt-ltb 0 (length edit) (omega arith), le-leb (length edit) longest_text short) refl
 
-      pub no_room : room < 512 * ((length edit + 503) / 504) → ask_log_edit edit room ≡ refused 33 (512 * ((length edit + 503) / 504))
-      no_room h = to_room ∙ room-short (log_of (edit ∷ [])) room _ size_is h
+      pub no_room : room < size → ask_log_edit edit room ≡ refused 33 size
+      no_room h = to_room ∙ room-short (log_of (edit ∷ [])) room size long h
 
-      pub enough : 512 * ((length edit + 503) / 504) ≤ room → ask_log_edit edit room ≡ passed (log_of (edit ∷ []))
-      enough h = to_room ∙ room-enough (log_of (edit ∷ [])) room _ size_is h
+      pub enough : size ≤ room → ask_log_edit edit room ≡ passed (log_of (edit ∷ []))
+      enough h = to_room ∙ room-enough (log_of (edit ∷ [])) room size long h

@@ -3,14 +3,15 @@
 #![tactic(auto)]
 
 ghost use Rattle.std.specs.Prelude.{◌≡◌, [], ◌∷◌, ◌≤◌, ◌<◌, length};
-ghost use Rattle.answer.specs.Outputs.{written_asked, written_length, written_at_start, written_output};
+ghost use Rattle.answer.specs.Answers.{result_asked};
+ghost use Rattle.answer.specs.Outputs.{written_length, written_at_start, written_output};
 ghost use Rattle.seal.specs.Seal.{block_bytes};
 ghost use Rattle.text.specs.Reading.{longest_text};
 ghost use Rattle.log_blocks.specs.Log.{content_bytes};
 ghost use Rattle.log_blocks.specs.Making.{block, log_of};
 ghost use Rattle.log_edit.specs.LogEdit.{ask_log_edit};
 
-use answer::{Refusal, Written};
+use answer::Refusal;
 use seal::{BLOCK, BODY};
 use text::Text;
 
@@ -24,13 +25,12 @@ fn make_block(mark: u8, part: &[u8], buf: &mut [u8])
     requires { (length part.now ≤ content_bytes) × (length buf.old ≡ block_bytes) }
     ensures { buf.new ≡ block mark part.now }
 {
-    let size = part.len();
-    bitset::wipe(buf);
+    let end = FIELDS + part.len();
+    buf.fill(0);
     buf[0] = 3;
     buf[1] = mark;
-    buf[2] = (size % 256) as u8;
-    buf[3] = (size / 256) as u8;
-    write::bytes::copy(part, 0, size, buf, FIELDS);
+    buf[2..FIELDS].copy_from_slice(&(part.len() as u16).to_le_bytes());
+    buf[FIELDS..end].copy_from_slice(part);
     seal::seal(buf);
 }
 
@@ -55,21 +55,21 @@ fn put_blocks(edit: &[u8], output: &mut [u8])
 }
 
 // The blocks that hold an edit, at the output's start: 22 for an edit without bytes, 21 for one above 4,096, then 33. Answers their length.
-pub fn log_edit(edit: &[u8], output: &mut [u8]) -> Written
-    ensures result_value { written_asked result ≡ written_length (ask_log_edit edit.now (length output.old)) }
+pub fn log_edit(edit: &[u8], output: &mut [u8]) -> Result<usize, Refusal>
+    ensures result_value { result_asked result ≡ written_length (ask_log_edit edit.now (length output.old)) }
     ensures output_after { output.new ≡ written_output (ask_log_edit edit.now (length output.old)) output.old }
 {
     let n = edit.len();
     if n < 1 {
-        return Written::Refused(Refusal::EditEnds { place: 0 });
+        return Err(Refusal::EditEnds { place: 0 });
     }
     if n > Text::LONGEST {
-        return Written::Refused(Refusal::EditLength { place: 0 });
+        return Err(Refusal::EditLength { place: 0 });
     }
-    let size = BLOCK * ((n + (CONTENT - 1)) / CONTENT);
+    let size = BLOCK * n.div_ceil(CONTENT);
     if output.len() < size {
-        return Written::Refused(Refusal::OutputLength { place: size });
+        return Err(Refusal::OutputLength { place: size });
     }
     put_blocks(edit, output);
-    Written::Length(size)
+    Ok(size)
 }

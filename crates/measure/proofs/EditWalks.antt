@@ -1,5 +1,5 @@
 -- The walk back over an edit: its steps on the stack, the numbers, and the text without idle steps.
-use mathlib.Core.Path.{◌≡◌, refl, sym, ap, ◌∙◌}
+use mathlib.Core.Path.{◌≡◌, refl, sym, ap, ◌∙◌, subst}
 use mathlib.Core.List.{List, ◌∷◌, ◌++◌}
 use Prim.Native.Nat.{ℕ, zero, suc, ◌+◌, ◌-◌, ◌≤◌, ◌<◌}
 use native.Mathlib.Omega.{arith}
@@ -23,7 +23,6 @@ use Rattle.measure.specs.EditMeasures.{EditRoom, StepRoom, Held, StepOf, Pushed,
 use Rattle.measure.proofs.Held.{holds-is}
 use Rattle.measure.proofs.Firsts.{back-choose, pruned-choose}
 use Rattle.measure.proofs.Puts.{head_of, end-tail}
-use Rattle.measure.proofs.Loops.{kept-holds}
 
 -- steps put on the stack so far
 pub record Going (text : List ℕ) (at : ℕ) (stack₀ stack : List ℕ) (top p n : ℕ) : Type 0 where
@@ -206,13 +205,13 @@ module _ {text : List ℕ} {at first second : ℕ} (m : get_or text at 0 ≡ 0x3
       record { parts = c; first-is = a; second_is = b; first_at = p; second_at = q; first-in = edit-inside text first c.P p; second-in = edit-inside text second c.Q q }
 
   -- the state, and the text
-  module _ (rules : ℕ) {state state₂ other₁ other₂ out out₁ out₂ : List ℕ} {pos q p : ℕ} (k : Kept 130 state other₁) (b₂ : (Y : Edit) → EditAt text second Y → Backed rules Y state out pos state₂ out₁ q)
+  module _ (rules : ℕ) {state state₂ other₁ other₂ out out₁ out₂ : List ℕ} {pos q p : ℕ} (k : other₁ ≡ state) (b₂ : (Y : Edit) → EditAt text second Y → Backed rules Y state out pos state₂ out₁ q)
       (b₁ : (Y : Edit) → EditAt text first Y → Backed rules Y other₁ out₁ q other₂ out₂ p) where
     pub choice-measured : {state₃ : List ℕ} → ((K : Tree) → At text (at + 1) K → ChoiceHeld rules K other₂ state₂ state₃) → (Z : Edit) → EditAt text at Z → StepMeasured rules Z state state₃
     choice-measured j Z h =
         let w = parted Z h in
         let c = w.parts in
-        record { holds = λ M x. holds-is (sym (back-choose c rules M)) ((j (tree c.K) c.what).holds _ _ ((b₁ c.P w.first_at).holds _ (kept-holds state other₁ _ k x)) ((b₂ c.Q w.second_at).holds _ x)) }
+        record { holds = λ M x. holds-is (sym (back-choose c rules M)) ((j (tree c.K) c.what).holds _ _ ((b₁ c.P w.first_at).holds _ (subst (λ l. Holds l (back rules (behind_step Z) M)) (sym k) x)) ((b₂ c.Q w.second_at).holds _ x)) }
 
     pub choice-prefixed : {out₃ : List ℕ} {r : ℕ} → PutBefore text at first out₂ p out₃ r → (Z : Edit) → EditAt text at Z → Prefixed rules Z state out pos out₃ r
     choice-prefixed w Z h =
@@ -224,7 +223,7 @@ module _ {text : List ℕ} {at first second : ℕ} (m : get_or text at 0 ≡ 0x3
         record {
           text = λ M x tail e.
               let tQ = bQ.text _ x ∙ ap (edit_code (pruned rules c.Q (back rules (behind_step Z) M)) ++◌) e in
-              let tP = bP.text _ (kept-holds state other₁ _ k x) ∙ ap (edit_code (pruned rules c.P (back rules (behind_step Z) M)) ++◌) tQ in
+              let tP = bP.text _ (subst (λ l. Holds l (back rules (behind_step Z) M)) (sym k) x) ∙ ap (edit_code (pruned rules c.P (back rules (behind_step Z) M)) ++◌) tQ in
               w.put_is ∙ (λ t. head_of text at (0x35 ∷ code c.K) c.tail (first - at) c.split n t ++ tP t)
               ∙ sym (four (0x35 ∷ code c.K) _ _ _ tail) ∙ (λ t. sym (pruned-choose c rules M) t ++ tail);
           room = omega (arith, w.start, bP.room, bQ.room);

@@ -1,30 +1,18 @@
--- Numbers copied, and those of a choice's two ways merged.
+-- The numbers of a choice's two ways, merged.
 use mathlib.Core.Path.{◌≡◌, refl, sym, ap, ap₂, ◌∙◌}
 use mathlib.Core.List.{List}
 use Prim.Native.Nat.{ℕ, ◌+◌, ◌*◌, ◌-◌, max, ◌≤◌, ◌<◌}
 use native.Mathlib.Omega.{arith}
-use native.Mathlib.Decide.{dec_lt}
-use lib.ListN.{length, get_or, set, length-set}
-use lib.Seq.{get_or-set_same}
+use lib.ListN.{length, get_or, set}
 use Rattle.tree.specs.Tree.{Tree, size, height, under}
 use Rattle.tree.specs.Sizes.{Measure, measure, chosen, capped}
 use Rattle.tree.proofs.Measured.{same-measure, under-max, under-under, under_more, height-pos}
 use Rattle.tree.proofs.Capped.{capped-max, capped-under, capped-under-under}
 use Rattle.ends.specs.Shapes.{cell, At}
-use Rattle.ends.specs.Kept.{Kept}
 use Rattle.ends.proofs.NameCells.{named-lt}
-use Rattle.ends.proofs.Kept.{elsewhere}
 use Rattle.measure.specs.State.{Holds, added, Scanned}
 use Rattle.measure.specs.EditMeasures.{Merged, ChoiceHeld}
 use Rattle.measure.proofs.Held.{under-comm, holds-is, holds-longer}
-
-pub kept-holds : (l l' : List ℕ) (M : Measure) → Kept 130 l l' → Holds l M → Holds l' M
-kept-holds l l' M k h = record {
-  len_at = k.same 128 (omega arith) ∙ h.len_at;
-  tall_at = k.same 129 (omega arith) ∙ h.tall_at;
-  count_at = λ c j n. k.same (cell c j) (omega (arith, named-lt c j n)) ∙ h.count_at c j n;
-  deep_at = λ c j n. k.same (64 + cell c j) (omega (arith, named-lt c j n)) ∙ h.deep_at c j n;
-}
 
 -- merging, i cells of 64 done
 abbrev pub sum_of : List ℕ → List ℕ → ℕ → ℕ
@@ -38,42 +26,9 @@ pub record Renewed (at f : ℕ → ℕ) (l₀ l : List ℕ) (i : ℕ) : Type 0 w
   pub done : (j : ℕ) → j < i → get_or l (at j) 0 ≡ f j
   pub left : (j : ℕ) → i ≤ j → j < 64 → get_or l (at j) 0 ≡ get_or l₀ (at j) 0
 
-renewed-none : {at f : ℕ → ℕ} {l : List ℕ} → Renewed at f l l 0
-renewed-none = record { done = λ j m. absurd (omega arith); left = λ j m n. refl }
-
-module _ {at f : ℕ → ℕ} {l₀ l : List ℕ} {i : ℕ} (w : Renewed at f l₀ l i) (k x : ℕ) where
-  renewed-here : at i ≡ k → k < length l → ((j : ℕ) → k ≡ at j → i ≡ j) → x ≡ f i → Renewed at f l₀ (set l k x) (i + 1)
-  renewed-here a r inj e = record { done = λ j p. go j p (dec_lt j i); left = λ j p q. elsewhere l k (at j) x (λ z. omega (arith, inj j z)) ∙ w.left j (omega arith) q } where
-    go : (j : ℕ) → j < i + 1 → Dec (j < i) → get_or (set l k x) (at j) 0 ≡ f j
-    go j p (yes q) = elsewhere l k (at j) x (λ z. omega (arith, inj j z)) ∙ w.done j q
-    go j p (no q) = let z : j ≡ i = omega arith in rw (z, a) (get_or-set_same l k x 0 r ∙ e)
-
-  renewed-other : i ≤ 64 → ((j : ℕ) → j < 64 → k ≡ at j → ⊥) → Renewed at f l₀ (set l k x) i
-  renewed-other u off = record { done = λ j p. elsewhere l k (at j) x (off j (omega arith)) ∙ w.done j p; left = λ j p q. elsewhere l k (at j) x (off j q) ∙ w.left j p q }
-
 pub record Merging (t l₀ l : List ℕ) (i : ℕ) : Type 0 where
   pub counts : Renewed (λ j. j) (sum_of t l₀) l₀ l i
   pub deeps : Renewed (λ j. 64 + j) (low_of t l₀) l₀ l i
-
-pub merging-none : (t l : List ℕ) → Merging t l l 0
-merging-none t l = record { counts = renewed-none; deeps = renewed-none }
-
-pub merging-more : (t l₀ l l' : List ℕ) (i : ℕ) → length l ≡ 130 → i < 64 → Merging t l₀ l i → l' ≡ set (set l i (sum_of t l i)) (64 + i) (low_of t l i) → Merging t l₀ l' (i + 1)
-merging-more t l₀ l l' i long m h e =
-    let x : sum_of t l i ≡ sum_of t l₀ i = ap (λ (u : ℕ). capped (get_or t i 0 + u)) (h.counts.left i (omega arith) m) in
-    let y : low_of t l i ≡ low_of t l₀ i = ap (λ (u : ℕ). capped (under (capped (under (max (get_or t (64 + i) 0) u) 2)) 2)) (h.deeps.left i (omega arith) m) in
-    rw e (record {
-      counts = renewed-other (renewed-here h.counts i _ refl (omega arith) (λ j q. q) x) (64 + i) _ (omega arith) (λ j r q. omega (arith, q));
-      deeps = renewed-here (renewed-other h.deeps i _ (omega arith) (λ j r q. omega (arith, q))) (64 + i) _ refl (omega (arith, length-set l i (sum_of t l i))) (λ j q. omega (arith, q)) y;
-    })
-
-pub merging-end : (t l₀ l : List ℕ) (i n d : ℕ) → length l ≡ 130 → 64 ≤ i → Merging t l₀ l i → n ≡ capped (get_or t 128 0 + get_or l₀ 128 0) → d ≡ capped (max (get_or t 129 0) (get_or l₀ 129 0) + 2) → Merged t l₀ (set (set l 128 n) 129 d)
-merging-end t l₀ l i n d long m h e f = record {
-  count = λ j p. elsewhere (set l 128 n) 129 j d (λ r. omega arith) ∙ elsewhere l 128 j n (λ r. omega arith) ∙ h.counts.done j (omega arith);
-  deep = λ j p. elsewhere (set l 128 n) 129 (64 + j) d (λ r. omega arith) ∙ elsewhere l 128 (64 + j) n (λ r. omega arith) ∙ h.deeps.done j (omega arith);
-  len = elsewhere (set l 128 n) 129 128 d (λ r. omega arith) ∙ get_or-set_same l 128 n 0 (omega arith) ∙ e;
-  tall = get_or-set_same (set l 128 n) 129 d 0 (omega (arith, length-set l 128 n)) ∙ f;
-}
 
 -- both ways, two levels deeper
 abbrev lows : Measure → Measure → Measure

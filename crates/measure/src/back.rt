@@ -99,12 +99,14 @@ fn one_back(
     let first = ends::past(text, at + 1);
     let second = ends::end_of(text, first);
     let mut other = [0u16; numbers::ALL];
-    numbers::copy(state, &mut other);
-    let mut way = spot;
-    way.at = second;
+    other.copy_from_slice(state);
+    let way = Spot { at: second, ..spot };
     let q = back(text, rules, way, stack, state, out);
-    way.at = first;
-    way.pos = q;
+    let way = Spot {
+        at: first,
+        pos: q,
+        ..spot
+    };
     let p = back(text, rules, way, stack, &mut other, out);
     choose_ways(text, at + 1, rules, &other, state);
     keep::put_before(text, at, first, out, p)
@@ -124,10 +126,9 @@ pub fn back(
     requires { EditRoom text.now spot.at spot.pos × (spot.top ≤ spot.at) × (length text.now ≤ length stack.old) × (length text.now ≤ longest_text) × (rules ≤ most_rules) × Held state.old × (spot.pos ≤ length out.old) }
     ensures { ((Z : Edit) → EditAt text.now spot.at Z → Backed rules Z state.old out.old spot.pos state.new out.new result) × Kept spot.top stack.old stack.new }
 {
-    let mut top = push(text, spot.at, stack, spot.top);
+    let end = push(text, spot.at, stack, spot.top);
     let mut pos = keep::end_before(out, spot.pos);
-    while top > spot.top {
-        top -= 1;
+    for top in (spot.top..end).rev() {
         let at = stack[top] as usize;
         pos = one_back(text, rules, Spot { at, top, pos }, stack, state, out);
     }

@@ -11,14 +11,9 @@ pub fn put_before(text: &[u8], at: usize, end: usize, out: &mut [u8], pos: usize
     requires { (at ≤ end) × (end ≤ length text.now) × (end ≤ at + pos) × (pos ≤ length out.old) }
     ensures { PutBefore text.now at end out.old pos out.new result }
 {
-    let mut from = end;
-    let mut to = pos;
-    while from > at {
-        from -= 1;
-        to -= 1;
-        out[to] = text[from];
-    }
-    to
+    let start = pos - (end - at);
+    out[start..pos].copy_from_slice(&text[at..end]);
+    start
 }
 
 // Puts an edit's end before what stands at `pos`.

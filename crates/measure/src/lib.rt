@@ -22,7 +22,7 @@ mod scan;
 
 // The length in bytes and the levels of a carried book, each capped at one more than the most bytes of a carried book,
 // and where the edit without its idle steps starts.
-#[derive(Drop)]
+#[derive(Clone, Copy)]
 pub struct BookSize {
     pub len: usize,
     pub levels: usize,
@@ -37,7 +37,7 @@ pub fn size_of_book(book: &[u8], edit: &[u8], stack: &mut [u16], kept: &mut [u8]
     requires { SomeBook book.now × SomeEdit edit.now 0 × (length edit.now ≤ longest_text) × (length edit.now ≤ length stack.old) × (length kept.old ≡ longest_text) }
     ensures { (rules : List (Expr rule)) (Z : Edit) → BookIs book.now rules → EditAt edit.now 0 Z → BookSized Z rules result.len result.levels × BookKept Z rules result.start kept.new }
 {
-    if book.len() == 0 {
+    if book.is_empty() {
         return BookSize {
             len: 0,
             levels: 0,
@@ -55,6 +55,6 @@ pub fn size_of_book(book: &[u8], edit: &[u8], stack: &mut [u16], kept: &mut [u8]
     BookSize {
         len: state[numbers::LENGTH] as usize,
         levels: state[numbers::LEVELS] as usize,
-        start: start,
+        start,
     }
 }

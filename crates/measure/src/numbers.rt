@@ -3,7 +3,6 @@
 ghost use Rattle.std.specs.Prelude.{◌≡◌, ◌+◌, ◌<◌, max, length, get_or, set};
 ghost use Rattle.tree.specs.Tree.{under};
 ghost use Rattle.tree.specs.Sizes.{capped};
-ghost use Rattle.ends.specs.Kept.{Kept};
 ghost use Rattle.measure.specs.State.{names, length_cell, levels_cell, numbers};
 ghost use Rattle.measure.specs.EditMeasures.{Merged};
 
@@ -24,47 +23,25 @@ const BEYOND: usize = Text::LONGEST_CARRIED + 1;
 
 const MOST: u16 = BEYOND as u16;
 
-// The larger number.
-fn larger(a: u16, b: u16) -> u16
-    ensures { result ≡ max a b }
-{
-    if a < b { b } else { a }
-}
-
 // A sum, capped; no operand can make it wrap.
 fn sum(a: usize, b: usize) -> usize
     ensures { result ≡ capped (a + b) }
 {
-    if a >= BEYOND {
-        return BEYOND;
-    }
-    if b >= BEYOND {
-        return BEYOND;
-    }
-    if a + b < BEYOND { a + b } else { BEYOND }
+    a.saturating_add(b).min(BEYOND)
 }
 
-// The same for two numbers that are kept.
+// The same for two numbers that are kept: capped before and after, which the compiler does eight at a time.
 fn add(a: u16, b: u16) -> u16
     ensures { result ≡ capped (a + b) }
 {
-    if a >= MOST {
-        return MOST;
-    }
-    if b >= MOST {
-        return MOST;
-    }
-    if a + b < MOST { a + b } else { MOST }
+    (a.min(MOST) + b.min(MOST)).min(MOST)
 }
 
 // One level below `v`, capped; 0 means nowhere and stays 0.
 pub fn deeper(v: u16) -> u16
     ensures { result ≡ capped (under v 2) }
 {
-    if v == 0 {
-        return 0;
-    }
-    if v < MOST { v + 1 } else { MOST }
+    if v == 0 { 0 } else { add(v, 1) }
 }
 
 // The length, `n` bytes more.
@@ -82,7 +59,7 @@ pub fn rise(state: &mut [u16], v: u16)
     requires { length state.old ≡ numbers }
     ensures { state.new ≡ set state.old levels_cell (max (get_or state.old levels_cell 0) v) }
 {
-    state[LEVELS] = larger(state[LEVELS], v);
+    state[LEVELS] = state[LEVELS].max(v);
 }
 
 // Counts the name of cell `i` `w` times more, on level `v` at the deepest.
@@ -92,22 +69,9 @@ pub fn touch(state: &mut [u16], i: usize, w: u16, v: u16)
     ensures { state.new ≡ set (set state.old i (capped (get_or state.old i 0 + w))) (names + i) (max (get_or state.old (names + i) 0) v) }
 {
     let n = add(state[i], w);
-    let d = larger(state[DEEPEST + i], v);
+    let d = state[DEEPEST + i].max(v);
     state[i] = n;
     state[DEEPEST + i] = d;
-}
-
-// Copies the numbers of `src`.
-// Inner: over all the numbers.
-pub fn copy(src: &[u16], out: &mut [u16])
-    requires { (length src.now ≡ numbers) × (length out.old ≡ numbers) }
-    ensures { Kept numbers src.now out.new }
-{
-    let mut i = 0;
-    while i < ALL {
-        out[i] = src[i];
-        i += 1;
-    }
 }
 
 // Merges the numbers of one name in both ways of a 35, whose codes 25 26 27 and 25 26 put it two levels deeper.
@@ -117,7 +81,7 @@ fn merge_one(t: &[u16], state: &mut [u16], i: usize)
     ensures { state.new ≡ set (set state.old i (capped (get_or t.now i 0 + get_or state.old i 0))) (names + i) (capped (under (capped (under (max (get_or t.now (names + i) 0) (get_or state.old (names + i) 0)) 2)) 2)) }
 {
     let n = add(t[i], state[i]);
-    let d = deeper(deeper(larger(t[DEEPEST + i], state[DEEPEST + i])));
+    let d = deeper(deeper(t[DEEPEST + i].max(state[DEEPEST + i])));
     state[i] = n;
     state[DEEPEST + i] = d;
 }
@@ -129,11 +93,9 @@ pub fn merge(t: &[u16], state: &mut [u16])
     ensures { Merged t.now state.old state.new }
 {
     let n = add(t[LENGTH], state[LENGTH]);
-    let h = add(larger(t[LEVELS], state[LEVELS]), 2);
-    let mut i = 0;
-    while i < DEEPEST {
+    let h = add(t[LEVELS].max(state[LEVELS]), 2);
+    for i in 0..DEEPEST {
         merge_one(t, state, i);
-        i += 1;
     }
     state[LENGTH] = n;
     state[LEVELS] = h;

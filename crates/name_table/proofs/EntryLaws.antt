@@ -9,6 +9,7 @@ use Rattle.logic.specs.Limits.{Kind, label_number, arrow_number, node_number, le
 use Rattle.names.specs.Token.{Token, Found, found, absent, ascii, same}
 use Rattle.names.specs.Scan.{Placed}
 use Rattle.names.specs.Names.{Entry, kind_of, free_name_def, ask_kind, ask_number, ask_entries}
+use Rattle.std.specs.Prelude.{Some, None}
 use Rattle.keywords.specs.Rows as rows
 use Rattle.name_table.specs.Entries.{item_for, free_number}
 
@@ -20,16 +21,16 @@ module _ (t : Token) where
   unfolding kind_of
   chosen_is {a} {b} {c} e f g = rw e (rw f (rw g refl))
 
-  pub item-label : same t (ascii "label") ≡ true → 4 ≡ item_for (kind_of t)
+  pub item-label : same t (ascii "label") ≡ true → Some 4 ≡ item_for (kind_of t)
   item-label e = sym (ap item_for (chosen_is e refl refl))
 
-  pub item-arrow : same t (ascii "label") ≡ false → same t (ascii "arrow") ≡ true → 5 ≡ item_for (kind_of t)
+  pub item-arrow : same t (ascii "label") ≡ false → same t (ascii "arrow") ≡ true → Some 5 ≡ item_for (kind_of t)
   item-arrow e f = sym (ap item_for (chosen_is e f refl))
 
-  pub item-node : same t (ascii "label") ≡ false → same t (ascii "arrow") ≡ false → same t (ascii "node") ≡ true → 6 ≡ item_for (kind_of t)
+  pub item-node : same t (ascii "label") ≡ false → same t (ascii "arrow") ≡ false → same t (ascii "node") ≡ true → Some 6 ≡ item_for (kind_of t)
   item-node e f g = sym (ap item_for (chosen_is e f g))
 
-  pub item-none : same t (ascii "label") ≡ false → same t (ascii "arrow") ≡ false → same t (ascii "node") ≡ false → 0 ≡ item_for (kind_of t)
+  pub item-none : same t (ascii "label") ≡ false → same t (ascii "arrow") ≡ false → same t (ascii "node") ≡ false → None ≡ item_for (kind_of t)
   item-none e f g = sym (ap item_for (chosen_is e f g))
 
 -- The item, if there is one.
@@ -38,29 +39,29 @@ pub record ItemWord (t : Token) (item : ℕ) : Type 0 where
   pub low : 4 ≤ item
   pub high : item < 7
 
-pub item-word : (t : Token) {item : ℕ} → item ≡ item_for (kind_of t) → (item ≡ 0 → ⊥) → ItemWord t item
+pub item-word : (t : Token) {item : ℕ} → Some item ≡ item_for (kind_of t) → ItemWord t item
 unfolding kind_of rows.kind_of
-item-word t {item} e n = go (same t (ascii "label")) (same t (ascii "arrow")) (same t (ascii "node")) refl e
+item-word t {item} e = go (same t (ascii "label")) (same t (ascii "arrow")) (same t (ascii "node")) refl e
   where
-    word : {k : Kind} (i : ℕ) → kind_of t ≡ found k → rows.kind_of i ≡ k → item ≡ i → 4 ≤ i → i < 7 → ItemWord t item
-    word i f g q l h = record { kind = f ∙ ap found (sym (ap rows.kind_of q ∙ g)); low = omega arith; high = omega arith }
+    word : {k : Kind} (i : ℕ) → kind_of t ≡ found k → rows.kind_of i ≡ k → Some item ≡ Some i → 4 ≤ i → i < 7 → ItemWord t item
+    word i f g s l h = let q : item ≡ i = cc in record { kind = f ∙ ap found (sym (ap rows.kind_of q ∙ g)); low = omega arith; high = omega arith }
 
-    go : (a b c : Bool) → kind_of t ≡ chosen a b c → item ≡ item_for (chosen a b c) → ItemWord t item
+    go : (a b c : Bool) → kind_of t ≡ chosen a b c → Some item ≡ item_for (chosen a b c) → ItemWord t item
     go true b c f q = word 4 f refl q (omega arith) (omega arith)
     go false true c f q = word 5 f refl q (omega arith) (omega arith)
     go false false true f q = word 6 f refl q (omega arith) (omega arith)
-    go false false false f q = absurd (n q)
+    go false false false f q = absurd cc
 
-pub item-absent : (t : Token) {item : ℕ} → item ≡ item_for (kind_of t) → item ≡ 0 → kind_of t ≡ absent
-item-absent t e z = go (kind_of t) (sym e ∙ z)
+pub item-absent : (t : Token) → None ≡ item_for (kind_of t) → kind_of t ≡ absent
+item-absent t e = go (kind_of t) e
   where
-    go : (f : Found Kind) → item_for f ≡ 0 → f ≡ absent
-    go (found label_number) q = absurd (omega arith)
-    go (found arrow_number) q = absurd (omega arith)
-    go (found node_number) q = absurd (omega arith)
-    go (found least_count) q = absurd (omega arith)
-    go (found most_count) q = absurd (omega arith)
-    go absent q = refl
+    go : (f : Found Kind) → None ≡ item_for f → f ≡ absent
+    go (found label_number) z = absurd cc
+    go (found arrow_number) z = absurd cc
+    go (found node_number) z = absurd cc
+    go (found least_count) z = absurd cc
+    go (found most_count) z = absurd cc
+    go absent z = refl
 
 -- Questions of which one passed or was refused.
 bind-passed : {A B : Type 0} {x : Asked A} {a : A} (f : A → Asked B) → x ≡ passed a → (x >>= f) ≡ f a

@@ -1,9 +1,8 @@
 -- The search for a name among the slots of its kind is the definition's search.
 use mathlib.Core.Path.{◌≡◌, refl, sym, ◌∙◌, ap, ap₂, subst}
-use mathlib.Core.Bool.{Bool, true, false, ◌&&◌}
+use mathlib.Core.Bool.{true, false, ◌&&◌}
 use mathlib.Core.List.{List, [], ◌∷◌}
 use Prim.Native.Nat.{ℕ, ◌+◌, ◌-◌, ◌≤◌, ◌<◌}
-use native.Mathlib.Nat.{mul-le-mul_left}
 use native.Mathlib.Omega.{arith}
 use native.Mathlib.Decide.{dec_lt}
 use borrow.Author.Tests.{lt-ltb, le-ltb, le-leb, lt-leb, ltb-true, leb-true}
@@ -11,16 +10,17 @@ use lib.Dec.{T, leb}
 use lib.ListN.{get_or}
 use Rattle.logic.specs.Limits.{Kind, label_number, arrow_number, node_number, least_count, most_count, ranges, max_nodes, fits}
 use Rattle.logic.proofs.Bools.{is_true, both_so}
-use Rattle.names.specs.Token.{Token, same, first_below}
+use Rattle.names.specs.Token.{Token, same, Found, first_below}
 use Rattle.names.specs.Names.{Naming, count_of}
 use Rattle.names.proofs.NameLaws.{HasNames}
 use Rattle.notation.specs.Parse.{number_of}
 use Rattle.notation.specs.Words.{word_limits}
-use Rattle.buffers.specs.Slots.{Slots, slot_at, or_bound}
+use Rattle.buffers.specs.Slots.{slot_at, found_option}
 use Rattle.keywords.specs.Rows.{kind_of}
 use Rattle.name_table.specs.NameSlots.{name_width, name_count, slot_base, slot_count, Holds}
 use Rattle.names.proofs.FirstLaws.{further, search-range}
-use Rattle.buffers.proofs.SameLaws.{none-at, found_at}
+use Rattle.std.specs.Prelude.{Some, None}
+use Rattle.buffers.proofs.FoundLaws.{none-found, some-found}
 
 -- The items that are names or counts.
 pub by-item : (P : ℕ → Type 0) → P 4 → P 5 → P 6 → P 7 → P 8 → (item : ℕ) → 4 ≤ item → item < 9 → P item
@@ -126,16 +126,13 @@ item-inside = by-item (λ item. get_or bases (item - 4) 0 + get_or leasts (item 
 pub item_count : (item : ℕ) → 4 ≤ item → item < 9 → get_or counts (item - 4) 0 ≤ 60
 item_count = by-item (λ item. get_or counts (item - 4) 0 ≤ 60) (omega arith) (omega arith) (omega arith) (omega arith) (omega arith)
 
-pub fewer-slots : {width n : ℕ} {table : List ℕ} (m : ℕ) → m ≤ n → Slots width n table → Slots width m table
-fewer-slots {width} {n} m h s = record { room = let r = s.room in omega (arith, mul-le-mul_left {m = m} {n = n} width h); short = λ i l. s.short i (omega arith) }
-
 -- What was found, as a number.
-module _ (p : ℕ → Bool) (n : ℕ) {x : ℕ} (e : x ≡ or_bound n (first_below p n)) (m : ℕ) where
-  pub number-none : x ≡ n → 256 ≡ or_bound 256 (further m (first_below p n))
-  number-none l = sym (ap (λ f. or_bound 256 (further m f)) (none-at p n e l))
+module _ (m : ℕ) (f : Found ℕ) where
+  pub number-none : None ≡ found_option f → None ≡ found_option (further m f)
+  number-none e = ap (λ z. found_option (further m z)) (sym (none-found f e))
 
-  pub number-some : (x ≡ n → ⊥) → m + x ≡ or_bound 256 (further m (first_below p n))
-  number-some l = sym (ap (λ f. or_bound 256 (further m f)) (found_at p n e l))
+  pub number-some : {x : ℕ} → Some x ≡ found_option f → Some (m + x) ≡ found_option (further m f)
+  number-some e = ap (λ z. found_option (further m z)) (sym (some-found f e))
 
 -- The slot of a number in range.
 pub in-slots : (item : ℕ) → 4 ≤ item → item < 9 → (x : ℕ) → T (fits (ranges max_nodes) (kind_of item) x) → get_or bases (item - 4) 0 + x < name_count

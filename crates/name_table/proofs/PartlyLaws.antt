@@ -6,8 +6,8 @@ use Prim.Native.Nat.{ℕ, ◌+◌, ◌*◌, ◌-◌, ◌≤◌, ◌<◌}
 use native.Mathlib.Nat.{zero-add}
 use native.Mathlib.Omega.{arith}
 use native.Mathlib.Decide.{dec_lt}
-use borrow.Author.Tests.{eqb-true, eqb-false, leb-true}
-use lib.Dec.{eqb, leb}
+use borrow.Author.Tests.{leb-true}
+use lib.Dec.{leb}
 use lib.ListN.{length, get_or}
 use Rattle.logic.specs.Limits.{Kind, label_number, arrow_number, node_number, least_count, most_count}
 use Rattle.logic.proofs.Bools.{true-false, and_left, and_right, is_false}
@@ -16,13 +16,14 @@ use Rattle.names.specs.Scan.{is_word_def}
 use Rattle.names.specs.Names.{decimal, Entry, is_for, given, name_in, taken, unnamed, name_bytes, longest_name, notation_words, among, begins_plain_def, free_name_def, count_of}
 use Rattle.names.proofs.TokenLaws.{same_true, same_refl, Hit, found-hit, none-hit, found-only, found_none}
 use Rattle.names.proofs.NameLaws.{HasNames, names-one}
-use Rattle.buffers.specs.Slots.{slot_at, or_bound}
+use Rattle.buffers.specs.Slots.{slot_at, found_option}
 use Rattle.keywords.specs.Rows.{kind_of}
 use Rattle.names.proofs.FirstLaws.{first-same}
 use Rattle.name_table.specs.NameSlots.{name_width, name_count, slot_base, slot_count}
 use Rattle.name_table.specs.Entries.{named_slots, or_nothing, given_names, Partly, free_number, slot_found, well_spelled}
 use Rattle.buffers.proofs.SlotLaws.{slot-length}
-use Rattle.buffers.proofs.SameLaws.{none-at, found_at}
+use Rattle.std.specs.Prelude.{Some, None, is_none}
+use Rattle.buffers.proofs.FoundLaws.{none-found, some-found}
 use Rattle.name_table.proofs.NumberLaws.{bases, counts, NameItem, name-item}
 
 or_left : (a b : Bool) → a ≡ true → (a || b) ≡ true
@@ -134,34 +135,34 @@ module _ {es : List Entry} {table : List ℕ} (p : Partly es table) where
       number-named : unnamed es k x ≡ false → free_number es k t ≡ absent
       number-named u = found_none _ (count_of k) (λ y l h. true-false (and_right (same t (decimal y)) (unnamed es k y) h) (ap (unnamed es k) (only y l h) ∙ u))
 
-  module _ (item : ℕ) (low : 4 ≤ item) (high : item < 7) (t : Token) {x : ℕ}
-      (f : x ≡ or_bound (get_or counts (item - 4) 0) (first_below (λ x. same t (slot_at name_width table (named_slots + x))) (get_or counts (item - 4) 0))) where
+  module _ (item : ℕ) (low : 4 ≤ item) (high : item < 7) (t : Token) where
     i : NameItem item
     i = name-item item low high
 
-    g : x ≡ or_bound (count_of (kind_of item)) (first_below (λ x. same t (slot_at name_width table (named_slots + x))) (count_of (kind_of item)))
-    g = subst (λ n. x ≡ or_bound n (first_below (λ x. same t (slot_at name_width table (named_slots + x))) n)) i.count f
+    abbrev pub found-in : ℕ → Found ℕ
+    found-in = first_below (λ x. same t (slot_at name_width table (named_slots + x)))
 
-    pub slot-none : x ≡ get_or counts (item - 4) 0 → named_slots ≡ slot_found (kind_of item) (free_number es (kind_of item) t)
-    slot-none e = sym (ap (slot_found (kind_of item)) (no_number (kind_of item) i.has-names t (none-at _ (count_of (kind_of item)) g (e ∙ i.count))))
+    pub slot-none : None ≡ found_option (found-in (get_or counts (item - 4) 0)) → None ≡ slot_found (kind_of item) (free_number es (kind_of item) t)
+    slot-none e = ap (slot_found (kind_of item)) (sym (no_number (kind_of item) i.has-names t (ap found-in (sym i.count) ∙ none-found _ e)))
 
-    module _ (e : x ≡ get_or counts (item - 4) 0 → ⊥) where
-      at : first_below (λ x. same t (slot_at name_width table (named_slots + x))) (count_of (kind_of item)) ≡ found x
-      at = found_at _ (count_of (kind_of item)) g (λ q. e (q ∙ sym i.count))
+    module _ {x : ℕ} (e : Some x ≡ found_option (found-in (get_or counts (item - 4) 0))) where
+      at : found-in (count_of (kind_of item)) ≡ found x
+      at = ap found-in (sym i.count) ∙ some-found _ e
 
       below : x < slot_count (kind_of item)
       below = subst (λ n. x < n) (count-is (kind_of item) i.has-names) (number-below (kind_of item) i.has-names t x at)
 
-      pub slot-named : (get_or table (name_width * (get_or bases (item - 4) 0 + x)) 0 ≡ 0 → ⊥) → named_slots ≡ slot_found (kind_of item) (free_number es (kind_of item) t)
+      pub slot-named : (get_or table (name_width * (get_or bases (item - 4) 0 + x)) 0 ≡ 0 → ⊥) → None ≡ slot_found (kind_of item) (free_number es (kind_of item) t)
       slot-named z =
-          sym (ap (slot_found (kind_of item)) (number-named (kind_of item) i.has-names t x at
+          ap (slot_found (kind_of item))
+          (sym (number-named (kind_of item) i.has-names t x at
           (head-named (kind_of item) i.has-names x below (subst (λ b. get_or table (name_width * (b + x)) 0 ≡ 0 → ⊥) i.base z))))
 
-      pub slot-free : get_or table (name_width * (get_or bases (item - 4) 0 + x)) 0 ≡ 0 → get_or bases (item - 4) 0 + x ≡ slot_found (kind_of item) (free_number es (kind_of item) t)
+      pub slot-free : get_or table (name_width * (get_or bases (item - 4) 0 + x)) 0 ≡ 0 → Some (get_or bases (item - 4) 0 + x) ≡ slot_found (kind_of item) (free_number es (kind_of item) t)
       slot-free z =
-          ap (◌+ x) i.base
-          ∙ sym (ap (slot_found (kind_of item)) (number-free (kind_of item) i.has-names t x at
-          (head-free (kind_of item) i.has-names x below (subst (λ b. get_or table (name_width * (b + x)) 0 ≡ 0) i.base z))))
+          ap (λ b. Some (b + x)) i.base
+          ∙ ap (slot_found (kind_of item))
+          (sym (number-free (kind_of item) i.has-names t x at (head-free (kind_of item) i.has-names x below (subst (λ b. get_or table (name_width * (b + x)) 0 ≡ 0) i.base z))))
 
   -- A word in a slot of names is taken.
   slot-taken : (t : Token) → 0 < length t → (j : ℕ) → j < named_slots → slot_at name_width table j ≡ t → taken es t ≡ true
@@ -179,20 +180,20 @@ module _ {es : List Entry} {table : List ℕ} (p : Partly es table) where
       at : (k : Kind) → HasNames k → (y : ℕ) → y < slot_count k → slot_base k + y ≡ j → taken es t ≡ true
       at k n y b q = go k y (given es k y) refl (sym (p.holds.each k y b ∙ given-names es k y n) ∙ ap (slot_at name_width table) q ∙ e)
 
-  pub taken_is : (t : Token) → 0 < length t → {x : ℕ} → x ≡ or_bound named_slots (first_below (λ x. same t (slot_at name_width table (0 + x))) named_slots) → eqb x named_slots ≡ not (taken es t)
-  taken_is t h {x} f = go (eqb x named_slots) refl
+  pub taken_is : (t : Token) → 0 < length t → is_none (found_option (first_below (λ x. same t (slot_at name_width table (0 + x))) named_slots)) ≡ not (taken es t)
+  taken_is t h = go (first_below (λ x. same t (slot_at name_width table (0 + x))) named_slots) refl
     where
       none : first_below (λ x. same t (slot_at name_width table (0 + x))) named_slots ≡ absent → taken es t ≡ true → ⊥
       none a e =
           let s = p.names t e in
           true-false (same_refl t) (sym (ap (same t) (ap (slot_at name_width table) (zero-add s.slot) ∙ s.there)) ∙ none-hit _ named_slots a s.slot s.named)
 
-      some : Hit (λ x. same t (slot_at name_width table (0 + x))) named_slots x → taken es t ≡ true
-      some i = slot-taken t h x i.below (sym (same_true t (slot_at name_width table (0 + x)) i.yes_of ∙ ap (slot_at name_width table) (zero-add x)))
+      some : {x : ℕ} → Hit (λ x. same t (slot_at name_width table (0 + x))) named_slots x → taken es t ≡ true
+      some {x} i = slot-taken t h x i.below (sym (same_true t (slot_at name_width table (0 + x)) i.yes_of ∙ ap (slot_at name_width table) (zero-add x)))
 
-      go : (b : Bool) → eqb x named_slots ≡ b → b ≡ not (taken es t)
-      go true e = sym (ap not (is_false (taken es t) (none (none-at _ named_slots f (eqb-true x named_slots e)))))
-      go false e = sym (ap not (some (found-hit _ named_slots x (found_at _ named_slots f (eqb-false x named_slots e)))))
+      go : (f : Found ℕ) → first_below (λ x. same t (slot_at name_width table (0 + x))) named_slots ≡ f → is_none (found_option f) ≡ not (taken es t)
+      go (found x) q = ap not (sym (some (found-hit _ named_slots x q)))
+      go absent q = ap not (sym (is_false (taken es t) (none q)))
 
 -- What a name must be, in the code's order.
 grouped : (a b c d : Bool) → (a && (b && (c && d))) ≡ ((a && (b && c)) && d)

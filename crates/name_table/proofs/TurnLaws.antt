@@ -11,6 +11,7 @@ use Rattle.answer.specs.Asked.{passed, refused}
 use Rattle.decimal.proofs.DigitLaws.{digits-length}
 use Rattle.logic.specs.Limits.{Kind}
 use Rattle.logic.proofs.Bools.{true-false, and_left, and_right}
+use Rattle.std.specs.Prelude.{Some, None}
 use Rattle.names.specs.Token.{Token, same, Found, found, absent}
 use Rattle.names.specs.Scan.{Placed, is_word_def}
 use Rattle.names.specs.Scanned.{slice, tokens_from, Next}
@@ -45,26 +46,26 @@ module _ {text : List ℕ} {at from to : ℕ} (n : Next text at from to) where
   token-missing : (from < length text → ⊥) → tokens_from text at ≡ []
   token-missing h = n.ended (at-end h)
 
--- The number of a slot that was found.
-module _ (es : List Entry) (k : Kind) (n : HasNames k) (t : Token) {slot : ℕ} (e : slot ≡ slot_found k (free_number es k t)) where
-  pub none_free : slot ≡ named_slots → free_number es k t ≡ absent
-  none_free z = go (free_number es k t) refl (sym e ∙ z)
-    where
-      go : (f : Found ℕ) → free_number es k t ≡ f → slot_found k f ≡ named_slots → f ≡ absent
-      go (found x) q r = let l = (found-hit _ (count_of k) x q).below in let s = named-slot k x n (subst (λ m. x < m) (count-is k n) l) in absurd (omega arith)
-      go absent q r = refl
+pub none_free : (es : List Entry) (k : Kind) (t : Token) → None ≡ slot_found k (free_number es k t) → free_number es k t ≡ absent
+none_free es k t e = go (free_number es k t) e
+  where
+    go : (f : Found ℕ) → None ≡ slot_found k f → f ≡ absent
+    go (found x) r = absurd cc
+    go absent r = refl
 
+-- The number of a slot that was found.
+module _ (es : List Entry) (k : Kind) (n : HasNames k) (t : Token) {slot : ℕ} (e : Some slot ≡ slot_found k (free_number es k t)) where
   pub record Free : Type 0 where
     pub number : ℕ
     pub is : free_number es k t ≡ found number
     pub at : slot ≡ slot_base k + number
 
-  pub some-free : (slot ≡ named_slots → ⊥) → Free
-  some-free z = go (free_number es k t) refl e
+  pub some-free : Free
+  some-free = go (free_number es k t) refl e
     where
-      go : (f : Found ℕ) → free_number es k t ≡ f → slot ≡ slot_found k f → Free
-      go (found x) q r = record { number = x; is = q; at = r }
-      go absent q r = absurd (z r)
+      go : (f : Found ℕ) → free_number es k t ≡ f → Some slot ≡ slot_found k f → Free
+      go (found x) q r = record { number = x; is = q; at = cc }
+      go absent q r = absurd cc
 
   module _ (f : Free) where
     hit : Hit (λ x. same t (decimal x) && unnamed es k x) (count_of k) f.number
@@ -99,29 +100,29 @@ module _ {text : List ℕ} {at a b : ℕ} (sort : Next text at a b) (es : List E
   unfolding ask_entries
   turn_end h = ap (λ ts. ask_entries (length text) ts es) (token-missing sort (λ l. omega arith))
 
-  module _ (h : a < length text) {item : ℕ} (i : item ≡ item_of (slice text a b)) where
-    pub turn-kind : item ≡ 0 → ask_entries (length text) (tokens_from text at) es ≡ refused 63 a
-    turn-kind z = ap (λ ts. ask_entries (length text) ts es) (sort.there h) ∙ ask-kind-wrong (length text) es (at_place text a b) _ (item-absent _ i z)
+  module _ (h : a < length text) where
+    pub turn-kind : None ≡ item_of (slice text a b) → ask_entries (length text) (tokens_from text at) es ≡ refused 63 a
+    turn-kind i = ap (λ ts. ask_entries (length text) ts es) (sort.there h) ∙ ask-kind-wrong (length text) es (at_place text a b) _ (item-absent _ i)
 
-    module _ (z : item ≡ 0 → ⊥) {c d : ℕ} (number : Next text b c d) {slot : ℕ} (f : slot ≡ slot_found (kind_of item) (free_number es (kind_of item) (slice text c d))) where
+    module _ {item : ℕ} (i : Some item ≡ item_of (slice text a b)) {c d : ℕ} (number : Next text b c d) where
       w : ItemWord (slice text a b) item
-      w = item-word (slice text a b) i z
+      w = item-word (slice text a b) i
 
       n : HasNames (kind_of item)
       n = (name-item item w.low w.high).has-names
 
-      pub turn-number : slot ≡ named_slots → ask_entries (length text) (tokens_from text at) es ≡ refused 63 c
+      pub turn-number : None ≡ slot_found (kind_of item) (free_number es (kind_of item) (slice text c d)) → ask_entries (length text) (tokens_from text at) es ≡ refused 63 c
       turn-number e =
           elim (dec_lt c (length text)) [
             | yes l ↦ ap (λ ts. ask_entries (length text) ts es) (token-there sort (number.there l) h)
-                ∙ ask-number-wrong (length text) es (at_place text a b) w.kind (at_place text c d) _ (none_free es (kind_of item) n (slice text c d) f e)
+                ∙ ask-number-wrong (length text) es (at_place text a b) w.kind (at_place text c d) _ (none_free es (kind_of item) (slice text c d) e)
             | no l ↦ ap (λ ts. ask_entries (length text) ts es) (token-there sort (token-missing number l) h)
                 ∙ ask-number-missing (length text) es (at_place text a b) w.kind ∙ ap (refused 63) (sym (at-end number l))
           ]
 
-      module _ (e : slot ≡ named_slots → ⊥) {from to : ℕ} (name : Next text d from to) where
+      module _ {slot : ℕ} (f : Some slot ≡ slot_found (kind_of item) (free_number es (kind_of item) (slice text c d))) {from to : ℕ} (name : Next text d from to) where
         free : Free es (kind_of item) n (slice text c d) f
-        free = some-free es (kind_of item) n (slice text c d) f e
+        free = some-free es (kind_of item) n (slice text c d) f
 
         number-there : c < length text
         number-there = elim (dec_lt c (length text)) [ yes l ↦ l | no l ↦ absurd (some_byte es (kind_of item) n (slice text c d) f free (no_byte text c d (omega arith))) ]

@@ -1,5 +1,7 @@
 -- The slots while a table is read: each name given so far, nothing for numbers without one, and the counts.
-use Rattle.std.specs.Prelude.{◌≡◌, Bool, true, not, ◌&&◌, List, [], ◌∷◌, ◌++◌, ℕ, ◌+◌, ◌<◌, ◌≤◌, eqb, leb, length}
+use Rattle.std.specs.Prelude.{◌≡◌, Bool, true, not, ◌&&◌, List, [], ◌∷◌, ◌++◌, ℕ, ◌+◌, ◌<◌, ◌≤◌, eqb, leb, length, Option, Some, None, Result, Ok, Err}
+use Rattle.answer.specs.declared.Refusal.{Refusal}
+use Rattle.answer.specs.Answers.{refusal_number_def, refusal_place_def}
 use Rattle.answer.specs.Asked.{Asked, passed, refused}
 use Rattle.logic.specs.Limits.{Kind, label_number, arrow_number, node_number, least_count, most_count}
 use Rattle.names.specs.Token.{Token, same, Found, found, absent, first_below}
@@ -8,8 +10,6 @@ use Rattle.names.specs.Scanned.{tokens_from}
 use Rattle.names.specs.Names.{Naming, decimal, Entry, given, taken, unnamed, name_bytes, longest_name, count_of, kind_of, ask_entries}
 use Rattle.buffers.specs.Slots.{Slots, slot_at}
 use Rattle.name_table.specs.NameSlots.{name_width, name_count, table_bytes, slot_base, Holds}
-use Rattle.name_table.specs.declared.Turn.{Turn}
-use Rattle.name_table.specs.declared.Turn.TheVariants.{End, Next, Wrong}
 
 -- The slots of names, which come before those of counts.
 abbrev pub named_slots : ℕ
@@ -46,20 +46,20 @@ pub record Begun (table : List ℕ) : Type 0 where
 abbrev pub free_number : List Entry → Kind → Token → Found ℕ
 free_number es k t = first_below (λ x. same t (decimal x) && unnamed es k x) (count_of k)
 
-abbrev pub slot_found : Kind → Found ℕ → ℕ
-slot_found k (found x) = slot_base k + x
-slot_found k absent = named_slots
+abbrev pub slot_found : Kind → Found ℕ → Option ℕ
+slot_found k (found x) = Some (slot_base k + x)
+slot_found k absent = None
 
--- The item of the kind that a word of the table stands for; 0 if it stands for none.
-abbrev pub item_for : Found Kind → ℕ
-item_for (found label_number) = 4
-item_for (found arrow_number) = 5
-item_for (found node_number) = 6
-item_for (found least_count) = 7
-item_for (found most_count) = 8
-item_for absent = 0
+-- The item of the kind that a word of the table stands for.
+abbrev pub item_for : Found Kind → Option ℕ
+item_for (found label_number) = Some 4
+item_for (found arrow_number) = Some 5
+item_for (found node_number) = Some 6
+item_for (found least_count) = Some 7
+item_for (found most_count) = Some 8
+item_for absent = None
 
-abbrev pub item_of : Token → ℕ
+abbrev pub item_of : Token → Option ℕ
 item_of t = item_for (kind_of t)
 
 -- What a name's bytes must be.
@@ -77,10 +77,10 @@ pub record Entered (text : List ℕ) (at to : ℕ) (es : List Entry) (table : Li
   pub on : at < to
   pub inside : to ≤ length text
 
-abbrev pub Turned : (text : List ℕ) (at : ℕ) (es : List Entry) (table : List ℕ) → Turn → Type 0
-Turned text at es table End = (ask_entries (length text) (tokens_from text at) es ≡ passed es) × Partly es table
-Turned text at es table (Next to) = Entered text at to es table
-Turned text at es table (Wrong p) = ask_entries (length text) (tokens_from text at) es ≡ refused 63 p
+abbrev pub Turned : (text : List ℕ) (at : ℕ) (es : List Entry) (table : List ℕ) → Result (Option ℕ) Refusal → Type 0
+Turned text at es table (Ok None) = (ask_entries (length text) (tokens_from text at) es ≡ passed es) × Partly es table
+Turned text at es table (Ok (Some to)) = Entered text at to es table
+Turned text at es table (Err r) = ask_entries (length text) (tokens_from text at) es ≡ refused (refusal_number_def r) (refusal_place_def r)
 
 abbrev pub Read : Asked (List Entry) → List ℕ → Type 0
 Read (passed es) table = Partly es table

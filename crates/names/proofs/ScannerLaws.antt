@@ -1,6 +1,6 @@
 -- The scanner's steps, for the proofs about its functions.
 use mathlib.Core.Path.{◌≡◌, refl, sym, ◌∙◌, ap, ap₂}
-use mathlib.Core.Bool.{Bool, true, false, not, cond}
+use mathlib.Core.Bool.{Bool, true, false, cond}
 use mathlib.Core.List.{List, [], ◌∷◌, ◌++◌}
 use Prim.Native.Nat.{ℕ, suc, ◌+◌, ◌-◌, ◌<◌, ◌≤◌}
 use native.Mathlib.Omega.{arith}
@@ -17,12 +17,6 @@ use Rattle.names.proofs.ScanLaws.{between_at, in_word_at, is-letter}
 
 -- classes
 module _ (b : ℕ) where
-  pub last-blank : (b ≡ 0x20 → ⊥) → (b ≡ 0x09 → ⊥) → (b ≡ 0x0A → ⊥) → eqb b 0x0D ≡ is_blank_def b
-  last-blank h i k = sym (rw (ne_eqb b 0x20 h, ne_eqb b 0x09 i, ne_eqb b 0x0A k))
-
-  pub last-mark : (b ≡ 0x28 → ⊥) → (b ≡ 0x29 → ⊥) → eqb b 0x2C ≡ is_mark_byte b
-  last-mark h i = sym (rw (ne_eqb b 0x28 h, ne_eqb b 0x29 i))
-
   by-class : (w h p : Bool) → is_blank_def b ≡ w → eqb b 0x23 ≡ h → is_mark_byte b ≡ p → class_of b ≡ cond w blank (cond h hash (cond p mark letter))
   unfolding class_of
   by-class w h p e f g = ap₂ (λ x y. cond x blank (cond (eqb b 0x23) hash (cond y mark letter))) e g ∙ ap (λ z. cond w blank (cond z hash (cond p mark letter))) f
@@ -42,16 +36,6 @@ module _ (b : ℕ) where
   letter-is : (c : Class) → class_of b ≡ c → is_letter_def b ≡ elim c as (λ z. Bool) [ blank ↦ false | hash ↦ false | mark ↦ false | letter ↦ true ]
   unfolding is_letter_def
   letter-is c e = ap (λ c. elim c as (λ z. Bool) [ blank ↦ false | hash ↦ false | mark ↦ false | letter ↦ true ]) e
-
-  pub blank-no-letter : is_blank_def b ≡ true → false ≡ is_letter_def b
-  blank-no-letter e = sym (letter-is blank (is-blank-class e))
-
-  pub hash-no-letter : is_blank_def b ≡ false → b ≡ 0x23 → false ≡ is_letter_def b
-  hash-no-letter e f = sym (letter-is hash (is-hash-class e (eq-eqb b 0x23 f)))
-
-  pub else-letter : (p : Bool) → is_blank_def b ≡ false → (b ≡ 0x23 → ⊥) → p ≡ is_mark_byte b → not p ≡ is_letter_def b
-  else-letter true e f g = sym (letter-is mark (is-mark-class e (ne_eqb b 0x23 f) (sym g)))
-  else-letter false e f g = sym (letter-is letter (is-letter-class e (ne_eqb b 0x23 f) (sym g)))
 
 module _ (text : List ℕ) (p : ℕ) where
   -- at the text's end

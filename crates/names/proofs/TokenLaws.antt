@@ -1,12 +1,13 @@
 -- Comparing tokens; the first number that passes a test.
 use mathlib.Core.Path.{◌≡◌, refl, sym, ◌∙◌, ap, ap₂, subst}
-use mathlib.Core.Bool.{Bool, true, false, cond, and-eq-true_iff}
+use mathlib.Core.Bool.{Bool, true, false, ◌&&◌, cond, and-eq-true_iff}
 use mathlib.Core.List.{[], ◌∷◌}
 use Prim.Native.Nat.{ℕ, zero, suc, ◌<◌}
 use native.Mathlib.Omega.{arith}
 use native.Mathlib.Decide.{dec_lt}
 use lib.Dec.{eqb}
 use borrow.Author.Tests.{eqb-true, eq-eqb}
+use Rattle.std.specs.Prelude.{bytes_eq}
 use Rattle.logic.proofs.Bools.{true-false}
 use Rattle.names.specs.Token.{Token, same, Found, found, absent, first_below}
 
@@ -21,6 +22,14 @@ pub same_refl : (x : Token) → same x x ≡ true
 unfolding same
 same_refl [] = refl
 same_refl (a ∷ x) = (and-eq-true_iff (eqb a a) (same x x)).1 (eq-eqb a a refl, same_refl x)
+
+-- What `==` says of two slices of bytes.
+pub bytes-same : (x y : Token) → bytes_eq x y ≡ same x y
+unfolding same
+bytes-same [] [] = refl
+bytes-same [] (b ∷ y) = refl
+bytes-same (a ∷ x) [] = refl
+bytes-same (a ∷ x) (b ∷ y) = ap (eqb a b &&◌) (bytes-same x y)
 
 -- What is found is below the bound and passes the test.
 pub record Hit (p : ℕ → Bool) (n x : ℕ) : Type 0 where

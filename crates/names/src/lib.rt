@@ -7,7 +7,7 @@ ghost use Rattle.names.specs.Scan.{is_blank_def, is_mark_byte, is_letter_def};
 ghost use Rattle.names.specs.Scanned.{LineEnded, Skipped, WordEnded, Next};
 
 // Where a token starts and ends.
-#[derive(Drop)]
+#[derive(Clone, Copy)]
 pub struct Span {
     pub from: usize,
     pub to: usize,
@@ -16,40 +16,20 @@ pub struct Span {
 fn is_blank(b: u8) -> bool
     ensures { result ≡ is_blank_def b }
 {
-    if b == b' ' {
-        return true;
-    }
-    if b == b'\t' {
-        return true;
-    }
-    if b == b'\n' {
-        return true;
-    }
-    b == b'\r'
+    matches!(b, b' ' | b'\t' | b'\n' | b'\r')
 }
 
 fn is_mark(b: u8) -> bool
     ensures { result ≡ is_mark_byte b }
 {
-    if b == b'(' {
-        return true;
-    }
-    if b == b')' {
-        return true;
-    }
-    b == b','
+    matches!(b, b'(' | b')' | b',')
 }
 
+#[tactic(auto, unfolding(crate::specs::Scan::is_letter_def, crate::specs::Scan::class_of))]
 fn is_letter(b: u8) -> bool
     ensures { result ≡ is_letter_def b }
 {
-    if is_blank(b) {
-        return false;
-    }
-    if b == b'#' {
-        return false;
-    }
-    !is_mark(b)
+    !is_blank(b) && b != b'#' && !is_mark(b)
 }
 
 // Where the comment at a place ends: at its line feed or with the text. Inner: the place is within the text.
@@ -57,14 +37,12 @@ fn line_end(text: &[u8], at: usize) -> usize
     requires { at ≤ length text.now }
     ensures { LineEnded text.now at result }
 {
-    let mut p = at;
-    while p < text.len() {
+    for p in at..text.len() {
         if text[p] == b'\n' {
             return p;
         }
-        p += 1;
     }
-    p
+    text.len()
 }
 
 // Where the next token begins; the text's length if there is none. Inner: the place is within the text.
@@ -92,17 +70,16 @@ fn word_end(text: &[u8], from: usize) -> usize
     requires { (from < length text.now) × (is_letter_def (get_or text.now from 0) ≡ true) }
     ensures { WordEnded text.now from result }
 {
-    let mut p = from + 1;
-    while p < text.len() {
+    for p in from + 1..text.len() {
         if !is_letter(text[p]) {
             return p;
         }
-        p += 1;
     }
-    p
+    text.len()
 }
 
 // The next token. Inner: the place is within the text.
+// Without one it is empty at the text's length: a place that refusals name, so no plainer as an Option.
 pub fn next(text: &[u8], at: usize) -> Span
     requires { at ≤ length text.now }
     ensures { Next text.now at result.from result.to }

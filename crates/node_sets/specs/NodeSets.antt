@@ -1,15 +1,12 @@
 -- Sets of a sheet's nodes, each read as a whole: those in use, those with a label, those that an arrow reaches from a node.
 use Rattle.std.specs.Prelude.{◌&&◌, List, ℕ, ltb}
-use Rattle.answer.specs.Answers.{refusal_number_def, refusal_place_def}
-use Rattle.answer.specs.Asked.{Asked, passed, refused, ◌>>◌, is}
+use Rattle.answer.specs.Asked.{Asked, passed, ◌>>◌, is}
 use Rattle.logic.specs.Graph.{Nodes, is_node, count_below}
 use Rattle.logic.specs.Limits.{label_count, arrow_count}
 use Rattle.bitset.specs.Words.{set_of}
 use Rattle.sheet.specs.Sheet.{graph_of}
 use Rattle.sheet.specs.Questions.{ask_sheet}
 use Rattle.node_sets.specs.declared.NodeSet.{NodeSet}
-use Rattle.node_sets.specs.declared.NodesRead.{NodesRead}
-use Rattle.node_sets.specs.declared.NodesRead.TheVariants.{Nodes as Read, Refused}
 
 -- The members of v below n: how many, and their word.
 abbrev pub members : ℕ → Nodes → NodeSet
@@ -34,8 +31,3 @@ ask_row_set t a i = do
   ask_sheet t
   is (ltb a arrow_count && ltb i (graph_of t).n) 7 0
   passed (members (graph_of t).n ((graph_of t).joined a i))
-
--- What an answer says about the questions: the set, or the first that failed.
-abbrev pub nodes_asked : NodesRead → Asked NodeSet
-nodes_asked (Read s) = passed s
-nodes_asked (Refused r) = refused (refusal_number_def r) (refusal_place_def r)

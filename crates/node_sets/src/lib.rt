@@ -3,26 +3,20 @@
 #![tactic(auto)]
 
 ghost use Rattle.std.specs.Prelude.{◌≡◌, ℕ, ◌≤◌};
+ghost use Rattle.answer.specs.Answers.{result_asked};
 ghost use Rattle.logic.specs.Graph.{Nodes};
 ghost use Rattle.bitset.specs.Words.{set_of};
-ghost use Rattle.node_sets.specs.NodeSets.{members, ask_nodes, ask_label_set, ask_row_set, nodes_asked};
+ghost use Rattle.node_sets.specs.NodeSets.{members, ask_nodes, ask_label_set, ask_row_set};
 
-use answer::{Answer, Refusal};
+use answer::Refusal;
 use logic::{Arrow, Label, Node};
 use sheet::Sheet;
 
 // Nodes of a sheet: bit i of the word is node i.
-#[derive(Drop)]
+#[derive(Clone, Copy)]
 pub struct NodeSet {
     pub count: usize,
     pub set: u64,
-}
-
-// The set, or why it was not read.
-#[derive(Drop)]
-pub enum NodesRead {
-    Nodes(NodeSet),
-    Refused(Refusal),
 }
 
 // A set with the count of its members.
@@ -36,45 +30,34 @@ fn counted(set: u64) -> NodeSet
 }
 
 // How many nodes the sheet has, and which of them are in use: questions 1 to 4.
-pub fn nodes(sheet: &[u8]) -> NodesRead
-    ensures { nodes_asked result ≡ ask_nodes sheet.now }
+pub fn nodes(sheet: &[u8]) -> Result<NodeSet, Refusal>
+    ensures { result_asked result ≡ ask_nodes sheet.now }
 {
-    let answer = Sheet::check(sheet);
-    if let Answer::Refused(r) = answer {
-        return NodesRead::Refused(r);
-    }
-    NodesRead::Nodes(NodeSet {
+    Sheet::check(sheet).passed()?;
+    Ok(NodeSet {
         count: Sheet::node_count(sheet),
         set: Sheet::all_nodes(sheet),
     })
 }
 
 // The nodes with label k and how many they are: questions 1 to 4 of the sheet, then 7.
-pub fn label_set(sheet: &[u8], k: Label) -> NodesRead
-    ensures { nodes_asked result ≡ ask_label_set sheet.now k.0 }
+pub fn label_set(sheet: &[u8], k: Label) -> Result<NodeSet, Refusal>
+    ensures { result_asked result ≡ ask_label_set sheet.now k.0 }
 {
-    let answer = Sheet::check(sheet);
-    if let Answer::Refused(r) = answer {
-        return NodesRead::Refused(r);
-    }
+    Sheet::check(sheet).passed()?;
     if (k.0 as usize) < Sheet::LABELS {
-        return NodesRead::Nodes(counted(Sheet::label_word(sheet, k)));
+        return Ok(counted(Sheet::label_word(sheet, k)));
     }
-    NodesRead::Refused(Refusal::BitRange { place: 0 })
+    Err(Refusal::BitRange { place: 0 })
 }
 
 // The nodes to which arrow a goes from node i and how many they are: questions 1 to 4 of the sheet, then 7.
-pub fn row_set(sheet: &[u8], a: Arrow, i: Node) -> NodesRead
-    ensures { nodes_asked result ≡ ask_row_set sheet.now a.0 i.0 }
+pub fn row_set(sheet: &[u8], a: Arrow, i: Node) -> Result<NodeSet, Refusal>
+    ensures { result_asked result ≡ ask_row_set sheet.now a.0 i.0 }
 {
-    let answer = Sheet::check(sheet);
-    if let Answer::Refused(r) = answer {
-        return NodesRead::Refused(r);
+    Sheet::check(sheet).passed()?;
+    if (a.0 as usize) < Sheet::ARROWS && (i.0 as usize) < Sheet::node_count(sheet) {
+        return Ok(counted(Sheet::row_word(sheet, a, i)));
     }
-    if (a.0 as usize) < Sheet::ARROWS {
-        if (i.0 as usize) < Sheet::node_count(sheet) {
-            return NodesRead::Nodes(counted(Sheet::row_word(sheet, a, i)));
-        }
-    }
-    NodesRead::Refused(Refusal::BitRange { place: 0 })
+    Err(Refusal::BitRange { place: 0 })
 }

@@ -1,9 +1,8 @@
 -- Lines written byte by byte; comparing lines; their marks.
-use mathlib.Core.Path.{◌≡◌, sym, ◌∙◌, ap, ap₂}
-use mathlib.Core.Bool.{true, ◌&&◌}
+use mathlib.Core.Path.{◌≡◌, refl, sym, ◌∙◌, ap, ap₂}
+use mathlib.Core.Bool.{◌&&◌}
 use mathlib.Core.List.{List, [], ◌∷◌, ◌++◌, append_assoc, append-nil}
 use Prim.Native.Nat.{ℕ, suc, ◌+◌, ◌*◌, ◌%◌, ◌^◌, ◌≤◌, ◌<◌}
-use native.Mathlib.Numerals.{add-one}
 use native.Mathlib.Omega.{arith}
 use native.Mathlib.Decide.{dec_lt}
 use borrow.Author.Tests.{lt-ltb, le-ltb, eq-eqb, ne_eqb}
@@ -11,7 +10,8 @@ use lib.Bits.{bit_or}
 use lib.Dec.{eqb}
 use lib.ListN.{length, get_or, set, take, drop, replicate, length-append, length-set, length-drop, drop_of_length-le}
 use borrow.Rule.Slice.PartMut.{post_of, Post-is}
-use lib.Seq.{drop-cons, take-suc-set, take_at, set_split, length-take-le}
+use lib.Pointwise.{pointwise}
+use lib.Seq.{take-suc-set, take_at, set_split, length-take-le}
 use Rattle.logic.specs.Graph.{Graph, Nodes, is_node}
 use Rattle.bitset.specs.Words.{set_of, member, digit}
 use Rattle.bitset.proofs.SetLaws.{set_of-cong, member-set_of, set_of-more, set_of-same}
@@ -23,14 +23,13 @@ use Rattle.sheet.proofs.ChunkLaws.{chunks-more}
 use Rattle.pages.specs.Page.{head_line, square, squares, set_line}
 use Rattle.pages.specs.Typed.{marks}
 
--- comparing: one more byte
-pub same_step : (a b : List ℕ) (i : ℕ) → i < length a → i < length b
-    → same_bytes (drop i a) (drop i b) ≡ (eqb (get_or a i 0) (get_or b i 0) && same_bytes (drop (i + 1) a) (drop (i + 1) b))
-same_step a b i h k = unfold same_bytes in rw add-one (ap₂ same_bytes (drop-cons a i 0 h) (drop-cons b i 0 k))
-
--- both at their ends
-pub same_end : (a b : List ℕ) (i : ℕ) → length a ≤ i → length b ≤ i → same_bytes (drop i a) (drop i b) ≡ true
-same_end a b i h k = unfold same_bytes in ap₂ same_bytes (drop_of_length-le a h) (drop_of_length-le b k)
+-- what `==` says of two lists of bytes
+pub equal_bytes : (a b : List ℕ) → pointwise eqb a b ≡ same_bytes a b
+unfolding same_bytes
+equal_bytes [] [] = refl
+equal_bytes [] (y ∷ ys) = refl
+equal_bytes (x ∷ xs) [] = refl
+equal_bytes (x ∷ xs) (y ∷ ys) = ap (eqb x y &&◌) (equal_bytes xs ys)
 
 -- a line shows only the set's members below n
 square-cong : (n : ℕ) (v w : Nodes) (j : ℕ) → ((i : ℕ) → i < n → v i ≡ w i) → square n v j ≡ square n w j

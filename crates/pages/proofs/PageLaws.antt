@@ -4,7 +4,7 @@ use mathlib.Core.List.{List, [], ◌∷◌, ◌++◌, append_assoc}
 use Prim.Native.Nat.{ℕ, ◌+◌, ◌-◌, ◌*◌, ◌≤◌}
 use native.Mathlib.Omega.{arith}
 use lib.ListN.{length, take, drop, length-append, length-drop, length-replicate}
-use lib.Seq.{take_at, drop-append-add, length-take-le, drop-drop}
+use lib.Seq.{take_at, drop-append-add, drop-drop}
 use borrow.Rule.Slice.PartMut.{put_mid, Post-is}
 use Rattle.answer.specs.Outputs.{written_at_start}
 use Rattle.logic.specs.Graph.{Nodes}
@@ -43,10 +43,6 @@ module _ {output : List ℕ} {n : ℕ} {v : ℕ → Nodes} {x : ℕ} {out : List
   grown-length = rw (g.is, length-append, length-drop) (omega (arith, lines-length x, g.room))
 
   module _ (h : 64 * x + 64 ≤ length output) where
-    -- the part that the next line fills
-    pub grown-part : length (take (64 * x + 64 - 64 * x) (drop (64 * x) out)) ≡ 64
-    grown-part = length-take-le (64 * x + 64 - 64 * x) (drop (64 * x) out) (omega (arith, length-drop (64 * x) out, grown-length)) ∙ omega arith
-
     pub grown-next : {l : List ℕ} → l ≡ f x → Grown output n v (x + 1) (put_mid (64 * x) (64 * x + 64 - 64 * x) out l)
     grown-next {l} e =
         let front = chunks x 0 f in

@@ -1,5 +1,4 @@
 -- Typing, in terms of its questions: the head, then the lines one by one.
-use mathlib.Core.Logic.{◌≢◌}
 use mathlib.Core.Path.{◌≡◌, refl, sym, ◌∙◌, ap, ap₂, subst}
 use mathlib.Core.Bool.{Bool, true, false, ◌&&◌, cond, and_self_left, and-eq-true_iff}
 use mathlib.Core.List.{List}
@@ -7,33 +6,24 @@ use Prim.Native.Nat.{ℕ, suc, ◌+◌, ◌-◌, ◌*◌, ◌≤◌, ◌<◌}
 use native.Mathlib.Numerals.{add-one}
 use native.Mathlib.Omega.{arith}
 use native.Mathlib.Decide.{dec_lt}
-use borrow.Author.Tests.{lt-ltb, le-ltb, ltb-true, eq-eqb, ne_eqb, eqb-true}
+use borrow.Author.Tests.{lt-ltb, le-ltb, ltb-true, eq-eqb, eqb-true}
 use lib.Dec.{eqb, ltb}
-use lib.ListN.{length, get_or, set, take, drop, length-set, length-drop}
-use lib.Seq.{get_or-set_same, get_or-set_other, length-take-le}
-use Rattle.answer.specs.declared.Answer.{Answer}
-use Rattle.answer.specs.declared.Answer.TheVariants.{Done, Refused}
-use Rattle.answer.specs.declared.Refusal.{Refusal}
-use Rattle.answer.specs.Answers.{refusal_number_def, refusal_place_def, asked}
-use Rattle.answer.specs.Asked.{Asked, passed, refused, ◌>>=◌, ◌>>◌, is, after, outcome}
+use lib.ListN.{length, get_or, set, take, drop, length-set}
+use lib.Seq.{get_or-set_same, get_or-set_other}
+use Rattle.answer.specs.Asked.{passed, refused, ◌>>◌, is}
 use Rattle.answer.proofs.AskedLaws.{refused-not-passed}
 use Rattle.logic.specs.Graph.{Graph, Nodes, is_node}
 use Rattle.logic.specs.Limits.{max_nodes, label_count, arrow_count}
 use Rattle.bitset.specs.Words.{set_of, member, combined}
 use Rattle.bitset.proofs.SetLaws.{set_of-none, member_of, combined-sets}
-use Rattle.sheet.specs.Sheet.{store, graph_of}
-use Rattle.sheet.specs.Questions.{ask_sheet, Sound}
 use Rattle.seal.specs.Seal.{same_bytes}
 use Rattle.pages.specs.Page.{set_line, label_page_lines}
-use Rattle.pages.specs.Typed.{page_line, marks, Block, arrows, labels, head_of, lines_of, head_is_def, head_number, ask_head, set_shown_def, SetsRead, line_right, ask_lines, ask_page, marked, typed, ask_type, typed_sheet}
+use Rattle.pages.specs.Typed.{page_line, marks, Block, arrows, labels, head_of, lines_of, head_is_def, head_number, ask_head, set_shown_def, SetsRead, line_right, ask_lines, marked}
 use Rattle.pages.specs.Prints.{HasBlock}
 use Rattle.pages.proofs.LineLaws.{set_line-word, nodes-used}
 
 -- the head, by the page's length
 module _ (n : ℕ) (page : List ℕ) (b : Block) where
-  pub head-other : length page ≢ 64 * lines_of n b + 64 → head_is_def n page b ≡ false
-  head-other d = unfold head_is_def in ap (◌&& same_bytes (page_line page 0) (head_of n b)) (ne_eqb (length page) (64 * lines_of n b + 64) d)
-
   pub head-same : length page ≡ 64 * lines_of n b + 64 → head_is_def n page b ≡ same_bytes (take 64 page) (head_of n b)
   head-same e = unfold head_is_def in ap (◌&& same_bytes (page_line page 0) (head_of n b)) (eq-eqb (length page) (64 * lines_of n b + 64) e)
 
@@ -46,25 +36,11 @@ module _ (n : ℕ) (page : List ℕ) where
   abbrev kind : ℕ
   kind = head_number page
 
-  by_tests : (x y : Bool) → head_is_def n page labels ≡ x → (ltb kind arrow_count && head_is_def n page (arrows kind)) ≡ y
-      → cond x (passed labels) (cond y (passed (arrows kind)) (refused 51 0)) ≡ ask_head n page
-  by_tests x y e f = unfold ask_head in rw (e, f)
-
   pub names-labels : head_is_def n page labels ≡ true → passed labels ≡ ask_head n page
-  names-labels e = by_tests true _ e refl
+  names-labels e = unfold ask_head in rw e refl
 
-  module _ (other : head_is_def n page labels ≡ false) where
-    pub names-arrows : kind < arrow_count → head_is_def n page (arrows kind) ≡ true → passed (arrows kind) ≡ ask_head n page
-    names-arrows l e = by_tests false true other (ap₂ ◌&&◌ (lt-ltb kind arrow_count l) e)
-
-    pub names-none : kind < arrow_count → head_is_def n page (arrows kind) ≡ false → refused 51 0 ≡ ask_head n page
-    names-none l e = by_tests false false other (ap₂ ◌&&◌ (lt-ltb kind arrow_count l) e)
-
-    pub no-such-kind : arrow_count ≤ kind → refused 51 0 ≡ ask_head n page
-    no-such-kind l = by_tests false false other (ap (◌&& head_is_def n page (arrows kind)) (le-ltb kind arrow_count l))
-
-    pub no-whole-head : length page < 64 → refused 51 0 ≡ ask_head n page
-    no-whole-head l = elim (dec_lt kind arrow_count) [ yes k ↦ names-none k (head-other n page (arrows kind) (λ e. omega arith)) | no k ↦ no-such-kind (omega arith) ]
+  pub names-arrows : head_is_def n page labels ≡ false → kind < arrow_count → head_is_def n page (arrows kind) ≡ true → passed (arrows kind) ≡ ask_head n page
+  names-arrows other l e = unfold ask_head in rw (other, lt-ltb kind arrow_count l, e) refl
 
   -- a head that names a block is that block's, and a sheet has that block
   pub head-named : (b : Block) → ask_head n page ≡ passed b → HasBlock b × (head_is_def n page b ≡ true)
@@ -86,9 +62,6 @@ module _ (page : List ℕ) (x : ℕ) where
       let w : 64 * (x + 1) + 64 - 64 * (x + 1) ≡ 64 = omega arith in
       ap₂ (λ k y. take k (drop (64 * y) page)) w (add-one x)
 
-  pub part_length : (m : ℕ) → x < m → length page ≡ 64 * m + 64 → length (take (64 * (x + 1) + 64 - 64 * (x + 1)) (drop (64 * (x + 1)) page)) ≡ 64
-  part_length m l e = ap length part-is ∙ length-take-le 64 (drop (64 * suc x) page) (omega (arith, length-drop (64 * suc x) page))
-
 -- the lines, one by one
 module _ (g : Graph) (b : Block) (page : List ℕ) (m : ℕ) where
   -- x lines are right
@@ -100,11 +73,6 @@ module _ (g : Graph) (b : Block) (page : List ℕ) (m : ℕ) where
     pub words : length sets ≡ 64
     pub right : Right x
     pub read : SetsRead g b page sets x
-
-  pub none_read : (sets : List ℕ) → length sets ≡ 64 → Reading sets 0
-  none_read sets e =
-      let z : m ≡ m - 0 = omega arith in
-      record { few = omega arith; words = e; right = ap (λ k. ask_lines g b page k 0) z; read = λ i l. absurd (omega arith) }
 
   step : (x : ℕ) → x < m → ask_lines g b page (m - x) x ≡ (is (line_right g b x (page_line page (suc x))) 51 (suc x) >> ask_lines g b page (m - (x + 1)) (suc x))
   unfolding ask_lines
@@ -186,44 +154,3 @@ module _ (g : Graph) (x : ℕ) (v : Nodes) (few : g.n ≤ max_nodes) (used marke
 
   pub used-set : label_count ≤ x → used ≡ set_of g.n (set_shown_def g labels x v)
   used-set l = u ∙ nodes-used g ∙ sym (ap (λ b. set_of g.n (λ i. cond b (is_node g i && v i) (g.in_use i))) (le-ltb x label_count l))
-
--- the whole call, in terms of its questions
-module _ (sheet page : List ℕ) where
-  comes-to : (x : Asked Block) → ask_type sheet page ≡ x → (outcome x ≡ outcome (ask_type sheet page)) × (after x (λ b. store (typed (graph_of sheet) page b)) sheet ≡ typed_sheet sheet page)
-  comes-to x e = unfold typed_sheet in (sym (ap outcome e), sym (ap (λ y. after y (λ b. store (typed (graph_of sheet) page b)) sheet) e))
-
-  -- 1 to 4
-  pub sheet-stops : (a : Answer) (r : Refusal) → asked a ≡ ask_sheet sheet → a ≡ Refused r → (asked a ≡ outcome (ask_type sheet page)) × (sheet ≡ typed_sheet sheet page)
-  unfolding ask_type outcome after ◌>>◌
-  sheet-stops a r e d =
-      let s : ask_sheet sheet ≡ refused (refusal_number_def r) (refusal_place_def r) = sym e ∙ ap asked d in
-      let g = comes-to (refused (refusal_number_def r) (refusal_place_def r)) (ap (λ x. x >> ask_page (graph_of sheet) page) s) in
-      (ap asked d ∙ g.0, g.1)
-
-  module _ (n : ℕ) (same : n ≡ (graph_of sheet).n) (sound : Sound sheet) where
-    abbrev then_lines : Block → Asked Block
-    then_lines b = ask_lines (graph_of sheet) b page (lines_of n b) 0 >> passed b
-
-    to-page : ask_type sheet page ≡ (ask_head n page >>= then_lines)
-    unfolding ask_type ask_page ◌>>◌
-    to-page =
-        ap (λ x. x >> ask_page (graph_of sheet) page) sound
-        ∙ ap (λ k. ask_head k page >>= (λ b. ask_lines (graph_of sheet) b page (lines_of k b) 0 >> passed b)) (sym same)
-
-    -- 51 at 0
-    pub head-stops : refused 51 0 ≡ ask_head n page → (refused 51 0 ≡ outcome (ask_type sheet page)) × (sheet ≡ typed_sheet sheet page)
-    head-stops e = unfold outcome after ◌>>=◌ in comes-to (refused 51 0) (to-page ∙ ap (λ (x : Asked Block). x >>= then_lines) (sym e))
-
-    module _ (b : Block) (named : passed b ≡ ask_head n page) (a : Answer) (read : asked a ≡ ask_lines (graph_of sheet) b page (lines_of n b) 0) where
-      to-lines : ask_type sheet page ≡ (asked a >> passed b)
-      to-lines = unfold ◌>>=◌ in to-page ∙ ap (λ (x : Asked Block). x >>= then_lines) (sym named) ∙ ap (λ x. x >> passed b) (sym read)
-
-      -- 51 at a line
-      pub line-stops : (r : Refusal) → a ≡ Refused r → (asked a ≡ outcome (ask_type sheet page)) × (sheet ≡ typed_sheet sheet page)
-      unfolding outcome after ◌>>◌
-      line-stops r d =
-          let g = comes-to (refused (refusal_number_def r) (refusal_place_def r)) (to-lines ∙ ap (λ x. asked x >> passed b) d) in
-          (ap asked d ∙ g.0, g.1)
-
-      pub lines-pass : a ≡ Done → (passed tt ≡ outcome (ask_type sheet page)) × (store (typed (graph_of sheet) page b) ≡ typed_sheet sheet page)
-      lines-pass d = unfold outcome after ◌>>◌ in comes-to (passed b) (to-lines ∙ ap (λ x. asked x >> passed b) d)

@@ -1,6 +1,6 @@
 -- Typing a page back into a sheet: 1 to 4 of the sheet, then 51 if the page is not what printing a sheet of this n, with this sheet's nodes in use,
 -- could give. The place is 0 for the length or the head, else the first such line, from 0.
-use Rattle.std.specs.Prelude.{◌≡◌, Bool, ◌&&◌, cond, List, ℕ, zero, suc, ◌+◌, ◌*◌, ◌%◌, ◌<◌, eqb, ltb, length, get_or, take, drop}
+use Rattle.std.specs.Prelude.{◌≡◌, Bool, ◌&&◌, cond, List, ℕ, zero, suc, ◌+◌, ◌*◌, ◌%◌, ◌<◌, eqb, ltb, length, get_or, take, drop, Option, Some, None}
 use Rattle.answer.specs.Asked.{Asked, passed, refused, ◌>>=◌, ◌>>◌, is, after}
 use Rattle.logic.specs.Graph.{Graph, Nodes, is_node}
 use Rattle.logic.specs.Limits.{label_count, arrow_count}
@@ -10,8 +10,6 @@ use Rattle.seal.specs.Seal.{same_bytes}
 use Rattle.sheet.specs.Sheet.{store, graph_of, relabel_all}
 use Rattle.sheet.specs.Questions.{ask_sheet}
 use Rattle.pages.specs.Page.{line_bytes, head_line, set_line, label_page_lines}
-use Rattle.pages.specs.declared.typed.Head.{Head}
-use Rattle.pages.specs.declared.typed.Head.TheVariants.{Page, Wrong}
 use Rattle.pages.specs.declared.lines.Shown.{Shown}
 use Rattle.pages.specs.declared.lines.Shown.TheVariants.{Arrows, Labels}
 
@@ -100,6 +98,6 @@ unfoldable pub typed_sheet : (sheet page : List ℕ) → List ℕ
 typed_sheet sheet page = after (ask_type sheet page) (λ b. store (typed (graph_of sheet) page b)) sheet
 
 -- What the code found in a head.
-abbrev pub head_asked : Head → Asked Block
-head_asked (Page shown) = passed (block_shown shown)
-head_asked Wrong = refused 51 0
+abbrev pub head_asked : Option Shown → Asked Block
+head_asked (Some shown) = passed (block_shown shown)
+head_asked None = refused 51 0

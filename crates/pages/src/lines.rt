@@ -30,10 +30,8 @@ fn put_squares(line: &mut [u8], n: usize, row: u64)
     requires { length line.old ≡ line_bytes }
     ensures { line.new ≡ take 3 line.old ++ squares n (member row) }
 {
-    let mut j = 0;
-    while j < Sheet::NODES {
+    for j in 0..Sheet::NODES {
         line[3 + j] = square(n, row, j);
-        j += 1;
     }
     line[63] = b'\n';
 }
@@ -93,29 +91,12 @@ pub fn marks_of(line: &[u8], n: usize) -> u64
     ensures { result ≡ set_of n (marks line.now) }
 {
     let mut r: u64 = 0;
-    let mut j = 0;
-    while j < n {
+    for j in 0..n {
         if line[3 + j] == b'#' {
             r |= 1 << j;
         }
-        j += 1;
     }
     r
-}
-
-// Whether two lines are the same.
-pub fn same(a: &[u8], b: &[u8]) -> bool
-    requires { (length a.now ≡ line_bytes) × (length b.now ≡ line_bytes) }
-    ensures { result ≡ same_bytes a.now b.now }
-{
-    let mut i = 0;
-    while i < LINE {
-        if a[i] != b[i] {
-            return false;
-        }
-        i += 1;
-    }
-    true
 }
 
 // Whether the line is that of number x, for a set.
@@ -125,5 +106,5 @@ pub fn line_is(line: &[u8], n: usize, x: usize, set: u64) -> bool
 {
     let mut wanted = [0u8; LINE];
     put_line(&mut wanted, n, x, set);
-    same(line, &wanted)
+    line == wanted.as_slice()
 }

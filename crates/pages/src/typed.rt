@@ -11,18 +11,11 @@ ghost use Rattle.pages.specs.Page.{line_bytes};
 ghost use Rattle.pages.specs.Typed.{block_shown, lines_of, head_is_def, head_asked, ask_head, set_shown_def, SetsRead, ask_lines, typed, ask_type, typed_sheet};
 ghost use Rattle.pages.specs.Prints.{HasBlock};
 
-use crate::lines::{LINE, Shown, line_is, lines_of, marks_of, put_head_of, same};
+use crate::lines::{LINE, Shown, line_is, lines_of, marks_of, put_head_of};
 use answer::{Answer, Refusal};
 use logic::Arrow;
 use sheet::Sheet;
 use store::Store;
-
-// What the head of a page names, if anything.
-#[derive(Drop)]
-pub enum Head {
-    Page(Shown),
-    Wrong,
-}
 
 // Whether the page has the head of what it should show and the right number of lines. Inner: n is a sheet's node count.
 fn head_is(page: &[u8], n: usize, shown: Shown) -> bool
@@ -34,27 +27,25 @@ fn head_is(page: &[u8], n: usize, shown: Shown) -> bool
     }
     let mut wanted = [0u8; LINE];
     put_head_of(&mut wanted, n, shown);
-    same(&page[0..LINE], &wanted)
+    &page[0..LINE] == wanted.as_slice()
 }
 
-// What the head names; 51 with place 0 if it is not a head of a sheet of n. Inner: n is a sheet's node count.
-fn head_of(page: &[u8], n: usize) -> Head
+// What the head names, if it is a head of a sheet of n. Inner: n is a sheet's node count.
+fn head_of(page: &[u8], n: usize) -> Option<Shown>
     requires { n ≤ max_nodes }
     ensures { head_asked result ≡ ask_head n page.now }
 {
     if head_is(page, n, Shown::Labels) {
-        return Head::Page(Shown::Labels);
+        return Some(Shown::Labels);
     }
     if page.len() < LINE {
-        return Head::Wrong;
+        return None;
     }
     let kind = 10 * (page[1] % 16) as usize + (page[2] % 16) as usize;
-    if kind < Sheet::ARROWS {
-        if head_is(page, n, Shown::Arrows(kind)) {
-            return Head::Page(Shown::Arrows(kind));
-        }
+    if kind < Sheet::ARROWS && head_is(page, n, Shown::Arrows(kind)) {
+        return Some(Shown::Arrows(kind));
     }
-    Head::Wrong
+    None
 }
 
 // The set that line x shows, from its marks and the nodes in use. Inner: x is below 64, and the words are of a graph with at most 60 nodes.
@@ -77,16 +68,15 @@ fn read_lines(sheet: &[u8], page: &[u8], shown: Shown, m: usize, sets: &mut [u64
 {
     let n = Sheet::node_count(sheet);
     let used = Sheet::all_nodes(sheet);
-    let mut x = 0;
-    while x < m {
+    for x in 0..m {
         let from = LINE * (x + 1);
         let to = from + LINE;
-        let set = set_shown(used, shown, x, marks_of(&page[from..to], n));
-        if !line_is(&page[from..to], n, x, set) {
+        let line = &page[from..to];
+        let set = set_shown(used, shown, x, marks_of(line, n));
+        if !line_is(line, n, x, set) {
             return Answer::Refused(Refusal::PageLine { place: x + 1 });
         }
         sets[x] = set;
-        x += 1;
     }
     Answer::Done
 }
@@ -112,7 +102,7 @@ pub fn type_page(sheet: &mut [u8], page: &[u8]) -> Answer
         return answer;
     };
     let n = Sheet::node_count(sheet);
-    let Head::Page(shown) = head_of(page, n) else {
+    let Some(shown) = head_of(page, n) else {
         return Answer::Refused(Refusal::PageLine { place: 0 });
     };
     let mut sets = [0u64; 64];

@@ -1,5 +1,5 @@
 -- 55 to 57 as the code asks them.
-use mathlib.Core.Path.{◌≡◌, ap}
+use mathlib.Core.Path.{◌≡◌, ap₂}
 use mathlib.Core.Bool.{Bool, true, false, and-false, and-eq-true_iff}
 use mathlib.Core.List.{List}
 use Prim.Native.Nat.{ℕ, ◌+◌, ◌-◌, ◌≤◌, ◌<◌}
@@ -23,8 +23,8 @@ use Rattle.plan_store.specs.Store.{plan_count, store_bytes, place_start, place_i
 use Rattle.plan_store.specs.Questions.{is_passed, head_right_def, place_right_def, store_right, ask_store, SoundStore, ask_name_def, ask_filled_def}
 
 -- a part of a store that is a place
-pub place-part : (t : List ℕ) (i : ℕ) → take (place_start i + sheet_bytes - place_start i) (drop (place_start i) t) ≡ place_in t i
-place-part t i = let e : place_start i + sheet_bytes - place_start i ≡ sheet_bytes = omega arith in ap (λ (x : ℕ). take x (drop (place_start i) t)) e
+pub place-part : (t : List ℕ) (i s e : ℕ) → s ≡ place_start i → e ≡ place_start i + sheet_bytes → take (e - s) (drop s t) ≡ place_in t i
+place-part t i s e p q = let n : e - s ≡ sheet_bytes = omega arith in ap₂ (λ (x y : ℕ). take x (drop y t)) n p
 
 module _ (t : List ℕ) (i x : ℕ) (w : x ≡ get_or t 1 0) where
   pub place-unfilled : member x i ≡ false → zeros_at t (place_start i) sheet_bytes ≡ place_right_def t i

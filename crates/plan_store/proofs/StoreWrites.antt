@@ -100,11 +100,11 @@ module _ (p : Plans) (i : ℕ) (l : i < plan_count) (x : Plan) where
         name j h true = refl
         name j h false = rw (first, head_byte (names p) 1 (omega arith)) (member-set_of plan_count (λ k. is_filled (p k)) j h)
 
-pub place-written : (t : List ℕ) → Bytes t → SoundStore t → (i : ℕ) → i < plan_count → (x : Plan) (b : List ℕ) → b ≡ plan_bytes x
-    → Replaced (plans_of t) i x (take (place_start i) t ++ (b ++ drop (place_start i + sheet_bytes - place_start i) (drop (place_start i) t)))
-place-written t small sound i l x b s =
-    let d : place_start i + sheet_bytes - place_start i ≡ sheet_bytes = omega arith in
-    rw (d, written (plans_of t) i l x b t s (opening t small sound).stored) (now-replaced (plans_of t) i l x)
+pub place-written : (t : List ℕ) → Bytes t → SoundStore t → (i : ℕ) → i < plan_count → (s e : ℕ) → s ≡ place_start i → e ≡ place_start i + sheet_bytes → (x : Plan) (b : List ℕ) → b ≡ plan_bytes x
+    → Replaced (plans_of t) i x (take s t ++ (b ++ drop (e - s) (drop s t)))
+place-written t small sound i l s e p q x b w =
+    let d : e - s ≡ sheet_bytes = omega arith in
+    rw (d, p, written (plans_of t) i l x b t w (opening t small sound).stored) (now-replaced (plans_of t) i l x)
 
 -- The blank store: all zero, except the head.
 module _ (t : List ℕ) (n : length t ≡ store_bytes) (z : t ≡ replicate store_bytes 0) where

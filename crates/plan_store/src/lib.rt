@@ -7,15 +7,17 @@ ghost use Rattle.answer.specs.Answers.{asked};
 ghost use Rattle.logic.specs.Steps.{update};
 ghost use Rattle.bitset.specs.Words.{set_of, member};
 ghost use Rattle.seal.specs.Seal.{block_bytes};
+ghost use Rattle.sheet.specs.Sheet.{sheet_bytes};
 ghost use Rattle.sheet.specs.Questions.{Sound};
 ghost use Rattle.sheet.specs.Masks.{zeros_at};
-ghost use Rattle.plan_store.specs.Store.{plan_count, store_bytes, head_block};
+ghost use Rattle.plan_store.specs.Store.{plan_count, store_bytes, place_start, head_block};
 ghost use Rattle.plan_store.specs.Questions.{head_right_def, place_right_def, ask_store, ask_name_def, ask_filled_def, ask_kept, ask_blank_store, ask_keep, ask_return, ask_drop};
 ghost use Rattle.plan_store.specs.Calls.{blank_store_def, kept_store, dropped_store, returned_sheet};
 
 use answer::{Answer, Refusal};
 use seal::Modulo;
 use sheet::Sheet;
+use std::ops::Range;
 use text::Text;
 
 // How many names there are.
@@ -24,33 +26,16 @@ pub const NAMES: usize = 7;
 // The length of a store in bytes.
 pub const BYTES: usize = Sheet::BLOCK + NAMES * Sheet::BYTES;
 
-// A byte as a word. Inner: also says that it is below 256.
-fn wide(x: u8) -> u64
-    ensures { (result ≡ x) × (result < 256) }
-{
-    x as u64
-}
-
 // Whether that many words from `at` on are all zero: combined, with one test at the end. Inner: they are there.
 fn zeros(s: &[u8], at: usize, count: usize) -> bool
     requires { at + 8 * count ≤ length s.now }
     ensures { result ≡ zeros_at s.now at (8 * count) }
 {
     let mut all = 0;
-    let mut j = 0;
-    while j < count {
-        all = all | bitset::load(s, at + 8 * j);
-        j += 1;
+    for j in 0..count {
+        all |= bitset::load(s, at + 8 * j);
     }
     all == 0
-}
-
-// Copies one part over another. Inner: they have the same length.
-fn copy(to: &mut [u8], from: &[u8])
-    requires { length to.old ≡ length from.now }
-    ensures { to.new ≡ from.now }
-{
-    to.copy_from_slice(from);
 }
 
 // Whether the head block is right. Inner: it is a block.
@@ -58,22 +43,19 @@ fn head_right(head: &[u8]) -> bool
     requires { length head.now ≡ block_bytes }
     ensures { result ≡ head_right_def head.now }
 {
-    if head[0] != 4 {
+    if head[0] != 4 || head[1] >= 128 || head[506] != 0 || head[507] != 0 {
         return false;
     }
-    if head[1] >= 128 {
-        return false;
-    }
-    if head[506] != 0 {
-        return false;
-    }
-    if head[507] != 0 {
-        return false;
-    }
-    if !zeros(head, 2, 63) {
-        return false;
-    }
-    seal::seal_right(Modulo::M257, head)
+    zeros(head, 2, 63) && seal::seal_right(Modulo::M257, head)
+}
+
+// Where a place lies in a store.
+fn place_range(place: usize) -> Range<usize>
+    requires { place < plan_count }
+    ensures { (result.start ≡ place_start place) × (result.end ≡ place_start place + sheet_bytes) }
+{
+    let from = Sheet::BLOCK + Sheet::BYTES * place;
+    from..from + Sheet::BYTES
 }
 
 // Whether the place is a sound sheet, or all zero. Inner: the store is whole, and has that place.
@@ -81,15 +63,15 @@ fn place_right(store: &[u8], place: usize) -> bool
     requires { (length store.now ≡ store_bytes) × (place < plan_count) }
     ensures { result ≡ place_right_def store.now place }
 {
-    let from = Sheet::BLOCK + Sheet::BYTES * place;
-    if !bitset::member(wide(store[1]), place) {
-        return zeros(store, from, Sheet::BYTES / 8);
-    }
-    let to = from + Sheet::BYTES;
-    let answer = Sheet::check(&store[from..to]);
-    match answer {
-        Answer::Done => true,
-        Answer::Refused(_) => false,
+    let at = place_range(place);
+    if bitset::member(u64::from(store[1]), place) {
+        // not `matches!`: must-fail/kept_sheet_not_asked.edit changes the second line alone
+        match Sheet::check(&store[at]) {
+            Answer::Done => true,
+            Answer::Refused(_) => false,
+        }
+    } else {
+        zeros(store, at.start, Sheet::BYTES / 8)
     }
 }
 
@@ -97,18 +79,13 @@ fn place_right(store: &[u8], place: usize) -> bool
 pub fn check(store: &[u8]) -> Answer
     ensures { asked result ≡ ask_store store.now }
 {
-    if store.len() != BYTES {
+    if store.len() != BYTES || !head_right(&store[0..Sheet::BLOCK]) {
         return Answer::Refused(Refusal::StoreBytes { place: 0 });
     }
-    if !head_right(&store[0..Sheet::BLOCK]) {
-        return Answer::Refused(Refusal::StoreBytes { place: 0 });
-    }
-    let mut i = 0;
-    while i < NAMES {
+    for i in 0..NAMES {
         if !place_right(store, i) {
             return Answer::Refused(Refusal::StoreBytes { place: 0 });
         }
-        i += 1;
     }
     Answer::Done
 }
@@ -121,10 +98,7 @@ fn ask_name(store: &[u8], name: usize) -> Answer
     let Answer::Done = sound else {
         return sound;
     };
-    if name < 1 {
-        return Answer::Refused(Refusal::PlanName { place: 0 });
-    }
-    if name > NAMES {
+    if name < 1 || name > NAMES {
         return Answer::Refused(Refusal::PlanName { place: 0 });
     }
     Answer::Done
@@ -138,7 +112,7 @@ fn ask_filled(store: &[u8], name: usize) -> Answer
     let Answer::Done = named else {
         return named;
     };
-    if bitset::member(wide(store[1]), name - 1) {
+    if bitset::member(u64::from(store[1]), name - 1) {
         return Answer::Done;
     }
     Answer::Refused(Refusal::PlanUnfilled { place: 0 })
@@ -162,7 +136,7 @@ fn put_name(head: &mut [u8], place: usize, used: bool)
     requires { (length head.old ≡ block_bytes) × (head_right_def head.old ≡ true) × (place < plan_count) }
     ensures { head.new ≡ head_block (set_of plan_count (update (member (get_or head.old 1 0)) place used)) }
 {
-    head[1] = with_name(wide(head[1]), place, used) as u8;
+    head[1] = with_name(u64::from(head[1]), place, used) as u8;
     seal::seal(head);
 }
 
@@ -194,9 +168,7 @@ pub fn keep(sheet: &[u8], store: &mut [u8], name: usize) -> Answer
         return named;
     };
     let place = name - 1;
-    let from = Sheet::BLOCK + Sheet::BYTES * place;
-    let to = from + Sheet::BYTES;
-    copy(&mut store[from..to], sheet);
+    store[place_range(place)].copy_from_slice(sheet);
     put_name(&mut store[0..Sheet::BLOCK], place, true);
     Answer::Done
 }
@@ -211,9 +183,7 @@ pub fn drop_plan(store: &mut [u8], name: usize) -> Answer
         return held;
     };
     let place = name - 1;
-    let from = Sheet::BLOCK + Sheet::BYTES * place;
-    let to = from + Sheet::BYTES;
-    bitset::wipe(&mut store[from..to]);
+    bitset::wipe(&mut store[place_range(place)]);
     put_name(&mut store[0..Sheet::BLOCK], place, false);
     Answer::Done
 }
@@ -244,12 +214,11 @@ pub fn return_to(sheet: &mut [u8], store: &[u8], name: usize, book: &[u8]) -> An
     let Answer::Done = held else {
         return held;
     };
-    let from = Sheet::BLOCK + Sheet::BYTES * (name - 1);
-    let to = from + Sheet::BYTES;
-    let judged = judge_kept(&store[from..to], book);
+    let kept = &store[place_range(name - 1)];
+    let judged = judge_kept(kept, book);
     let Answer::Done = judged else {
         return judged;
     };
-    copy(sheet, &store[from..to]);
+    sheet.copy_from_slice(kept);
     Answer::Done
 }

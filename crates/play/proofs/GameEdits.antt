@@ -10,10 +10,6 @@ use lib.ListN.{length, take, drop, get_or, take-append-drop, drop_of_length-le}
 use lib.Seq.{drop-cons, drop-drop, take-append_seam}
 use borrow.Author.Tests.{eq-eqb, ne_eqb}
 use Rattle.answer.specs.Asked.{Asked, passed, refused, ◌>>=◌, ◌>>◌, after, outcome}
-use Rattle.answer.specs.Answers.{asked}
-use Rattle.answer.specs.declared.Refusal.{Refusal}
-use Rattle.answer.specs.declared.Answer.{Answer}
-use Rattle.answer.specs.declared.Answer.TheVariants.{Done, Refused}
 use Rattle.answer.proofs.AskedLaws.{passed-same, bind-passed}
 use Rattle.logic.specs.Syntax.{Expr, rule, Edit, finish}
 use Rattle.logic.specs.Carry.{carried_book}
@@ -26,7 +22,7 @@ use Rattle.text.proofs.TextSpelling.{edit-is-spelled}
 use Rattle.text.proofs.StandingLaws.{behind, within}
 use Rattle.ends.specs.Edits.{EditAt}
 use Rattle.ends.proofs.FirstSteps.{edit-inside}
-use Rattle.judge.proofs.SheetAndBook.{done-learned, refused-asked}
+use Rattle.answer.proofs.AnswerLaws.{learned, not-learned}
 use Rattle.carry.specs.Carrying.{ask_carried}
 use Rattle.play.specs.Questions.{total, cut, ask_edits, ask_fits, first_refused_def}
 use Rattle.play.specs.Standing.{EditsStand}
@@ -40,26 +36,24 @@ pub walk_begins : {A B : Type 0} {ask : A → Asked B} {all : List A → Asked (
 walk_begins = record { questions = refl; first = omega arith }
 
 module _ {A B : Type 0} {ask : A → Asked B} {all : List A → Asked (Unit {0})} {list : List A} {i : ℕ} {rest : List A} (w : Walk ask all list i rest) where
-  walk_ends : all [] ≡ passed tt → rest ≡ [] → (passed tt ≡ all list) × (i ≡ first_refused_def ask list)
-  walk_ends none e = unfold first_refused_def in (sym (w.questions ∙ ap all e ∙ none), omega (arith, w.first, ap (first_refused_def ask) e))
+  walk_ends : all [] ≡ passed tt → rest ≡ [] → passed tt ≡ all list
+  walk_ends none e = sym (w.questions ∙ ap all e ∙ none)
 
-  module _ {x : A} {xs : List A} (here : rest ≡ x ∷ xs) (more : all (x ∷ xs) ≡ (outcome (ask x) >> all xs)) (b : Answer) (read : asked b ≡ outcome (ask x)) where
-    next-asked : all list ≡ (asked b >> all xs)
-    next-asked = w.questions ∙ ap all here ∙ more ∙ ap (◌>> all xs) (sym read)
+  module _ {x : A} {xs : List A} (here : rest ≡ x ∷ xs) (more : all (x ∷ xs) ≡ (outcome (ask x) >> all xs)) where
+    next-asked : all list ≡ (outcome (ask x) >> all xs)
+    next-asked = w.questions ∙ ap all here ∙ more
 
-    walk-stops : {r : Refusal} → b ≡ Refused r → (asked b ≡ all list) × (i ≡ first_refused_def ask list)
+    walk-stops : (q p : ℕ) → refused q p ≡ outcome (ask x) → (refused q p ≡ all list) × (i ≡ first_refused_def ask list)
     unfolding ◌>>◌ first_refused_def after
-    walk-stops e =
-        let z = refused-asked read e in
-        let stop : first_refused_def ask (x ∷ xs) ≡ 0 = rw z in
-        (rw (next-asked, e), omega (arith, w.first, ap (first_refused_def ask) here))
+    walk-stops q p e =
+        let stop : first_refused_def ask (x ∷ xs) ≡ 0 = rw (not-learned (ask x) q p e) in
+        (rw (next-asked, sym e), omega (arith, w.first, ap (first_refused_def ask) here))
 
-    walk-passes : b ≡ Done → Walk ask all list (i + 1) xs
+    walk-passes : passed tt ≡ outcome (ask x) → Walk ask all list (i + 1) xs
     unfolding ◌>>◌ first_refused_def after
     walk-passes e =
-        let q = done-learned read e in
-        let on : first_refused_def ask (x ∷ xs) ≡ suc (first_refused_def ask xs) = rw q.is in
-        record { questions = next-asked ∙ rw e; first = omega (arith, w.first, ap (first_refused_def ask) here) }
+        let on : first_refused_def ask (x ∷ xs) ≡ suc (first_refused_def ask xs) = rw (learned (ask x) e).is in
+        record { questions = next-asked ∙ rw (sym e); first = omega (arith, w.first, ap (first_refused_def ask) here) }
 
 -- What is left of the sum of the lengths: one length and the others, or nothing.
 module _ (lengths : List ℕ) (i : ℕ) where
@@ -120,14 +114,13 @@ module _ (n : ℕ) where
     here : cut (drop at edits) (drop i lengths) ≡ text ∷ cut (drop end edits) (drop (i + 1) lengths)
     here = unfold cut in let k : end - at ≡ get_or lengths i 0 = omega arith in rw (k, add-one i, drop-cons lengths i 0 l, drop-drop (get_or lengths i 0) at edits)
 
-    module _ (b : Answer) (read : asked b ≡ outcome (ask_edit (text_limits n) text)) where
-      pub text-stops : {r : Refusal} → b ≡ Refused r → (asked b ≡ read_all (cut edits lengths)) × (i ≡ first_refused_def (ask_edit (text_limits n)) (cut edits lengths))
-      text-stops e = walk-stops left.walk here (one_more _ _) b read e
+    pub text-stops : (q p : ℕ) → refused q p ≡ outcome (ask_edit (text_limits n) text) → (refused q p ≡ read_all (cut edits lengths)) × (i ≡ first_refused_def (ask_edit (text_limits n)) (cut edits lengths))
+    text-stops = walk-stops left.walk here (one_more _ _)
 
-      pub text-passes : b ≡ Done → Left edits lengths end (i + 1)
-      text-passes e = record { filled = omega (arith, left.filled, total-next lengths i l); walk = walk-passes left.walk here (one_more _ _) b read e }
+    pub text-passes : passed tt ≡ outcome (ask_edit (text_limits n) text) → Left edits lengths end (i + 1)
+    text-passes e = record { filled = omega (arith, left.filled, total-next lengths i l); walk = walk-passes left.walk here (one_more _ _) e }
 
-  pub texts-end : {edits lengths : List ℕ} {at i : ℕ} → Left edits lengths at i → length lengths ≤ i → (passed tt ≡ read_all (cut edits lengths)) × (i ≡ first_refused_def (ask_edit (text_limits n)) (cut edits lengths))
+  pub texts-end : {edits lengths : List ℕ} {at i : ℕ} → Left edits lengths at i → length lengths ≤ i → passed tt ≡ read_all (cut edits lengths)
   unfolding cut ask_edits outcome
   texts-end {edits} {lengths} {at} {i} left h = walk_ends left.walk refl (ap (cut (drop at edits)) (drop_of_length-le lengths {i = i} h))
 
@@ -215,12 +208,11 @@ module _ (rules : List (Expr rule)) (Zs : List Edit) (count : ℕ) where
       one-fits : ask_fits rules (get_or Zs i finish ∷ take (count - (i + 1)) (drop (i + 1) Zs)) ≡ (outcome (fitting (get_or Zs i finish)) >> ask_fits rules (take (count - (i + 1)) (drop (i + 1) Zs)))
       one-fits = unfold ask_fits in rw (same_outcome (fitting (get_or Zs i finish)))
 
-      module _ (b : Answer) (fit : asked b ≡ fitting (get_or Zs i finish)) where
-        pub fits-stop : {r : Refusal} → b ≡ Refused r → (asked b ≡ ask_fits rules (take count Zs)) × (i ≡ first_refused_def fitting (take count Zs))
-        fits-stop e = walk-stops left here-fits one-fits b (fit ∙ sym (same_outcome (fitting (get_or Zs i finish)))) e
+      pub fits-stop : (q p : ℕ) → refused q p ≡ fitting (get_or Zs i finish) → (refused q p ≡ ask_fits rules (take count Zs)) × (i ≡ first_refused_def fitting (take count Zs))
+      fits-stop q p e = walk-stops left here-fits one-fits q p (e ∙ sym (same_outcome (fitting (get_or Zs i finish))))
 
-        pub fits-pass : b ≡ Done → FitsLeft (i + 1)
-        fits-pass e = walk-passes left here-fits one-fits b (fit ∙ sym (same_outcome (fitting (get_or Zs i finish)))) e
+      pub fits-pass : passed tt ≡ fitting (get_or Zs i finish) → FitsLeft (i + 1)
+      fits-pass e = walk-passes left here-fits one-fits (e ∙ sym (same_outcome (fitting (get_or Zs i finish))))
 
-    pub fits-end : count ≤ i → (passed tt ≡ ask_fits rules (take count Zs)) × (i ≡ first_refused_def fitting (take count Zs))
+    pub fits-end : count ≤ i → passed tt ≡ ask_fits rules (take count Zs)
     fits-end h = unfold ask_fits in let z : count - i ≡ 0 = omega arith in walk_ends left refl (ap (λ k. take k (drop i Zs)) z)

@@ -8,21 +8,17 @@ use lib.Dec.{leb}
 use lib.ListN.{length, take, drop}
 use borrow.Author.Tests.{eqb-true, leb-true}
 use Rattle.answer.specs.Asked.{Asked, passed, refused, ◌>>=◌, ◌>>◌, is, after, outcome}
-use Rattle.answer.specs.Answers.{asked, refusal_number_def, refusal_place_def}
-use Rattle.answer.specs.declared.Refusal.{Refusal}
-use Rattle.answer.specs.declared.Answer.{Answer}
-use Rattle.answer.specs.declared.Answer.TheVariants.{Refused}
-use Rattle.answer.proofs.AnswerLaws.{Learned}
+use Rattle.answer.proofs.AnswerLaws.{Learned, learned, not-learned}
 use Rattle.answer.proofs.AskedLaws.{passed-same, is-then, bind-passed, then-passed, outcome-bind}
 use Rattle.logic.specs.Syntax.{Expr, rule, Edit}
 use Rattle.logic.specs.Carry.{carried_book}
 use Rattle.logic.specs.Limits.{ranges}
 use Rattle.sheet.specs.Sheet.{graph_of}
-use Rattle.sheet.specs.Questions.{Sound}
+use Rattle.sheet.specs.Questions.{ask_sheet, Sound}
 use Rattle.text.specs.Reading.{Limits, text_limits}
 use Rattle.text.specs.Questions.{ask_book, ask_edit, ask_rule}
 use Rattle.judge.specs.Questions.{ask_sheet_and_book}
-use Rattle.judge.proofs.SheetAndBook.{refused-asked, sheet-sound, book-passed}
+use Rattle.judge.proofs.SheetAndBook.{sheet-sound, book-passed}
 use Rattle.ends.specs.Books.{SomeBook}
 use Rattle.ends.proofs.RulePlaces as ends
 use Rattle.game.specs.Game.{Game}
@@ -54,11 +50,18 @@ module _ (sheet book goal : List ℕ) where
   abbrev limits : Limits
   limits = text_limits (graph_of sheet).n
 
-  pub both-stop : {a : Answer} {r : Refusal} → ask_sheet_and_book sheet book ≡ refused (refusal_number_def r) (refusal_place_def r) → a ≡ Refused r → asked a ≡ outcome (ask_aims sheet book goal)
-  both-stop q e = unfold ask_aims outcome ◌>>=◌ in rw (q, e)
+  pub sheet-stops : (q p : ℕ) → refused q p ≡ ask_sheet sheet → refused q p ≡ outcome (ask_aims sheet book goal)
+  sheet-stops q p e = unfold ask_aims ask_sheet_and_book outcome ◌>>=◌ ◌>>◌ in rw (sym e)
 
-  pub goal-last : {n : ℕ} → n ≡ (graph_of sheet).n → Learned (ask_sheet_and_book sheet book) → (a : Answer) → asked a ≡ outcome (ask_rule (text_limits n) goal) → asked a ≡ outcome (ask_aims sheet book goal)
-  goal-last count B a s = unfold ask_aims ◌>>=◌ in rw B.is (rw count at s ∙ sym (outcome-bind (ask_rule limits goal) (λ aim. (B.what, aim))))
+  module _ (sound : Sound sheet) {n : ℕ} (count : n ≡ (graph_of sheet).n) where
+    pub book-stops : (q p : ℕ) → refused q p ≡ outcome (ask_book (text_limits n) book) → refused q p ≡ outcome (ask_aims sheet book goal)
+    book-stops q p e = unfold ask_aims ask_sheet_and_book outcome ◌>>=◌ ◌>>◌ in rw (sound, sym count, not-learned (ask_book (text_limits n) book) q p e)
+
+    pub goal-last : passed tt ≡ outcome (ask_book (text_limits n) book) → {x : Asked (Unit {0})} → x ≡ outcome (ask_rule (text_limits n) goal) → x ≡ outcome (ask_aims sheet book goal)
+    goal-last e s =
+        unfold ask_aims ask_sheet_and_book ◌>>=◌ ◌>>◌ in
+        let B = learned (ask_book (text_limits n) book) e in
+        rw (sound, sym count, B.is) (s ∙ sym (outcome-bind (ask_rule (text_limits n) goal) (λ aim. (B.what, aim))))
 
   -- What is known about them once they have passed.
   pub record AimsRead (aims : List (Expr rule) × Expr rule) : Type 0 where
@@ -83,29 +86,33 @@ module _ (sheet book goal edits lengths : List ℕ) (d moves : ℕ) where
   abbrev All : Asked Game
   All = ask_game sheet book goal edits lengths d moves
 
-  -- The answer, and the edit with it.
-  abbrev Asks : Asked (Unit {0}) → ℕ → Type 0
-  Asks a edit = (a ≡ outcome All) × (edit ≡ faulty_edit sheet book goal edits lengths d moves)
+  -- A refusal, and the edit with it.
+  abbrev Stops : (q p edit : ℕ) → Type 0
+  Stops q p edit = (refused q p ≡ outcome All) × (edit ≡ faulty_edit sheet book goal edits lengths d moves)
 
-  pub lists-stop : lists_right_def edits lengths d moves ≡ false → Asks (refused 62 0) 0
+  pub lists-stop : lists_right_def edits lengths d moves ≡ false → Stops 62 0 0
   lists-stop e = unfold ask_game faulty_edit is ◌>>◌ outcome after in (rw e, rw e)
 
   module _ (ok : lists_right_def edits lengths d moves ≡ true) where
-    pub aims-stop : (a : Answer) → asked a ≡ outcome (ask_aims sheet book goal) → {r : Refusal} → a ≡ Refused r → Asks (asked a) 0
-    aims-stop a s e = unfold ask_game faulty_edit is ◌>>◌ ◌>>=◌ outcome after in let z = refused-asked {q = ask_aims sheet book goal} s e in (rw (ok, z, e), rw (ok, z))
+    pub aims-stop : (q p : ℕ) → refused q p ≡ outcome (ask_aims sheet book goal) → Stops q p 0
+    aims-stop q p e = unfold ask_game faulty_edit is ◌>>◌ ◌>>=◌ outcome after in let z = not-learned (ask_aims sheet book goal) q p e in (rw (ok, z), rw (ok, z))
 
     module _ (A : Learned (ask_aims sheet book goal)) where
-      pub edits-stop : (a : Answer) → asked a ≡ outcome (ask_edits reads (cut edits lengths)) → (edit : ℕ) → edit ≡ first_refused_def (ask_edit reads) (cut edits lengths) → {r : Refusal} → a ≡ Refused r → Asks (asked a) edit
+      pub edits-stop : (q p : ℕ) → refused q p ≡ outcome (ask_edits reads (cut edits lengths)) → (edit : ℕ) → edit ≡ first_refused_def (ask_edit reads) (cut edits lengths) → Stops q p edit
       unfolding ask_game faulty_edit is ◌>>◌ ◌>>=◌ outcome after
-      edits-stop a s edit f e = let z = refused-asked {q = ask_edits reads (cut edits lengths)} s e in (rw (ok, A.is, z, e), rw (ok, A.is, z) f)
+      edits-stop q p e edit f = let z = not-learned (ask_edits reads (cut edits lengths)) q p e in (rw (ok, A.is, z), rw (ok, A.is, z) f)
 
       module _ (E : Learned (ask_edits reads (cut edits lengths))) where
-        pub fits_last : (a : Answer) → asked a ≡ ask_fits A.what.0 (take d E.what) → (edit : ℕ) → edit ≡ first_refused_def (λ Z. ask_carried (carried_book Z A.what.0)) (take d E.what) → Asks (asked a) edit
-        unfolding ask_game faulty_edit is ◌>>◌ ◌>>=◌ outcome after
-        fits_last a s edit f = (rw (ok, A.is, E.is) (s ∙ last (ask_fits A.what.0 (take d E.what))), rw (ok, A.is, E.is) f) where
+        pub fits_last : {x : Asked (Unit {0})} → x ≡ ask_fits A.what.0 (take d E.what) → x ≡ outcome All
+        unfolding ask_game is ◌>>◌ ◌>>=◌ outcome
+        fits_last s = rw (ok, A.is, E.is) (s ∙ last (ask_fits A.what.0 (take d E.what))) where
           last : (y : Asked (Unit {0})) → y ≡ outcome (y >> passed (game_of A.what.0 A.what.1 E.what))
           last (passed u) = refl
           last (refused q p) = refl
+
+        pub fits-faulty : (edit : ℕ) → edit ≡ first_refused_def (λ Z. ask_carried (carried_book Z A.what.0)) (take d E.what) → edit ≡ faulty_edit sheet book goal edits lengths d moves
+        unfolding faulty_edit is ◌>>◌ after
+        fits-faulty edit f = rw (ok, A.is, E.is) f
 
     -- What carrying back requires of book and edits.
     module _ (E : Learned (ask_edits reads (cut edits lengths))) where

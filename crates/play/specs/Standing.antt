@@ -1,5 +1,7 @@
 -- For the inner functions: edits that stand one after the other in a text, a game whose texts have been read, and what a search has found.
-use Rattle.std.specs.Prelude.{◌≡◌, Bool, cond, List, [], ◌∷◌, ℕ, ◌+◌, ◌≤◌, length}
+use Rattle.std.specs.Prelude.{◌≡◌, Bool, cond, List, [], ◌∷◌, ℕ, ◌+◌, ◌≤◌, length, Result, Ok, Err}
+use Rattle.answer.specs.Asked.{Asked, passed, refused}
+use Rattle.answer.specs.Answers.{refusal_number_def, refusal_place_def}
 use Rattle.logic.specs.Syntax.{Edit}
 use Rattle.logic.specs.Steps.{run}
 use Rattle.logic.specs.Limits.{Ranges, ranges}
@@ -10,6 +12,7 @@ use Rattle.judge.specs.Judging.{RulesStand}
 use Rattle.sheet.specs.Sheet.{graph_of}
 use Rattle.game.specs.Game.{Game, edits_of, pass, edit, Outcome, cannot, first}
 use Rattle.game.specs.Search.{side_of}
+use Rattle.play.specs.declared.questions.AtEdit.{AtEdit}
 use Rattle.play.specs.declared.search.Lists.{Lists}
 use Rattle.play.specs.declared.search.Found.{Found}
 use Rattle.play.specs.declared.search.Found.TheVariants.{Cannot, Edit as EditFound, Pass}
@@ -47,6 +50,16 @@ abbrev pub outcome_of : Found → Outcome
 outcome_of Cannot = cannot
 outcome_of (EditFound i) = first (edit i)
 outcome_of Pass = first pass
+
+-- What a result says about the questions, where a refusal stands beside the edit that it is about.
+abbrev pub at_edit_asked : {A : Type 0} → Result A AtEdit → Asked A
+at_edit_asked (Ok a) = passed a
+at_edit_asked (Err e) = refused (refusal_number_def e.refusal) (refusal_place_def e.refusal)
+
+-- The same for the call: its questions result in the game's outcome.
+abbrev pub found_asked : Result Found AtEdit → Asked Outcome
+found_asked (Ok f) = passed (outcome_of f)
+found_asked (Err e) = refused (refusal_number_def e.refusal) (refusal_place_def e.refusal)
 
 -- Some edits, `count` of them, stand at the start of a text, whatever the ranges of their numbers.
 pub record EditsAt (text : List ℕ) (count : ℕ) (Zs : List Edit) : Type 0 where

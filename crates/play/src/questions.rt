@@ -1,6 +1,6 @@
 // The questions of a game, in order.
-ghost use Rattle.std.specs.Prelude.{◌≡◌, List, ◌≤◌, eqb, length, take, drop};
-ghost use Rattle.answer.specs.Answers.{asked};
+ghost use Rattle.std.specs.Prelude.{◌≡◌, List, ◌≤◌, eqb, length, take, drop, IfErr};
+ghost use Rattle.answer.specs.Answers.{result_asked};
 ghost use Rattle.answer.specs.Asked.{outcome};
 ghost use Rattle.logic.specs.Syntax.{Expr, rule, Edit};
 ghost use Rattle.logic.specs.Carry.{carried_book};
@@ -10,9 +10,9 @@ ghost use Rattle.ends.specs.Edits.{EditAt, SomeEdit};
 ghost use Rattle.ends.specs.Books.{BookIs, SomeBook};
 ghost use Rattle.carry.specs.Carrying.{ask_carried};
 ghost use Rattle.play.specs.Questions.{in_range, total, lists_right_def, ask_aims, cut, ask_edits, ask_fits, ask_game, first_refused_def, faulty_edit};
-ghost use Rattle.play.specs.Standing.{EditsStand, EditsAt, SomeEdits};
+ghost use Rattle.play.specs.Standing.{EditsStand, EditsAt, SomeEdits, at_edit_asked};
 
-use answer::{Answer, Refusal, Written};
+use answer::{Answer, Refusal};
 use sheet::Sheet;
 use text::Text;
 
@@ -21,33 +21,33 @@ const MOST_EDITS: usize = 4;
 
 const MOST_MOVES: usize = 6;
 
-// The answer to questions about edits, and the edit at which they stop, by its place in the list.
-#[derive(Drop)]
+// A refusal, and the edit that it is about, by its place in the list; 0 where it is about none.
+#[derive(Clone, Copy)]
 pub struct AtEdit {
-    pub answer: Answer,
+    pub refusal: Refusal,
     pub edit: usize,
 }
 
+// What is refused before the edits is about none of them.
+impl From<Refusal> for AtEdit {
+    ghost from_gives = { λ r e. e ≡ record { refusal = r; edit = 0 } };
+
+    fn from(refusal: Refusal) -> AtEdit {
+        AtEdit { refusal, edit: 0 }
+    }
+}
+
 // Whether both lists and the number of moves are in their ranges.
+#[tactic(auto, unfolding(crate::specs::Questions::in_range))]
 fn in_range(count: usize, dispatchers: usize, moves: usize) -> bool
     ensures { result ≡ in_range count dispatchers moves }
 {
-    if dispatchers < 1 {
-        return false;
-    }
-    if dispatchers > MOST_EDITS {
-        return false;
-    }
-    if dispatchers > count {
-        return false;
-    }
-    if count - dispatchers > MOST_EDITS {
-        return false;
-    }
-    if moves < 1 {
-        return false;
-    }
-    moves <= MOST_MOVES
+    1 <= dispatchers
+        && dispatchers <= MOST_EDITS
+        && dispatchers <= count
+        && count - dispatchers <= MOST_EDITS
+        && 1 <= moves
+        && moves <= MOST_MOVES
 }
 
 // Whether these are the lengths of texts that fill `size` bytes. What is left is counted down: a sum could wrap.
@@ -55,104 +55,80 @@ fn fill(lengths: &[usize], size: usize) -> bool
     ensures { result ≡ eqb (total lengths.now) size }
 {
     let mut left = size;
-    let mut i = 0;
-    while i < lengths.len() {
-        if lengths[i] > left {
+    for &length in lengths {
+        if length > left {
             return false;
         }
-        left -= lengths[i];
-        i += 1;
+        left -= length;
     }
     left == 0
 }
 
 // All that 62 asks.
+#[tactic(auto, unfolding(crate::specs::Questions::lists_right_def))]
 fn lists_right(edits: &[u8], lengths: &[usize], dispatchers: usize, moves: usize) -> bool
     ensures { result ≡ lists_right_def edits.now lengths.now dispatchers moves }
 {
-    if !in_range(lengths.len(), dispatchers, moves) {
-        return false;
-    }
-    fill(lengths, edits.len())
+    in_range(lengths.len(), dispatchers, moves) && fill(lengths, edits.len())
 }
 
 // Sheet, book and goal: 1 to 4, 11 to 16 of the book and of the goal.
-fn check_aims(sheet: &[u8], book: &[u8], goal: &[u8]) -> Answer
-    ensures { asked result ≡ outcome (ask_aims sheet.now book.now goal.now) }
+fn check_aims(sheet: &[u8], book: &[u8], goal: &[u8]) -> Result<(), Refusal>
+    ensures { result_asked result ≡ outcome (ask_aims sheet.now book.now goal.now) }
 {
-    let sound = Sheet::check(sheet);
-    let Answer::Done = sound else {
-        return sound;
-    };
+    Sheet::check(sheet).passed()?;
     let n = Sheet::node_count(sheet);
-    let rules = Text::check_book(book, n);
-    let Answer::Done = rules else {
-        return rules;
-    };
-    Text::check_rule(goal, n)
+    Text::check_book(book, n).passed()?;
+    Text::check_rule(goal, n).passed()
 }
 
 // Whether the texts are well-formed edits: 21 to 26 for each, one by one. Inner: their lengths fill `edits`.
-fn check_edits(edits: &[u8], lengths: &[usize], n: usize) -> AtEdit
+fn check_edits(edits: &[u8], lengths: &[usize], n: usize) -> Result<(), AtEdit>
     requires { total lengths.now ≡ length edits.now }
-    ensures answer_value { asked result.answer ≡ outcome (ask_edits (text_limits n) (cut edits.now lengths.now)) }
-    ensures edit_value { result.edit ≡ first_refused_def (ask_edit (text_limits n)) (cut edits.now lengths.now) }
+    ensures value { at_edit_asked result ≡ outcome (ask_edits (text_limits n) (cut edits.now lengths.now)) }
+    ensures edit_value { IfErr result (λ e. e.edit ≡ first_refused_def (ask_edit (text_limits n)) (cut edits.now lengths.now)) }
 {
     let mut at = 0;
-    let mut i = 0;
-    while i < lengths.len() {
-        let end = at + lengths[i];
-        let answer = Text::check_edit(&edits[at..end], n);
-        let Answer::Done = answer else {
-            return AtEdit { answer, edit: i };
-        };
+    for (i, &length) in lengths.iter().enumerate() {
+        let end = at + length;
+        if let Answer::Refused(refusal) = Text::check_edit(&edits[at..end], n) {
+            return Err(AtEdit { refusal, edit: i });
+        }
         at = end;
-        i += 1;
     }
-    AtEdit {
-        answer: Answer::Done,
-        edit: i,
-    }
+    Ok(())
 }
 
 // Whether the book carried back through an edit fits: 31 and 32. An output without room suffices: 33 comes after them. Inner: both were read before.
-fn fits(book: &[u8], edit: &[u8]) -> Answer
+fn fits(book: &[u8], edit: &[u8]) -> Result<(), Refusal>
     requires { SomeBook book.now × SomeEdit edit.now 0 × (length edit.now ≤ longest_text) }
-    ensures { (rules : List (Expr rule)) (Z : Edit) → BookIs book.now rules → EditAt edit.now 0 Z → asked result ≡ ask_carried (carried_book Z rules) }
+    ensures { (rules : List (Expr rule)) (Z : Edit) → BookIs book.now rules → EditAt edit.now 0 Z → result_asked result ≡ ask_carried (carried_book Z rules) }
 {
-    let mut none = [0u8; 0];
-    match carry::carry_into(book, edit, &mut none) {
-        Written::Length(_) => Answer::Done,
-        Written::Refused(r) => {
-            if answer::refusal_number(r) == 33 {
-                return Answer::Done;
-            }
-            Answer::Refused(r)
-        },
+    let Err(refusal) = carry::carry_into(book, edit, &mut []) else {
+        return Ok(());
+    };
+    match refusal {
+        Refusal::OutputLength { place: _ } => Ok(()),
+        _ => Err(refusal),
     }
 }
 
 // The same through each of `count` edits. Inner: they stand at the start of the text, one after the other.
-fn check_fits(book: &[u8], edits: &[u8], count: usize) -> AtEdit
+fn check_fits(book: &[u8], edits: &[u8], count: usize) -> Result<(), AtEdit>
     requires { SomeBook book.now × SomeEdits edits.now count }
-    ensures answer_value { (rules : List (Expr rule)) (Zs : List Edit) → BookIs book.now rules → EditsAt edits.now count Zs → asked result.answer ≡ ask_fits rules (take count Zs) }
-    ensures edit_value { (rules : List (Expr rule)) (Zs : List Edit) → BookIs book.now rules → EditsAt edits.now count Zs → result.edit ≡ first_refused_def (λ Z. ask_carried (carried_book Z rules)) (take count Zs) }
+    ensures value { (rules : List (Expr rule)) (Zs : List Edit) → BookIs book.now rules → EditsAt edits.now count Zs → at_edit_asked result ≡ ask_fits rules (take count Zs) }
+    ensures edit_value { (rules : List (Expr rule)) (Zs : List Edit) → BookIs book.now rules → EditsAt edits.now count Zs
+        → IfErr result (λ e. e.edit ≡ first_refused_def (λ Z. ask_carried (carried_book Z rules)) (take count Zs)) }
 {
     let mut at = 0;
-    let mut i = 0;
-    while i < count {
+    for i in 0..count {
         let end = ends::end_of(edits, at);
-        let answer = fits(book, &edits[at..end]);
-        let Answer::Done = answer else {
-            return AtEdit { answer, edit: i };
-        };
+        if let Err(refusal) = fits(book, &edits[at..end]) {
+            return Err(AtEdit { refusal, edit: i });
+        }
         at = end;
-        i += 1;
     }
-    AtEdit {
-        answer: Answer::Done,
-        edit: i,
-    }
+    Ok(())
 }
 
 // The place after `count` edits. Inner: as above.
@@ -161,10 +137,8 @@ pub fn behind(edits: &[u8], count: usize) -> usize
     ensures { (Zs : List Edit) (e : EditsAt edits.now count Zs) → EditsStand e.limits edits.now result (drop count Zs) }
 {
     let mut at = 0;
-    let mut i = 0;
-    while i < count {
+    for _ in 0..count {
         at = ends::end_of(edits, at);
-        i += 1;
     }
     at
 }
@@ -178,22 +152,14 @@ pub fn ask(
     lengths: &[usize],
     dispatchers: usize,
     moves: usize,
-) -> AtEdit
-    ensures answer_value { asked result.answer ≡ outcome (ask_game sheet.now book.now goal.now edits.now lengths.now dispatchers moves) }
-    ensures edit_value { result.edit ≡ faulty_edit sheet.now book.now goal.now edits.now lengths.now dispatchers moves }
+) -> Result<(), AtEdit>
+    ensures value { at_edit_asked result ≡ outcome (ask_game sheet.now book.now goal.now edits.now lengths.now dispatchers moves) }
+    ensures edit_value { IfErr result (λ e. e.edit ≡ faulty_edit sheet.now book.now goal.now edits.now lengths.now dispatchers moves) }
 {
     if !lists_right(edits, lengths, dispatchers, moves) {
-        let answer = Answer::Refused(Refusal::GameRange { place: 0 });
-        return AtEdit { answer, edit: 0 };
+        return Err(AtEdit::from(Refusal::GameRange { place: 0 }));
     }
-    let answer = check_aims(sheet, book, goal);
-    let Answer::Done = answer else {
-        return AtEdit { answer, edit: 0 };
-    };
-    let texts = check_edits(edits, lengths, Sheet::node_count(sheet));
-    let read = texts.answer;
-    let Answer::Done = read else {
-        return texts;
-    };
+    check_aims(sheet, book, goal)?;
+    check_edits(edits, lengths, Sheet::node_count(sheet))?;
     check_fits(book, edits, dispatchers)
 }

@@ -21,7 +21,7 @@ pub struct Lists {
 }
 
 // The move of a side: the lowest-numbered edit that serves it, or a pass that does.
-#[derive(Drop)]
+#[derive(Clone, Copy)]
 pub enum Found {
     Cannot,
     Edit(usize),
@@ -32,33 +32,25 @@ pub enum Found {
 fn count_of(lists: Lists, ours: bool) -> usize
     ensures { result ≡ count_of lists ours }
 {
-    if ours {
-        return lists.ours;
-    }
-    lists.theirs
+    if ours { lists.ours } else { lists.theirs }
 }
 
 fn start_of(lists: Lists, ours: bool) -> usize
     ensures { result ≡ start_of lists ours }
 {
-    if ours {
-        return 0;
-    }
-    lists.second
+    if ours { 0 } else { lists.second }
 }
 
 // Whether a side may leave this sheet. Inner, as all below: the sheet is sound, and the texts were read for its n. Enter would answer done exactly when
 // the book holds on the sheet that the steps leave (Theorem 4.2), once 31 and 32 have passed: so the dispatcher's edit is made on the copy first,
 // and nothing is carried back.
+#[tactic(auto, unfolding(game::specs::Game::may_leave_def))]
 fn may_leave(sheet: &[u8], book: &[u8], ours: bool) -> bool
     requires { Sound sheet.now × SomeRulesStand (ranges (graph_of sheet.now).n) book.now 0 (length book.now) }
     ensures { (G : Game) → RulesStand (ranges (graph_of sheet.now).n) book.now 0 (length book.now) G.book
         → result ≡ may_leave_def G (side_of ours) (graph_of sheet.now) }
 {
-    if ours {
-        return judge::holds(sheet, book);
-    }
-    true
+    !ours || judge::holds(sheet, book)
 }
 
 // Makes the edit that stands at `at` on a copy of the sheet; returns the place after it.
@@ -66,7 +58,7 @@ fn make(sheet: &[u8], edits: &[u8], at: usize, copy: &mut [u8]) -> usize
     requires { Sound sheet.now × SomeEditStands (ranges (graph_of sheet.now).n) edits.now at × (length copy.old ≡ sheet_bytes) }
     ensures { Sound copy.new × ((Z : Edit) → EditStands (ranges (graph_of sheet.now).n) edits.now at Z → OnCopy at Z result sheet.now copy.new) }
 {
-    write::bytes::copy(sheet, 0, sheet.len(), copy, 0);
+    copy.copy_from_slice(sheet);
     apply::run_edit(copy, edits, at)
 }
 
@@ -89,8 +81,7 @@ pub fn search(
     let mut at = start_of(lists, ours);
     let mut copy = [0u8; Sheet::BYTES];
     let mut made = false;
-    let mut i = 0;
-    while i < count {
+    for i in 0..count {
         at = make(sheet, edits, at, &mut copy);
         if may_leave(&copy, book, ours) {
             if goes_well(&copy, book, goal, edits, lists, ours, moves - 1) {
@@ -98,12 +89,8 @@ pub fn search(
             }
             made = true;
         }
-        i += 1;
     }
-    if made {
-        return Found::Cannot;
-    }
-    if goes_well(sheet, book, goal, edits, lists, ours, moves - 1) {
+    if !made && goes_well(sheet, book, goal, edits, lists, ours, moves - 1) {
         return Found::Pass;
     }
     Found::Cannot
@@ -125,15 +112,10 @@ fn goes_well(
         → result ≡ goes_well_def G moves ours (graph_of sheet.now) }
 {
     if moves == 0 {
-        let reached = judge::holds(sheet, goal);
-        if ours {
-            return reached;
-        }
-        return !reached;
+        return judge::holds(sheet, goal) == ours;
     }
-    match search(sheet, book, goal, edits, lists, !ours, moves) {
-        Found::Cannot => true,
-        Found::Edit(_) => false,
-        Found::Pass => false,
-    }
+    matches!(
+        search(sheet, book, goal, edits, lists, !ours, moves),
+        Found::Cannot
+    )
 }

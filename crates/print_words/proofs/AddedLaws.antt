@@ -1,21 +1,21 @@
 -- Adding tokens of at most 64 bytes to a text.
-use mathlib.Core.Path.{◌≡◌, refl, sym, ◌∙◌, ap, subst}
-use mathlib.Core.Bool.{cond}
+use mathlib.Core.Path.{◌≡◌, refl, sym, ap, subst}
 use mathlib.Core.List.{List, [], ◌∷◌, ◌++◌}
 use Prim.Native.Nat.{ℕ, zero, suc, ◌+◌, ◌*◌, ◌-◌, ◌≤◌, ◌<◌}
 use native.Mathlib.Omega.{arith}
 use lib.Dec.{T, leb, ltb}
 use lib.ListN.{length, get_or, take, drop, length-take}
-use borrow.Author.Tests.{ltb-true, leb-true, lt-ltb}
+use borrow.Author.Tests.{ltb-true, leb-true}
 use Rattle.logic.specs.Limits.{Kind, label_number, arrow_number, node_number, least_count, most_count, ranges, max_nodes, fits}
 use Rattle.logic.proofs.Bools.{is_true, both_so}
 use Rattle.names.specs.Token.{Token, ascii}
 use Rattle.names.specs.Names.{Naming, longest_name}
+use Rattle.std.specs.Prelude.{Some, None}
 use Rattle.buffers.specs.Slots.{Slots, slot_at}
 use Rattle.buffers.specs.Filled.{filled_from}
 use Rattle.buffers.proofs.FilledLaws.{filled_none}
 use Rattle.keywords.specs.Rows.{mark_of}
-use Rattle.keywords.specs.Phrases.{words, word_table, slot_width}
+use Rattle.keywords.specs.Phrases.{word_table, slot_width}
 use Rattle.keywords.proofs.WordSlots.{slot-word, word-slots}
 use Rattle.name_table.specs.NameSlots.{name_width, name_count, slot_base, Holds}
 use Rattle.lay_words.specs.declared.Laid.{Laid}
@@ -88,14 +88,12 @@ name-short {table} k x s h e =
     omega (arith, ap length (e (own table) (own_held table s)), slot-short name_width table i (s.short i (slot-there k x h)))
 
 -- No word, and the word of a slot.
-pub no_word : (word : ℕ) → word ≡ 29 → words_at word ≡ []
-unfolding words_at
-no_word word e = ap words_at e
+pub no_word : words_at None ≡ []
+no_word = unfold words_at in refl
 
-module _ (word : ℕ) (l : word ≤ 29) (n : word ≡ 29 → ⊥) where
-  a_word : words_at word ≡ slot_at slot_width word_table word ∷ []
-  unfolding words_at
-  a_word = let k : word < 29 = omega arith in ap (λ b. cond b (get_or words word [] ∷ []) []) (lt-ltb word 29 k) ∙ ap (◌∷ []) (sym (slot-word word k))
+module _ (word : ℕ) (l : word < 29) where
+  a_word : words_at (Some word) ≡ slot_at slot_width word_table word ∷ []
+  a_word = unfold words_at in ap (◌∷ []) (sym (slot-word word l))
 
   pub word-there : (slot_width * word + slot_width ≤ length word_table) × (get_or word_table (slot_width * word) 0 < slot_width)
   word-there = (omega (arith, word-slots.room), word-slots.short word (omega arith))
@@ -104,5 +102,5 @@ module _ (word : ℕ) (l : word ≤ 29) (n : word ≡ 29 → ⊥) where
   word-short e = omega (arith, ap length e, slot-short slot_width word_table word word-there.1)
 
   pub word-added : {token : List ℕ} {s r : Laid} {o o' : List ℕ} → token ≡ slot_at slot_width word_table word → After s token r
-      → o' ≡ filled_from s.size (piece s token) o → Added s (words_at word) r o o'
+      → o' ≡ filled_from s.size (piece s token) o → Added s (words_at (Some word)) r o o'
   word-added {s = s} {r = r} {o = o} {o' = o'} e a w = subst (λ ts. Added s ts r o o') (sym a_word) (token-added (slot_at slot_width word_table word) e (word-short e) a w)

@@ -19,6 +19,7 @@ use Rattle.notation.specs.Spell.{opens, spell}
 use Rattle.notation.specs.Layout.{laid}
 use Rattle.notation.specs.Words.{rule_limits}
 use Rattle.lay_words.specs.declared.Laid.{Laid}
+use Rattle.lay_words.specs.declared.Before.TheVariants.{Start}
 use Rattle.print_words.specs.declared.print.Opened.{Opened}
 use Rattle.keywords.specs.Rows.{mark_of, kind_of, slot_of, level_of, goal_of, goals_of, row_goals, goals_above, wanted}
 use Rattle.buffers.specs.Slots.{Slots}
@@ -79,7 +80,7 @@ module _ (table codes : List ℕ) (start rules : ℕ) (o₀ : List ℕ) where
 
   -- At the start.
   abbrev pub nothing-laid : Laid
-  nothing-laid = record { size = 0; before = 0; brackets = 0; ifs = 0 }
+  nothing-laid = record { size = 0; before = Start; brackets = 0; ifs = 0 }
 
   start-wanted : (rows : List ℕ) → row_goals start 1 ≡ wanted rows start 1
   unfolding goals_above

@@ -11,24 +11,22 @@ ghost use Rattle.keywords.specs.Rows.{mark_of, kind_of, slot_of, row_goals};
 ghost use Rattle.name_table.specs.NameSlots.{name_width, name_count, Holds};
 ghost use Rattle.print_words.specs.Printable.{Printable};
 ghost use Rattle.print_words.specs.Printed.{printed};
-ghost use Rattle.print_words.specs.Opening.{words_at, Opening};
+ghost use Rattle.print_words.specs.Opening.{words_at, IsWord, Opening};
 ghost use Rattle.print_words.specs.Added.{Room, Added};
 
 use crate::RULE;
-use lay_words::Laid;
+use lay_words::{Before, Laid};
 
-// What a code writes first, and the row of what follows it: `word` is the slot of its word among those of the notation, NO_WORD if it has none.
-#[derive(Drop)]
+// What a code writes first, and the row of what follows it: `word` is the slot of its word among those of the notation, if it has one.
+#[derive(Clone, Copy)]
 struct Opened {
-    word: usize,
+    word: Option<usize>,
     row: u64,
 }
 
 const ELSE: usize = keywords::PHRASES;
 
 const END: usize = keywords::PHRASES + 1;
-
-const NO_WORD: usize = keywords::PHRASES + 2;
 
 // The rows of one item: the name of a label, of an arrow, of a node.
 const LABEL: u64 = 0x04;
@@ -49,26 +47,29 @@ fn bare(item: usize, code: u8) -> Opened
         9 => {
             if code == 0x03 {
                 Opened {
-                    word: NO_WORD,
+                    word: None,
                     row: LABEL,
                 }
             } else {
                 Opened {
-                    word: NO_WORD,
+                    word: None,
                     row: NODE,
                 }
             }
         }
         10 => Opened {
-            word: NO_WORD,
+            word: None,
             row: ARROW,
         },
-        12 | 14 => Opened { word: ELSE, row: 0 },
-        13 | 15 => Opened { word: END, row: 0 },
-        _ => Opened {
-            word: NO_WORD,
+        12 | 14 => Opened {
+            word: Some(ELSE),
             row: 0,
         },
+        13 | 15 => Opened {
+            word: Some(END),
+            row: 0,
+        },
+        _ => Opened { word: None, row: 0 },
     }
 }
 
@@ -77,14 +78,13 @@ fn opens(item: usize, code: u8) -> Opened
     requires { (9 ≤ item) × (item < 18) }
     ensures { Opening (λ d. opens (slot_of item) d code) result }
 {
-    let p = keywords::phrase_of(item, code);
-    if p < keywords::PHRASES {
-        return Opened {
-            word: p,
-            row: keywords::row_of(item, p),
-        };
+    let Some(p) = keywords::phrase_of(item, code) else {
+        return bare(item, code);
+    };
+    Opened {
+        word: Some(p),
+        row: keywords::row_of(item, p),
     }
-    bare(item, code)
 }
 
 // Inner: the item is a mark, and one more token does not overflow.
@@ -105,14 +105,14 @@ fn put_number(table: &[u8], item: usize, x: u8, output: &mut [u8], state: Laid) 
     lay_words::put_token(output, state, name)
 }
 
-// Inner: a word has that number, or it is NO_WORD, and one more token does not overflow.
-fn put_word(output: &mut [u8], state: Laid, word: usize) -> Laid
-    requires { Room state × (word ≤ 29) }
+// Inner: a word has that number, if there is one, and one more token does not overflow.
+fn put_word(output: &mut [u8], state: Laid, word: Option<usize>) -> Laid
+    requires { Room state × IsWord word }
     ensures { Added state (words_at word) result output.old output.new }
 {
-    if word == NO_WORD {
+    let Some(word) = word else {
         return state;
-    }
+    };
     let token = buffers::slot(&keywords::WORDS, keywords::WIDTH, word);
     lay_words::put_token(output, state, token)
 }
@@ -131,7 +131,7 @@ pub fn print(table: &[u8], codes: &[u8], start: u64, rules: usize, output: &mut 
     let mut at = 0;
     let mut state = Laid {
         size: 0,
-        before: 0,
+        before: Before::Start,
         brackets: 0,
         ifs: 0,
     };
@@ -149,10 +149,10 @@ pub fn print(table: &[u8], codes: &[u8], start: u64, rules: usize, output: &mut 
             }
         } else if item < 4 {
             state = put_mark(output, state, item);
-            row = row / 256;
+            row /= 256;
         } else if item < 9 {
             state = put_number(table, item, codes[at], output, state);
-            row = row / 256;
+            row /= 256;
             at += 1;
         } else {
             let opened = opens(item, codes[at]);

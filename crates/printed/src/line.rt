@@ -23,7 +23,7 @@ pub fn line(number: usize, place: usize) -> [u8; BYTES]
 pub fn line_of(a: Answer) -> [u8; BYTES]
     ensures { result ≡ asked_line (asked a) }
 {
-    line(answer::number(a), answer::place(a))
+    line(a.number(), a.place())
 }
 
 // The line when the input ends early.

@@ -36,9 +36,10 @@ use Rattle.runs.specs.Run.{Given}
 use Rattle.runs.proofs.After.{after-sound, after-graph, after-n}
 use Rattle.runs.proofs.EnterRefusals.{refused-between}
 use Rattle.runs.proofs.OneCall.{answers-41}
-use Rattle.witness.specs.Witnessed.{witness, ask_witness}
-use Rattle.witness.specs.Told.{Told, breaking_part}
+use Rattle.witness.specs.Witnessed.{witness, witness_kind, ask_witness}
+use Rattle.witness.specs.Told.{Named, Told, breaking_part}
 use Rattle.witness.specs.declared.Witness.{Witness}
+use Rattle.witness.specs.declared.Witness.TheVariants.{Nothing, LowestNode, LowestPair, Unnamed}
 use Rattle.witness.proofs.Told.{told}
 use Rattle.promises.specs.Witnesses.{Answered, Foretold, Witnesses}
 use Rattle.promises.proofs.Item10 as item10
@@ -94,11 +95,18 @@ tells {sheet} {text} {K} a b =
     let s = first-is-spelled (carried_limits_def (graph_of sheet).n) (take longest_carried text) K a.first in
     subst (Told (graph_of sheet) (breaking_part (graph_of sheet) K)) (sym (answered-is a)) (told (graph_of sheet) K s.within.numbers_fit b)
 
-kind_0 : {sheet text : List ℕ} {K : Expr rule} {w : Witness} → Answered sheet text K w → (w.kind ≡ 0) ↔ (value (graph_of sheet) K ≡ true)
-kind_0 {sheet} {text} {K} {w} a = (λ z. go (value (graph_of sheet) K) refl z, λ h. ap (λ x. x.kind) (answered-is a) ∙ unfold witness in ap (λ b. (witness (graph_of sheet).n b).kind) (holds-nothing (graph_of sheet) K h)) where
-  go : (x : Bool) → value (graph_of sheet) K ≡ x → w.kind ≡ 0 → x ≡ true
+-- a witness that names something is of another kind than 0
+named-kind : (g : Graph) (P : Expr rule) (w : Witness) → Named g P w → witness_kind w ≡ 0 → ⊥
+named-kind g P Nothing h z = h
+named-kind g P (LowestNode first nodes) h z = (cc)
+named-kind g P (LowestPair first second) h z = (cc)
+named-kind g P Unnamed h z = (cc)
+
+kind_0 : {sheet text : List ℕ} {K : Expr rule} {w : Witness} → Answered sheet text K w → (witness_kind w ≡ 0) ↔ (value (graph_of sheet) K ≡ true)
+kind_0 {sheet} {text} {K} {w} a = (λ z. go (value (graph_of sheet) K) refl z, λ h. ap witness_kind (answered-is a) ∙ unfold witness in ap (λ b. witness_kind (witness (graph_of sheet).n b)) (holds-nothing (graph_of sheet) K h)) where
+  go : (x : Bool) → value (graph_of sheet) K ≡ x → witness_kind w ≡ 0 → x ≡ true
   go true e z = refl
-  go false e z = absurd ((tells a e).named z)
+  go false e z = absurd (named-kind _ _ _ (tells a e).named z)
 
 -- a list that was made element by element, cut
 record Cut {A B : Type 0} (f : A → B) (xs : List A) (before : List B) (b : B) (others : List B) : Type 0 where

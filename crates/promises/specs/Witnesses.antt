@@ -14,7 +14,7 @@ use Rattle.text.specs.Questions.{ask_first}
 use Rattle.apply.specs.Apply.{after_steps}
 use Rattle.runs.specs.Enter.{enter_answer, enter_scratch}
 use Rattle.runs.specs.Run.{Given}
-use Rattle.witness.specs.Witnessed.{ask_witness}
+use Rattle.witness.specs.Witnessed.{witness_kind, ask_witness}
 use Rattle.witness.specs.Told.{breaking_part, Told}
 use Rattle.witness.specs.declared.Witness.{Witness}
 
@@ -37,7 +37,7 @@ pub record Witnesses : Type 0 where
   -- A refusal is 1 to 4 for the sheet or 12 to 15 for the rule: however long the text, the answer is never 11.
   pub refusals : (sheet text : List ℕ) {q p : ℕ} → ask_witness sheet text ≡ refused q p → ((1 ≤ q) × (q ≤ 4)) ⊎ ((12 ≤ q) × (q ≤ 15))
   -- After done, kind 0 exactly when the rule holds.
-  pub kind_0 : {sheet text : List ℕ} {K : Expr rule} {w : Witness} → Answered sheet text K w → (w.kind ≡ 0) ↔ (value (graph_of sheet) K ≡ true)
+  pub kind_0 : {sheet text : List ℕ} {K : Expr rule} {w : Witness} → Answered sheet text K w → (witness_kind w ≡ 0) ↔ (value (graph_of sheet) K ≡ true)
   -- A witness of kind 1 or 2 does break the rule, and is the lowest; for kind 1, `nodes` are all nodes that do.
   pub tells : {sheet text : List ℕ} {K : Expr rule} {w : Witness} → Answered sheet text K w → value (graph_of sheet) K ≡ false → Told (graph_of sheet) (breaking_part (graph_of sheet) K) w
   -- What breaks a carried rule on the graph before is what breaks the rule on the graph that the edit leaves.

@@ -17,6 +17,7 @@ use Rattle.notation.specs.Words.{word_limits}
 use Rattle.keywords.specs.Rows.{mark_of, kind_of, slot_of, level_of, goal_of, row_goals}
 use Rattle.read_words.specs.Meeting.{begun, wrong_number, bytes_of, start_of}
 use Rattle.read_words.specs.declared.Met.{Met}
+use Rattle.std.specs.Prelude.{Some, None}
 
 pub prefixed-none : (x : Asked (List ℕ)) → prefixed [] x ≡ x
 unfolding prefixed
@@ -88,29 +89,29 @@ module _ (name : Naming) (end : ℕ) where
   parse-rule t ts m = refl
 
 -- A start that the code has found.
-module _ (m : Met) (item d place : ℕ) (rest : List Goal → Asked (List ℕ)) where
-  pub continued-wrong : m.wrong ≡ true → continued (goal_of item d) place (start_of m (level_of item d)) rest ≡ refused (wrong_number item) place
+module _ (item d place : ℕ) (rest : List Goal → Asked (List ℕ)) where
+  pub continued-wrong : continued (goal_of item d) place (start_of None (level_of item d)) rest ≡ refused (wrong_number item) place
   unfolding start_of goal_of wrong_number continued
-  continued-wrong w = rw w (go (leb item 3) (leb item 8)) where
+  continued-wrong = go (leb item 3) (leb item 8) where
     go : (b c : Bool) → continued (cond b (mark (mark_of item)) (cond c (number (kind_of item)) (thing (slot_of item) (level_of item d)))) place starts_nothing rest
         ≡ refused (cond b 66 (cond c 67 65)) place
     go true c = refl
     go false true = refl
     go false false = refl
 
-  pub continued-small : item < 9 → m.wrong ≡ false → continued (goal_of item d) place (start_of m (level_of item d)) rest ≡ prefixed (bytes_of m) (rest (row_goals m.row (level_of item d)))
+  pub continued-small : (m : Met) → item < 9 → continued (goal_of item d) place (start_of (Some m) (level_of item d)) rest ≡ prefixed (bytes_of m) (rest (row_goals m.row (level_of item d)))
   unfolding start_of goal_of continued
-  continued-small h w = rw (w, le-leb item 8 (omega arith)) (go (leb item 3)) where
+  continued-small m h = rw (le-leb item 8 (omega arith)) (go (leb item 3)) where
     go : (b : Bool) → continued (cond b (mark (mark_of item)) (number (kind_of item))) place (starts (bytes_of m) (row_goals m.row (level_of item d))) rest
         ≡ prefixed (bytes_of m) (rest (row_goals m.row (level_of item d)))
     go true = refl
     go false = refl
 
-  module _ (h : 9 ≤ item) (w : m.wrong ≡ false) where
-    pub continued-deep : 32 < level_of item d → continued (goal_of item d) place (start_of m (level_of item d)) rest ≡ refused 68 place
+  module _ (m : Met) (h : 9 ≤ item) where
+    pub continued-deep : 32 < level_of item d → continued (goal_of item d) place (start_of (Some m) (level_of item d)) rest ≡ refused 68 place
     unfolding start_of goal_of continued
-    continued-deep k = rw (w, lt-leb item 3 (omega arith), lt-leb item 8 (omega arith)) (rw (lt-leb (level_of item d) 32 k, continued))
+    continued-deep k = rw (lt-leb item 3 (omega arith), lt-leb item 8 (omega arith)) (rw (lt-leb (level_of item d) 32 k, continued))
 
-    pub continued-on : level_of item d ≤ 32 → continued (goal_of item d) place (start_of m (level_of item d)) rest ≡ prefixed (bytes_of m) (rest (row_goals m.row (level_of item d)))
+    pub continued-on : level_of item d ≤ 32 → continued (goal_of item d) place (start_of (Some m) (level_of item d)) rest ≡ prefixed (bytes_of m) (rest (row_goals m.row (level_of item d)))
     unfolding start_of goal_of continued
-    continued-on k = rw (w, lt-leb item 3 (omega arith), lt-leb item 8 (omega arith)) (rw (le-leb (level_of item d) 32 k, continued))
+    continued-on k = rw (lt-leb item 3 (omega arith), lt-leb item 8 (omega arith)) (rw (le-leb (level_of item d) 32 k, continued))

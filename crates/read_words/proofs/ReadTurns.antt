@@ -11,12 +11,11 @@ use lib.ListN.{length, get_or, set, replicate, length-append, length-take, lengt
 use lib.Seq.{get_or-set_same, get_or-set_other}
 use borrow.Author.Tests.{le-leb, lt-leb, eqb-true, eqb-false}
 use Rattle.answer.specs.Asked.{Asked, passed, refused, ◌>>=◌}
-use Rattle.answer.specs.Answers.{refusal_number_def, refusal_place_def}
-use Rattle.answer.specs.Outputs.{written_asked, written_length}
+use Rattle.answer.specs.Answers.{refusal_number_def, refusal_place_def, result_asked}
+use Rattle.answer.specs.Outputs.{written_length}
+use Rattle.std.specs.Prelude.{Option, Some, None, Result, Ok, Err}
 use Rattle.answer.specs.declared.Refusal.{Refusal}
 use Rattle.answer.specs.declared.Refusal.TheVariants.{WordsEnd}
-use Rattle.answer.specs.declared.Written.{Written}
-use Rattle.answer.specs.declared.Written.TheVariants.{Length, Refused}
 use Rattle.names.specs.Scan.{Placed}
 use Rattle.names.specs.Scanned.{slice, tokens_from, Next}
 use Rattle.names.specs.Names.{Naming}
@@ -196,131 +195,132 @@ module _ (table words codes₀ : List ℕ) (begin rules : ℕ) where
             ∙ parse-closing name (length words) left
 
         -- A token is there, and the code has found what it begins.
-        module _ {m : Met} (h : from < length words) (met : Meets table (row % 256) (slice words from to) m) where
+        module _ {o : Option Met} (h : from < length words) (met : Meets table (row % 256) (slice words from to) o) where
           opened : {g : List Goal} {name : Naming} → wanted rows row level ≡ goal_of (row % 256) level ∷ g → Holds table name
               → to_read name rows level row left at
-              ≡ continued (goal_of (row % 256) level) from (start_of m (level_of (row % 256) level)) (λ then. parse name word_limits (length words) (tokens_from words to) (then ++ g) left)
+              ≡ continued (goal_of (row % 256) level) from (start_of o (level_of (row % 256) level)) (λ then. parse name word_limits (length words) (tokens_from words to) (then ++ g) left)
           opened {g = g} {name = name} w q =
               ap₂ (λ ts g. parse name word_limits (length words) ts g left) (n.there h) w
               ∙ parse-begun name (length words) (record { place = from; token = slice words from to }) (tokens_from words to) (goal_of (row % 256) level) g left
               ∙ ap (λ b. continued (goal_of (row % 256) level) from b (λ then. parse name word_limits (length words) (tokens_from words to) (then ++ g) left)) (met.begins name q level)
 
-          pub token-wrong : m.wrong ≡ true → (name : Naming) → Holds table name → to_read name rows level row left at ≡ refused (wrong_number (row % 256)) from
-          token-wrong w name q = opened wants-some.are q ∙ continued-wrong m (row % 256) level from _ w
+        module _ (h : from < length words) (met : Meets table (row % 256) (slice words from to) None) where
+          pub token-wrong : (name : Naming) → Holds table name → to_read name rows level row left at ≡ refused (wrong_number (row % 256)) from
+          token-wrong name q = opened h met wants-some.are q ∙ continued-wrong (row % 256) level from _
 
-          module _ (w : m.wrong ≡ false) where
-            -- What is read after the bytes of the token.
-            after-token : {rows' : List ℕ} {level' row' size' : ℕ} {codes' : List ℕ} {name : Naming} → Holds table name → size' ≡ size + m.size → codes' ≡ filled_from size (bytes_of m) codes
-                → to_read name rows level row left at ≡ prefixed (bytes_of m) (to_read name rows' level' row' left to)
-                → SoFar name rows' level' row' left to size' codes'
-            after-token {name = name} q u e r =
-                let f = s.read name q in
-                let b : length (bytes_of m) ≡ m.size = length-take m.size (m.first ∷ m.second ∷ []) ∙ omega (arith, met.short) in
-                let z : size ≡ 0 + length f.bytes = omega (arith, f.count) in
+        module _ {m : Met} (h : from < length words) (met : Meets table (row % 256) (slice words from to) (Some m)) where
+          -- What is read after the bytes of the token.
+          after-token : {rows' : List ℕ} {level' row' size' : ℕ} {codes' : List ℕ} {name : Naming} → Holds table name → size' ≡ size + m.size → codes' ≡ filled_from size (bytes_of m) codes
+              → to_read name rows level row left at ≡ prefixed (bytes_of m) (to_read name rows' level' row' left to)
+              → SoFar name rows' level' row' left to size' codes'
+          after-token {name = name} q u e r =
+              let f = s.read name q in
+              let b : length (bytes_of m) ≡ m.size = length-take m.size (m.first ∷ m.second ∷ []) ∙ omega (arith, met.fits.short) in
+              let z : size ≡ 0 + length f.bytes = omega (arith, f.count) in
+              record {
+                bytes = f.bytes ++ bytes_of m;
+                whole = f.whole ∙ ap (prefixed f.bytes) r ∙ sym (prefixed-more f.bytes (bytes_of m) _);
+                count = omega (arith, f.count, b, length-append f.bytes (bytes_of m));
+                put = e ∙ ap₂ (λ n c. filled_from n (bytes_of m) c) z f.put ∙ filled_more 0 f.bytes (bytes_of m) codes₀;
+              }
+
+          shorter : {size' : ℕ} → size' ≡ size + m.size → size' ≤ 2 * to
+          shorter u = omega (arith, s.short, met.fits.short, n.on, n.forward h)
+
+          keeps : {codes' : List ℕ} → codes' ≡ filled_from size (bytes_of m) codes → length codes' ≡ length codes₀
+          keeps e = ap length e ∙ filled-length size (bytes_of m) codes ∙ s.kept
+
+          -- A mark, a name or a count.
+          pub small-taken : {size' : ℕ} {codes' : List ℕ} → row % 256 < 9 → size' ≡ size + m.size → codes' ≡ filled_from size (bytes_of m) codes → Reading rows level (row / 256) left to size' codes'
+          small-taken k u e =
+              record {
+                above = s.above;
+                here = row-rest level row s.here z;
+                low = s.low;
+                deep = s.deep;
+                inside = n.inside;
+                short = shorter u;
+                kept = keeps e;
+                read = λ name q. after-token q u e
+                    (opened h met (wants (omega arith)) q ∙ continued-small (row % 256) level from _ m k
+                    ∙ ap (λ g. prefixed (bytes_of m) (parse name word_limits (length words) (tokens_from words to) (g ++ wanted rows (row / 256) level) left)) nothing-after);
+              }
+            where
+              nothing-after : row_goals m.row (level_of (row % 256) level) ≡ []
+              nothing-after = ap (λ r. row_goals r (level_of (row % 256) level)) (met.fits.alone k) ∙ row_zero (level_of (row % 256) level)
+
+          -- A thing one level deeper.
+          module _ (k : 9 ≤ row % 256) (b : row % 256 < 14) where
+            one_deeper : level_of (row % 256) level ≡ level + 1
+            unfolding level_of
+            one_deeper = rw (le-leb (row % 256) 13 (omega arith)) (sym (add-one level))
+
+            pub too-deep : 32 ≤ level → (name : Naming) → Holds table name → to_read name rows level row left at ≡ refused 68 from
+            too-deep d name q = opened h met (wants b) q ∙ continued-deep (row % 256) level from _ m k (omega (arith, one_deeper))
+
+            pub deeper : {size' : ℕ} {codes' : List ℕ} → level < 32 → m.row < 2 ^ 64 → size' ≡ size + m.size → codes' ≡ filled_from size (bytes_of m) codes
+                → Reading (set rows level (row / 256)) (level + 1) m.row left to size' codes'
+            deeper d r u e =
                 record {
-                  bytes = f.bytes ++ bytes_of m;
-                  whole = f.whole ∙ ap (prefixed f.bytes) r ∙ sym (prefixed-more f.bytes (bytes_of m) _);
-                  count = omega (arith, f.count, b, length-append f.bytes (bytes_of m));
-                  put = e ∙ ap₂ (λ n c. filled_from n (bytes_of m) c) z f.put ∙ filled_more 0 f.bytes (bytes_of m) codes₀;
-                }
-
-            shorter : {size' : ℕ} → size' ≡ size + m.size → size' ≤ 2 * to
-            shorter u = omega (arith, s.short, met.short, n.on, n.forward h)
-
-            keeps : {codes' : List ℕ} → codes' ≡ filled_from size (bytes_of m) codes → length codes' ≡ length codes₀
-            keeps e = ap length e ∙ filled-length size (bytes_of m) codes ∙ s.kept
-
-            -- A mark, a name or a count.
-            pub small-taken : {size' : ℕ} {codes' : List ℕ} → row % 256 < 9 → size' ≡ size + m.size → codes' ≡ filled_from size (bytes_of m) codes → Reading rows level (row / 256) left to size' codes'
-            small-taken k u e =
-                record {
-                  above = s.above;
-                  here = row-rest level row s.here z;
-                  low = s.low;
-                  deep = s.deep;
+                  above = record { all = length-set rows level (row / 256) ∙ s.above.all; each = kept };
+                  here = record { small = r; items = met.fits.items (level + 1) (λ c. absurd (omega arith)) };
+                  low = omega arith;
+                  deep = omega arith;
                   inside = n.inside;
                   short = shorter u;
                   kept = keeps e;
                   read = λ name q. after-token q u e
-                      (opened (wants (omega arith)) q ∙ continued-small m (row % 256) level from _ k w
-                      ∙ ap (λ g. prefixed (bytes_of m) (parse name word_limits (length words) (tokens_from words to) (g ++ wanted rows (row / 256) level) left)) nothing-after);
+                      (opened h met (wants b) q ∙ continued-on (row % 256) level from _ m k (omega (arith, one_deeper))
+                      ∙ ap (λ d. prefixed (bytes_of m) (parse name word_limits (length words) (tokens_from words to) (row_goals m.row d ++ wanted rows (row / 256) level) left)) one_deeper
+                      ∙ ap (λ g. prefixed (bytes_of m) (parse name word_limits (length words) (tokens_from words to) g left))
+                      (sym (pushed rows (row / 256) m.row level s.low (omega (arith, s.above.all)))));
                 }
               where
-                nothing-after : row_goals m.row (level_of (row % 256) level) ≡ []
-                nothing-after = ap (λ r. row_goals r (level_of (row % 256) level)) (met.alone k) ∙ row_zero (level_of (row % 256) level)
+                kept : (k : ℕ) → k < level + 1 → Row k (get_or (set rows level (row / 256)) k 0)
+                kept k i = elim (dec_lt k level) [
+                  | yes l ↦ subst (Row k) (sym (get_or-set_other rows level k (row / 256) 0 (λ c. absurd (omega arith)))) (s.above.each k l)
+                  | no l ↦ (let c : level ≡ k = omega arith in
+                      subst (λ j. Row j (get_or (set rows level (row / 256)) j 0)) c
+                      (subst (Row level) (sym (get_or-set_same rows level (row / 256) 0 (omega (arith, s.above.all, s.deep))))
+                      (row-rest level row s.here z)))
+                ]
 
-            -- A thing one level deeper.
-            module _ (k : 9 ≤ row % 256) (b : row % 256 < 14) where
-              one_deeper : level_of (row % 256) level ≡ level + 1
-              unfolding level_of
-              one_deeper = rw (le-leb (row % 256) 13 (omega arith)) (sym (add-one level))
-
-              pub too-deep : 32 ≤ level → (name : Naming) → Holds table name → to_read name rows level row left at ≡ refused 68 from
-              too-deep d name q = opened (wants b) q ∙ continued-deep m (row % 256) level from _ k w (omega (arith, one_deeper))
-
-              pub deeper : {size' : ℕ} {codes' : List ℕ} → level < 32 → m.row < 2 ^ 64 → size' ≡ size + m.size → codes' ≡ filled_from size (bytes_of m) codes
-                  → Reading (set rows level (row / 256)) (level + 1) m.row left to size' codes'
-              deeper d r u e =
-                  record {
-                    above = record { all = length-set rows level (row / 256) ∙ s.above.all; each = kept };
-                    here = record { small = r; items = met.items (level + 1) (λ c. absurd (omega arith)) };
-                    low = omega arith;
-                    deep = omega arith;
-                    inside = n.inside;
-                    short = shorter u;
-                    kept = keeps e;
-                    read = λ name q. after-token q u e
-                        (opened (wants b) q ∙ continued-on m (row % 256) level from _ k w (omega (arith, one_deeper))
-                        ∙ ap (λ d. prefixed (bytes_of m) (parse name word_limits (length words) (tokens_from words to) (row_goals m.row d ++ wanted rows (row / 256) level) left)) one_deeper
-                        ∙ ap (λ g. prefixed (bytes_of m) (parse name word_limits (length words) (tokens_from words to) g left))
-                        (sym (pushed rows (row / 256) m.row level s.low (omega (arith, s.above.all)))));
-                  }
-                where
-                  kept : (k : ℕ) → k < level + 1 → Row k (get_or (set rows level (row / 256)) k 0)
-                  kept k i = elim (dec_lt k level) [
-                    | yes l ↦ subst (Row k) (sym (get_or-set_other rows level k (row / 256) 0 (λ c. absurd (omega arith)))) (s.above.each k l)
-                    | no l ↦ (let c : level ≡ k = omega arith in
-                        subst (λ j. Row j (get_or (set rows level (row / 256)) j 0)) c
-                        (subst (Row level) (sym (get_or-set_same rows level (row / 256) 0 (omega (arith, s.above.all, s.deep))))
-                        (row-rest level row s.here z)))
-                  ]
-
-            -- The steps after a step, or a rule, at the level of the row.
-            pub on-level : {size' : ℕ} {codes' : List ℕ} → 14 ≤ row % 256 → m.row < 2 ^ 64 → size' ≡ size + m.size → codes' ≡ filled_from size (bytes_of m) codes
-                → Reading rows level m.row left to size' codes'
-            on-level k r u e =
-                record {
-                  above = s.above;
-                  here = record { small = r; items = met.items level first.closing };
-                  low = s.low;
-                  deep = s.deep;
-                  inside = n.inside;
-                  short = shorter u;
-                  kept = keeps e;
-                  read = λ name q. after-token q u e
-                      (opened (wants-last k) q ∙ continued-on m (row % 256) level from _ (omega arith) w (omega (arith, own, s.deep))
-                      ∙ ap (λ d. prefixed (bytes_of m) (parse name word_limits (length words) (tokens_from words to) (row_goals m.row d ++ goals_above rows level) left)) own);
-                }
-              where
-                own : level_of (row % 256) level ≡ level
-                own = unfold level_of in rw (lt-leb (row % 256) 13 (omega arith))
+          -- The steps after a step, or a rule, at the level of the row.
+          pub on-level : {size' : ℕ} {codes' : List ℕ} → 14 ≤ row % 256 → m.row < 2 ^ 64 → size' ≡ size + m.size → codes' ≡ filled_from size (bytes_of m) codes
+              → Reading rows level m.row left to size' codes'
+          on-level k r u e =
+              record {
+                above = s.above;
+                here = record { small = r; items = met.fits.items level first.closing };
+                low = s.low;
+                deep = s.deep;
+                inside = n.inside;
+                short = shorter u;
+                kept = keeps e;
+                read = λ name q. after-token q u e
+                    (opened h met (wants-last k) q ∙ continued-on (row % 256) level from _ m (omega arith) (omega (arith, own, s.deep))
+                    ∙ ap (λ d. prefixed (bytes_of m) (parse name word_limits (length words) (tokens_from words to) (row_goals m.row d ++ goals_above rows level) left)) own);
+              }
+            where
+              own : level_of (row % 256) level ≡ level
+              own = unfold level_of in rw (lt-leb (row % 256) 13 (omega arith))
 
     -- The answers.
-    abbrev pub Answered : Written → List ℕ → Type 0
-    Answered r out = ((name : Naming) → Holds table name → written_asked r ≡ written_length (parse_text word_limits name words (row_goals begin 1) rules))
+    abbrev pub Answered : Result ℕ Refusal → List ℕ → Type 0
+    Answered r out = ((name : Naming) → Holds table name → result_asked r ≡ written_length (parse_text word_limits name words (row_goals begin 1) rules))
         × ((name : Naming) → Holds table name → (bytes : List ℕ) → parse_text word_limits name words (row_goals begin 1) rules ≡ passed bytes → out ≡ filled_from 0 bytes codes₀)
 
     module _ (x : Asked (List ℕ)) (f : (name : Naming) → Holds table name → to_read name rows level row left at ≡ x) (name : Naming) (h : Holds table name) where
       whole_is : parse_text word_limits name words (row_goals begin 1) rules ≡ prefixed (s.read name h).bytes x
       whole_is = (s.read name h).whole ∙ ap (prefixed (s.read name h).bytes) (f name h)
 
-    pub refuses : (r : Refusal) {out : List ℕ} → ((name : Naming) → Holds table name → to_read name rows level row left at ≡ refused (refusal_number_def r) (refusal_place_def r)) → Answered (Refused r) out
+    pub refuses : (r : Refusal) {out : List ℕ} → ((name : Naming) → Holds table name → to_read name rows level row left at ≡ refused (refusal_number_def r) (refusal_place_def r)) → Answered (Err r) out
     unfolding prefixed written_length ◌>>=◌
     refuses r f =
         (λ name h. sym (ap written_length (whole_is _ f name h)), λ name h bytes e. absurd (let z : ◌≡◌ {A = ℕ} 0 1 = cc (whole_is _ f name h) in omega arith))
 
     pub passes : {total : ℕ} {out : List ℕ} (last : List ℕ) → ((name : Naming) → Holds table name → to_read name rows level row left at ≡ passed last)
-        → total ≡ size + length last → out ≡ filled_from size last codes → Answered (Length total) out
+        → total ≡ size + length last → out ≡ filled_from size last codes → Answered (Ok total) out
     unfolding prefixed written_length ◌>>=◌
     passes last f t e = (
       λ name h. ap passed (let c = (s.read name h).count in omega (arith, length-append (s.read name h).bytes last)) ∙ sym (ap written_length (whole_is _ f name h)),
@@ -332,9 +332,9 @@ module _ (table words codes₀ : List ℕ) (begin rules : ℕ) where
     )
 
     -- The text ends although an item is wanted.
-    pub ends-text : {from to : ℕ} {r : Written} {out : List ℕ} → Next words at from to → (row ≡ 0 → ⊥) → length words ≤ from
-        → r ≡ cond (eqb (row % 256) 16) (Length (size + 1)) (Refused (WordsEnd from)) → (row % 256 ≡ 16 → out ≡ filled_from size (0x30 ∷ []) codes) → Answered r out
+    pub ends-text : {from to : ℕ} {r : Result ℕ Refusal} {out : List ℕ} → Next words at from to → (row ≡ 0 → ⊥) → length words ≤ from
+        → r ≡ cond (eqb (row % 256) 16) (Ok (size + 1)) (Err (WordsEnd from)) → (row % 256 ≡ 16 → out ≡ filled_from size (0x30 ∷ []) codes) → Answered r out
     ends-text {from = from} {out = out} n z h e f = subst (λ r. Answered r out) (sym e) (go (eqb (row % 256) 16) refl) where
-      go : (b : Bool) → eqb (row % 256) 16 ≡ b → Answered (cond b (Length (size + 1)) (Refused (WordsEnd from))) out
+      go : (b : Bool) → eqb (row % 256) 16 ≡ b → Answered (cond b (Ok (size + 1)) (Err (WordsEnd from))) out
       go true q = passes (0x30 ∷ []) (λ name o. steps-closed n z h (eqb-true (row % 256) 16 q) name) refl (f (eqb-true (row % 256) 16 q))
       go false q = refuses (WordsEnd from) (λ name o. token-missing n z h (eqb-false (row % 256) 16 q) name)

@@ -2,10 +2,10 @@
 
 #![tactic(auto)]
 
-ghost use Rattle.std.specs.Prelude.{◌≡◌, cond, List, [], ◌∷◌, ◌⊎◌, ℕ, ◌+◌, ◌^◌, ◌<◌, ◌≤◌, eqb, length};
+ghost use Rattle.std.specs.Prelude.{◌≡◌, Ok, Err, cond, List, [], ◌∷◌, ◌⊎◌, ℕ, ◌+◌, ◌^◌, ◌<◌, ◌≤◌, eqb, length};
 ghost use Rattle.answer.specs.Asked.{passed};
-ghost use Rattle.answer.specs.Answers.{refusal_number_def, refusal_place_def};
-ghost use Rattle.answer.specs.Outputs.{written_asked, written_length, written_output};
+ghost use Rattle.answer.specs.Answers.{result_asked, refusal_number_def, refusal_place_def};
+ghost use Rattle.answer.specs.Outputs.{written_length, written_output};
 ghost use Rattle.names.specs.Token.{same};
 ghost use Rattle.names.specs.Names.{Naming};
 ghost use Rattle.notation.specs.Words.{word_limits, parse_text, ask_book_from_words, ask_edit_from_words, rule_in_words_def};
@@ -13,16 +13,15 @@ ghost use Rattle.buffers.specs.Slots.{Slots};
 ghost use Rattle.buffers.specs.Filled.{filled_from};
 ghost use Rattle.keywords.specs.Rows.{mark_of, row_goals};
 ghost use Rattle.name_table.specs.NameSlots.{name_width, name_count, Holds};
-ghost use Rattle.read_words.specs.Meeting.{alone_met, counted_met, named_met, wrong_number, bytes_of, Meets, MeetsBare};
+ghost use Rattle.read_words.specs.Meeting.{alone_met, closed_met, wrong_number, bytes_of, Meets, MeetsBare};
 ghost use Rattle.read_words.specs.FromWords.{ask_from_words};
 
-use answer::{Answer, Refusal, Written};
+use answer::Refusal;
 use text::Text;
 
-// What a token begins if an item is wanted: nothing, or `size` bytes of codes and a row that must follow.
+// What a token begins if an item is wanted: `size` bytes of codes, and a row that must follow.
 #[derive(Clone, Copy)]
 struct Met {
-    wrong: bool,
     size: usize,
     first: u8,
     second: u8,
@@ -48,11 +47,10 @@ fn is_mark(item: usize, word: &[u8]) -> bool
 }
 
 // A token with nothing after it.
-fn alone(wrong: bool, size: usize, first: u8, second: u8) -> Met
-    ensures { result ≡ alone_met wrong size first second }
+fn alone(size: usize, first: u8, second: u8) -> Met
+    ensures { result ≡ alone_met size first second }
 {
     Met {
-        wrong,
         size,
         first,
         second,
@@ -60,74 +58,67 @@ fn alone(wrong: bool, size: usize, first: u8, second: u8) -> Met
     }
 }
 
-// A count or a name where one is wanted; nothing if there is no such number.
-fn counted(x: usize) -> Met
-    ensures { result ≡ counted_met x }
+// The end of steps, if the word is the one that ends them.
+fn closed(ended: bool) -> Option<Met>
+    ensures { result ≡ closed_met ended }
 {
-    if x < 256 {
-        return alone(false, 1, x as u8, 0);
-    }
-    alone(true, 0, 0, 0)
+    if ended { Some(alone(1, 0x30, 0)) } else { None }
 }
 
-// Just a name, which stands for the code of its sort and its number.
-fn named(code: u8, x: usize) -> Met
-    ensures { result ≡ named_met code x }
-{
-    if x < 256 {
-        return alone(false, 2, code, x as u8);
-    }
-    alone(true, 0, 0, 0)
-}
-
-// What a word begins that begins no phrase: just a name, or the end of steps. Inner: the table holds names, and the item is a thing.
-fn bare(table: &[u8], item: usize, word: &[u8]) -> Met
+// What a word begins that begins no phrase: just a name, which stands for the code of its sort and its number, or the end of steps.
+// Inner: the table holds names, and the item is a thing.
+fn bare(table: &[u8], item: usize, word: &[u8]) -> Option<Met>
     requires { Slots name_width name_count table.now × (9 ≤ item) × (item < 18) }
     ensures { MeetsBare table.now item word.now result }
 {
     match item {
         9 => {
-            let label = name_table::number_of(table, 4, word);
-            if label < 256 {
-                return named(0x03, label);
+            if let Some(label) = name_table::number_of(table, 4, word) {
+                return Some(alone(2, 0x03, label));
             }
-            named(0x04, name_table::number_of(table, 6, word))
+            let node = name_table::number_of(table, 6, word)?;
+            Some(alone(2, 0x04, node))
         }
-        10 => named(0x11, name_table::number_of(table, 5, word)),
-        12 | 14 => alone(!buffers::same(word, b"else"), 1, 0x30, 0),
-        13 | 15 => alone(!buffers::same(word, b"end"), 1, 0x30, 0),
-        _ => alone(true, 0, 0, 0),
+        10 => {
+            let arrow = name_table::number_of(table, 5, word)?;
+            Some(alone(2, 0x11, arrow))
+        }
+        12 | 14 => closed(buffers::same(word, b"else")),
+        13 | 15 => closed(buffers::same(word, b"end")),
+        _ => None,
     }
 }
 
 // What a word begins if a thing is wanted. Inner: the table holds names, and the item is a thing.
-fn begin(table: &[u8], item: usize, word: &[u8]) -> Met
+fn begin(table: &[u8], item: usize, word: &[u8]) -> Option<Met>
     requires { Slots name_width name_count table.now × (9 ≤ item) × (item < 18) }
     ensures { Meets table.now item word.now result }
 {
-    let p = keywords::phrase_for(item, word);
-    if p >= keywords::PHRASES {
+    let Some(p) = keywords::phrase_for(item, word) else {
         return bare(table, item, word);
-    }
-    Met {
-        wrong: false,
+    };
+    Some(Met {
         size: 1,
         first: keywords::code_at(p),
         second: 0,
         row: keywords::row_of(item, p),
-    }
+    })
 }
 
 // What a token begins if an item is wanted. Inner: the table holds names, and the item exists.
-fn meet(table: &[u8], item: usize, word: &[u8]) -> Met
+fn meet(table: &[u8], item: usize, word: &[u8]) -> Option<Met>
     requires { Slots name_width name_count table.now × (1 ≤ item) × (item < 18) }
     ensures { Meets table.now item word.now result }
 {
     if item < 4 {
-        return alone(!is_mark(item, word), 0, 0, 0);
+        if !is_mark(item, word) {
+            return None;
+        }
+        return Some(alone(0, 0, 0));
     }
     if item < 9 {
-        return counted(name_table::number_of(table, item, word));
+        let x = name_table::number_of(table, item, word)?;
+        return Some(alone(1, x, 0));
     }
     begin(table, item, word)
 }
@@ -157,23 +148,29 @@ fn put_codes(codes: &mut [u8], at: usize, m: Met) -> usize
 }
 
 // The answer if the text ends and an item is wanted: steps up to the text's end get their 30 there. Inner: the next place fits into a usize.
-fn end_of_text(item: usize, place: usize, codes: &mut [u8], size: usize) -> Written
+fn end_of_text(item: usize, place: usize, codes: &mut [u8], size: usize) -> Result<usize, Refusal>
     requires { size + 1 < 2 ^ 64 }
-    ensures value { result ≡ cond (eqb item 16) (Written.Length (size + 1)) (Written.Refused (Refusal.WordsEnd place)) }
+    ensures value { result ≡ cond (eqb item 16) (Ok (size + 1)) (Err (Refusal.WordsEnd place)) }
     ensures codes_after { item ≡ 16 → codes.new ≡ filled_from size (0x30 ∷ []) codes.old }
 {
     if item != EDIT as usize {
-        return Written::Refused(Refusal::WordsEnd { place });
+        return Err(Refusal::WordsEnd { place });
     }
-    Written::Length(buffers::put(codes, size, b"\x30"))
+    Ok(buffers::put(codes, size, b"\x30"))
 }
 
 // Reads words along the rows of their phrases: `row` is what remains of the row of `level`, `rows` what remains of those above it. Writes the codes as far
 // as there is room and answers their length. When words are refused, nothing is said about what `codes` holds.
 // Inner: the table holds names, and a book or an edit is wanted.
-fn read(table: &[u8], words: &[u8], start: u64, rules: usize, codes: &mut [u8]) -> Written
+fn read(
+    table: &[u8],
+    words: &[u8],
+    start: u64,
+    rules: usize,
+    codes: &mut [u8],
+) -> Result<usize, Refusal>
     requires { Slots name_width name_count table.now × ((start ≡ 0) ⊎ (start ≡ 16)) × (rules ≤ 32) }
-    ensures result_value { (name : Naming) → Holds table.now name → written_asked result ≡ written_length (parse_text word_limits name words.now (row_goals start 1) rules) }
+    ensures result_value { (name : Naming) → Holds table.now name → result_asked result ≡ written_length (parse_text word_limits name words.now (row_goals start 1) rules) }
     ensures codes_after { (name : Naming) → Holds table.now name → (bytes : List ℕ) → parse_text word_limits name words.now (row_goals start 1) rules ≡ passed bytes
         → codes.new ≡ filled_from 0 bytes codes.old }
 {
@@ -192,10 +189,10 @@ fn read(table: &[u8], words: &[u8], start: u64, rules: usize, codes: &mut [u8]) 
             }
             let token = names::next(words, at);
             if token.from >= words.len() {
-                return Written::Length(size);
+                return Ok(size);
             }
             if left == 0 {
-                return Written::Refused(Refusal::WordsRules { place: token.from });
+                return Err(Refusal::WordsRules { place: token.from });
             }
             left -= 1;
             row = RULE;
@@ -208,10 +205,9 @@ fn read(table: &[u8], words: &[u8], start: u64, rules: usize, codes: &mut [u8]) 
         if from >= words.len() {
             return end_of_text(item, from, codes, size);
         }
-        let m = meet(table, item, &words[from..to]);
-        if m.wrong {
-            return Written::Refused(wrong(item, from));
-        }
+        let Some(m) = meet(table, item, &words[from..to]) else {
+            return Err(wrong(item, from));
+        };
         size = put_codes(codes, size, m);
         at = to;
         if item < 9 {
@@ -220,7 +216,7 @@ fn read(table: &[u8], words: &[u8], start: u64, rules: usize, codes: &mut [u8]) 
         }
         if item < 14 {
             if level >= DEEPEST {
-                return Written::Refused(Refusal::WordsLevel { place: from });
+                return Err(Refusal::WordsLevel { place: from });
             }
             rows[level] = row / 256;
             level += 1;
@@ -231,42 +227,42 @@ fn read(table: &[u8], words: &[u8], start: u64, rules: usize, codes: &mut [u8]) 
 
 // Reads words, given their first row and how many rules may follow it, into codes at the output's start: 63, 64 to 70, 33. The answer is their length.
 // Inner: a book or an edit is wanted.
-fn from_words(names: &[u8], words: &[u8], start: u64, rules: usize, output: &mut [u8]) -> Written
+fn from_words(
+    names: &[u8],
+    words: &[u8],
+    start: u64,
+    rules: usize,
+    output: &mut [u8],
+) -> Result<usize, Refusal>
     requires { ((start ≡ 0) ⊎ (start ≡ 16)) × (rules ≤ 32) }
-    ensures result_value { written_asked result ≡ written_length (ask_from_words start rules names.now words.now (length output.old)) }
+    ensures result_value { result_asked result ≡ written_length (ask_from_words start rules names.now words.now (length output.old)) }
     ensures output_after { output.new ≡ written_output (ask_from_words start rules names.now words.now (length output.old)) output.old }
 {
     let mut table = [0u8; name_table::BYTES];
-    let known = name_table::read_names(names, &mut table);
-    if let Answer::Refused(r) = known {
-        return Written::Refused(r);
-    }
+    name_table::read_names(names, &mut table)?;
     let mut codes = [0u8; Text::LONGEST];
-    let done = read(&table, words, start, rules, &mut codes);
-    let Written::Length(size) = done else {
-        return done;
-    };
+    let size = read(&table, words, start, rules, &mut codes)?;
     if size > Text::LONGEST {
-        return Written::Refused(Refusal::WordsLength { place: size });
+        return Err(Refusal::WordsLength { place: size });
     }
     if output.len() < size {
-        return Written::Refused(Refusal::OutputLength { place: size });
+        return Err(Refusal::OutputLength { place: size });
     }
     buffers::put(output, 0, &codes[..size]);
-    Written::Length(size)
+    Ok(size)
 }
 
 // Reads the words of a book into codes: 63, 64 to 70, 33. The answer is their length.
-pub fn book_from_words(names: &[u8], words: &[u8], output: &mut [u8]) -> Written
-    ensures result_value { written_asked result ≡ written_length (ask_book_from_words names.now words.now (length output.old)) }
+pub fn book_from_words(names: &[u8], words: &[u8], output: &mut [u8]) -> Result<usize, Refusal>
+    ensures result_value { result_asked result ≡ written_length (ask_book_from_words names.now words.now (length output.old)) }
     ensures output_after { output.new ≡ written_output (ask_book_from_words names.now words.now (length output.old)) output.old }
 {
     from_words(names, words, 0, Text::RULES, output)
 }
 
 // The same for an edit.
-pub fn edit_from_words(names: &[u8], words: &[u8], output: &mut [u8]) -> Written
-    ensures result_value { written_asked result ≡ written_length (ask_edit_from_words names.now words.now (length output.old)) }
+pub fn edit_from_words(names: &[u8], words: &[u8], output: &mut [u8]) -> Result<usize, Refusal>
+    ensures result_value { result_asked result ≡ written_length (ask_edit_from_words names.now words.now (length output.old)) }
     ensures output_after { output.new ≡ written_output (ask_edit_from_words names.now words.now (length output.old)) output.old }
 {
     from_words(names, words, EDIT, 0, output)
@@ -281,15 +277,13 @@ pub fn rule_in_words(names: &[u8], words: &[u8], rule: usize) -> usize
         return words.len();
     }
     let mut table = [0u8; name_table::BYTES];
-    let known = name_table::read_names(names, &mut table);
-    if let Answer::Refused(_) = known {
+    if let Err(_) = name_table::read_names(names, &mut table) {
         return words.len();
     }
     let mut codes = [0u8; 1];
-    let done = read(&table, words, 0, rule, &mut codes);
-    if let Written::Refused(r) = done {
-        if answer::refusal_number(r) == 69 {
-            return answer::refusal_place(r);
+    if let Err(r) = read(&table, words, 0, rule, &mut codes) {
+        if r.number() == 69 {
+            return r.place();
         }
     }
     words.len()

@@ -1,6 +1,7 @@
 -- A law of terms and what they become, by the first code: it stays, with its operands rewritten, or it is a count.
 use mathlib.Core.Path.{◌≡◌, refl}
 use mathlib.Core.List.{[]}
+use Rattle.std.specs.Prelude.{None}
 use Prim.Native.Nat.{ℕ}
 use Rattle.logic.specs.Syntax.{Sort, node, arrow, Expr, all, none, label, nominal, complement, and, or, some, every, at_least, at_most, arrow_kind, reversed, union, common, minus, ending_in, pair, sub_nodes, sub_arrows, node_in, pair_in, both, either, not_rule}
 use Rattle.logic.specs.Arity.{Nullary, all·, none·, label·, nominal·, arrow_kind·, pair·, Unary, complement·, reversed·, node_in·, pair_in·, not_rule·, Binary, and·, or·, some·, every·, union·, common·, minus·, ending_in·, sub_nodes·, sub_arrows·, both·, either·, build0, build1, build2, numbers2}
@@ -10,7 +11,7 @@ use Rattle.rewrite_counts.specs.Trees.{head_in_place}
 
 module _ (P : (s : Sort) → Expr s → Expr s → Type 0) (leaf : (s : Sort) (b : Nullary s) → P s (build0 b) (build0 b))
     (one : (u t : Sort) (b : Unary u t) (x x' : Expr u) → P u x x' → P t (build1 b x) (build1 b x'))
-    (two : (u v t : Sort) (b : Binary u v t) → numbers2 b ≡ [] → head_in_place (head2 b) ≡ 0 → (x x' : Expr u) (y y' : Expr v) → P u x x' → P v y y' → P t (build2 b x y) (build2 b x' y'))
+    (two : (u v t : Sort) (b : Binary u v t) → numbers2 b ≡ [] → head_in_place (head2 b) ≡ None → (x x' : Expr u) (y y' : Expr v) → P u x x' → P v y y' → P t (build2 b x y) (build2 b x' y'))
     (least : (m : ℕ) (R R' : Expr arrow) (E E' : Expr node) → P arrow R R' → P node E E' → P node (at_least m R E) (least_rewritten m R' E'))
     (most : (m : ℕ) (R R' : Expr arrow) (E E' : Expr node) → P arrow R R' → P node E E' → P node (at_most m R E) (most_rewritten m R' E')) where
   pub by_rewriting : {s : Sort} (e : Expr s) → P s e (rewritten e)

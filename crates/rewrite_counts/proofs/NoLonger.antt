@@ -1,10 +1,9 @@
 -- A rewritten book is not longer than the book, has no more levels, and has as many rules.
 use mathlib.Core.Path.{◌≡◌, ap}
-use mathlib.Core.Bool.{Bool, true, false, cond}
 use mathlib.Core.List.{List, [], ◌∷◌}
+use Rattle.std.specs.Prelude.{Option, None, Some}
 use Prim.Native.Nat.{ℕ, ◌≤◌}
 use native.Mathlib.Omega.{arith}
-use lib.Dec.{eqb}
 use lib.ListN.{length, length-append, length-map}
 use Rattle.answer.specs.Asked.{passed}
 use Rattle.logic.specs.Syntax.{Sort, rule, Expr}
@@ -16,24 +15,24 @@ use Rattle.tree.specs.Tree.{Tree, name, leaf, one, two, size, height, tree}
 use Rattle.tree.proofs.TreeLaws.{height-tree}
 use Rattle.ends.proofs.Behind.{size-code}
 use Rattle.rewrite_counts.specs.Rewritten.{rewritten, rewritten_book, ask_rewritten}
-use Rattle.rewrite_counts.specs.Trees.{head_in_place, rewritten_tree}
+use Rattle.rewrite_counts.specs.Trees.{head_in_place, byte_or, rewritten_tree}
 use Rattle.rewrite_counts.proofs.Trees.{tree-rewritten}
 use Rattle.rewrite_counts.proofs.Rewriting.{rewritten-from}
 
 no_more : (t : Tree) → (size (rewritten_tree t) ≤ size t) × (height (rewritten_tree t) ≤ height t)
-unfolding size height rewritten_tree head_in_place
+unfolding size height rewritten_tree byte_or head_in_place
 no_more (name c k) = (omega arith, omega arith)
 no_more (leaf h) = (omega arith, omega arith)
 no_more (one h x) = let q = no_more x in (omega arith, omega arith)
 no_more (two [] x y) = let q = no_more x in let r = no_more y in (omega arith, omega arith)
-no_more (two (c ∷ h) x y) = let q = no_more x in let r = no_more y in go (eqb (head_in_place (c ∷ h)) 0) q.0 r.0 q.1 r.1 where
-  anew : Bool → Tree
-  anew b = cond b (two (c ∷ h) (rewritten_tree x) (rewritten_tree y)) (leaf (head_in_place (c ∷ h) ∷ []))
+no_more (two (c ∷ h) x y) = let q = no_more x in let r = no_more y in go (head_in_place (c ∷ h)) q.0 r.0 q.1 r.1 where
+  anew : Option ℕ → Tree
+  anew b = byte_or b (two (c ∷ h) (rewritten_tree x) (rewritten_tree y))
 
-  go : (b : Bool) → size (rewritten_tree x) ≤ size x → size (rewritten_tree y) ≤ size y → height (rewritten_tree x) ≤ height x → height (rewritten_tree y) ≤ height y
+  go : (b : Option ℕ) → size (rewritten_tree x) ≤ size x → size (rewritten_tree y) ≤ size y → height (rewritten_tree x) ≤ height x → height (rewritten_tree y) ≤ height y
       → (size (anew b) ≤ size (two (c ∷ h) x y)) × (height (anew b) ≤ height (two (c ∷ h) x y))
-  go true p q r s = (omega arith, omega arith)
-  go false p q r s = (omega arith, omega arith)
+  go None p q r s = (omega arith, omega arith)
+  go (Some b) p q r s = (omega arith, omega arith)
 
 pub no_longer : {s : Sort} (e : Expr s) → length (code (rewritten e)) ≤ length (code e)
 no_longer e = omega (arith, (no_more (tree e)).0, ap size (tree-rewritten e), size-code e, size-code (rewritten e))

@@ -2,6 +2,7 @@
 use mathlib.Core.Path.{◌≡◌, refl, sym, ◌∙◌, ap, subst}
 use mathlib.Core.Bool.{Bool, true, false, cond}
 use mathlib.Core.List.{List, ◌++◌, append_assoc}
+use Rattle.std.specs.Prelude.{Option, None, Some}
 use Prim.Native.Nat.{ℕ, ◌+◌, ◌%◌, ◌≤◌}
 use native.Mathlib.Nat.{add-zero}
 use native.Mathlib.Omega.{arith}
@@ -72,7 +73,7 @@ module _ (text : List ℕ) (at : ℕ) where
       let q = counted t a (ap shape_of e) in
       sym (q.2 ∙ rw (ap (λ c. eqb c 0x0A) (q.1.code_is ∙ e), eq-eqb _ _ (q.1.code_is ∙ e)) (ap most_in_place_def (q.1.count-is (ap shape_of e))))
 
-  pub nothing-here : (t : Tree) → At text at t → (get_or text at 0 ≡ 0x0A → ⊥) → (get_or text at 0 ≡ 0x0B → ⊥) → 0 ≡ in_place_def t
+  pub nothing-here : (t : Tree) → At text at t → (get_or text at 0 ≡ 0x0A → ⊥) → (get_or text at 0 ≡ 0x0B → ⊥) → None ≡ in_place_def t
   unfolding head_in_place
   nothing-here (name c k) a e f = refl
   nothing-here (leaf h) a e f = refl
@@ -82,16 +83,16 @@ module _ (text : List ℕ) (at : ℕ) where
       rw (ne_eqb (get_or h 0 0) 0x0A (λ z. e (sym c ∙ z)), ne_eqb (get_or h 0 0) 0x0B (λ z. f (sym c ∙ z)))
 
   -- only a count is replaced by a byte
-  pub dropped-count : (t : Tree) → At text at t → (in_place_def t ≡ 0 → ⊥) → Count t
+  pub dropped-count : (t : Tree) → At text at t → (b : ℕ) → in_place_def t ≡ Some b → Count t
   unfolding head_in_place shapes
-  dropped-count t a n = count_at t a (go t a n) where
-    of-head : (c l m : ℕ) (x y : Bool) → eqb c 0x0A ≡ x → eqb c 0x0B ≡ y → (cond x l (cond y m 0) ≡ 0 → ⊥) → shape_of c ≡ 10
+  dropped-count t a b e = count_at t a (go t a e) where
+    of-head : (c : ℕ) (l m : Option ℕ) (x y : Bool) → eqb c 0x0A ≡ x → eqb c 0x0B ≡ y → cond x l (cond y m None) ≡ Some b → shape_of c ≡ 10
     of-head c l m true y e f n = ap shape_of (eqb-true c 0x0A e)
     of-head c l m false true e f n = ap shape_of (eqb-true c 0x0B f)
-    of-head c l m false false e f n = absurd (n refl)
+    of-head c l m false false e f n = (cc)
 
-    go : (t : Tree) → At text at t → (in_place_def t ≡ 0 → ⊥) → shape_of (get_or text at 0) ≡ 10
-    go (name c k) a n = absurd (n refl)
-    go (leaf h) a n = absurd (n refl)
-    go (one h x) a n = absurd (n refl)
+    go : (t : Tree) → At text at t → in_place_def t ≡ Some b → shape_of (get_or text at 0) ≡ 10
+    go (name c k) a n = (cc)
+    go (leaf h) a n = (cc)
+    go (one h x) a n = (cc)
     go (two h x y) a n = ap shape_of (sym (head_bytes h x y a).code_is) ∙ of-head (get_or h 0 0) _ _ _ _ refl refl n

@@ -1,12 +1,10 @@
 -- The rewriter, by its questions.
-use mathlib.Core.Path.{◌≡◌, sym, ◌∙◌, ap}
+use mathlib.Core.Path.{◌≡◌, sym, ◌∙◌}
 use mathlib.Core.List.{List}
 use Prim.Native.Nat.{ℕ, ◌≤◌, ◌<◌}
 use lib.ListN.{length}
-use Rattle.answer.specs.declared.Answer.{Answer}
-use Rattle.answer.specs.declared.Answer.TheVariants.{Done, Refused}
 use Rattle.answer.specs.declared.Refusal.{Refusal}
-use Rattle.answer.specs.Answers.{refusal_number_def, refusal_place_def, asked}
+use Rattle.answer.specs.Answers.{refusal_number_def, refusal_place_def}
 use Rattle.answer.specs.Asked.{passed, refused, ◌>>=◌, outcome}
 use Rattle.answer.proofs.AskedLaws.{passed-same, bind-passed}
 use Rattle.answer.specs.Outputs.{ask_room}
@@ -31,15 +29,15 @@ pub rewritten-from : (t bytes : List ℕ) → ask_rewritten t ≡ passed bytes �
 rewritten-from t bytes h = unfold ask_rewritten in let (rules, e, f) = bind-passed _ _ _ h in record { rules = rules; read = e; bytes-are = sym (passed-same f) }
 
 -- 11 to 16
-pub book-refused : (book : List ℕ) (a : Answer) → asked a ≡ outcome (ask_book (former_limits_def max_nodes) book) → (r : Refusal) → a ≡ Refused r → (room : ℕ) → ask_rewrite book room ≡ refused (refusal_number_def r) (refusal_place_def r)
-book-refused book a check r e room = unfold ask_rewrite ask_rewritten ◌>>=◌ in rw (not-learned _ _ _ (sym (ap asked e) ∙ check))
+pub book-refused : (book : List ℕ) (r : Refusal) → refused (refusal_number_def r) (refusal_place_def r) ≡ outcome (ask_book (former_limits_def max_nodes) book) → (room : ℕ) → ask_rewrite book room ≡ refused (refusal_number_def r) (refusal_place_def r)
+book-refused book r e room = unfold ask_rewrite ask_rewritten ◌>>=◌ in rw (not-learned _ _ _ e)
 
 -- a book that has passed
 abbrev pub Read : List ℕ → Type 0
 Read book = Learned (ask_book (former_limits_def max_nodes) book)
 
-pub book_read : (book : List ℕ) (a : Answer) → asked a ≡ outcome (ask_book (former_limits_def max_nodes) book) → a ≡ Done → Read book
-book_read book a check sound = learned _ (sym (ap asked sound) ∙ check)
+pub book_read : (book : List ℕ) → passed tt ≡ outcome (ask_book (former_limits_def max_nodes) book) → Read book
+book_read book e = learned _ e
 
 module _ {book : List ℕ} (r : Read book) where
   pub book-is : BookIs book r.what

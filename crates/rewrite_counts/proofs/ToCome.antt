@@ -1,13 +1,11 @@
 -- Passing over a book from left to right: what is written, and the trees still to come.
 use mathlib.Core.Path.{◌≡◌, refl, sym, ◌∙◌, ap, subst}
-use mathlib.Core.Bool.{cond}
 use mathlib.Core.List.{List, [], ◌∷◌, ◌++◌, append_assoc, append-nil}
+use Rattle.std.specs.Prelude.{Option, None, Some}
 use Prim.Native.Nat.{ℕ, ◌+◌, ◌-◌, ◌≤◌, ◌<◌}
-use native.Mathlib.Decide.{dec_lt}
 use native.Mathlib.Omega.{arith}
 use lib.ListN.{length, take, drop, length-append}
 use lib.Seq.{take_at}
-use borrow.Author.Tests.{eq-eqb, ne_eqb}
 use Rattle.answer.specs.Outputs.{written_at_start}
 use Rattle.logic.specs.Syntax.{rule, Expr}
 use Rattle.logic.specs.Lists.{All}
@@ -15,7 +13,7 @@ use Rattle.text.specs.Code.{book_code}
 use Rattle.text.proofs.StandingLaws.{behind}
 use Rattle.tree.specs.Tree.{Tree, name, leaf, one, two, tree_code}
 use Rattle.tree.proofs.TreeLaws.{size_is}
-use Rattle.ends.specs.Shapes.{Formed, At, Some}
+use Rattle.ends.specs.Shapes.{Formed, At, Some as SomeTree}
 use Rattle.ends.specs.Books.{BookIs}
 use Rattle.ends.proofs.TreePlaces.{size-pos}
 use Rattle.ends.proofs.Pending.{head_of, parts_of, texts, texts-append, Pending, First, first, turn}
@@ -23,25 +21,23 @@ use Rattle.write.specs.Laid.{Wrote}
 use Rattle.write.proofs.Laying.{length-laid, wrote_none, wrote-more, wrote_as}
 use Rattle.write.proofs.Rules.{at_start}
 use Rattle.rewrite_counts.specs.Rewritten.{rewritten_book}
-use Rattle.rewrite_counts.specs.Trees.{head_in_place, in_place_def, rewritten_tree, Turned}
+use Rattle.rewrite_counts.specs.Trees.{byte_or, in_place_def, rewritten_tree, Turned}
 use Rattle.rewrite_counts.proofs.Trees.{anew, trees, trees-formed, book-trees, book-anew}
 
 -- what a tree becomes: its head and its operands anew, or one byte
-anew-stays : (t : Tree) → in_place_def t ≡ 0 → anew t ≡ head_of t ++ texts anew (parts_of t)
-unfolding rewritten_tree tree_code texts
+anew-stays : (t : Tree) → in_place_def t ≡ None → anew t ≡ head_of t ++ texts anew (parts_of t)
+unfolding rewritten_tree byte_or tree_code texts
 anew-stays (name c k) e = refl
 anew-stays (leaf h) e = sym (append-nil h)
 anew-stays (one h x) e = ap (h ++◌) (sym (append-nil (anew x)))
-anew-stays (two h x y) e =
-    ap (λ b. tree_code (cond b (two h (rewritten_tree x) (rewritten_tree y)) (leaf (head_in_place h ∷ [])))) (eq-eqb (head_in_place h) 0 e)
-    ∙ append_assoc h (anew x) (anew y) ∙ ap (λ l. h ++ (anew x ++ l)) (sym (append-nil (anew y)))
+anew-stays (two h x y) e = ap (λ b. tree_code (byte_or b (two h (rewritten_tree x) (rewritten_tree y)))) e ∙ append_assoc h (anew x) (anew y) ∙ ap (λ l. h ++ (anew x ++ l)) (sym (append-nil (anew y)))
 
-anew-dropped : (t : Tree) → (in_place_def t ≡ 0 → ⊥) → anew t ≡ in_place_def t ∷ []
-unfolding rewritten_tree tree_code
-anew-dropped (name c k) n = absurd (n refl)
-anew-dropped (leaf h) n = absurd (n refl)
-anew-dropped (one h x) n = absurd (n refl)
-anew-dropped (two h x y) n = ap (λ b. tree_code (cond b (two h (rewritten_tree x) (rewritten_tree y)) (leaf (head_in_place h ∷ [])))) (ne_eqb (head_in_place h) 0 n)
+anew-dropped : (t : Tree) (b : ℕ) → in_place_def t ≡ Some b → anew t ≡ b ∷ []
+unfolding rewritten_tree byte_or tree_code
+anew-dropped (name c k) b e = (cc)
+anew-dropped (leaf h) b e = (cc)
+anew-dropped (one h x) b e = (cc)
+anew-dropped (two h x y) b e = ap (λ b. tree_code (byte_or b (two h (rewritten_tree x) (rewritten_tree y)))) e
 
 -- Of `whole`, the bytes `done` are written when the rewriter stands at p.
 pub record ToCome (text whole done : List ℕ) (p : ℕ) : Type 0 where
@@ -76,14 +72,14 @@ here {text} {whole} {done} {p} l h = first l.pending (go l.parts l.ends) where
   go (t ∷ more) e = omega arith
 
 -- One turn: the bytes that it writes, and what is then to come.
-pub record Next (text whole done : List ℕ) (p : ℕ) (byte next : ℕ) : Type 0 where
+pub record Next (text whole done : List ℕ) (p : ℕ) (byte : Option ℕ) (next : ℕ) : Type 0 where
   pub bytes : List ℕ
   pub left : ToCome text whole (done ++ bytes) next
   pub on : p < next
   pub in-text : next ≤ length text
   pub fits : length done + length bytes ≤ length whole
-  pub copied : byte ≡ 0 → (bytes ≡ take (next - p) (drop p text)) × (length bytes ≡ next - p)
-  pub put : (byte ≡ 0 → ⊥) → bytes ≡ byte ∷ []
+  pub copied : byte ≡ None → (bytes ≡ take (next - p) (drop p text)) × (length bytes ≡ next - p)
+  pub put : (b : ℕ) → byte ≡ Some b → bytes ≡ b ∷ []
 
 fits_whole : (done bytes later whole : List ℕ) → (done ++ bytes) ++ later ≡ whole → length done + length bytes ≤ length whole
 fits_whole done bytes later whole e = omega (arith, ap length e, length-append (done ++ bytes) later, length-append done bytes)
@@ -96,16 +92,16 @@ module _ {text whole done : List ℕ} {p : ℕ} (l : ToCome text whole done p) (
   split-is : (g : Tree → List ℕ) → texts g l.parts ≡ g f.t ++ texts g f.more
   split-is g = unfold texts in ap (texts g) f.is
 
-  stays : (byte next : ℕ) → Turned text p f.t byte next → byte ≡ 0 → Next text whole done p byte next
+  stays : (next : ℕ) → Turned text p f.t None next → Next text whole done p None next
   unfolding texts
-  stays byte next u z =
+  stays next u =
       let t = f.t in
       let g = turn l.pending f _ refl in
-      let n = u.stays z in
+      let n = u.stays refl in
       let later = parts_of t ++ f.more in
       let whole_is : (done ++ head_of t) ++ texts anew later ≡ whole =
       append_assoc done (head_of t) (texts anew later)
-      ∙ ap (done ++◌) (ap (head_of t ++◌) (texts-append anew (parts_of t) f.more) ∙ sym (append_assoc (head_of t) _ _) ∙ ap (◌++ texts anew f.more) (sym (anew-stays t (sym u.byte_is ∙ z))) ∙ sym (split-is anew))
+      ∙ ap (done ++◌) (ap (head_of t ++◌) (texts-append anew (parts_of t) f.more) ∙ sym (append_assoc (head_of t) _ _) ∙ ap (◌++ texts anew f.more) (sym (anew-stays t (sym u.byte_is))) ∙ sym (split-is anew))
       ∙ l.is in
       let text-is : drop p text ≡ head_of t ++ (texts tree_code later ++ l.pending.rest) =
       l.pending.here ∙ ap (◌++ l.pending.rest) (split-is tree_code ∙ g.bytes-are) ∙ append_assoc (head_of t) _ _ in
@@ -121,22 +117,22 @@ module _ {text whole done : List ℕ} {p : ℕ} (l : ToCome text whole done p) (
         in-text = omega (arith, n, g.in-text);
         fits = fits_whole done (head_of t) _ whole whole_is;
         copied = λ _. (sym (ap (take (next - p)) text-is ∙ take_at (head_of t) _ (next - p) (omega (arith, g.head, n))), omega (arith, g.head, n));
-        put = λ nz. absurd (nz z);
+        put = λ b e. (cc);
       }
 
-  drops : (byte next : ℕ) → Turned text p f.t byte next → (byte ≡ 0 → ⊥) → Next text whole done p byte next
-  drops byte next u nz =
+  drops : (b next : ℕ) → Turned text p f.t (Some b) next → Next text whole done p (Some b) next
+  drops b next u =
       let t = f.t in
-      let n = u.dropped nz in
+      let n = u.dropped b refl in
       let later = f.more in
-      let whole_is : (done ++ (byte ∷ [])) ++ texts anew later ≡ whole =
-      append_assoc done (byte ∷ []) (texts anew later)
-      ∙ ap (done ++◌) (ap (◌++ texts anew later) (sym (anew-dropped t (λ z. nz (u.byte_is ∙ z)) ∙ ap (◌∷ []) (sym u.byte_is))) ∙ sym (split-is anew))
+      let whole_is : (done ++ (b ∷ [])) ++ texts anew later ≡ whole =
+      append_assoc done (b ∷ []) (texts anew later)
+      ∙ ap (done ++◌) (ap (◌++ texts anew later) (sym (anew-dropped t b (sym u.byte_is))) ∙ sym (split-is anew))
       ∙ l.is in
       let e : next ≡ p + length (tree_code t) = omega (arith, n, size_is t) in
       let formed : All Formed (t ∷ later) = subst (All Formed) f.is l.pending.formed in
       record {
-        bytes = byte ∷ [];
+        bytes = b ∷ [];
         left = record {
           parts = later;
           pending = record {
@@ -150,18 +146,19 @@ module _ {text whole done : List ℕ} {p : ℕ} (l : ToCome text whole done p) (
         };
         on = omega (arith, e, size_is t, size-pos t formed.0);
         in-text = omega (arith, e, l.ends, ap length (split-is tree_code), length-append (tree_code t) (texts tree_code later));
-        fits = fits_whole done (byte ∷ []) _ whole whole_is;
-        copied = λ z. absurd (nz z);
-        put = λ _. refl;
+        fits = fits_whole done (b ∷ []) _ whole whole_is;
+        copied = λ e. (cc);
+        put = λ x e. (cc);
       }
 
-  turned : (byte next : ℕ) → Turned text p f.t byte next → Next text whole done p byte next
-  turned byte next u = elim (dec_lt 0 byte) [ yes k ↦ drops byte next u (λ z. omega arith) | no k ↦ stays byte next u (omega arith) ]
+  turned : (byte : Option ℕ) (next : ℕ) → Turned text p f.t byte next → Next text whole done p byte next
+  turned None next u = stays next u
+  turned (Some b) next u = drops b next u
 
-  pub tree-here : Some text p
+  pub tree-here : SomeTree text p
   tree-here = record { what = f.t; stands = f.at }
 
-  pub next-turn : {byte next : ℕ} → ((t : Tree) → At text p t → Turned text p t byte next) → Next text whole done p byte next
+  pub next-turn : {byte : Option ℕ} {next : ℕ} → ((t : Tree) → At text p t → Turned text p t byte next) → Next text whole done p byte next
   next-turn {byte} {next} u = turned byte next (u f.t f.at)
 
 -- This many bytes of `whole` are counted at p, no more than were passed.
@@ -177,15 +174,15 @@ counted-first text rules b = record { done = []; long = refl; low = omega arith;
 pub counted-end : {text whole : List ℕ} {p q : ℕ} → Counted text whole p q → length text ≤ p → q ≡ length whole
 counted-end w h = w.long ∙ ap length (to-come-end w.left h)
 
-module _ {text whole : List ℕ} {p q byte next : ℕ} (w : Counted text whole p q) (n : Next text whole w.done p byte next) where
+module _ {text whole : List ℕ} {p q next : ℕ} {byte : Option ℕ} (w : Counted text whole p q) (n : Next text whole w.done p byte next) where
   counted-more : (x : ℕ) → length n.bytes ≡ x → x ≤ next - p → Counted text whole next (q + x)
   counted-more x e l = record { done = w.done ++ n.bytes; long = omega (arith, w.long, length-append w.done n.bytes); low = omega (arith, w.low, n.on); left = n.left }
 
-  pub counted-copied : byte ≡ 0 → Counted text whole next (q + (next - p))
+  pub counted-copied : byte ≡ None → Counted text whole next (q + (next - p))
   counted-copied z = counted-more (next - p) (n.copied z).1 (omega arith)
 
-  pub counted-put : (byte ≡ 0 → ⊥) → Counted text whole next (q + 1)
-  counted-put z = counted-more 1 (ap length (n.put z)) (omega (arith, n.on))
+  pub counted-put : (b : ℕ) → byte ≡ Some b → Counted text whole next (q + 1)
+  counted-put b e = counted-more 1 (ap length (n.put b e)) (omega (arith, n.on))
 
 -- This many bytes of `whole` are written over the start of an output.
 pub record Stored (text whole output : List ℕ) (p q : ℕ) (out : List ℕ) : Type 0 where
@@ -200,10 +197,10 @@ pub stored-length : {text whole output out : List ℕ} {p q : ℕ} → Stored te
 stored-length {output = output} w = ap length w.wrote.stored ∙ length-laid output 0 w.done
 
 -- the bytes of a turn fit
-pub stored-room : {text whole output out : List ℕ} {p q byte next : ℕ} (w : Stored text whole output p q out) (n : Next text whole w.done p byte next) → length whole ≤ length output → q + length n.bytes ≤ length out
+pub stored-room : {text whole output out : List ℕ} {p q next : ℕ} {byte : Option ℕ} (w : Stored text whole output p q out) (n : Next text whole w.done p byte next) → length whole ≤ length output → q + length n.bytes ≤ length out
 stored-room w n r = omega (arith, w.wrote.counted, n.fits, stored-length w)
 
-pub stored_next : {text whole output out out' : List ℕ} {p q q' byte next : ℕ} (w : Stored text whole output p q out) (n : Next text whole w.done p byte next) → Wrote out q n.bytes q' out' → Stored text whole output next q' out'
+pub stored_next : {text whole output out out' : List ℕ} {p q q' next : ℕ} {byte : Option ℕ} (w : Stored text whole output p q out) (n : Next text whole w.done p byte next) → Wrote out q n.bytes q' out' → Stored text whole output next q' out'
 stored_next w n v = record { done = w.done ++ n.bytes; wrote = wrote-more w.wrote v; left = n.left }
 
 module _ {text whole output out : List ℕ} {p q : ℕ} (w : Stored text whole output p q out) (h : length text ≤ p) where

@@ -2,6 +2,7 @@
 use mathlib.Core.Path.{◌≡◌, refl, sym, ◌∙◌, ap, ap₂}
 use mathlib.Core.Bool.{Bool, true, false, cond}
 use mathlib.Core.List.{List, [], ◌∷◌, ◌++◌, map}
+use Rattle.std.specs.Prelude.{None, Some}
 use Prim.Native.Nat.{ℕ}
 use lib.Dec.{leb, ltb, eqb}
 use Rattle.logic.specs.Syntax.{Sort, node, arrow, rule, Expr, all, none, at_least, at_most}
@@ -12,32 +13,32 @@ use Rattle.logic.proofs.ListLaws.{all_map}
 use Rattle.text.specs.Code.{book_code}
 use Rattle.text.specs.Stands.{RulesInRange}
 use Rattle.text.specs.Heads.{head1, head2}
-use Rattle.tree.specs.Tree.{Tree, leaf, two, tree_code, tree, bare}
+use Rattle.tree.specs.Tree.{Tree, two, tree_code, tree, bare}
 use Rattle.tree.proofs.TreeLaws.{tree-0, tree-1, tree-2, code-tree}
 use Rattle.ends.specs.Shapes.{Formed}
 use Rattle.ends.proofs.Formed.{formed-tree}
 use Rattle.ends.proofs.Pending.{texts}
 use Rattle.rewrite_counts.specs.Rewritten.{least_rewritten, most_rewritten, rewritten, rewritten_book}
-use Rattle.rewrite_counts.specs.Trees.{least_in_place_def, most_in_place_def, head_in_place, rewritten_tree}
+use Rattle.rewrite_counts.specs.Trees.{least_in_place_def, most_in_place_def, head_in_place, byte_or, rewritten_tree}
 use Rattle.rewrite_counts.proofs.ByRewriting.{by_rewriting}
 
 least-tree : (m : ℕ) (R R' : Expr arrow) (E E' : Expr node) → tree R' ≡ rewritten_tree (tree R) → tree E' ≡ rewritten_tree (tree E) → tree (least_rewritten m R' E') ≡ rewritten_tree (tree (at_least m R E))
-unfolding tree by_arity bare head1 head2 least_rewritten rewritten_tree head_in_place least_in_place_def
+unfolding tree by_arity bare head1 head2 least_rewritten rewritten_tree byte_or head_in_place least_in_place_def
 least-tree m R R' E E' r e = go (eqb m 0) (leb m 60) where
-  go : (z l : Bool) → tree (cond z all (cond l (at_least m R' E') none)) ≡ cond (eqb (cond z 0x01 (cond l 0 0x02)) 0) (two (0x0A ∷ m ∷ []) (rewritten_tree (tree R)) (rewritten_tree (tree E))) (leaf (cond z 0x01 (cond l 0 0x02) ∷ []))
+  go : (z l : Bool) → tree (cond z all (cond l (at_least m R' E') none)) ≡ byte_or (cond z (Some 0x01) (cond l None (Some 0x02))) (two (0x0A ∷ m ∷ []) (rewritten_tree (tree R)) (rewritten_tree (tree E)))
   go true l = refl
   go false true = ap₂ (two (0x0A ∷ m ∷ [])) r e
   go false false = refl
 
 most-tree : (m : ℕ) (R R' : Expr arrow) (E E' : Expr node) → tree R' ≡ rewritten_tree (tree R) → tree E' ≡ rewritten_tree (tree E) → tree (most_rewritten m R' E') ≡ rewritten_tree (tree (at_most m R E))
-unfolding tree by_arity bare head1 head2 most_rewritten rewritten_tree head_in_place most_in_place_def
+unfolding tree by_arity bare head1 head2 most_rewritten rewritten_tree byte_or head_in_place most_in_place_def
 most-tree m R R' E E' r e = go (ltb m 60) where
-  go : (l : Bool) → tree (cond l (at_most m R' E') all) ≡ cond (eqb (cond l 0 0x01) 0) (two (0x0B ∷ m ∷ []) (rewritten_tree (tree R)) (rewritten_tree (tree E))) (leaf (cond l 0 0x01 ∷ []))
+  go : (l : Bool) → tree (cond l (at_most m R' E') all) ≡ byte_or (cond l None (Some 0x01)) (two (0x0B ∷ m ∷ []) (rewritten_tree (tree R)) (rewritten_tree (tree E)))
   go true = ap₂ (two (0x0B ∷ m ∷ [])) r e
   go false = refl
 
 pub tree-rewritten : {s : Sort} (e : Expr s) → tree (rewritten e) ≡ rewritten_tree (tree e)
-unfolding rewritten_tree bare
+unfolding rewritten_tree byte_or bare
 tree-rewritten e = by_rewriting (λ s e e'. tree e' ≡ rewritten_tree (tree e)) (λ s b. rw tree-0 (leaf-stays b))
     (λ u t b x x' p. rw (tree-1 b x', tree-1 b x, p))
     (λ u v t b n z x x' y y' p q. rw (tree-2 b x' y', tree-2 b x y, z, p, q))

@@ -3,7 +3,8 @@
 #![tactic(auto)]
 
 ghost use Rattle.std.specs.Prelude.{◌≡◌, List, length};
-ghost use Rattle.answer.specs.Outputs.{written_asked, written_length, written_at_start, written_output};
+ghost use Rattle.answer.specs.Answers.{result_asked};
+ghost use Rattle.answer.specs.Outputs.{written_length, written_at_start, written_output};
 ghost use Rattle.logic.specs.Syntax.{Expr, rule};
 ghost use Rattle.text.specs.Code.{book_code};
 ghost use Rattle.tree.specs.Tree.{Tree};
@@ -12,49 +13,46 @@ ghost use Rattle.ends.specs.Books.{BookIs, SomeBook};
 ghost use Rattle.rewrite_counts.specs.Rewritten.{rewritten_book, ask_rewrite};
 ghost use Rattle.rewrite_counts.specs.Trees.{least_in_place_def, most_in_place_def, in_place_def, Turned, SomeRewritten};
 
-use answer::{Answer, Refusal, Written};
+use answer::Refusal;
 use logic::Node;
 use text::Text;
 
-// The byte that replaces an 0A with this count and its operands; 0 where they stay.
+// The byte that replaces an 0A with this count and its operands; none where they stay.
 #[tactic(auto, using(std::proofs::lemmas::Bool::Decides::nat_tests), unfolding(crate::specs::Trees::least_in_place_def))]
-fn least_in_place(count: u8) -> u8
+fn least_in_place(count: u8) -> Option<u8>
     ensures { result ≡ least_in_place_def count }
 {
     if count == 0 {
-        return 0x01;
+        return Some(0x01);
     }
-    if count > Node::MAX { 0x02 } else { 0 }
+    if count > Node::MAX { Some(0x02) } else { None }
 }
 
 // The same for an 0B.
 #[tactic(auto, using(std::proofs::lemmas::Bool::Decides::nat_tests), unfolding(crate::specs::Trees::most_in_place_def))]
-fn most_in_place(count: u8) -> u8
+fn most_in_place(count: u8) -> Option<u8>
     ensures { result ≡ most_in_place_def count }
 {
-    if count >= Node::MAX { 0x01 } else { 0 }
+    if count >= Node::MAX { Some(0x01) } else { None }
 }
 
-// The byte that replaces what stands at `at`; 0 where it stays.
+// The byte that replaces what stands at `at`; none where it stays.
 // Inner: the book was read before.
-fn in_place(book: &[u8], at: usize) -> u8
+fn in_place(book: &[u8], at: usize) -> Option<u8>
     requires { Some book.now at }
     ensures { (t : Tree) → At book.now at t → result ≡ in_place_def t }
 {
-    let code = book[at];
-    if code == 0x0A {
-        return least_in_place(book[at + 1]);
+    match book[at] {
+        0x0A => least_in_place(book[at + 1]),
+        0x0B => most_in_place(book[at + 1]),
+        _ => None,
     }
-    if code == 0x0B {
-        return most_in_place(book[at + 1]);
-    }
-    0
 }
 
-// What happens at a code: the byte to write, 0 where the code stays with its numbers, and the place where the rewriter goes on.
-#[derive(Drop)]
+// What happens at a code: the byte to write for it and its operands, none where it stays with its numbers, and the place where the rewriter goes on.
+#[derive(Clone, Copy)]
 struct Turn {
-    byte: u8,
+    byte: Option<u8>,
     next: usize,
 }
 
@@ -65,12 +63,10 @@ fn turn_at(book: &[u8], at: usize) -> Turn
     ensures { (t : Tree) → At book.now at t → Turned book.now at t result.byte result.next }
 {
     let byte = in_place(book, at);
-    if byte == 0 {
-        let next = at + ends::shape(book[at]) % 4;
-        return Turn { byte, next };
-    }
-    let second = ends::past(book, at + 2);
-    let next = ends::past(book, second);
+    let next = match byte {
+        None => at + ends::shape(book[at]) % 4,
+        Some(_) => ends::past(book, ends::past(book, at + 2)),
+    };
     Turn { byte, next }
 }
 
@@ -84,11 +80,10 @@ fn rewritten_length(book: &[u8]) -> usize
     let mut len = 0;
     while p < book.len() {
         let here = turn_at(book, p);
-        if here.byte == 0 {
-            len += here.next - p;
-        } else {
-            len += 1;
-        }
+        len += match here.byte {
+            None => here.next - p,
+            Some(_) => 1,
+        };
         p = here.next;
     }
     len
@@ -104,29 +99,27 @@ fn put_rewritten(book: &[u8], out: &mut [u8])
     let mut q = 0;
     while p < book.len() {
         let here = turn_at(book, p);
-        if here.byte == 0 {
-            q = write::bytes::copy(book, p, here.next - p, out, q);
-        } else {
-            out[q] = here.byte;
-            q += 1;
+        match here.byte {
+            None => q = write::bytes::copy(book, p, here.next - p, out, q),
+            Some(byte) => {
+                out[q] = byte;
+                q += 1;
+            }
         }
         p = here.next;
     }
 }
 
 // Rewrites a stored book at the output's start: 11 to 16 by the former ranges with n as 60, then 33. Answers the length.
-pub fn rewrite(book: &[u8], out: &mut [u8]) -> Written
-    ensures result_value { written_asked result ≡ written_length (ask_rewrite book.now (length out.old)) }
+pub fn rewrite(book: &[u8], out: &mut [u8]) -> Result<usize, Refusal>
+    ensures result_value { result_asked result ≡ written_length (ask_rewrite book.now (length out.old)) }
     ensures out_after { out.new ≡ written_output (ask_rewrite book.now (length out.old)) out.old }
 {
-    let answer = Text::check_former_book(book);
-    if let Answer::Refused(r) = answer {
-        return Written::Refused(r);
-    }
+    Text::check_former_book(book).passed()?;
     let size = rewritten_length(book);
     if out.len() < size {
-        return Written::Refused(Refusal::OutputLength { place: size });
+        return Err(Refusal::OutputLength { place: size });
     }
     put_rewritten(book, out);
-    Written::Length(size)
+    Ok(size)
 }

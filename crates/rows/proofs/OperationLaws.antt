@@ -130,10 +130,6 @@ columns-of-three l x y z s ex ey ez =
     let three : Changed 3 l (set (set (set l 0 x) 1 y) 2 z) f = changed-more {f = f} (omega (arith, length-set l 0 x, length-set (set l 0 x) 1 y)) two ez in
     record { row = three.row }
 
--- 11
-pub rows-of-arrow : {n m i : ℕ} {v : Pairs} {a r : List ℕ} → n ≡ m → n ≤ i → Changed i a r (λ k. set_of m (v k)) → Rows n v r
-rows-of-arrow {n} {m} {i} {v} e h f = record { row = λ k l. f.row k (omega arith) ∙ ap (λ (j : ℕ). set_of j (v k)) (sym e) }
-
 -- 17
 module _ (n i j all : ℕ) (nodes : Nodes) (small : i < n) (a : all ≡ set_of n nodes) where
   pub pair-there : (x : ℕ) → member all i ≡ true → x ≡ set_of n (λ l. nodes l && eqb l j) → x ≡ set_of n (λ l. nodes i && (nodes l && eqb l j))

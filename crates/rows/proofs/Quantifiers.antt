@@ -54,9 +54,6 @@ any-more n i v r row z h p q e =
     e ∙ ap₂ (combined ◌||◌) p q ∙ combined-sets ◌||◌ refl n (λ j. any_below i (λ k. v k j)) (v i) h
     ∙ ap (λ (m : ℕ). set_of n (λ j. any_below m (λ k. v k j))) (sym (add-one i))
 
-pub any-end : (n i : ℕ) (v : Pairs) (r : ℕ) → i ≤ n → n ≤ i → r ≡ set_of n (λ j. any_below i (λ k. v k j)) → r ≡ set_of n (λ j. any_below n (λ k. v k j))
-any-end n i v r h l e = let q : i ≡ n = omega arith in e ∙ ap (λ (m : ℕ). set_of n (λ j. any_below m (λ k. v k j))) q
-
 pub any-wanted : (n e all : ℕ) (v : Pairs) → e ≡ all → Among all v → set_of n (λ j. any_below n (λ i. v i j)) ≡ set_of n (λ j. enough 1 n (λ i. v i j) (member e))
 any-wanted n e all v f a =
     set_of-cong n _ _ (λ j l. sym (

@@ -66,3 +66,7 @@ pub record OfSheet (sheet : List ℕ) (n a : ℕ) : Type 0 where
   pub count : n ≡ (graph_of sheet).n
   pub few : n ≤ max_nodes
   pub kind : a < arrow_count
+
+-- For inner functions: whatever is given as the row of node i are the ends of i in v.
+pub record Gives (n : ℕ) (v : Pairs) (gives : ℕ → ℕ → Type 0) : Type 0 where
+  pub row : (i r : ℕ) → i < n → gives i r → r ≡ set_of n (v i)

@@ -25,14 +25,10 @@ pub fn enough(k: Wanted, row: u64, e: u64) -> bool
 pub fn least(c: u8, m: u8) -> Wanted
     ensures { number result ≡ least c m }
 {
-    if c == 0x08 {
-        Wanted::One
-    } else if c == 0x09 {
-        Wanted::One
-    } else if c == 0x0A {
-        Wanted::Count(m as usize)
-    } else {
-        Wanted::Count(m as usize + 1)
+    match c {
+        0x08 | 0x09 => Wanted::One,
+        0x0A => Wanted::Count(usize::from(m)),
+        _ => Wanted::Count(usize::from(m) + 1),
     }
 }
 
@@ -40,12 +36,9 @@ pub fn least(c: u8, m: u8) -> Wanted
 pub fn looked(c: u8, all: u64, e: u64) -> u64
     ensures { (n : ℕ) (nodes w : Nodes) → n ≤ 64 → all ≡ set_of n nodes → e ≡ set_of n w → result ≡ set_of n (λ i. looked c (nodes i) (w i)) }
 {
-    if c == 0x08 {
-        e
-    } else if c == 0x09 {
-        bitset::minus(all, e)
-    } else {
-        e
+    match c {
+        0x09 => bitset::minus(all, e),
+        _ => e,
     }
 }
 
@@ -53,13 +46,8 @@ pub fn looked(c: u8, all: u64, e: u64) -> u64
 pub fn answered(c: u8, within: u64, r: u64) -> u64
     ensures { (n : ℕ) (p : Nodes) → n ≤ 64 → within < 2 ^ n → r ≡ set_of n p → result ≡ set_of n (λ i. member within i && answered c (p i)) }
 {
-    if c == 0x08 {
-        bitset::both(within, r)
-    } else if c == 0x09 {
-        bitset::minus(within, r)
-    } else if c == 0x0A {
-        bitset::both(within, r)
-    } else {
-        bitset::minus(within, r)
+    match c {
+        0x08 | 0x0A => bitset::both(within, r),
+        _ => bitset::minus(within, r),
     }
 }

@@ -12,6 +12,7 @@ ghost use Rattle.bitset.specs.Words.{set_of};
 use logic::Node;
 
 mod counting;
+mod over;
 pub mod over_kinds;
 pub mod over_rows;
 pub mod relations;
@@ -27,7 +28,7 @@ pub fn set_in(x: u64, y: u64) -> bool
 fn index(i: Node) -> usize
     ensures { result ≡ i.0 }
 {
-    i.0 as usize
+    usize::from(i.0)
 }
 
 // 04: that node only. Inner: i is a node's number, here and below.

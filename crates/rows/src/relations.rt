@@ -16,12 +16,10 @@ use sheet::Sheet;
 fn combined_row(c: u8, x: u64, y: u64) -> u64
     ensures { result ≡ combined (arrow_operation c) x y }
 {
-    if c == 0x13 {
-        bitset::either(x, y)
-    } else if c == 0x14 {
-        bitset::both(x, y)
-    } else {
-        bitset::minus(x, y)
+    match c {
+        0x13 => bitset::either(x, y),
+        0x14 => bitset::both(x, y),
+        _ => bitset::minus(x, y),
     }
 }
 
@@ -30,10 +28,8 @@ pub fn arrow_rows(sheet: &[u8], n: usize, a: Arrow, out: &mut [u64])
     requires { Sound sheet.now × (n ≡ (graph_of sheet.now).n) × (n ≤ max_nodes) × (a.0 < arrow_count) × (length out.old ≡ 64) }
     ensures { Rows n ((graph_of sheet.now).joined a.0) out.new × (length out.new ≡ 64) }
 {
-    let mut i = 0;
-    while i < n {
+    for i in 0..n {
         out[i] = Sheet::row_word(sheet, a, Node(i as u8));
-        i += 1;
     }
 }
 
@@ -42,10 +38,8 @@ pub fn combine_rows(c: u8, n: usize, a: &mut [u64], b: &[u64])
     requires { (n ≤ max_nodes) × (length a.old ≡ 64) × (length b.now ≡ 64) }
     ensures { ((v w : Pairs) → Rows n v a.old → Rows n w b.now → Rows n (λ i j. arrow_operation c (v i j) (w i j)) a.new) × (length a.new ≡ 64) }
 {
-    let mut i = 0;
-    while i < n {
+    for i in 0..n {
         a[i] = combined_row(c, a[i], b[i]);
-        i += 1;
     }
 }
 
@@ -54,10 +48,8 @@ pub fn combine_kind(c: u8, sheet: &[u8], n: usize, k: Arrow, a: &mut [u64])
     requires { Sound sheet.now × (n ≡ (graph_of sheet.now).n) × (n ≤ max_nodes) × (k.0 < arrow_count) × (length a.old ≡ 64) }
     ensures { ((v : Pairs) → Rows n v a.old → Rows n (λ i j. arrow_operation c (v i j) ((graph_of sheet.now).joined k.0 i j)) a.new) × (length a.new ≡ 64) }
 {
-    let mut i = 0;
-    while i < n {
+    for i in 0..n {
         a[i] = combined_row(c, a[i], Sheet::row_word(sheet, k, Node(i as u8)));
-        i += 1;
     }
 }
 
@@ -66,10 +58,8 @@ fn mask_rows(n: usize, rows: &mut [u64], e: u64)
     requires { (n ≤ max_nodes) × (length rows.old ≡ 64) }
     ensures { Masked n rows.old e rows.new × (length rows.new ≡ 64) }
 {
-    let mut i = 0;
-    while i < n {
+    for i in 0..n {
         rows[i] = bitset::both(rows[i], e);
-        i += 1;
     }
 }
 
@@ -94,10 +84,8 @@ fn start_rows(n: usize, rows: &mut [u64], e: u64)
     requires { (n ≤ max_nodes) × (length rows.old ≡ 64) }
     ensures { ((v : Pairs) (w : Nodes) → Rows n v rows.old → e ≡ set_of n w → Rows n (λ i j. v i j && w i) rows.new) × (length rows.new ≡ 64) }
 {
-    let mut i = 0;
-    while i < n {
+    for i in 0..n {
         rows[i] = kept_row(e, i, rows[i]);
-        i += 1;
     }
 }
 
@@ -134,18 +122,6 @@ fn reverse_three(rows: &mut [u64])
     rows[2] = column(a, b, c, 2);
 }
 
-// Copies the first n words of a list into another.
-fn copy_rows(n: usize, from: &[u64], rows: &mut [u64])
-    requires { (n ≤ max_nodes) × (length from.now ≡ 64) × (length rows.old ≡ 64) }
-    ensures { ((i : ℕ) → i < n → get_or rows.new i 0 ≡ get_or from.now i 0) × (length rows.new ≡ 64) }
-{
-    let mut i = 0;
-    while i < n {
-        rows[i] = from[i];
-        i += 1;
-    }
-}
-
 // Puts i into the sets of the members of a row. Inner: i is below 64.
 fn put_column(out: &mut [u64], row: u64, i: usize)
     requires { (i < 64) × (length out.old ≡ 64) }
@@ -168,8 +144,7 @@ fn few_columns(n: usize, rows: &[u64], out: &mut [u64]) -> bool
     ensures { (result ≡ true → Rows 64 (λ j k. ltb k n && member (get_or rows.now k 0) j) out.new) × (length out.new ≡ 64) }
 {
     let mut left = FEW;
-    let mut i = 0;
-    while i < n {
+    for i in 0..n {
         let row = rows[i];
         if row != 0 {
             let pairs = bitset::count_common(row, row) as usize;
@@ -179,7 +154,6 @@ fn few_columns(n: usize, rows: &[u64], out: &mut [u64]) -> bool
             left -= pairs;
             put_column(out, row, i);
         }
-        i += 1;
     }
     true
 }
@@ -196,7 +170,7 @@ pub fn reverse_rows(n: usize, rows: &mut [u64])
     }
     let mut columns = [0u64; 64];
     if few_columns(n, rows, &mut columns) {
-        copy_rows(n, &columns, rows);
+        rows[..n].copy_from_slice(&columns[..n]);
         return;
     }
     bitset::transpose(rows);
@@ -218,12 +192,10 @@ pub fn rows_in(n: usize, a: &[u64], b: &[u64]) -> bool
     requires { (n ≤ max_nodes) × (length a.now ≡ 64) × (length b.now ≡ 64) }
     ensures { (v w : Pairs) → Rows n v a.now → Rows n w b.now → result ≡ all_below n (λ i. all_below n (λ j. implies (v i j) (w i j))) }
 {
-    let mut i = 0;
-    while i < n {
+    for i in 0..n {
         if !set_in(a[i], b[i]) {
             return false;
         }
-        i += 1;
     }
     true
 }

@@ -1,16 +1,18 @@
 -- The check bytes as the code tests and stores them.
 use mathlib.Core.Path.{◌≡◌, refl, sym, ap, ap₂, ◌∙◌}
 use mathlib.Core.Bool.{Bool, true, false, ◌&&◌, and-true, and_assoc, and-eq-true_iff}
-use mathlib.Core.List.{List, [], ◌∷◌, ◌++◌, append-nil}
+use mathlib.Core.List.{List, [], ◌∷◌, ◌++◌, append-nil, append_assoc}
 use Prim.Native.Nat.{ℕ, zero, suc, ◌+◌, ◌-◌, ◌*◌, ◌/◌, ◌%◌, ◌≤◌, ◌<◌}
 use native.Mathlib.Nat.{mod-eq_of_lt, add-mul-mod_self_right}
 use native.Mathlib.Omega.{arith}
 use borrow.Author.Tests.{eqb-true, eqb-false, eq-eqb, ne_eqb}
 use lib.Dec.{eqb}
-use lib.ListN.{length, get_or, take, drop, drop_of_length-le, set, replicate, length-replicate}
-use lib.Seq.{drop-cons, sets-eq}
-use Rattle.bitset.specs.Words.{Bytes, bytes, word_at}
-use Rattle.bitset.proofs.WordLaws.{sum_of_bytes, loaded}
+use lib.ListN.{length, get_or, take, drop, drop_of_length-le, replicate, length-replicate}
+use lib.Seq.{drop-cons, drop-drop}
+use borrow.Rule.Slice.PartMut.{put_mid}
+use Rattle.std.specs.Int.{w16, to_le_bytes}
+use Rattle.std.proofs.lemmas.Slice.{take-put_mid, drop-put_mid}
+use Rattle.bitset.specs.Words.{Bytes, bytes}
 use Rattle.seal.specs.Seal.{block_bytes, modulo255, modulo257, sums, stored, same_bytes, seal_of, seal_right_def}
 use Rattle.seal.specs.Lanes.{total, weighed}
 use Rattle.seal.proofs.TotalLaws.{sums-total, sums-weighed}
@@ -23,6 +25,13 @@ both-eqb x y s t a b to from = go (eqb x s) (eqb y t) refl refl where
   go true true e f = eq-eqb a b (to (eqb-true x s e) (eqb-true y t f))
   go true false e f = ne_eqb a b (λ g. eqb-false y t f (from g).1)
   go false v e f = ne_eqb a b (λ g. eqb-false x s e (from g).0)
+
+-- the second test, where the first holds; the first, where it does not
+pub and-then : {r : Bool} (x s y t : ℕ) → r ≡ (eqb x s && eqb y t) → x ≡ s → eqb y t ≡ r
+and-then x s y t e h = sym (e ∙ ap (◌&& eqb y t) (eq-eqb x s h))
+
+pub and-else : {r : Bool} (x s y t : ℕ) → r ≡ (eqb x s && eqb y t) → (x ≡ s → ⊥) → eqb x s ≡ r
+and-else x s y t e h = ne_eqb x s h ∙ sym (e ∙ ap (◌&& eqb y t) (ne_eqb x s h))
 
 -- a number in two bytes
 two_bytes : (a b s : ℕ) (r : Bool) → a < 256 → b < 256 → s < 65536 → (eqb a (s % 256) && (eqb b (s / 256 % 256) && r)) ≡ (eqb (a + b * 256) s && r)
@@ -47,8 +56,8 @@ module _ (k : List ℕ) (h : length k ≡ block_bytes) where
       ∙ two_bytes (get_or k 508 0) (get_or k 509 0) s _ (small 508) (small 509) (omega arith)
 
   pub right-257 : Bytes k → (s t : ℕ) → s < 257 → t < 257 → s ≡ (sums modulo257 (take 508 k)).s → t ≡ (sums modulo257 (take 508 k)).t
-      → seal_right_def modulo257 k ≡ (eqb (get_or k 508 0 + get_or k 509 0 * 256) s && eqb (get_or k 510 0 + get_or k 511 0 * 256) t)
-  right-257 = unfold seal_right_def in seal-of (take 508 k)
+      → (x y : ℕ) → x ≡ get_or k 508 0 + get_or k 509 0 * 256 → y ≡ get_or k 510 0 + get_or k 511 0 * 256 → seal_right_def modulo257 k ≡ (eqb x s && eqb y t)
+  right-257 small s t l m e f x y g h = unfold seal_right_def in rw (g, h) (seal-of (take 508 k) small s t l m e f)
 
   pub right-255 : (s t : ℕ) → s < modulo255.modulus → t < modulo255.modulus → s ≡ (sums modulo255 (take 510 k)).s → t ≡ (sums modulo255 (take 510 k)).t → seal_right_def modulo255 k ≡ (eqb (get_or k 510 0) s && eqb (get_or k 511 0) t)
   unfolding seal_right_def seal_of same_bytes stored bytes
@@ -60,21 +69,21 @@ module _ (k : List ℕ) (h : length k ≡ block_bytes) where
       (ap₂ (λ x y. stored modulo255 (record { s = x; t = y })) (sym e) (sym f) ∙ ap₂ (λ x y. x ∷ y ∷ []) a b)
       ∙ ap (eqb (get_or k 510 0) s &&◌) (and-true (eqb (get_or k 511 0) t))
 
-  pub put-257 : (s t : ℕ) → s < 257 → t < 257 → set (set (set (set k 508 (s % 256)) 509 (s / 256)) 510 (t % 256)) 511 (t / 256) ≡ take 508 k ++ stored modulo257 (record { s = s; t = t })
+  pub put-257 : (s t : ℕ) (xs ys : List ℕ) → xs ≡ to_le_bytes w16 s → ys ≡ to_le_bytes w16 t → put_mid 510 2 (put_mid 508 2 k xs) ys ≡ take 508 k ++ stored modulo257 (record { s = s; t = t })
   unfolding stored bytes
-  put-257 s t l m =
-      let e : s / 256 ≡ s / 256 % 256 = omega arith in
-      let f : t / 256 ≡ t / 256 % 256 = omega arith in
-      let vs : List ℕ = s % 256 ∷ s / 256 % 256 ∷ t % 256 ∷ t / 256 % 256 ∷ [] in
-      ap₂ (λ x y. set (set (set (set k 508 (s % 256)) 509 x) 510 (t % 256)) 511 y) e f
-      ∙ sets-eq vs k 508 (omega arith) ∙ ap (λ y. take 508 k ++ vs ++ y) (drop_of_length-le k {i = 512} (omega arith)) ∙ append-nil (take 508 k ++ vs)
+  put-257 s t xs ys e f =
+      let n : length xs ≡ 2 = ap length e in
+      let front : take 510 (put_mid 508 2 k xs) ≡ take 508 k ++ bytes 2 s = take-put_mid 508 2 k xs 510 (omega arith) (omega arith) ∙ ap (take 508 k ++◌) e in
+      let back : drop 2 (drop 510 (put_mid 508 2 k xs)) ≡ [] =
+      drop-drop 2 510 (put_mid 508 2 k xs) ∙ drop-put_mid 508 2 k xs 512 (omega arith) (omega arith) n ∙ drop_of_length-le k {i = 512} (omega arith) in
+      ap₂ (λ x y. x ++ (ys ++ y)) front back ∙ ap (λ y. take 508 k ++ bytes 2 s ++ y) (append-nil ys ∙ f) ∙ append_assoc (take 508 k) (bytes 2 s) (bytes 2 t)
 
   -- the check bytes of a right block are its sums
   pub check-bytes : Bytes k → seal_right_def modulo257 k ≡ true → (get_or k 508 0 + get_or k 509 0 * 256 ≡ (sums modulo257 (take 508 k)).s) × (get_or k 510 0 + get_or k 511 0 * 256 ≡ (sums modulo257 (take 508 k)).t)
   check-bytes small right =
       let s : ℕ = (sums modulo257 (take 508 k)).s in
       let t : ℕ = (sums modulo257 (take 508 k)).t in
-      let both = (and-eq-true_iff _ _).0 (sym (right-257 small s t (s-low modulo257 (take 508 k)) (t-low modulo257 (take 508 k)) refl refl) ∙ right) in
+      let both = (and-eq-true_iff _ _).0 (sym (right-257 small s t (s-low modulo257 (take 508 k)) (t-low modulo257 (take 508 k)) refl refl _ _ refl refl) ∙ right) in
       (eqb-true _ _ both.0, eqb-true _ _ both.1)
 
 -- the sums of the body 2, the number of an arrow block, zeros
@@ -103,11 +112,11 @@ module _ (b : ℕ) (few : b ≤ 16) where
       sym (mod-eq_of_lt low) ∙ sym (add-mul-mod_self_right (245 - 7 * b) (3 + 2 * b) 257) ∙ ap (◌% 257) e ∙ sym (sums-weighed modulo257 body)
 
   -- the check bytes as one number
-  pub bare-right : (k : List ℕ) → length k ≡ block_bytes → Bytes k → (r : ℕ) → r ≡ word_at k 504 → eqb (r / 0x100000000) (2 + b + 0x10000 * (245 - 7 * b)) ≡ seal_of modulo257 body k
+  pub bare-right : (k : List ℕ) → length k ≡ block_bytes → Bytes k → (r : ℕ) → r ≡ get_or k 508 0 + get_or k 509 0 * 0x100 + get_or k 510 0 * 0x10000 + get_or k 511 0 * 0x1000000 → eqb r (2 + b + 0x10000 * (245 - 7 * b)) ≡ seal_of modulo257 body k
   bare-right k h small r e =
       let x : ℕ = get_or k 508 0 + get_or k 509 0 * 256 in
       let y : ℕ = get_or k 510 0 + get_or k 511 0 * 256 in
-      let n : r / 0x100000000 ≡ x + 0x10000 * y = unfold sum_of_bytes in omega (arith, e, loaded k 504 (sum_of_bytes k 504) (omega (arith, h)) refl, small 504, small 505, small 506, small 507) in
+      let n : r ≡ x + 0x10000 * y = omega (arith, e) in
       let low : x < 0x10000 = omega (arith, small 508, small 509) in
       ap (λ (v : ℕ). eqb v (2 + b + 0x10000 * (245 - 7 * b))) n
       ∙ both-eqb x y (2 + b) (245 - 7 * b) (x + 0x10000 * y) (2 + b + 0x10000 * (245 - 7 * b)) (λ e f. omega arith) (λ e. (omega arith, omega arith))

@@ -48,19 +48,10 @@ module _ (l : List ℕ) (small : Bytes l) (at : ℕ) (h : at + 8 ≤ length l) (
   word-is : w ≡ word (get_or l at 0) (get_or l (at + 1) 0) (get_or l (at + 2) 0) (get_or l (at + 3) 0) (get_or l (at + 4) 0) (get_or l (at + 5) 0) (get_or l (at + 6) 0) (get_or l (at + 7) 0)
   word-is = unfold sum_of_bytes in e ∙ sym (loaded l at _ h refl) ∙ omega arith
 
-  odds-are : bit_and (w / 0x100) 0x00FF00FF00FF00FF ≡ odds_at l at
+  pub odds-are : bit_and (w / 0x100) 0x00FF00FF00FF00FF ≡ odds_at l at
   unfolding odds_at
   odds-are = ap (λ (y : ℕ). bit_and (y / 0x100) 0x00FF00FF00FF00FF) word-is ∙ odd_lanes _ _ _ _ _ _ _ _ (small at) (small (at + 1)) (small (at + 2)) (small (at + 3)) (small (at + 4)) (small (at + 5)) (small (at + 6)) (small (at + 7))
 
-  pairs-are : bit_and w 0x00FF00FF00FF00FF + bit_and (w / 0x100) 0x00FF00FF00FF00FF ≡ pairs_at l at
+  pub pairs-are : bit_and w 0x00FF00FF00FF00FF + bit_and (w / 0x100) 0x00FF00FF00FF00FF ≡ pairs_at l at
   unfolding odds_at pairs_at pack
   pairs-are = omega (arith, odds-are, ap (λ (y : ℕ). bit_and y 0x00FF00FF00FF00FF) word-is, even_lanes _ _ _ _ _ _ _ _ (small at) (small (at + 1)) (small (at + 2)) (small (at + 3)) (small (at + 4)) (small (at + 5)) (small (at + 6)) (small (at + 7)))
-
-  -- both, and their bounds
-  pub lanes-read : ((bit_and w 0x00FF00FF00FF00FF + bit_and (w / 0x100) 0x00FF00FF00FF00FF ≡ pairs_at l at) × (bit_and (w / 0x100) 0x00FF00FF00FF00FF ≡ odds_at l at))
-      × ((bit_and w 0x00FF00FF00FF00FF + bit_and (w / 0x100) 0x00FF00FF00FF00FF ≤ 0x01FE01FE01FE01FE) × (bit_and (w / 0x100) 0x00FF00FF00FF00FF ≤ 0x00FF00FF00FF00FF))
-  unfolding odds_at pairs_at pack
-  lanes-read =
-      let low : (pairs_at l at ≤ 0x01FE01FE01FE01FE) × (odds_at l at ≤ 0x00FF00FF00FF00FF) =
-      omega (arith, small at, small (at + 1), small (at + 2), small (at + 3), small (at + 4), small (at + 5), small (at + 6), small (at + 7)) in
-      ((pairs-are, odds-are), (rw pairs-are low.0, rw odds-are low.1))

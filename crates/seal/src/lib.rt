@@ -37,10 +37,10 @@ pub enum Modulo {
 }
 
 // The sums s and t of a body, each below the modulus.
-#[derive(Drop)]
+#[derive(Clone, Copy)]
 struct Sums {
-    s: u64,
-    t: u64,
+    s: u16,
+    t: u16,
 }
 
 // The offset of word i of a block, after the head of 16 bytes. Inner: a block has at most 61 words.
@@ -51,15 +51,8 @@ pub fn word_place(i: usize) -> usize
     16 + 8 * i
 }
 
-// A byte as a word, and the fact that it is below 256.
-fn wide(x: u8) -> u64
-    ensures { (result ≡ x) × (result < 256) }
-{
-    x as u64
-}
-
 // The 8 bytes of a word as lanes of 16 bits: the sums of each two neighbours, and the bytes at odd places.
-#[derive(Drop)]
+#[derive(Clone, Copy)]
 struct Word {
     pairs: u64,
     odds: u64,
@@ -75,7 +68,7 @@ fn lanes(s: &[u8], at: usize) -> Word
     let odds = w / 0x100 & 0x00FF00FF00FF00FF;
     Word {
         pairs: (w & 0x00FF00FF00FF00FF) + odds,
-        odds: odds,
+        odds,
     }
 }
 
@@ -97,7 +90,7 @@ fn places(pairs: u64, odds: u64) -> u64
 }
 
 // Four words, 64 bytes apart, as lanes: their sum, their sum with each counted as often as words of the four follow it, and the bytes at odd places.
-#[derive(Drop)]
+#[derive(Clone, Copy)]
 struct Four {
     sum: u64,
     before: u64,
@@ -124,7 +117,7 @@ fn four_words(block: &[u8], at: usize) -> Four
 }
 
 // The plain totals of bytes: their sum, and their sum with each byte counted once for itself and once for each byte after it.
-#[derive(Drop)]
+#[derive(Clone, Copy)]
 struct Totals {
     s: u64,
     t: u64,
@@ -142,8 +135,7 @@ fn block_totals(block: &[u8]) -> Totals
     let mut before = 0;
     let mut odds = 0;
     let mut z = 0;
-    let mut j = 0;
-    while j < 8 {
+    for j in 0..8 {
         let x = four_words(block, 8 * j);
         let y = four_words(block, 8 * j + 256);
         first += x.sum;
@@ -154,7 +146,6 @@ fn block_totals(block: &[u8]) -> Totals
         let halves = eight + eight / 0x100000000;
         let v = 8 - j as u64;
         z += (halves + halves / 0x10000) % 0x10000 * v;
-        j += 1;
     }
     let all = first + second;
     let behind = lane_sum(before) + 4 * lane_sum(first);
@@ -169,23 +160,19 @@ fn totals_to(block: &[u8], end: usize) -> Totals
     requires { (length block.now ≡ block_bytes) × (end ≤ block_bytes) }
     ensures { (result.s ≡ total (take end block.now)) × (result.t ≡ weighed (take end block.now)) }
 {
-    let whole = block_totals(block);
-    let mut s = whole.s;
-    let mut t = whole.t;
-    let mut i = BLOCK;
-    while end < i {
-        i -= 1;
-        t -= s;
-        s -= wide(block[i]);
+    let mut all = block_totals(block);
+    for i in (end..BLOCK).rev() {
+        all.t -= all.s;
+        all.s -= u64::from(block[i]);
     }
-    Totals { s: s, t: t }
+    all
 }
 
 // The remainder modulo 257. The argument has 32 bits because a remainder is cheaper there.
-fn left(x: u32) -> u64
+fn left(x: u32) -> u16
     ensures { (result ≡ x % modulo257.modulus) × (result < modulo257.modulus) }
 {
-    (x % MODULUS) as u64
+    (x % MODULUS) as u16
 }
 
 // The sums of a block's body. The plain totals of 508 bytes fit into 32 bits. Inner: callers pass a whole block.
@@ -202,11 +189,11 @@ fn sums_of(block: &[u8]) -> Sums
 }
 
 // The number in two bytes from `at` on, the lowest first. Inner: the callers' block reaches that far.
-fn pair(block: &[u8], at: usize) -> u64
+fn pair(block: &[u8], at: usize) -> u16
     requires { at + 2 ≤ length block.now }
-    ensures { (result ≡ get_or block.now at 0 + get_or block.now (at + 1) 0 * 256) × (result < 65536) }
+    ensures { result ≡ get_or block.now at 0 + get_or block.now (at + 1) 0 * 256 }
 {
-    wide(block[at]) + wide(block[at + 1]) * 256
+    u16::from_le_bytes([block[at], block[at + 1]])
 }
 
 // Whether the check bytes modulo 257 are right. Inner: callers pass a whole block.
@@ -215,22 +202,17 @@ fn right_257(block: &[u8]) -> bool
     ensures { result ≡ seal_right_def modulo257 block.now }
 {
     let c = sums_of(block);
-    if pair(block, S) == c.s {
-        return pair(block, T) == c.t;
-    }
-    false
+    pair(block, S) == c.s && pair(block, T) == c.t
 }
 
-// Whether the check bytes modulo 255, those of an old card, are right. Inner: callers pass a whole block.
+// Whether the check bytes modulo 255, those of an old card, are right. A function of its own: a sum is one byte here and two there. Inner: callers pass a whole block.
 fn right_255(block: &[u8]) -> bool
     requires { length block.now ≡ block_bytes }
     ensures { result ≡ seal_right_def modulo255 block.now }
 {
     let all = totals_to(block, FORMER_BODY);
-    if wide(block[FORMER_S]) == all.s % FORMER_MODULUS {
-        return wide(block[FORMER_T]) == all.t % FORMER_MODULUS;
-    }
-    false
+    u64::from(block[FORMER_S]) == all.s % FORMER_MODULUS
+        && u64::from(block[FORMER_T]) == all.t % FORMER_MODULUS
 }
 
 // Whether a block's check bytes are right in the given form. Inner: callers pass a whole block.
@@ -250,19 +232,18 @@ pub fn bare_seal(block: &[u8], b: usize) -> bool
     requires { (length block.now ≡ block_bytes) × (b ≤ 16) }
     ensures { result ≡ seal_of modulo257 (2 ∷ b ∷ replicate 506 0) block.now }
 {
-    let n = b as u64;
-    bitset::load(block, BODY - 4) / 0x100000000 == 2 + n + 0x10000 * (245 - 7 * n)
+    let n = b as u32;
+    u32::from_le_bytes([block[S], block[S + 1], block[T], block[T + 1]])
+        == 2 + n + 0x10000 * (245 - 7 * n)
 }
 
-// Writes the sums after a block's body. Inner: callers pass a whole block, and sums below the modulus.
-fn put_sums(block: &mut [u8], s: u64, t: u64)
-    requires { (length block.old ≡ block_bytes) × (s < modulo257.modulus) × (t < modulo257.modulus) }
-    ensures { block.new ≡ take modulo257.body_bytes block.old ++ stored modulo257 (record { s = s; t = t }) }
+// Writes the sums after a block's body. Inner: callers pass a whole block.
+fn put_sums(block: &mut [u8], c: Sums)
+    requires { length block.old ≡ block_bytes }
+    ensures { block.new ≡ take modulo257.body_bytes block.old ++ stored modulo257 (record { s = c.s; t = c.t }) }
 {
-    block[S] = (s % 256) as u8;
-    block[S + 1] = (s / 256) as u8;
-    block[T] = (t % 256) as u8;
-    block[T + 1] = (t / 256) as u8;
+    block[S..T].copy_from_slice(&c.s.to_le_bytes());
+    block[T..BLOCK].copy_from_slice(&c.t.to_le_bytes());
 }
 
 // Makes a block's check bytes right. Inner: callers pass a whole block.
@@ -271,7 +252,7 @@ pub fn seal(block: &mut [u8])
     ensures { block.new ≡ reseal modulo257 block.old }
 {
     let c = sums_of(block);
-    put_sums(block, c.s, c.t);
+    put_sums(block, c);
 }
 
 // Puts x into the 8 bytes of a block's body from `at` on and updates the check bytes from their old values, without reading any other byte.
@@ -282,8 +263,8 @@ pub fn put_word(block: &mut [u8], at: usize, x: u64)
     requires { (length block.old ≡ block_bytes) × (at + 8 ≤ modulo257.body_bytes) × (seal_right_def modulo257 block.old ≡ true) }
     ensures { block.new ≡ reseal modulo257 (put_word_def block.old at x) }
 {
-    let s = pair(block, S);
-    let t = pair(block, T);
+    let s = u64::from(pair(block, S));
+    let t = u64::from(pair(block, T));
     let before = lanes(block, at);
     bitset::store(block, at, x);
     let after = lanes(block, at);
@@ -291,5 +272,9 @@ pub fn put_word(block: &mut [u8], at: usize, x: u64)
     let odds = after.odds + 0x0101010101010101 - before.odds;
     let d = lane_sum(pairs);
     let moved = t + (BODY - at) as u64 * d - places(pairs, odds);
-    put_sums(block, left((s + d) as u32), left(moved as u32));
+    let changed = Sums {
+        s: left((s + d) as u32),
+        t: left(moved as u32),
+    };
+    put_sums(block, changed);
 }

@@ -28,11 +28,8 @@ use Rattle.sheet.proofs.MaskLaws.{all-zero}
 use Rattle.sheet.proofs.ZeroLaws.{zero-at, but-parts, word-clear}
 use Rattle.sheet.proofs.BlockHeads.{head-number, number-told}
 
--- what is not such a block: an old card's, block 0, one with another head
+-- what is not such a block: block 0, one with another head
 module _ (k : List ℕ) (b : ℕ) where
-  pub not-asked : (sums : Modulo) → sums ≡ M255 → blank_in sums b k ≡ false
-  not-asked sums e = unfold blank_in in ap (λ m. blank_in m b k) e
-
   pub not-block-0 : (sums : Modulo) → b ≡ 0 → blank_in sums b k ≡ false
   unfolding blank_in
   not-block-0 M257 e = rw (eq-eqb b 0 e) refl

@@ -1,16 +1,15 @@
 -- A blank sheet, block by block.
 use mathlib.Core.Path.{◌≡◌, refl, sym, ap, ◌∙◌, fun_ext}
-use mathlib.Core.Bool.{true, false, and-false}
+use mathlib.Core.Bool.{true, false}
 use mathlib.Core.List.{List, [], ◌∷◌}
-use Prim.Native.Nat.{ℕ, ◌+◌, ◌-◌, ◌*◌, ◌≤◌, ◌<◌}
-use native.Mathlib.Numerals.{add-one}
+use Prim.Native.Nat.{ℕ, zero, suc, ◌-◌, ◌≤◌, ◌<◌}
 use native.Mathlib.Omega.{arith}
-use borrow.Author.Tests.{eq-eqb, ne_eqb, le-leb, lt-leb, lt-ltb}
+use borrow.Author.Tests.{eq-eqb, le-leb, lt-ltb}
 use lib.Dec.{ltb}
 use lib.ListN.{length, set, replicate}
-use Rattle.answer.specs.Asked.{Asked, passed, refused, ◌>>◌, is, after}
-use Rattle.logic.specs.Limits.{max_nodes, label_count, arrow_count}
-use Rattle.bitset.specs.Words.{Bytes, set_of, bytes, put_word_def}
+use Rattle.answer.specs.Asked.{passed, ◌>>◌, is}
+use Rattle.logic.specs.Limits.{max_nodes, label_count}
+use Rattle.bitset.specs.Words.{Bytes, set_of, bytes}
 use Rattle.bitset.proofs.SetLaws.{set_of-none, set_of-cong, set_of-lowest}
 use Rattle.seal.specs.Seal.{reseal, block_bytes}
 use Rattle.sheet.specs.Sheet.{SheetForm, present, sheet_bytes, block_count, chunks, block, line_count, label_block, arrow_block, store, graph_in, blank}
@@ -47,32 +46,17 @@ first_made n used e =
     (λ j l d. let b : j < label_count = omega (arith, d) in sym (ap (set_of n) (line-label (blank n) j b) ∙ set_of-none n)))
     ∙ seal-raw present.sums (label_head (blank n)) refl (line_count present) unsealed (label_word (blank n)) (labels-fit present) ∙ sym (first_block present (blank n))
 
-pub later-made : (n a : ℕ) → a < arrow_count → reseal present.sums (blank_block_def 2 (a + 1) 0 0) ≡ blank_of n (a + 1)
+pub later-made : (n b : ℕ) → 1 ≤ b → b < block_count → reseal present.sums (blank_block_def 2 b 0 0) ≡ blank_of n b
 unfolding arrow_block chunks bytes bare_block blank_block_def
-later-made n a l =
-    ap (λ x. reseal present.sums (put_word_def (bare_block 2 x 0) (16 + 8 * label_count) 0)) (add-one a)
-    ∙ ap (reseal present.sums) (put-raw present.sums (arrow_head a) refl max_nodes unsealed (λ k. 0) (λ k. set_of n (λ i. false)) label_count 0 (omega arith) (set_of-none n) (λ j l d. sym (set_of-none n)))
+later-made n zero h l = absurd (omega arith)
+later-made n (suc a) h l =
+    ap (reseal present.sums) (put-raw present.sums (arrow_head a) refl max_nodes unsealed (λ k. 0) (λ k. set_of n (λ i. false)) label_count 0 (omega arith) (set_of-none n) (λ j l d. sym (set_of-none n)))
     ∙ seal-raw present.sums (arrow_head a) refl max_nodes unsealed (λ i. set_of n (λ i. false)) (rows_fit present)
-    ∙ sym (later-block present (blank n) a l) ∙ ap (blank_of n) (sym (add-one a))
+    ∙ sym (later-block present (blank n) a (omega arith))
 
 -- 5, then 1
-module _ (n len : ℕ) where
-  pub few_nodes : n < 1 → ask_blank n len ≡ refused 5 0
-  few_nodes h = unfold ask_blank is ◌>>◌ in rw (lt-leb 1 n h)
-
-  pub many-nodes : max_nodes < n → ask_blank n len ≡ refused 5 0
-  many-nodes h = unfold ask_blank is ◌>>◌ in rw (lt-leb n max_nodes h, and-false)
-
-  module _ (l : 1 ≤ n) (u : n ≤ max_nodes) where
-    pub no_room : (len ≡ sheet_bytes → ⊥) → ask_blank n len ≡ refused 1 0
-    no_room h = unfold ask_blank is ◌>>◌ in rw (le-leb 1 n l, le-leb n max_nodes u, ne_eqb _ _ h)
-
-    pub room : len ≡ sheet_bytes → ask_blank n len ≡ passed tt
-    room h = unfold ask_blank is ◌>>◌ in rw (le-leb 1 n l, le-leb n max_nodes u, eq-eqb _ _ h)
-
--- the answer of the call, and the buffer that it leaves
-pub answered : (n : ℕ) (t l : List ℕ) (q : Asked (Unit {0})) → ask_blank n (length t) ≡ q → l ≡ after q (λ u. store (blank n)) t → (q ≡ ask_blank n (length t)) × (l ≡ after (ask_blank n (length t)) (λ u. store (blank n)) t)
-answered n t l q e m = (sym e, rw e m)
+pub room : (n len : ℕ) → 1 ≤ n → n ≤ max_nodes → len ≡ sheet_bytes → ask_blank n len ≡ passed tt
+room n len l u h = unfold ask_blank is ◌>>◌ in rw (le-leb 1 n l, le-leb n max_nodes u, eq-eqb _ _ h)
 
 -- Block 1 of a sheet without arrows of kind 0, in any form: its words are zero.
 pub block-1-without-arrows : (φ : SheetForm) (t : List ℕ) → Bytes t → SoundIn φ t → ((i j : ℕ) → (graph_in φ t).joined 0 i j ≡ false) → block_of t 1 ≡ block φ.sums (2 ∷ 1 ∷ 0 ∷ []) max_nodes (λ i. 0)

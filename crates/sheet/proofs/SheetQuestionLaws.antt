@@ -4,7 +4,7 @@ use mathlib.Core.Bool.{true, false, not, ◌&&◌, cond, and-eq-true_iff, and_se
 use mathlib.Core.List.{List}
 use Prim.Native.Nat.{ℕ, zero, suc, ◌+◌, ◌-◌, ◌*◌, ◌/◌, ◌%◌, ◌≤◌, ◌<◌}
 use native.Mathlib.Omega.{arith}
-use borrow.Author.Tests.{eq-eqb, ne_eqb, lt-ltb, le-leb, ltb-true}
+use borrow.Author.Tests.{eq-eqb, lt-ltb, le-leb, ltb-true}
 use lib.Dec.{eqb, ltb}
 use lib.ListN.{length, get_or}
 use Rattle.answer.specs.declared.Refusal.{Refusal}
@@ -89,9 +89,6 @@ told_of φ t n all q w b k e =
 module _ (φ : SheetForm) where
   -- 2 to 4 of a block, up to the first that fails, or to the end
   module _ (n : ℕ) (nodes : Nodes) (b : ℕ) (k : List ℕ) where
-    pub ask-2 : seal_right_def φ.sums k ≡ false → ask_block_def φ n nodes b k ≡ refused 2 b
-    ask-2 e = unfold ask_block_def is ◌>>◌ in rw e
-
     pub ask-3 : seal_right_def φ.sums k ≡ true → head_right_def φ b k ≡ false → ask_block_def φ n nodes b k ≡ refused 3 b
     ask-3 e f = unfold ask_block_def is ◌>>◌ in rw (e, f)
 
@@ -103,9 +100,6 @@ module _ (φ : SheetForm) where
 
   module _ (t : List ℕ) where
     -- question 1
-    pub wrong-length : (length t ≡ sheet_bytes → ⊥) → refused 1 0 ≡ ask_sheet_in φ t
-    wrong-length h = unfold ask_sheet_in is ◌>>◌ in sym (rw (ne_eqb _ _ h))
-
     pub right-length : length t ≡ sheet_bytes → ask_sheet_in φ t ≡ ask_blocks φ t block_count 0
     right-length h = unfold ask_sheet_in is ◌>>◌ in rw (eq-eqb _ _ h)
 

@@ -19,6 +19,9 @@ use seal::Modulo;
 // The whole words of a body, from byte 16 on.
 const WORDS: usize = 61;
 
+// The most nodes, for the number in a head.
+const NODES: u64 = Sheet::NODES as u64;
+
 // Question 3: are bytes 0 to 2 of block b right, is n from 1 to 60, and is some node below n in use? The bytes are compared as one number.
 // Inner: b is the number of a sheet's block, and `all` is the word of its nodes in use.
 fn head_right(block: &[u8], b: usize, all: u64) -> bool
@@ -27,15 +30,8 @@ fn head_right(block: &[u8], b: usize, all: u64) -> bool
 {
     let head = bitset::load(block, 0) % 0x100_0000;
     if b == 0 {
-        if head % 0x1_0000 == 1 {
-            let n = head / 0x1_0000;
-            if 1 <= n {
-                if n <= Sheet::NODES as u64 {
-                    return all != 0;
-                }
-            }
-        }
-        return false;
+        let n = head / 0x1_0000;
+        return head % 0x1_0000 == 1 && 1 <= n && n <= NODES && all != 0;
     }
     head == 2 + 0x100 * b as u64
 }
@@ -65,10 +61,8 @@ fn outside(block: &[u8], from: usize, to: usize, mask: u64) -> u64
     ensures { Outside block.now from to mask result }
 {
     let mut r = 0;
-    let mut j = from;
-    while j < to {
-        r = r | bitset::minus(bitset::load(block, seal::word_place(j)), mask);
-        j += 1;
+    for j in from..to {
+        r |= bitset::minus(bitset::load(block, seal::word_place(j)), mask);
     }
     r
 }
@@ -100,7 +94,7 @@ fn bare(block: &[u8], set: u64) -> u64
     let mut left = set;
     while 0 < left {
         let w = bitset::load(block, seal::word_place(bitset::first(left)));
-        r = r | bitset::minus(w, 0);
+        r |= bitset::minus(w, 0);
         left = bitset::but_first(left);
     }
     r
@@ -138,16 +132,10 @@ fn blank_arrow(sums: Modulo, block: &[u8], b: usize) -> bool
     let Modulo::M257 = sums else {
         return false;
     };
-    if b == 0 {
-        return false;
-    }
-    if bitset::load(block, 0) != 2 + 0x100 * b as u64 {
-        return false;
-    }
-    if !seal::bare_seal(block, b) {
-        return false;
-    }
-    edges(Modulo::M257, block) | outside(block, 0, WORDS, 0) == 0
+    b != 0
+        && bitset::load(block, 0) == 2 + 0x100 * b as u64
+        && seal::bare_seal(block, b)
+        && edges(Modulo::M257, block) | outside(block, 0, WORDS, 0) == 0
 }
 
 // Questions 2 to 4 of block b. Inner: n and `all` are what block 0 says, and n is in range once block 0 has passed question 3.

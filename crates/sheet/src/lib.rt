@@ -3,7 +3,7 @@
 #![tactic(auto)]
 
 ghost use Rattle.std.specs.Prelude.{◌≡◌, ◌<◌, ◌≤◌, length, get_or};
-ghost use Rattle.answer.specs.Answers.{asked};
+ghost use Rattle.answer.specs.Answers.{asked, result_asked};
 ghost use Rattle.answer.specs.Asked.{after};
 ghost use Rattle.logic.specs.Graph.{is_node};
 ghost use Rattle.logic.specs.Limits.{max_nodes, label_count, arrow_count};
@@ -11,7 +11,6 @@ ghost use Rattle.bitset.specs.Words.{set_of};
 ghost use Rattle.sheet.specs.Sheet.{SheetForm, sheet_bytes, graph_in, graph_of, store, blank};
 ghost use Rattle.sheet.specs.SheetForms.{form_in};
 ghost use Rattle.sheet.specs.Questions.{ask_sheet_in, ask_sheet, Sound, ask_blank, ask_label_bit, ask_arrow_bit};
-ghost use Rattle.sheet.specs.BitReads.{bit_asked};
 
 use answer::{Answer, Refusal};
 use logic::{Arrow, Label, Node};
@@ -19,15 +18,8 @@ use seal::Modulo;
 
 mod block;
 
-// The bit, or why it was not read.
-#[derive(Drop)]
-pub enum BitRead {
-    Bit(bool),
-    Refused(Refusal),
-}
-
 // The calls on a sheet's bytes, and the limits of document 01.
-#[derive(Drop)]
+#[derive(Clone, Copy)]
 pub struct Sheet;
 
 impl Sheet {
@@ -77,15 +69,13 @@ impl Sheet {
         }
         let n = sheet[2] as usize;
         let all = Sheet::nodes_told(held, sheet, n);
-        let mut b = 0;
-        while b < Sheet::BLOCKS {
+        for b in 0..Sheet::BLOCKS {
             let from = Sheet::BLOCK * b;
             let to = from + Sheet::BLOCK;
             let answer = block::ask_block(sums, held, &sheet[from..to], b, n, all);
             let Answer::Done = answer else {
                 return answer;
             };
-            b += 1;
         }
         Answer::Done
     }
@@ -95,59 +85,42 @@ impl Sheet {
         ensures result_value { asked result ≡ ask_blank n (length buf.old) }
         ensures buf_after { buf.new ≡ after (ask_blank n (length buf.old)) (λ _. store (blank n)) buf.old }
     {
-        if n < 1 {
-            return Answer::Refused(Refusal::NodeCount { place: 0 });
-        }
-        if n > Sheet::NODES {
+        if n < 1 || n > Sheet::NODES {
             return Answer::Refused(Refusal::NodeCount { place: 0 });
         }
         if buf.len() != Sheet::BYTES {
             return Answer::Refused(Refusal::SheetLength { place: 0 });
         }
         block::blank_block(&mut buf[0..Sheet::BLOCK], 1, 0, n as u8, bitset::lowest(n));
-        let mut a = 0;
-        while a < Sheet::ARROWS {
-            let from = Sheet::BLOCK * a + Sheet::BLOCK;
+        for b in 1..Sheet::BLOCKS {
+            let from = Sheet::BLOCK * b;
             let to = from + Sheet::BLOCK;
-            block::blank_block(&mut buf[from..to], 2, (a + 1) as u8, 0, 0);
-            a += 1;
+            block::blank_block(&mut buf[from..to], 2, b as u8, 0, 0);
         }
         Answer::Done
     }
 
     // Whether node i has label k: questions 1 to 4 of the sheet, then 7.
-    pub fn label_bit(sheet: &[u8], k: Label, i: Node) -> BitRead
-        ensures { bit_asked result ≡ ask_label_bit sheet.now k.0 i.0 }
+    pub fn label_bit(sheet: &[u8], k: Label, i: Node) -> Result<bool, Refusal>
+        ensures { result_asked result ≡ ask_label_bit sheet.now k.0 i.0 }
     {
-        let answer = Sheet::check(sheet);
-        if let Answer::Refused(r) = answer {
-            return BitRead::Refused(r);
+        Sheet::check(sheet).passed()?;
+        if (k.0 as usize) < Sheet::LABELS && (i.0 as usize) < Sheet::node_count(sheet) {
+            return Ok(bitset::member(Sheet::label_word(sheet, k), i.0 as usize));
         }
-        if (k.0 as usize) < Sheet::LABELS {
-            if (i.0 as usize) < Sheet::node_count(sheet) {
-                return BitRead::Bit(bitset::member(Sheet::label_word(sheet, k), i.0 as usize));
-            }
-        }
-        BitRead::Refused(Refusal::BitRange { place: 0 })
+        Err(Refusal::BitRange { place: 0 })
     }
 
     // Whether arrow a goes from node i to node j: questions 1 to 4 of the sheet, then 7.
-    pub fn arrow_bit(sheet: &[u8], a: Arrow, i: Node, j: Node) -> BitRead
-        ensures { bit_asked result ≡ ask_arrow_bit sheet.now a.0 i.0 j.0 }
+    pub fn arrow_bit(sheet: &[u8], a: Arrow, i: Node, j: Node) -> Result<bool, Refusal>
+        ensures { result_asked result ≡ ask_arrow_bit sheet.now a.0 i.0 j.0 }
     {
-        let answer = Sheet::check(sheet);
-        if let Answer::Refused(r) = answer {
-            return BitRead::Refused(r);
+        Sheet::check(sheet).passed()?;
+        let n = Sheet::node_count(sheet);
+        if (a.0 as usize) < Sheet::ARROWS && (i.0 as usize) < n && (j.0 as usize) < n {
+            return Ok(bitset::member(Sheet::row_word(sheet, a, i), j.0 as usize));
         }
-        if (a.0 as usize) < Sheet::ARROWS {
-            let n = Sheet::node_count(sheet);
-            if (i.0 as usize) < n {
-                if (j.0 as usize) < n {
-                    return BitRead::Bit(bitset::member(Sheet::row_word(sheet, a, i), j.0 as usize));
-                }
-            }
-        }
-        BitRead::Refused(Refusal::BitRange { place: 0 })
+        Err(Refusal::BitRange { place: 0 })
     }
 
     // How many nodes the sheet has. Inner: the sheet is sound.

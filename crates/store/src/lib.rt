@@ -21,7 +21,7 @@ use seal::Modulo;
 use sheet::Sheet;
 
 // The calls that write sheets: either all bytes of a buffer, or one block of a sound sheet.
-#[derive(Drop)]
+#[derive(Clone, Copy)]
 pub struct Store;
 
 impl Store {
@@ -34,14 +34,12 @@ impl Store {
         let Answer::Done = answer else {
             return answer;
         };
-        let n = card[2] as usize;
+        let n = usize::from(card[2]);
         bitset::store(&mut card[0..Sheet::BLOCK], Sheet::IN_USE, bitset::lowest(n));
-        let mut b = 0;
-        while b < Sheet::BLOCKS {
+        for b in 0..Sheet::BLOCKS {
             let from = Sheet::BLOCK * b;
             let to = from + Sheet::BLOCK;
             seal::seal(&mut card[from..to]);
-            b += 1;
         }
         Answer::Done
     }
@@ -53,7 +51,7 @@ impl Store {
     {
         seal::put_word(
             &mut sheet[0..Sheet::BLOCK],
-            seal::word_place(k.0 as usize),
+            seal::word_place(usize::from(k.0)),
             x,
         );
     }
@@ -72,21 +70,20 @@ impl Store {
         ensures { (v : Pairs) → PairsIn (graph_of sheet.old) v → Rows (graph_of sheet.old).n v rows → sheet.new ≡ store (rejoin (graph_of sheet.old) a.0 v) }
     {
         let n = Sheet::node_count(sheet);
-        let from = Sheet::BLOCK * a.0 as usize + Sheet::BLOCK;
+        let from = Sheet::BLOCK * usize::from(a.0) + Sheet::BLOCK;
         let to = from + Sheet::BLOCK;
         put_words(&mut sheet[from..to], n, rows);
     }
 }
 
 // Puts the first n of the rows into the block's words and seals it. Inner: the block has that many words.
+#[tactic(auto, unfolding(sheet::specs::Writes::put_rows_def))]
 fn put_words(block: &mut [u8], n: usize, rows: [u64; 64])
     requires { (length block.old ≡ block_bytes) × (n ≤ max_nodes) }
     ensures { block.new ≡ reseal present.sums (put_rows_def n rows block.old) }
 {
-    let mut i = 0;
-    while i < n {
+    for i in 0..n {
         bitset::store(block, seal::word_place(i), rows[i]);
-        i += 1;
     }
     seal::seal(block);
 }

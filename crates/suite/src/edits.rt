@@ -15,7 +15,7 @@ pub extern "C" fn zamiathen_join_edits(p: &[u8], q: &[u8], output: &mut [u8]) ->
     ensures value { result ≡ length_numbers (written_length (ask_join_edits p.now q.now (length output.old))) }
     ensures output_after { output.new ≡ written_output (ask_join_edits p.now q.now (length output.old)) output.old }
 {
-    crate::written_numbers(join_edits::join_edits(p, q, output))
+    LengthNumbers::from(join_edits::join_edits(p, q, output))
 }
 
 #[unsafe(no_mangle)]
@@ -23,7 +23,7 @@ pub extern "C" fn zamiathen_apply(sheet: &mut [u8], edit: &[u8]) -> Numbers
     ensures value { result ≡ numbers (ask_apply sheet.old edit.now) }
     ensures sheet_after { sheet.new ≡ applied_sheet sheet.old edit.now }
 {
-    crate::answer_numbers(apply::apply(sheet, edit))
+    Numbers::from(apply::apply(sheet, edit))
 }
 
 #[unsafe(no_mangle)]
@@ -31,7 +31,7 @@ pub extern "C" fn zamiathen_carry_back(book: &[u8], edit: &[u8], output: &mut [u
     ensures value { result ≡ length_numbers (carry_answer book.now edit.now (length output.old)) }
     ensures output_after { output.new ≡ carry_output book.now edit.now output.old }
 {
-    crate::written_numbers(carry::carry_back(book, edit, output))
+    LengthNumbers::from(carry::carry_back(book, edit, output))
 }
 
 #[unsafe(no_mangle)]
@@ -45,7 +45,7 @@ pub extern "C" fn zamiathen_enter(
     ensures sheet_after { sheet.new ≡ enter_sheet sheet.old book.now edit.now (length scratch.old) }
     ensures scratch_after { scratch.new ≡ enter_scratch sheet.old book.now edit.now scratch.old }
 {
-    crate::answer_numbers(enter_edit::enter(sheet, book, edit, scratch))
+    Numbers::from(enter_edit::enter(sheet, book, edit, scratch))
 }
 
 #[unsafe(no_mangle)]
@@ -53,5 +53,5 @@ pub extern "C" fn zamiathen_log_edit(edit: &[u8], output: &mut [u8]) -> LengthNu
     ensures value { result ≡ length_numbers (written_length (ask_log_edit edit.now (length output.old))) }
     ensures output_after { output.new ≡ written_output (ask_log_edit edit.now (length output.old)) output.old }
 {
-    crate::written_numbers(log_edit::log_edit(edit, output))
+    LengthNumbers::from(log_edit::log_edit(edit, output))
 }

@@ -3,11 +3,10 @@
 #![tactic(auto)]
 
 ghost use Rattle.std.specs.Prelude.{◌≡◌};
-ghost use Rattle.answer.specs.Answers.{asked};
-ghost use Rattle.answer.specs.Outputs.{written_asked};
+ghost use Rattle.answer.specs.Answers.{asked, result_asked};
 ghost use Rattle.suite.specs.Numbers.{numbers, length_numbers};
 
-use answer::{Answer, Written};
+use answer::{Answer, Refusal};
 
 mod edits;
 mod games;
@@ -24,7 +23,7 @@ mod words;
 
 // Number and place of an answer, 0 and 0 for done.
 #[repr(C)]
-#[derive(Drop)]
+#[derive(Clone, Copy)]
 pub struct Numbers {
     pub number: usize,
     pub place: usize,
@@ -32,7 +31,7 @@ pub struct Numbers {
 
 // The same, and a bit: 0 after a refusal.
 #[repr(C)]
-#[derive(Drop)]
+#[derive(Clone, Copy)]
 pub struct BitNumbers {
     pub number: usize,
     pub place: usize,
@@ -41,7 +40,7 @@ pub struct BitNumbers {
 
 // The same, and a length: 0 after a refusal.
 #[repr(C)]
-#[derive(Drop)]
+#[derive(Clone, Copy)]
 pub struct LengthNumbers {
     pub number: usize,
     pub place: usize,
@@ -50,7 +49,7 @@ pub struct LengthNumbers {
 
 // The same, and the first broken rule as a part of the book: 0 and 0 in every other outcome.
 #[repr(C)]
-#[derive(Drop)]
+#[derive(Clone, Copy)]
 pub struct PartNumbers {
     pub number: usize,
     pub place: usize,
@@ -60,7 +59,7 @@ pub struct PartNumbers {
 
 // The same, and the four counts of small sheets: 0 each after a refusal.
 #[repr(C)]
-#[derive(Drop)]
+#[derive(Clone, Copy)]
 pub struct CountNumbers {
     pub number: usize,
     pub place: usize,
@@ -70,28 +69,32 @@ pub struct CountNumbers {
     pub broken: usize,
 }
 
-fn answer_numbers(a: Answer) -> Numbers
-    ensures { result ≡ numbers (asked a) }
-{
-    Numbers {
-        number: answer::number(a),
-        place: answer::place(a),
+impl From<Answer> for Numbers {
+    ghost from_gives = { λ a r. r ≡ numbers (asked a) };
+
+    fn from(a: Answer) -> Numbers {
+        Numbers {
+            number: a.number(),
+            place: a.place(),
+        }
     }
 }
 
-fn written_numbers(written: Written) -> LengthNumbers
-    ensures { result ≡ length_numbers (written_asked written) }
-{
-    match written {
-        Written::Length(n) => LengthNumbers {
-            number: 0,
-            place: 0,
-            length: n,
-        },
-        Written::Refused(r) => LengthNumbers {
-            number: answer::refusal_number(r),
-            place: answer::refusal_place(r),
-            length: 0,
-        },
+impl From<Result<usize, Refusal>> for LengthNumbers {
+    ghost from_gives = { λ written r. r ≡ length_numbers (result_asked written) };
+
+    fn from(written: Result<usize, Refusal>) -> LengthNumbers {
+        match written {
+            Ok(length) => LengthNumbers {
+                number: 0,
+                place: 0,
+                length,
+            },
+            Err(r) => LengthNumbers {
+                number: r.number(),
+                place: r.place(),
+                length: 0,
+            },
+        }
     }
 }

@@ -10,7 +10,7 @@ pub extern "C" fn zamiathen_close(sheet: &mut [u8], book: &[u8], node: usize) ->
     ensures value { result ≡ numbers (ask_close sheet.old book.now node) }
     ensures sheet_after { sheet.new ≡ closed_sheet sheet.old book.now node }
 {
-    crate::answer_numbers(close_node::close(sheet, book, node))
+    Numbers::from(close_node::close(sheet, book, node))
 }
 
 #[unsafe(no_mangle)]
@@ -18,5 +18,5 @@ pub extern "C" fn zamiathen_open(sheet: &mut [u8], book: &[u8], node: usize) -> 
     ensures value { result ≡ numbers (ask_open sheet.old book.now node) }
     ensures sheet_after { sheet.new ≡ opened_sheet sheet.old book.now node }
 {
-    crate::answer_numbers(close_node::open(sheet, book, node))
+    Numbers::from(close_node::open(sheet, book, node))
 }

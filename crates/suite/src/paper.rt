@@ -16,7 +16,7 @@ pub extern "C" fn zamiathen_print_arrow(
     ensures value { result ≡ length_numbers (written_length (ask_print_arrow sheet.now arrow (length output.old))) }
     ensures output_after { output.new ≡ written_output (ask_print_arrow sheet.now arrow (length output.old)) output.old }
 {
-    crate::written_numbers(pages::print::print_arrow(sheet, arrow, output))
+    LengthNumbers::from(pages::print::print_arrow(sheet, arrow, output))
 }
 
 #[unsafe(no_mangle)]
@@ -24,7 +24,7 @@ pub extern "C" fn zamiathen_print_labels(sheet: &[u8], output: &mut [u8]) -> Len
     ensures value { result ≡ length_numbers (written_length (ask_print_labels sheet.now (length output.old))) }
     ensures output_after { output.new ≡ written_output (ask_print_labels sheet.now (length output.old)) output.old }
 {
-    crate::written_numbers(pages::print::print_labels(sheet, output))
+    LengthNumbers::from(pages::print::print_labels(sheet, output))
 }
 
 #[unsafe(no_mangle)]
@@ -32,5 +32,5 @@ pub extern "C" fn zamiathen_type_page(sheet: &mut [u8], page: &[u8]) -> Numbers
     ensures value { result ≡ numbers (ask_type sheet.old page.now) }
     ensures sheet_after { sheet.new ≡ typed_sheet sheet.old page.now }
 {
-    crate::answer_numbers(pages::typed::type_page(sheet, page))
+    Numbers::from(pages::typed::type_page(sheet, page))
 }

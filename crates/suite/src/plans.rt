@@ -11,7 +11,7 @@ pub extern "C" fn zamiathen_store_blank(store: &mut [u8]) -> Numbers
     ensures value { result ≡ numbers (ask_blank_store (length store.old)) }
     ensures store_after { store.new ≡ blank_store_def store.old }
 {
-    crate::answer_numbers(plan_store::blank_store(store))
+    Numbers::from(plan_store::blank_store(store))
 }
 
 #[unsafe(no_mangle)]
@@ -19,7 +19,7 @@ pub extern "C" fn zamiathen_keep(sheet: &[u8], store: &mut [u8], name: usize) ->
     ensures value { result ≡ numbers (ask_keep sheet.now store.old name) }
     ensures store_after { store.new ≡ kept_store sheet.now store.old name }
 {
-    crate::answer_numbers(plan_store::keep(sheet, store, name))
+    Numbers::from(plan_store::keep(sheet, store, name))
 }
 
 #[unsafe(no_mangle)]
@@ -32,7 +32,7 @@ pub extern "C" fn zamiathen_return(
     ensures value { result ≡ numbers (ask_return sheet.old store.now name book.now) }
     ensures sheet_after { sheet.new ≡ returned_sheet sheet.old store.now name book.now }
 {
-    crate::answer_numbers(plan_store::return_to(sheet, store, name, book))
+    Numbers::from(plan_store::return_to(sheet, store, name, book))
 }
 
 #[unsafe(no_mangle)]
@@ -40,5 +40,5 @@ pub extern "C" fn zamiathen_drop(store: &mut [u8], name: usize) -> Numbers
     ensures value { result ≡ numbers (ask_drop store.old name) }
     ensures store_after { store.new ≡ dropped_store store.old name }
 {
-    crate::answer_numbers(plan_store::drop_plan(store, name))
+    Numbers::from(plan_store::drop_plan(store, name))
 }

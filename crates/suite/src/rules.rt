@@ -19,8 +19,8 @@ pub extern "C" fn zamiathen_first_rule(text: &[u8]) -> LengthNumbers
     let a = Text::first_rule_answer(text);
     let rule = Text::first_rule(text);
     LengthNumbers {
-        number: answer::number(a),
-        place: answer::place(a),
+        number: a.number(),
+        place: a.place(),
         length: rule.len(),
     }
 }
@@ -39,8 +39,8 @@ pub extern "C" fn zamiathen_judge(sheet: &[u8], book: &[u8]) -> PartNumbers
     let verdict = judge::decide(sheet, book);
     let a = verdict.answer;
     PartNumbers {
-        number: answer::number(a),
-        place: answer::place(a),
+        number: a.number(),
+        place: a.place(),
         start: verdict.start,
         length: verdict.size,
     }
@@ -51,12 +51,12 @@ pub extern "C" fn zamiathen_rewrite(book: &[u8], output: &mut [u8]) -> LengthNum
     ensures value { result ≡ length_numbers (written_length (ask_rewrite book.now (length output.old))) }
     ensures output_after { output.new ≡ written_output (ask_rewrite book.now (length output.old)) output.old }
 {
-    crate::written_numbers(rewrite_counts::rewrite(book, output))
+    LengthNumbers::from(rewrite_counts::rewrite(book, output))
 }
 
 #[unsafe(no_mangle)]
 pub extern "C" fn zamiathen_check_steps(rule: &[u8], steps: &[u8], sent: &[u8]) -> Numbers
     ensures { result ≡ numbers (ask_check rule.now steps.now sent.now) }
 {
-    crate::answer_numbers(check_steps::check_steps(rule, steps, sent))
+    Numbers::from(check_steps::check_steps(rule, steps, sent))
 }

@@ -1,19 +1,19 @@
 // Blank sheets, the questions of a sheet, old cards, two sheets joined, and bit reads.
 ghost use Rattle.std.specs.Prelude.{◌≡◌, min, length};
+ghost use Rattle.answer.specs.Answers.{result_asked};
 ghost use Rattle.answer.specs.Asked.{after};
 ghost use Rattle.seal.specs.Seal.{modulo257, modulo255};
 ghost use Rattle.sheet.specs.Sheet.{store, blank};
 ghost use Rattle.sheet.specs.Questions.{ask_sheet, ask_blank, ask_label_bit, ask_arrow_bit};
 ghost use Rattle.store.specs.Converted.{ask_convert, converted};
-ghost use Rattle.sheet.specs.BitReads.{bit_asked};
-ghost use Rattle.bitset.specs.Words.{digit};
 ghost use Rattle.join_sheets.specs.Joined.{ask_join, joined_sheet};
 ghost use Rattle.suite.specs.Numbers.{numbers, bit_numbers_def};
 
 use crate::{BitNumbers, Numbers};
+use answer::Refusal;
 use logic::{Arrow, Label, Node};
 use seal::Modulo;
-use sheet::{BitRead, Sheet};
+use sheet::Sheet;
 use store::Store;
 
 #[unsafe(no_mangle)]
@@ -21,14 +21,14 @@ pub extern "C" fn zamiathen_blank(sheet: &mut [u8], n: usize) -> Numbers
     ensures value { result ≡ numbers (ask_blank n (length sheet.old)) }
     ensures sheet_after { sheet.new ≡ after (ask_blank n (length sheet.old)) (λ _. store (blank n)) sheet.old }
 {
-    crate::answer_numbers(Sheet::blank(sheet, n))
+    Numbers::from(Sheet::blank(sheet, n))
 }
 
 #[unsafe(no_mangle)]
 pub extern "C" fn zamiathen_check(sheet: &[u8]) -> Numbers
     ensures { result ≡ numbers (ask_sheet sheet.now) }
 {
-    crate::answer_numbers(Sheet::check(sheet))
+    Numbers::from(Sheet::check(sheet))
 }
 
 #[unsafe(no_mangle)]
@@ -36,7 +36,7 @@ pub extern "C" fn zamiathen_convert_255(card: &mut [u8]) -> Numbers
     ensures value { result ≡ numbers (ask_convert modulo255 card.old) }
     ensures card_after { card.new ≡ converted modulo255 card.old }
 {
-    crate::answer_numbers(Store::convert(Modulo::M255, card))
+    Numbers::from(Store::convert(Modulo::M255, card))
 }
 
 #[unsafe(no_mangle)]
@@ -44,7 +44,7 @@ pub extern "C" fn zamiathen_convert_257(card: &mut [u8]) -> Numbers
     ensures value { result ≡ numbers (ask_convert modulo257 card.old) }
     ensures card_after { card.new ≡ converted modulo257 card.old }
 {
-    crate::answer_numbers(Store::convert(Modulo::M257, card))
+    Numbers::from(Store::convert(Modulo::M257, card))
 }
 
 #[unsafe(no_mangle)]
@@ -52,32 +52,25 @@ pub extern "C" fn zamiathen_join_sheets(first: &mut [u8], second: &[u8]) -> Numb
     ensures value { result ≡ numbers (ask_join first.old second.now) }
     ensures first_after { first.new ≡ joined_sheet first.old second.now }
 {
-    crate::answer_numbers(join_sheets::join_sheets(first, second))
+    Numbers::from(join_sheets::join_sheets(first, second))
 }
 
-fn digit(b: bool) -> usize
-    ensures { result ≡ digit b }
-{
-    if b {
-        return 1;
-    }
-    0
-}
+impl From<Result<bool, Refusal>> for BitNumbers {
+    ghost from_gives = { λ read r. r ≡ bit_numbers_def (result_asked read) };
 
-fn bit_numbers(read: BitRead) -> BitNumbers
-    ensures { result ≡ bit_numbers_def (bit_asked read) }
-{
-    match read {
-        BitRead::Bit(b) => BitNumbers {
-            number: 0,
-            place: 0,
-            bit: digit(b),
-        },
-        BitRead::Refused(r) => BitNumbers {
-            number: answer::refusal_number(r),
-            place: answer::refusal_place(r),
-            bit: 0,
-        },
+    fn from(read: Result<bool, Refusal>) -> BitNumbers {
+        match read {
+            Ok(b) => BitNumbers {
+                number: 0,
+                place: 0,
+                bit: usize::from(b),
+            },
+            Err(r) => BitNumbers {
+                number: r.number(),
+                place: r.place(),
+                bit: 0,
+            },
+        }
     }
 }
 
@@ -85,14 +78,14 @@ fn bit_numbers(read: BitRead) -> BitNumbers
 pub fn byte(x: usize) -> u8
     ensures { result ≡ min x 255 }
 {
-    if x < 255 { x as u8 } else { 255 }
+    u8::try_from(x).unwrap_or(255)
 }
 
 #[unsafe(no_mangle)]
 pub extern "C" fn zamiathen_label_bit(sheet: &[u8], label: usize, node: usize) -> BitNumbers
     ensures { result ≡ bit_numbers_def (ask_label_bit sheet.now label node) }
 {
-    bit_numbers(Sheet::label_bit(sheet, Label(byte(label)), Node(byte(node))))
+    BitNumbers::from(Sheet::label_bit(sheet, Label(byte(label)), Node(byte(node))))
 }
 
 #[unsafe(no_mangle)]
@@ -104,5 +97,5 @@ pub extern "C" fn zamiathen_arrow_bit(
 ) -> BitNumbers
     ensures { result ≡ bit_numbers_def (ask_arrow_bit sheet.now arrow from to) }
 {
-    bit_numbers(Sheet::arrow_bit(sheet, Arrow(byte(arrow)), Node(byte(from)), Node(byte(to))))
+    BitNumbers::from(Sheet::arrow_bit(sheet, Arrow(byte(arrow)), Node(byte(from)), Node(byte(to))))
 }

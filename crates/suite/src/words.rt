@@ -11,7 +11,7 @@ use crate::{LengthNumbers, Numbers};
 pub extern "C" fn zamiathen_check_names(names: &[u8]) -> Numbers
     ensures { result ≡ numbers (ask_names names.now) }
 {
-    crate::answer_numbers(name_table::check_names(names))
+    Numbers::from(name_table::check_names(names))
 }
 
 #[unsafe(no_mangle)]
@@ -23,7 +23,7 @@ pub extern "C" fn zamiathen_book_to_words(
     ensures value { result ≡ length_numbers (written_length (ask_book_to_words names.now book.now (length output.old))) }
     ensures output_after { output.new ≡ written_output (ask_book_to_words names.now book.now (length output.old)) output.old }
 {
-    crate::written_numbers(print_words::book_to_words(names, book, output))
+    LengthNumbers::from(print_words::book_to_words(names, book, output))
 }
 
 #[unsafe(no_mangle)]
@@ -35,7 +35,7 @@ pub extern "C" fn zamiathen_edit_to_words(
     ensures value { result ≡ length_numbers (written_length (ask_edit_to_words names.now edit.now (length output.old))) }
     ensures output_after { output.new ≡ written_output (ask_edit_to_words names.now edit.now (length output.old)) output.old }
 {
-    crate::written_numbers(print_words::edit_to_words(names, edit, output))
+    LengthNumbers::from(print_words::edit_to_words(names, edit, output))
 }
 
 #[unsafe(no_mangle)]
@@ -47,7 +47,7 @@ pub extern "C" fn zamiathen_rule_to_words(
     ensures value { result ≡ length_numbers (written_length (ask_rule_to_words names.now rule.now (length output.old))) }
     ensures output_after { output.new ≡ written_output (ask_rule_to_words names.now rule.now (length output.old)) output.old }
 {
-    crate::written_numbers(print_words::rule_to_words(names, rule, output))
+    LengthNumbers::from(print_words::rule_to_words(names, rule, output))
 }
 
 #[unsafe(no_mangle)]
@@ -59,7 +59,7 @@ pub extern "C" fn zamiathen_book_from_words(
     ensures value { result ≡ length_numbers (written_length (ask_book_from_words names.now words.now (length output.old))) }
     ensures output_after { output.new ≡ written_output (ask_book_from_words names.now words.now (length output.old)) output.old }
 {
-    crate::written_numbers(read_words::book_from_words(names, words, output))
+    LengthNumbers::from(read_words::book_from_words(names, words, output))
 }
 
 #[unsafe(no_mangle)]
@@ -71,7 +71,7 @@ pub extern "C" fn zamiathen_edit_from_words(
     ensures value { result ≡ length_numbers (written_length (ask_edit_from_words names.now words.now (length output.old))) }
     ensures output_after { output.new ≡ written_output (ask_edit_from_words names.now words.now (length output.old)) output.old }
 {
-    crate::written_numbers(read_words::edit_from_words(names, words, output))
+    LengthNumbers::from(read_words::edit_from_words(names, words, output))
 }
 
 #[unsafe(no_mangle)]

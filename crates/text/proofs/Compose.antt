@@ -7,10 +7,9 @@ use native.Mathlib.Omega.{arith}
 use lib.Dec.{leb, eqb}
 use lib.ListN.{length, drop, length-drop, length-append}
 use Rattle.logic.specs.Limits.{Kind, fits}
-use Rattle.text.specs.declared.Turn.{Turn}
-use Rattle.text.specs.declared.Turn.TheVariants.{Next, Stopped}
+use Rattle.std.proofs.Common.{Ok, Err}
 use Rattle.text.specs.Reading.{Limits, Want, Thing, Format, done, number, operand, ◌>>=◌, Entry, Read, got, fault, Fault, too_deep, wrong_sort, out_of_range, codes, choice, follow}
-use Rattle.text.specs.Patterns.{turn_of, turn_at}
+use Rattle.text.specs.Patterns.{Turn, turn_of, turn_at}
 use Rattle.text.proofs.TextPlaces.{place_behind-is}
 use Rattle.text.proofs.StandingLaws.{behind}
 use Rattle.text.proofs.Converse.{spelling, Fine, Outcome, outcome}
@@ -112,20 +111,20 @@ reached {A} l text p at = go (follow l (drop at text) p at) (outcome l (λ a bs.
 
 -- A turn, and then one from where it ended.
 abbrev pub and_then : Turn → (ℕ → Turn) → Turn
-and_then (Next p) k = k p
-and_then (Stopped s) k = Stopped s
+and_then (Ok p) k = k p
+and_then (Err s) k = Err s
 
-pub then_next : (s : Turn) (k : ℕ → Turn) → ((p : ℕ) → k p ≡ Next p) → and_then s k ≡ s
-then_next (Next p) k h = h p
-then_next (Stopped s) k h = refl
+pub then_next : (s : Turn) (k : ℕ → Turn) → ((p : ℕ) → k p ≡ Ok p) → and_then s k ≡ s
+then_next (Ok p) k h = h p
+then_next (Err s) k h = refl
 
 pub then-then : (s : Turn) (k h : ℕ → Turn) → and_then (and_then s k) h ≡ and_then s (λ p. and_then (k p) h)
-then-then (Next p) k h = refl
-then-then (Stopped s) k h = refl
+then-then (Ok p) k h = refl
+then-then (Err s) k h = refl
 
 pub then_same : (s : Turn) (k h : ℕ → Turn) → ((p : ℕ) → k p ≡ h p) → and_then s k ≡ and_then s h
-then_same (Next p) k h e = e p
-then_same (Stopped s) k h e = refl
+then_same (Ok p) k h e = e p
+then_same (Err s) k h e = refl
 
 module _ (text : List ℕ) (ρ : Limits) where
   pub turn-then : {A B : Type 0} (p : Format A) (q : Format B) (at : ℕ) → turn_at text ρ (p >>= (λ a. q)) at ≡ and_then (turn_at text ρ p at) (λ m. turn_at text ρ q m)

@@ -6,14 +6,12 @@ use mathlib.Core.Logic.{◌≢◌}
 use Prim.Native.Nat.{ℕ, zero, suc, ◌+◌, ◌-◌, ◌≤◌, ◌<◌}
 use native.Mathlib.Omega.{arith}
 use lib.Dec.{T, leb, ltb, eqb, eqb→eq}
-use lib.ListN.{get_or, drop}
+use lib.ListN.{get_or}
 use borrow.Author.Tests.{ltb-true, eqb-true, eqb-false}
 use Rattle.logic.specs.Syntax.{node, arrow, rule}
 use Rattle.logic.specs.Lists.{All}
-use Rattle.logic.proofs.ListLaws.{all_append, all_drop}
-use Rattle.text.specs.declared.Turn.{Turn}
 use Rattle.text.specs.Reading.{Want, expr, edit, Thing, Format, ◌>>=◌, Entry, Read, codes, choice}
-use Rattle.text.specs.Patterns.{items, item_of, node_patterns, arrow_patterns, rule_patterns, edit_patterns, CodeSort, nodes, arrows, rules, edits, no_code_def, code_sort, pattern_in, sort_digit, pattern_of_def, item_format, pattern_format, sort_of_def, turn_of}
+use Rattle.text.specs.Patterns.{Turn, items, item_of, node_patterns, arrow_patterns, rule_patterns, edit_patterns, CodeSort, nodes, arrows, rules, edits, no_code_def, code_sort, pattern_in, sort_digit, pattern_of_def, item_format, pattern_format, sort_of_def, turn_of}
 use Rattle.text.proofs.Compose.{Alike, same_end, same_number, same_operand}
 use Rattle.text.proofs.CodeSorts.{in-range}
 use Rattle.text.proofs.Items.{digit}
@@ -86,22 +84,9 @@ has-entry (expr arrow) d c h n = let q = in-range 0x11 0x17 c ((sorts c).0.1 h) 
 has-entry (expr rule) d c h n = let q = in-range 0x21 0x27 c ((sorts c).1.0 h) in one_of 0x21 7 c q.0 (omega arith) n
 has-entry edit d c h n = let q = in-range 0x30 0x35 c ((sorts c).1.1 h) in one_of 0x30 6 c q.0 (omega arith) n
 
--- A byte that is not a code.
+-- The bytes of the codes of expressions.
 abbrev pub expression_bytes : List ℕ
 expression_bytes = from 0x01 11 ++ (from 0x11 7 ++ from 0x21 7)
-
-abbrev pub code_bytes : List ℕ
-code_bytes = expression_bytes ++ from 0x30 6
-
-pub no_code : (c : ℕ) → All (λ b. c ≢ b) code_bytes → 0 ≡ pattern_of_def c
-unfolding codes sort_digit pattern_in
-no_code c n = go (code_sort c) refl where
-  go : (s : CodeSort) → code_sort c ≡ s → 0 ≡ pattern_in (code_sort c) c
-  go nodes e = absurd (has-entry (expr node) 0 c (ap sort_digit e) (all_append (λ b. c ≢ b) (from 0x01 11) (drop 11 code_bytes) n).0)
-  go arrows e = absurd (has-entry (expr arrow) 0 c (ap sort_digit e) (all_append (λ b. c ≢ b) (from 0x11 7) (drop 18 code_bytes) (all_drop (λ b. c ≢ b) 11 code_bytes n)).0)
-  go rules e = absurd (has-entry (expr rule) 0 c (ap sort_digit e) (all_append (λ b. c ≢ b) (from 0x21 7) (drop 25 code_bytes) (all_drop (λ b. c ≢ b) 18 code_bytes n)).0)
-  go edits e = absurd (has-entry edit 0 c (ap sort_digit e) (all_drop (λ b. c ≢ b) 25 code_bytes n))
-  go no_code_def e = sym (ap (λ s. pattern_in s c) e)
 
 -- Patterns have at most four digits.
 unfoldable small : List ℕ → Bool

@@ -11,19 +11,18 @@ use lib.ListN.{length, get_or, drop, drop_of_length-le}
 use lib.Seq.{drop-cons}
 use borrow.Author.Tests.{lt-ltb, le-ltb, eqb-true, eqb-false}
 use Rattle.text.specs.declared.Stop.TheVariants.{Missing, WrongSort, TooDeep}
-use Rattle.text.specs.declared.Turn.{Turn}
-use Rattle.text.specs.declared.Turn.TheVariants.{Next, Stopped}
+use Rattle.std.proofs.Common.{Ok, Err}
 use Rattle.text.specs.Reading.{Limits, Want, Thing, Format, operand, ◌>>=◌, Read, fault, too_deep, codes, follow}
-use Rattle.text.specs.Patterns.{item_of, pattern_of_def, item_format, finished, pattern_format, sort_of_def, stop_of, turn_of, turn_at, head_at}
+use Rattle.text.specs.Patterns.{Turn, item_of, pattern_of_def, item_format, finished, pattern_format, sort_of_def, stop_of, turn_of, turn_at, head_at}
 use Rattle.text.proofs.Compose.{Alike, alike-bind, alike-turns, and_then, turn-then}
 use Rattle.text.proofs.Items.{is-deeper, is-here, digit, here-pattern, end-pattern, pattern-opens, goes_on, item-then}
 use Rattle.text.proofs.Entries.{codes-patterns, no-entry, an-entry, has-entry}
 
 -- the outcome of the questions at a code byte: it is of the sort wanted, and its level is within the limit
 abbrev headed : (sort level : Bool) (at : ℕ) → Turn → Turn
-headed sort level at next = cond sort (cond level next (Stopped (TooDeep at))) (Stopped (WrongSort at))
+headed sort level at next = cond sort (cond level next (Err (TooDeep at))) (Err (WrongSort at))
 
-headed-then : (b e : Bool) (at : ℕ) (k : ℕ → Turn) → headed b e at (k (at + 1)) ≡ and_then (headed b e at (Next (at + 1))) k
+headed-then : (b e : Bool) (at : ℕ) (k : ℕ → Turn) → headed b e at (k (at + 1)) ≡ and_then (headed b e at (Ok (at + 1))) k
 headed-then true true at k = refl
 headed-then true false at k = refl
 headed-then false e at k = refl
@@ -36,7 +35,7 @@ module _ (text : List ℕ) (ρ : Limits) where
   at_byte w d at c t = go (eqb (sort_of_def c) (digit w)) (eqb-true (sort_of_def c) (digit w)) (eqb-false (sort_of_def c) (digit w)) where
     opened : (b : Bool) (p : Format (Thing w)) → Alike p (pattern_format (pattern_of_def c) d)
         → turn_of {A = Unit {0}} (elim b as (λ z. Read (Unit {0})) [ true ↦ follow ρ t (p >>= (λ e. finished)) (suc at) | false ↦ fault too_deep at ])
-        ≡ cond b (turn_of (follow ρ t (pattern_format (pattern_of_def c) d) (suc at))) (Stopped (TooDeep at))
+        ≡ cond b (turn_of (follow ρ t (pattern_format (pattern_of_def c) d) (suc at))) (Err (TooDeep at))
     opened true p a = alike-turns ρ (alike-bind tt a) t (suc at)
     opened false p a = refl
 
@@ -60,7 +59,7 @@ module _ (text : List ℕ) (ρ : Limits) where
         ∙ at_byte w d at (get_or text at 0) (drop (suc at) text)
         ∙ ap (λ m. headed sort level at (turn_at text ρ (pattern_format (pattern_of_def (get_or text at 0)) d) m)) (sym (add-one at))
         ∙ headed-then sort level at (λ p. turn_at text ρ (pattern_format (pattern_of_def (get_or text at 0)) d) p)
-        ∙ ap (λ b. and_then (cond b (headed sort level at (Next (at + 1))) (Stopped (Missing at))) (λ p. turn_at text ρ (pattern_format (pattern_of_def (get_or text at 0)) d) p)) (sym (lt-ltb at (length text) h))
+        ∙ ap (λ b. and_then (cond b (headed sort level at (Ok (at + 1))) (Err (Missing at))) (λ p. turn_at text ρ (pattern_format (pattern_of_def (get_or text at 0)) d) p)) (sym (lt-ltb at (length text) h))
 
   -- A pattern whose first item is not a thing at the code's own level: that item, and then the others.
   pub at_item : (pattern d at : ℕ) → pattern < 65536 → 3 ≤ pattern % 16 → pattern % 16 < 12 → turn_at text ρ (pattern_format pattern d) at ≡ and_then (turn_at text ρ (item_format (item_of (pattern % 16)) d finished) at) (λ p. turn_at text ρ (pattern_format (pattern / 16) d) p)
@@ -77,10 +76,10 @@ module _ (text : List ℕ) (ρ : Limits) where
       ∙ ap (λ x. and_then (head_at text ρ.deepest x d at) (λ p. turn_at text ρ (pattern_format (pattern_of_def (get_or text at 0)) d) p)) (sym q.digit-is)
 
   -- A pattern that has ended has been read.
-  pub at-end : (pattern d at : ℕ) → pattern % 16 < 3 → turn_at text ρ (pattern_format pattern d) at ≡ Next at
+  pub at-end : (pattern d at : ℕ) → pattern % 16 < 3 → turn_at text ρ (pattern_format pattern d) at ≡ Ok at
   unfolding turn_at turn_of follow
   at-end pattern d at h = ap (λ z. turn_at text ρ z at) (end-pattern pattern d h) ∙ go (drop at text) where
-    go : (t : List ℕ) → turn_of (follow ρ t finished at) ≡ Next at
+    go : (t : List ℕ) → turn_of (follow ρ t finished at) ≡ Ok at
     go [] = refl
     go (x ∷ t) = refl
 

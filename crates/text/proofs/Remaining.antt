@@ -9,10 +9,9 @@ use native.Mathlib.Omega.{arith}
 use lib.ListN.{length, get_or, set, replicate, length-set}
 use lib.Seq.{get_or-set_same, get_or-set_other}
 use Rattle.text.specs.declared.Stop.TheVariants.{Missing, WrongSort, TooDeep, OutOfRange}
-use Rattle.text.specs.declared.Turn.{Turn}
-use Rattle.text.specs.declared.Turn.TheVariants.{Next, Stopped}
+use Rattle.std.proofs.Common.{Ok, Err}
 use Rattle.text.specs.Reading.{Limits}
-use Rattle.text.specs.Patterns.{item_of, pattern_of_def, sort_of_def, item_format, finished, pattern_format, number_fits, turn_at, head_at}
+use Rattle.text.specs.Patterns.{Turn, item_of, pattern_of_def, sort_of_def, item_format, finished, pattern_format, number_fits, turn_at, head_at}
 use Rattle.text.proofs.Compose.{and_then, then_next, then-then, then_same}
 use Rattle.text.proofs.PatternTurns.{at_item, at_here, at-end, at-deeper}
 use Rattle.text.proofs.NumberBytes.{number-ends, number_is}
@@ -41,7 +40,7 @@ patterns-set patterns i x r h = record { all = length-set patterns i x ∙ r.all
 
 module _ (text : List ℕ) (ρ : Limits) where
   unfoldable pub above : (patterns : List ℕ) (level at : ℕ) → Turn
-  above patterns zero at = Next at
+  above patterns zero at = Ok at
   above patterns (suc d) at = and_then (turn_at text ρ (pattern_format (get_or patterns d 0) d) at) (above patterns d)
 
   unfoldable pub remaining : (patterns : List ℕ) (pattern level at : ℕ) → Turn
@@ -71,7 +70,7 @@ module _ (text : List ℕ) (ρ : Limits) where
 
   module _ (patterns : List ℕ) (pattern level at : ℕ) where
     -- The pattern has ended: nothing is above it, or the pattern above it goes on.
-    pub ended : pattern % 16 < 3 → level ≡ 0 → Next at ≡ remaining patterns pattern level at
+    pub ended : pattern % 16 < 3 → level ≡ 0 → Ok at ≡ remaining patterns pattern level at
     ended h e = unfold above remaining in sym (ap (λ d. remaining patterns pattern d at) e ∙ ap (λ s. and_then s (above patterns 0)) (at-end text ρ pattern 0 at h))
 
     pub pattern-above : pattern % 16 < 3 → (level ≡ 0 → ⊥) → remaining patterns (get_or patterns (level - 1) 0) (level - 1) at ≡ remaining patterns pattern level at
@@ -94,11 +93,11 @@ module _ (text : List ℕ) (ρ : Limits) where
       opened-at s k e = opened k ∙ ap (λ z. and_then z (λ p. remaining patterns (pattern / 16) level p)) e
 
       -- a number
-      pub number-bad : pattern % 16 < 8 → at < length text → number_fits ρ.numbers (item_of (pattern % 16)) (get_or text at 0) ≡ false → Stopped (OutOfRange at) ≡ remaining patterns pattern level at
-      number-bad k i e = sym (opened-at (Stopped (OutOfRange at)) (omega arith) (number_is text ρ (pattern % 16) level at more k false i e))
+      pub number-bad : pattern % 16 < 8 → at < length text → number_fits ρ.numbers (item_of (pattern % 16)) (get_or text at 0) ≡ false → Err (OutOfRange at) ≡ remaining patterns pattern level at
+      number-bad k i e = sym (opened-at (Err (OutOfRange at)) (omega arith) (number_is text ρ (pattern % 16) level at more k false i e))
 
       pub number-good : pattern % 16 < 8 → at < length text → number_fits ρ.numbers (item_of (pattern % 16)) (get_or text at 0) ≡ true → remaining patterns (pattern / 16) level (at + 1) ≡ remaining patterns pattern level at
-      number-good k i e = sym (opened-at (Next (at + 1)) (omega arith) (number_is text ρ (pattern % 16) level at more k true i e))
+      number-good k i e = sym (opened-at (Ok (at + 1)) (omega arith) (number_is text ρ (pattern % 16) level at more k true i e))
 
       -- a code at the pattern's own level, and one level deeper
       code_here : 12 ≤ pattern % 16 → remaining patterns pattern level at ≡ and_then (head_at text ρ.deepest (12 + pattern % 16 % 4) level at) (λ p. remaining patterns (pattern_of_def (get_or text at 0)) level p)
@@ -139,14 +138,14 @@ module _ (text : List ℕ) (ρ : Limits) where
         | no k ↦ record { depth = level; next = λ p. remaining patterns (pattern_of_def (get_or text at 0)) level p; asks = code_here (omega arith) }
       ]
 
-      pub missing : level < length patterns → length text ≤ at → Stopped (Missing at) ≡ remaining patterns pattern level at
+      pub missing : level < length patterns → length text ≤ at → Err (Missing at) ≡ remaining patterns pattern level at
       missing i h = elim (dec_lt (pattern % 16) 8) [
-        | yes k ↦ sym (opened-at (Stopped (Missing at)) (omega arith) (number-ends text ρ (pattern % 16) level at more k h))
+        | yes k ↦ sym (opened-at (Err (Missing at)) (omega arith) (number-ends text ρ (pattern % 16) level at more k h))
         | no k ↦ (let q = code-asks (omega arith) i in sym (q.asks ∙ ap (λ z. and_then z q.next) (sym (head-ends text ρ.deepest (12 + pattern % 16 % 4) q.depth at h))))
       ]
 
       module _ (code : 8 ≤ pattern % 16) (inside : at < length text) where
-        pub code-wrong : level < length patterns → (sort_of_def (get_or text at 0) ≡ 12 + pattern % 16 % 4 → ⊥) → Stopped (WrongSort at) ≡ remaining patterns pattern level at
+        pub code-wrong : level < length patterns → (sort_of_def (get_or text at 0) ≡ 12 + pattern % 16 % 4 → ⊥) → Err (WrongSort at) ≡ remaining patterns pattern level at
         code-wrong i n = let q = code-asks code i in sym (q.asks ∙ ap (λ z. and_then z q.next) (sym (head-wrong text ρ.deepest (12 + pattern % 16 % 4) q.depth at inside n)))
 
         module _ (sort : sort_of_def (get_or text at 0) ≡ 12 + pattern % 16 % 4) where
@@ -155,7 +154,7 @@ module _ (text : List ℕ) (ρ : Limits) where
               ap (λ r. remaining patterns r level (at + 1)) next_is
               ∙ sym (code_here k ∙ ap (λ z. and_then z (λ p. remaining patterns (pattern_of_def (get_or text at 0)) level p)) (sym (head-good text ρ.deepest (12 + pattern % 16 % 4) level at inside sort l)))
 
-          pub code-deep : pattern % 16 < 12 → level < length patterns → ρ.deepest ≤ level → Stopped (TooDeep at) ≡ remaining patterns pattern level at
+          pub code-deep : pattern % 16 < 12 → level < length patterns → ρ.deepest ≤ level → Err (TooDeep at) ≡ remaining patterns pattern level at
           code-deep k i l = sym (code-deeper code k i ∙ ap (λ z. and_then z (λ p. remaining (set patterns level (pattern / 16)) (pattern_of_def (get_or text at 0)) (level + 1) p)) (sym (head-deep text ρ.deepest (12 + pattern % 16 % 4) (level + 1) at inside sort (omega arith))))
 
           pub code-down : (next : ℕ) → next ≡ pattern_of_def (get_or text at 0) → pattern % 16 < 12 → level < length patterns → level < ρ.deepest → remaining (set patterns level (pattern / 16)) next (level + 1) (at + 1) ≡ remaining patterns pattern level at

@@ -11,12 +11,11 @@ use Rattle.answer.proofs.AskedLaws.{so-then, not-then, outcome-ends, after-ends,
 use Rattle.logic.specs.Syntax.{rule, Expr}
 use Rattle.logic.specs.Limits.{max_nodes}
 use Rattle.text.specs.declared.Stop.{Stop}
-use Rattle.text.specs.declared.Turn.{Turn}
-use Rattle.text.specs.declared.Turn.TheVariants.{Next, Stopped}
+use Rattle.std.proofs.Common.{Ok, Err}
 use Rattle.text.specs.Code.{code}
 use Rattle.text.specs.Reading.{most_rules, Limits, text_limits, Want, Thing, expr, operand, done, Fault, missing, wrong_sort, too_deep, out_of_range, Read, got, fault, follow, read_as}
 use Rattle.text.specs.Questions.{fault_number, first, whole, read_rules, rules_end, ask_book, ask_first, ask_one, ask_rule_end, first_rule}
-use Rattle.text.specs.Patterns.{pattern_format, stop_of, turn_of, turn_at, turn_answer}
+use Rattle.text.specs.Patterns.{pattern_format, stop_of, turn_of, turn_at, stop_answer}
 use Rattle.text.proofs.Converse.{read-is-written}
 use Rattle.text.proofs.TextSpelling.{rules-step, rules-fault}
 use Rattle.text.proofs.RuleStart.{end_step, end-fault}
@@ -24,19 +23,12 @@ use Rattle.text.proofs.Compose.{same_operand, same_end, alike-turns, ReachedBy, 
 use Rattle.text.proofs.Items.{digit, here-pattern, here-digit}
 
 -- the answer to a fault
-stop-answer : (base : ℕ) (why : Fault) (p : ℕ) → turn_answer base (Stopped (stop_of why p)) ≡ refused (fault_number base why) p
+fault-told : (base : ℕ) (why : Fault) (p : ℕ) → stop_answer base (stop_of why p) ≡ refused (fault_number base why) p
 unfolding stop_of
-stop-answer base missing p = refl
-stop-answer base wrong_sort p = refl
-stop-answer base too_deep p = refl
-stop-answer base out_of_range p = refl
-
--- the answer to a turn, when turn and stop are given by equations
-pub answer-told : (base : ℕ) {t : Turn} {s s' : Stop} → t ≡ Stopped s → s ≡ s' → turn_answer base (Stopped s') ≡ turn_answer base t
-answer-told base e f = sym (ap (turn_answer base) (e ∙ ap Stopped f))
-
-turn-not : {P : Type 0} {p : ℕ} {s : Stop} → Next p ≡ Stopped s → P
-turn-not e = let z : ◌≡◌ {A = ℕ} 0 1 = cc in absurd (omega arith)
+fault-told base missing p = refl
+fault-told base wrong_sort p = refl
+fault-told base too_deep p = refl
+fault-told base out_of_range p = refl
 
 -- What the code has read at a place: a thing that ends at p, or a fault.
 pub record WasRead (t : List ℕ) (ρ : Limits) (w : Want) (at p : ℕ) : Type 0 where
@@ -44,10 +36,11 @@ pub record WasRead (t : List ℕ) (ρ : Limits) (w : Want) (at p : ℕ) : Type 0
   pub reading : read_as ρ w (drop at t) at ≡ got thing (drop p t) p
   pub inside : at ≤ length t → p ≤ length t
 
-record WasFault (t : List ℕ) (ρ : Limits) (w : Want) (at : ℕ) : Type 0 where
+record WasFault (t : List ℕ) (ρ : Limits) (w : Want) (at : ℕ) (s : Stop) : Type 0 where
   why : Fault
   place : ℕ
   reading : read_as ρ w (drop at t) at ≡ fault why place
+  answered : (base : ℕ) → stop_answer base s ≡ refused (fault_number base why) place
 
 module _ (t : List ℕ) (ρ : Limits) where
   -- a pattern of one thing reads that thing
@@ -56,27 +49,21 @@ module _ (t : List ℕ) (ρ : Limits) where
   one-thing w at = ap (λ z. turn_of (follow ρ (drop at t) z at)) (here-pattern (digit w) 1 w (here-digit w)) ∙ alike-turns ρ (same_operand (λ e. same_end)) (drop at t) at
 
   module _ (w : Want) (at : ℕ) where
-    pub was_read : {p : ℕ} → turn_at t ρ (pattern_format (digit w) 1) at ≡ Next p → WasRead t ρ w at p
+    pub was_read : {p : ℕ} → turn_at t ρ (pattern_format (digit w) 1) at ≡ Ok p → WasRead t ρ w at p
     unfolding turn_of
     was_read {p} e = go (read_as ρ w (drop at t) at) refl (reached ρ t (operand w 1 done) at) (sym (one-thing w at) ∙ e) where
-      go : (x : Read (Thing w)) → read_as ρ w (drop at t) at ≡ x → ReachedBy t at x → turn_of x ≡ Next p → WasRead t ρ w at p
+      go : (x : Read (Thing w)) → read_as ρ w (drop at t) at ≡ x → ReachedBy t at x → turn_of x ≡ Ok p → WasRead t ρ w at p
       go (got a rest q) i r e = let z : q ≡ p = cc in record { thing = a; reading = i ∙ ap₂ (got a) (r.rest-is ∙ ap (λ k. drop k t) z) z; inside = λ j. omega (arith, r.inside j) }
-      go (fault why q) i r e = turn-not (sym e)
+      go (fault why q) i r e = cc
 
-    was-fault : {s : Stop} → turn_at t ρ (pattern_format (digit w) 1) at ≡ Stopped s → WasFault t ρ w at
+    was-fault : {s : Stop} → turn_at t ρ (pattern_format (digit w) 1) at ≡ Err s → WasFault t ρ w at s
     unfolding turn_of
     was-fault {s} e = go (read_as ρ w (drop at t) at) refl (sym (one-thing w at) ∙ e) where
-      go : (x : Read (Thing w)) → read_as ρ w (drop at t) at ≡ x → turn_of x ≡ Stopped s → WasFault t ρ w at
-      go (got a rest q) i e = turn-not e
-      go (fault why q) i e = record { why = why; place = q; reading = i }
-
-    fault-answer : (base : ℕ) (f : WasFault t ρ w at) → turn_answer base (turn_at t ρ (pattern_format (digit w) 1) at) ≡ refused (fault_number base f.why) f.place
-    fault-answer base f = unfold turn_of in ap (turn_answer base) (one-thing w at ∙ ap turn_of f.reading) ∙ stop-answer base f.why f.place
+      go : (x : Read (Thing w)) → read_as ρ w (drop at t) at ≡ x → turn_of x ≡ Err s → WasFault t ρ w at s
+      go (got a rest q) i e = cc
+      go (fault why q) i e = let z : s ≡ stop_of why q = cc in record { why = why; place = q; reading = i; answered = λ base. ap (stop_answer base) z ∙ fault-told base why q }
 
   -- BOOK
-  pub book-same : {q : Limits} → ρ ≡ q → outcome (ask_book ρ t) ≡ outcome (ask_book q t)
-  book-same e = ap (λ r. outcome (ask_book r t)) e
-
   pub book-long : ρ.longest < length t → refused 11 0 ≡ outcome (ask_book ρ t)
   book-long h = unfold ask_book outcome is ◌>>◌ in rw (lt-leb (length t) ρ.longest h) refl
 
@@ -95,45 +82,39 @@ module _ (t : List ℕ) (ρ : Limits) where
       pub rules-full : m ≡ 0 → refused 16 at ≡ outcome (read_rules ρ m (drop at t) at)
       rules-full h = unfold read_rules outcome in rw (h, drop-cons t at 0 more) refl
 
-      module _ (some : m ≡ 0 → ⊥) where
-        pub rules-next : {p : ℕ} → turn_at t ρ (pattern_format 14 1) at ≡ Next p → outcome (read_rules ρ (m - 1) (drop p t) p) ≡ outcome (read_rules ρ m (drop at t) at)
-        rules-next {p} e = go m some (was_read (expr rule) at e) where
-          go : (k : ℕ) → (k ≡ 0 → ⊥) → WasRead t ρ (expr rule) at p → outcome (read_rules ρ (k - 1) (drop p t) p) ≡ outcome (read_rules ρ k (drop at t) at)
-          go zero s r = absurd (s refl)
-          go (suc k) s r =
-              ap (λ j. outcome (read_rules ρ j (drop p t) p)) (let e : suc k - 1 ≡ k = omega arith in e)
-              ∙ sym (ap outcome (rules-step ρ k (drop at t) at r.thing (drop p t) p r.reading) ∙ outcome-bind (read_rules ρ k (drop p t) p) (λ book. r.thing ∷ book))
+      pub rules-next : (rest : ℕ) → m ≡ suc rest → {p : ℕ} → turn_at t ρ (pattern_format 14 1) at ≡ Ok p → outcome (read_rules ρ rest (drop p t) p) ≡ outcome (read_rules ρ m (drop at t) at)
+      rules-next rest one_more {p} e =
+          let r = was_read (expr rule) at e in
+          sym
+          (ap (λ k. outcome (read_rules ρ k (drop at t) at)) one_more
+          ∙ ap outcome (rules-step ρ rest (drop at t) at r.thing (drop p t) p r.reading)
+          ∙ outcome-bind (read_rules ρ rest (drop p t) p) (λ book. r.thing ∷ book))
 
-        pub rules-stopped : {s : Stop} → turn_at t ρ (pattern_format 14 1) at ≡ Stopped s → turn_answer 10 (turn_at t ρ (pattern_format 14 1) at) ≡ outcome (read_rules ρ m (drop at t) at)
-        unfolding outcome
-        rules-stopped e = go m some (was-fault (expr rule) at e) where
-          left : drop at t ≡ [] → ⊥
-          left z = omega (arith, sym (length-drop at t) ∙ ap length z)
-
-          go : (k : ℕ) → (k ≡ 0 → ⊥) → WasFault t ρ (expr rule) at → turn_answer 10 (turn_at t ρ (pattern_format 14 1) at) ≡ outcome (read_rules ρ k (drop at t) at)
-          go zero h f = absurd (h refl)
-          go (suc k) h f = fault-answer (expr rule) at 10 f ∙ sym (ap outcome (rules-fault ρ k (drop at t) at f.why f.place left f.reading))
+      pub rules-stopped : {s : Stop} → 0 < m → turn_at t ρ (pattern_format 14 1) at ≡ Err s → stop_answer 10 s ≡ outcome (read_rules ρ m (drop at t) at)
+      unfolding outcome
+      rules-stopped some e =
+          let f = was-fault (expr rule) at e in
+          let one_more : m ≡ suc (m - 1) = omega arith in
+          let left : drop at t ≡ [] → ⊥ = λ z. omega (arith, sym (length-drop at t) ∙ ap length z) in
+          f.answered 10 ∙ sym (ap (λ k. outcome (read_rules ρ k (drop at t) at)) one_more ∙ ap outcome (rules-fault ρ (m - 1) (drop at t) at f.why f.place left f.reading))
 
   -- RULE START
   module _ (left at : ℕ) where
     pub start-here : left ≤ 0 → at ≡ rules_end ρ left (drop at t) at
     start-here h = unfold rules_end in let e : left ≡ 0 = omega arith in rw e refl
 
-    module _ (some : 0 < left) where
-      one_more : left ≡ suc (left - 1)
-      one_more = omega arith
+    pub start-next : (rest : ℕ) → left ≡ suc rest → {p : ℕ} → turn_at t ρ (pattern_format 14 1) at ≡ Ok p → rules_end ρ rest (drop p t) p ≡ rules_end ρ left (drop at t) at
+    start-next rest one_more e = sym (ap (λ k. rules_end ρ k (drop at t) at) one_more ∙ end_step ρ rest (drop at t) at (was_read (expr rule) at e).reading)
 
-      pub start-next : {p : ℕ} → turn_at t ρ (pattern_format 14 1) at ≡ Next p → rules_end ρ (left - 1) (drop p t) p ≡ rules_end ρ left (drop at t) at
-      start-next e = sym (ap (λ k. rules_end ρ k (drop at t) at) one_more ∙ end_step ρ (left - 1) (drop at t) at (was_read (expr rule) at e).reading)
-
-      pub start-stopped : {s : Stop} → at ≤ length t → turn_at t ρ (pattern_format 14 1) at ≡ Stopped s → length t ≡ rules_end ρ left (drop at t) at
-      start-stopped h e =
-          omega (arith, length-drop at t)
-          ∙ sym (ap (λ k. rules_end ρ k (drop at t) at) one_more ∙ end-fault ρ (left - 1) (drop at t) at (was-fault (expr rule) at e).reading)
+    pub start-stopped : {s : Stop} → 0 < left → at ≤ length t → turn_at t ρ (pattern_format 14 1) at ≡ Err s → length t ≡ rules_end ρ left (drop at t) at
+    start-stopped some h e =
+        let one_more : left ≡ suc (left - 1) = omega arith in
+        omega (arith, length-drop at t)
+        ∙ sym (ap (λ k. rules_end ρ k (drop at t) at) one_more ∙ end-fault ρ (left - 1) (drop at t) at (was-fault (expr rule) at e).reading)
 
   -- ONE THING, an edit or a rule, when the limits are those of the questions
   module _ (base : ℕ) (w : Want) {q : Limits} (same : ρ ≡ q) where
-    pub one_same : outcome (ask_one ρ base w t) ≡ outcome (ask_one q base w t)
+    one_same : outcome (ask_one ρ base w t) ≡ outcome (ask_one q base w t)
     one_same = ap (λ r. outcome (ask_one r base w t)) same
 
     pub one-long : ρ.longest < length t → refused (base + 1) 0 ≡ outcome (ask_one q base w t)
@@ -143,17 +124,17 @@ module _ (t : List ℕ) (ρ : Limits) where
       one-read : {x : Read (Thing w)} → read_as ρ w t 0 ≡ x → outcome (whole base x) ≡ outcome (ask_one q base w t)
       one-read e = unfold ask_one in sym (ap outcome (so-then (base + 1) 0 _ (le-leb (length t) ρ.longest short) ∙ ap (whole base) e)) ∙ one_same
 
-      pub one-stopped : {s : Stop} → turn_at t ρ (pattern_format (digit w) 1) 0 ≡ Stopped s → turn_answer base (turn_at t ρ (pattern_format (digit w) 1) 0) ≡ outcome (ask_one q base w t)
-      one-stopped e = unfold outcome whole in let f = was-fault w 0 e in fault-answer w 0 base f ∙ one-read f.reading
+      pub one-stopped : {s : Stop} → turn_at t ρ (pattern_format (digit w) 1) 0 ≡ Err s → stop_answer base s ≡ outcome (ask_one q base w t)
+      one-stopped e = unfold outcome whole in let f = was-fault w 0 e in f.answered base ∙ one-read f.reading
 
-      pub one-done : {p : ℕ} → turn_at t ρ (pattern_format (digit w) 1) 0 ≡ Next p → p ≡ length t → passed tt ≡ outcome (ask_one q base w t)
+      pub one-done : {p : ℕ} → turn_at t ρ (pattern_format (digit w) 1) 0 ≡ Ok p → p ≡ length t → passed tt ≡ outcome (ask_one q base w t)
       unfolding outcome whole
       one-done {p} e h =
           let k : length t ≤ p = omega arith in
           let r = was_read w 0 e in
           one-read (r.reading ∙ ap (λ rest. got r.thing rest p) (drop_of_length-le t k))
 
-      pub one-extra : {p : ℕ} → turn_at t ρ (pattern_format (digit w) 1) 0 ≡ Next p → (p ≡ length t → ⊥) → refused (base + 6) p ≡ outcome (ask_one q base w t)
+      pub one-extra : {p : ℕ} → turn_at t ρ (pattern_format (digit w) 1) 0 ≡ Ok p → (p ≡ length t → ⊥) → refused (base + 6) p ≡ outcome (ask_one q base w t)
       unfolding outcome whole
       one-extra {p} e h =
           let r = was_read w 0 e in
@@ -162,9 +143,6 @@ module _ (t : List ℕ) (ρ : Limits) where
 
 -- THE FIRST RULE of a text
 module _ (t : List ℕ) (ρ : Limits) where
-  pub first-same : {q : Limits} → ρ ≡ q → outcome (ask_first ρ t) ≡ outcome (ask_first q t)
-  first-same e = ap (λ q. outcome (ask_first q t)) e
-
   first_refused : ρ.longest < length t → ask_first ρ t ≡ refused 11 0
   first_refused long = unfold ask_first in not-then 11 0 (first (read_as ρ (expr rule) t 0)) (lt-leb (length t) ρ.longest long)
 
@@ -174,12 +152,11 @@ module _ (t : List ℕ) (ρ : Limits) where
   pub first-long : ρ.longest < length t → refused 11 0 ≡ outcome (ask_first ρ t)
   first-long long = sym (outcome-ends (first_refused long))
 
-  pub first-answer : length t ≤ ρ.longest → turn_answer 10 (turn_at t ρ (pattern_format 14 1) 0) ≡ outcome (ask_first ρ t)
-  unfolding first outcome turn_of
-  first-answer short = ap (turn_answer 10) (one-thing t ρ (expr rule) 0) ∙ go (read_as ρ (expr rule) t 0) ∙ ap outcome (sym (first-asked short)) where
-    go : (x : Read (Expr rule)) → turn_answer 10 (turn_of x) ≡ outcome (first x)
-    go (got K rest q) = refl
-    go (fault why q) = stop-answer 10 why q
+  pub first-done : {p : ℕ} → length t ≤ ρ.longest → turn_at t ρ (pattern_format 14 1) 0 ≡ Ok p → passed tt ≡ outcome (ask_first ρ t)
+  first-done short e = unfold first outcome in sym (ap outcome (first-asked short ∙ ap first (was_read t ρ (expr rule) 0 e).reading))
+
+  pub first-stopped : {s : Stop} → length t ≤ ρ.longest → turn_at t ρ (pattern_format 14 1) 0 ≡ Err s → stop_answer 10 s ≡ outcome (ask_first ρ t)
+  first-stopped short e = unfold first outcome in let f = was-fault t ρ (expr rule) 0 e in f.answered 10 ∙ sym (ap outcome (first-asked short ∙ ap first f.reading))
 
 -- RULE END
 module _ (t : List ℕ) (ρ : Limits) (all-nodes : ρ ≡ text_limits max_nodes) where
@@ -190,15 +167,15 @@ module _ (t : List ℕ) (ρ : Limits) (all-nodes : ρ ≡ text_limits max_nodes)
     asked-first : {x : Read (Expr rule)} → read_as ρ (expr rule) t 0 ≡ x → first x ≡ ask_rule_end t
     asked-first e = sym (ap first e) ∙ sym (first-asked t ρ short) ∙ ap (λ q. ask_first q t) all-nodes
 
-    pub no-rule : {s : Stop} → turn_at t ρ (pattern_format 14 1) 0 ≡ Stopped s → [] ≡ first_rule t
+    pub no-rule : {s : Stop} → turn_at t ρ (pattern_format 14 1) 0 ≡ Err s → [] ≡ first_rule t
     no-rule e = unfold first_rule first after in ap (λ q. after q code []) (asked-first (was-fault t ρ (expr rule) 0 e).reading)
 
-    pub the-rule : {p : ℕ} → turn_at t ρ (pattern_format 14 1) 0 ≡ Next p → p - 0 ≡ length (first_rule t)
+    pub the-rule : {p : ℕ} → turn_at t ρ (pattern_format 14 1) 0 ≡ Ok p → p - 0 ≡ length (first_rule t)
     unfolding first_rule first after
     the-rule {p} e =
         let r = was_read t ρ (expr rule) 0 e in
         let size : p - 0 ≡ length (code r.thing) = omega (arith, (read-is-written ρ (expr rule) 1 t 0 r.reading).place_is) in
         size ∙ ap (λ q. length (after q code [])) (asked-first r.reading)
 
-    pub rule-inside : {p : ℕ} → turn_at t ρ (pattern_format 14 1) 0 ≡ Next p → p ≤ length t
+    pub rule-inside : {p : ℕ} → turn_at t ρ (pattern_format 14 1) 0 ≡ Ok p → p ≤ length t
     rule-inside e = (was_read t ρ (expr rule) 0 e).inside (omega arith)

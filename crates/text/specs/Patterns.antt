@@ -1,13 +1,11 @@
 -- The codes as a table of patterns, one number for each code, and how the code's turns follow the formats of a reading.
-use Rattle.std.specs.Prelude.{Bool, true, ◌&&◌, cond, List, [], ◌∷◌, ℕ, suc, ◌+◌, ◌-◌, ◌/◌, ◌%◌, leb, ltb, eqb, length, get_or, drop}
-use Rattle.answer.specs.Asked.{Asked, passed, refused}
+use Rattle.std.specs.Prelude.{Bool, true, ◌&&◌, cond, List, [], ◌∷◌, ℕ, suc, ◌+◌, ◌-◌, ◌/◌, ◌%◌, leb, ltb, eqb, length, get_or, drop, Result, Ok, Err}
+use Rattle.answer.specs.Asked.{Asked, refused}
 use Rattle.logic.specs.Syntax.{node, arrow, rule}
 use Rattle.logic.specs.Limits.{Kind, label_number, arrow_number, node_number, least_count, most_count, Ranges, fits}
 use Rattle.text.specs.declared.Limits as declared
 use Rattle.text.specs.declared.Stop.{Stop}
 use Rattle.text.specs.declared.Stop.TheVariants.{Missing, WrongSort, TooDeep, OutOfRange}
-use Rattle.text.specs.declared.Turn.{Turn}
-use Rattle.text.specs.declared.Turn.TheVariants.{Next, Stopped}
 use Rattle.text.specs.Questions.{fault_number}
 use Rattle.text.specs.Reading.{Limits, Want, expr, edit, Format, done, number, operand, Fault, missing, wrong_sort, too_deep, out_of_range, Read, got, fault, follow}
 
@@ -136,7 +134,10 @@ number_fits r (takes k) x = fits r k x
 number_fits r (deeper w) x = true
 number_fits r (here w) x = true
 
--- The code's view of a reading: the next place, or the fault and its place.
+-- The code's view of a reading: the place where it goes on, or the fault and its place.
+abbrev pub Turn : Type 0
+Turn = Result ℕ Stop
+
 unfoldable pub stop_of : Fault → ℕ → Stop
 stop_of missing p = Missing p
 stop_of wrong_sort p = WrongSort p
@@ -144,16 +145,15 @@ stop_of too_deep p = TooDeep p
 stop_of out_of_range p = OutOfRange p
 
 unfoldable pub turn_of : {A : Type 0} → Read A → Turn
-turn_of (got a rest p) = Next p
-turn_of (fault why p) = Stopped (stop_of why p)
+turn_of (got a rest p) = Ok p
+turn_of (fault why p) = Err (stop_of why p)
 
--- The answer when this turn is the last: 12 to 15 for a book (base 10), 22 to 25 for an edit (base 20).
-abbrev pub turn_answer : ℕ → Turn → Asked (Unit {0})
-turn_answer base (Next p) = passed tt
-turn_answer base (Stopped (Missing p)) = refused (fault_number base missing) p
-turn_answer base (Stopped (WrongSort p)) = refused (fault_number base wrong_sort) p
-turn_answer base (Stopped (TooDeep p)) = refused (fault_number base too_deep) p
-turn_answer base (Stopped (OutOfRange p)) = refused (fault_number base out_of_range) p
+-- The answer when a reading stops: 12 to 15 for a book (base 10), 22 to 25 for an edit (base 20).
+abbrev pub stop_answer : ℕ → Stop → Asked (Unit {0})
+stop_answer base (Missing p) = refused (fault_number base missing) p
+stop_answer base (WrongSort p) = refused (fault_number base wrong_sort) p
+stop_answer base (TooDeep p) = refused (fault_number base too_deep) p
+stop_answer base (OutOfRange p) = refused (fault_number base out_of_range) p
 
 -- The turn that a format gives when followed from a place of a text.
 unfoldable pub turn_at : {A : Type 0} → List ℕ → Limits → Format A → ℕ → Turn
@@ -163,5 +163,5 @@ turn_at text l format at = turn_of (follow l (drop at text) format at)
 unfoldable pub head_at : List ℕ → (deepest sort d at : ℕ) → Turn
 head_at text deepest sort d at =
     cond (ltb at (length text))
-    (cond (eqb (sort_of_def (get_or text at 0)) sort) (cond (leb d deepest) (Next (at + 1)) (Stopped (TooDeep at))) (Stopped (WrongSort at)))
-    (Stopped (Missing at))
+    (cond (eqb (sort_of_def (get_or text at 0)) sort) (cond (leb d deepest) (Ok (at + 1)) (Err (TooDeep at))) (Err (WrongSort at)))
+    (Err (Missing at))

@@ -4,8 +4,9 @@
 
 ghost use Rattle.std.specs.Prelude.{◌≡◌, min, ◌<◌, ◌≤◌};
 ghost use Rattle.logic.specs.Limits.{max_nodes};
-ghost use Rattle.text.specs.Patterns.{item_of, pattern_of_def, sort_of_def, pattern_format, limits_of, number_fits, turn_at, turn_answer};
+ghost use Rattle.text.specs.Patterns.{item_of, pattern_of_def, sort_of_def, pattern_format, limits_of, number_fits, turn_at, stop_answer};
 ghost use Rattle.answer.specs.Answers.{asked};
+ghost use Rattle.answer.specs.declared.Answer.TheVariants.{Refused};
 ghost use Rattle.answer.specs.Asked.{outcome};
 ghost use Rattle.text.specs.Reading.{text_limits, former_limits_def, carried_limits_def, longest_carried};
 ghost use Rattle.text.specs.Questions.{ask_book, ask_first, ask_rule, ask_edit, ask_rule_end, first_part, rule_start_def};
@@ -14,8 +15,8 @@ ghost use Rattle.text.specs.Part.{PartOf};
 use answer::{Answer, Refusal};
 use logic::{Arrow, Label, Node};
 
-// What is wrong with the bytes, and where: 12 to 15 for a book, 22 to 25 for an edit.
-#[derive(Drop)]
+// What stops a reading, and where: 12 to 15 for a book, 22 to 25 for an edit.
+#[derive(Clone, Copy)]
 pub enum Stop {
     Missing { place: usize },
     WrongSort { place: usize },
@@ -23,11 +24,29 @@ pub enum Stop {
     OutOfRange { place: usize },
 }
 
-// The place where reading goes on, or what stopped it.
-#[derive(Drop)]
-pub enum Turn {
-    Next(usize),
-    Stopped(Stop),
+// The refusals, in a book and in an edit. Two functions, since each case gives a variant of its own: one function would take four constructors.
+impl Stop {
+    fn in_book(self) -> Refusal
+        ensures { asked (Refused result) ≡ stop_answer 10 self }
+    {
+        match self {
+            Stop::Missing { place } => Refusal::BookEnds { place },
+            Stop::WrongSort { place } => Refusal::BookCode { place },
+            Stop::TooDeep { place } => Refusal::BookLevel { place },
+            Stop::OutOfRange { place } => Refusal::BookNumber { place },
+        }
+    }
+
+    fn in_edit(self) -> Refusal
+        ensures { asked (Refused result) ≡ stop_answer 20 self }
+    {
+        match self {
+            Stop::Missing { place } => Refusal::EditEnds { place },
+            Stop::WrongSort { place } => Refusal::EditCode { place },
+            Stop::TooDeep { place } => Refusal::EditLevel { place },
+            Stop::OutOfRange { place } => Refusal::EditNumber { place },
+        }
+    }
 }
 
 // What follows each code, a hexadecimal digit for each item, the first item last. 3 label, 4 arrow, 5 node number; 6, 7 the counts of 0A
@@ -79,6 +98,7 @@ const RULE: u32 = 0xE;
 const EDIT: u32 = 0xF;
 
 // The sort of a code, as the digit of an item at the code's own level.
+#[tactic(auto, unfolding(crate::specs::Patterns::code_sort, crate::specs::Patterns::sort_digit))]
 fn sort_of(code: u8) -> u32
     ensures { result ≡ sort_of_def code }
 {
@@ -104,6 +124,7 @@ struct Limits {
 }
 
 // Whether a number byte is in the range of its kind. Inner: the item is a number.
+#[tactic(auto, unfolding(crate::specs::Patterns::number_fits, crate::specs::Patterns::item_of, crate::specs::Patterns::items))]
 fn in_range(limits: Limits, kind: u32, x: u8) -> bool
     requires { (3 ≤ kind) × (kind < 8) }
     ensures { result ≡ number_fits (limits_of limits).numbers (item_of kind) x }
@@ -120,7 +141,7 @@ fn in_range(limits: Limits, kind: u32, x: u8) -> bool
 // Reads a thing whose first code is at level 1, byte by byte along the patterns of its codes: `pattern` is what remains of the code at `level`,
 // `patterns` what remains of those above it. Takes 512 bytes of stack, however deep the text.
 // Inner: the sort wanted is a digit from C to F.
-fn read(text: &[u8], limits: Limits, wanted: u32, at: usize) -> Turn
+fn read(text: &[u8], limits: Limits, wanted: u32, at: usize) -> Result<usize, Stop>
     requires { (12 ≤ wanted) × (wanted < 16) }
     ensures { result ≡ turn_at text.now (limits_of limits) (pattern_format wanted 1) at }
 {
@@ -132,30 +153,30 @@ fn read(text: &[u8], limits: Limits, wanted: u32, at: usize) -> Turn
         let item = pattern % 16;
         if item < 3 {
             if level == 0 {
-                return Turn::Next(p);
+                return Ok(p);
             }
             level -= 1;
             pattern = patterns[level] as u32;
         } else if text.len() <= p {
-            return Turn::Stopped(Stop::Missing { place: p });
+            return Err(Stop::Missing { place: p });
         } else if item < 8 {
             if in_range(limits, item, text[p]) {
                 pattern = pattern / 16;
                 p += 1;
             } else {
-                return Turn::Stopped(Stop::OutOfRange { place: p });
+                return Err(Stop::OutOfRange { place: p });
             }
         } else {
             let code = text[p];
             if sort_of(code) != 12 + item % 4 {
-                return Turn::Stopped(Stop::WrongSort { place: p });
+                return Err(Stop::WrongSort { place: p });
             }
             let next = pattern_of(code);
             if item >= 12 {
                 pattern = next;
                 p += 1;
             } else if level >= limits.deepest as usize {
-                return Turn::Stopped(Stop::TooDeep { place: p });
+                return Err(Stop::TooDeep { place: p });
             } else {
                 patterns[level] = (pattern / 16) as u16;
                 level += 1;
@@ -163,35 +184,6 @@ fn read(text: &[u8], limits: Limits, wanted: u32, at: usize) -> Turn
                 p += 1;
             }
         }
-    }
-}
-
-// The answer for a book, and for an edit, when this turn is the last.
-fn book_answer(turn: Turn) -> Answer
-    ensures { asked result ≡ turn_answer 10 turn }
-{
-    match turn {
-        Turn::Next(_) => Answer::Done,
-        Turn::Stopped(stop) => match stop {
-            Stop::Missing { place } => Answer::Refused(Refusal::BookEnds { place }),
-            Stop::WrongSort { place } => Answer::Refused(Refusal::BookCode { place }),
-            Stop::TooDeep { place } => Answer::Refused(Refusal::BookLevel { place }),
-            Stop::OutOfRange { place } => Answer::Refused(Refusal::BookNumber { place }),
-        },
-    }
-}
-
-fn edit_answer(turn: Turn) -> Answer
-    ensures { asked result ≡ turn_answer 20 turn }
-{
-    match turn {
-        Turn::Next(_) => Answer::Done,
-        Turn::Stopped(stop) => match stop {
-            Stop::Missing { place } => Answer::Refused(Refusal::EditEnds { place }),
-            Stop::WrongSort { place } => Answer::Refused(Refusal::EditCode { place }),
-            Stop::TooDeep { place } => Answer::Refused(Refusal::EditLevel { place }),
-            Stop::OutOfRange { place } => Answer::Refused(Refusal::EditNumber { place }),
-        },
     }
 }
 
@@ -213,12 +205,10 @@ fn former_limits(n: usize) -> Limits
     ensures { limits_of result ≡ former_limits_def n }
 {
     Limits {
-        nodes: n,
-        longest: Text::LONGEST as u32,
-        deepest: Text::DEEPEST,
         from: 0,
         to: 255,
         most: 255,
+        ..limits_for(n)
     }
 }
 
@@ -226,12 +216,9 @@ fn carried_limits(n: usize) -> Limits
     ensures { limits_of result ≡ carried_limits_def n }
 {
     Limits {
-        nodes: n,
         longest: Text::LONGEST_CARRIED as u32,
         deepest: Text::DEEPEST_CARRIED,
-        from: Text::LEAST_FROM,
-        to: Text::LEAST_TO,
-        most: Text::MOST_TO,
+        ..limits_for(n)
     }
 }
 
@@ -243,17 +230,17 @@ fn book_within(book: &[u8], limits: Limits) -> Answer
         return Answer::Refused(Refusal::BookLength { place: 0 });
     }
     let mut p = 0;
-    let mut left = Text::RULES;
-    while p < book.len() {
-        if left == 0 {
-            return Answer::Refused(Refusal::BookRules { place: p });
+    for _ in 0..Text::RULES {
+        if p >= book.len() {
+            return Answer::Done;
         }
-        let turn = read(book, limits, RULE, p);
-        let Turn::Next(q) = turn else {
-            return book_answer(turn);
-        };
-        p = q;
-        left -= 1;
+        match read(book, limits, RULE, p) {
+            Ok(next) => p = next,
+            Err(stop) => return Answer::Refused(stop.in_book()),
+        }
+    }
+    if p < book.len() {
+        return Answer::Refused(Refusal::BookRules { place: p });
     }
     Answer::Done
 }
@@ -265,14 +252,11 @@ fn rule_within(text: &[u8], limits: Limits) -> Answer
     if text.len() > limits.longest as usize {
         return Answer::Refused(Refusal::BookLength { place: 0 });
     }
-    let turn = read(text, limits, RULE, 0);
-    let Turn::Next(p) = turn else {
-        return book_answer(turn);
-    };
-    if p != text.len() {
-        return Answer::Refused(Refusal::BookRules { place: p });
+    match read(text, limits, RULE, 0) {
+        Ok(p) if p != text.len() => Answer::Refused(Refusal::BookRules { place: p }),
+        Ok(_) => Answer::Done,
+        Err(stop) => Answer::Refused(stop.in_book()),
     }
-    Answer::Done
 }
 
 // Does the text begin with a rule within the limits? 11 to 15.
@@ -282,11 +266,14 @@ fn first_within(text: &[u8], limits: Limits) -> Answer
     if text.len() > limits.longest as usize {
         return Answer::Refused(Refusal::BookLength { place: 0 });
     }
-    book_answer(read(text, limits, RULE, 0))
+    match read(text, limits, RULE, 0) {
+        Ok(_) => Answer::Done,
+        Err(stop) => Answer::Refused(stop.in_book()),
+    }
 }
 
 // The calls that read texts, and their limits. Each call reads its text once.
-#[derive(Drop)]
+#[derive(Clone, Copy)]
 pub struct Text;
 
 impl Text {
@@ -353,14 +340,11 @@ impl Text {
         if edit.len() > limits.longest as usize {
             return Answer::Refused(Refusal::EditLength { place: 0 });
         }
-        let turn = read(edit, limits, EDIT, 0);
-        let Turn::Next(p) = turn else {
-            return edit_answer(turn);
-        };
-        if p != edit.len() {
-            return Answer::Refused(Refusal::EditExtra { place: p });
+        match read(edit, limits, EDIT, 0) {
+            Ok(p) if p != edit.len() => Answer::Refused(Refusal::EditExtra { place: p }),
+            Ok(_) => Answer::Done,
+            Err(stop) => Answer::Refused(stop.in_edit()),
         }
-        Answer::Done
     }
 
     // The first rule of a text, as a part of that text; when refused, an empty part at its start. n is 60.
@@ -371,8 +355,7 @@ impl Text {
         if text.len() > limits.longest as usize {
             return &text[0..0]; // 11
         }
-        let turn = read(text, limits, RULE, 0);
-        let Turn::Next(p) = turn else {
+        let Ok(p) = read(text, limits, RULE, 0) else {
             return &text[0..0]; // 12 to 15
         };
         &text[0..p]
@@ -398,11 +381,7 @@ impl Text {
     pub fn looked_at(length: usize) -> usize
         ensures { result ≡ min length longest_carried }
     {
-        if length < Text::LONGEST_CARRIED {
-            length
-        } else {
-            Text::LONGEST_CARRIED
-        }
+        length.min(Text::LONGEST_CARRIED)
     }
 
     // Where rule i of a book, from 0, starts: after i rules; the book's length if there are fewer rules or they cannot be read.
@@ -412,14 +391,11 @@ impl Text {
     {
         let limits = limits_for(n);
         let mut p = 0;
-        let mut left = i;
-        while 0 < left {
-            let turn = read(book, limits, RULE, p);
-            let Turn::Next(q) = turn else {
+        for _ in 0..i {
+            let Ok(next) = read(book, limits, RULE, p) else {
                 return book.len();
             };
-            p = q;
-            left -= 1;
+            p = next;
         }
         p
     }

@@ -25,7 +25,8 @@ use Rattle.eval.specs.Evaluated.{Opened, IsSet, IsRelation}
 use Rattle.eval.proofs.CodePlaces.{first-number, second-number}
 use Rattle.witness.specs.Witnessed.{witness, WitnessOf}
 use Rattle.witness.specs.declared.Witness.{Witness}
-use Rattle.witness.proofs.PairLaws.{Unnamed, outside, row_in, word-outside, word_none, word_some, witness-is}
+use Rattle.witness.specs.declared.Witness.TheVariants.{Nothing, LowestNode, LowestPair, Unnamed}
+use Rattle.witness.proofs.PairLaws.{outside, row_in, word-outside, word_none, word_some}
 use Rattle.witness.proofs.RuleShapes.{operands}
 
 -- the set of one node, and of one pair
@@ -73,13 +74,13 @@ module _ (n : ℕ) (text : List ℕ) (at : ℕ) (sheet : List ℕ) where
     truth b e = unfold value in ap (λ m. all_below m (λ i. implies (v i) (w i))) (sym o.count) ∙ e
 
     pub nodes-some : (r : ℕ) → 0 < d → member d r ≡ true → r ≡ count_trailing_zeros 64 d
-        → WitnessOf sheet n (record { kind = 1; first = r; second = 0; nodes = d }) (sub_nodes E F)
+        → WitnessOf sheet n (LowestNode r d) (sub_nodes E F)
     unfolding breaks witness
     nodes-some r l m t = rw (truth false (word_some n v w d word l)) (rw (lowest-is n (outside v w) r (first-is-lowest n (outside v w) d r (omega (arith, o.few)) word m t), ← word) refl)
 
-    pub nodes-none : (r : Witness) → d ≤ 0 → Unnamed 0 r → WitnessOf sheet n r (sub_nodes E F)
+    pub nodes-none : d ≤ 0 → WitnessOf sheet n Nothing (sub_nodes E F)
     unfolding breaks witness
-    nodes-none r l m = rw (truth true (word_none n v w d word l)) (witness-is r m)
+    nodes-none l = rw (truth true (word_none n v w d word l)) refl
 
   -- 22
   pub pairs-named : (all : ℕ) → Opened sheet n all → (R S : Expr arrow) → Stands (ranges n) text at (sub_arrows R S) → (rows other : List ℕ) (nx ny : ℕ)
@@ -95,7 +96,7 @@ module _ (n : ℕ) (text : List ℕ) (at : ℕ) (sheet : List ℕ) where
 
   -- 23
   pub node-named : (i : ℕ) (E : Expr node) → Stands (ranges n) text at (node_in i E) → n ≤ max_nodes → (k x : ℕ) → k ≡ get_or text (at + 1) 0 → x ≡ set_of 64 (λ m. eqb m k)
-      → IfBroken sheet n (record { kind = 1; first = k; second = 0; nodes = x }) (node_in i E)
+      → IfBroken sheet n (LowestNode k x) (node_in i E)
   unfolding breaks value witness code InRange
   node-named i E h few k x e f broken =
       let q : k ≡ i = e ∙ first-number text at 0x23 i _ h.here in let l = ltb→lt i n h.range.0 in
@@ -104,7 +105,7 @@ module _ (n : ℕ) (text : List ℕ) (at : ℕ) (sheet : List ℕ) where
 
   -- 24
   pub pair-named : (i j : ℕ) (R : Expr arrow) → Stands (ranges n) text at (pair_in i j R) → (k l : ℕ) → k ≡ get_or text (at + 1) 0 → l ≡ get_or text (at + 2) 0
-      → IfBroken sheet n (record { kind = 2; first = k; second = l; nodes = 0 }) (pair_in i j R)
+      → IfBroken sheet n (LowestPair k l) (pair_in i j R)
   unfolding breaks value witness code InRange
   pair-named i j R h k l e f broken =
       let p : k ≡ i = e ∙ first-number text at 0x24 i _ h.here in let q : l ≡ j = f ∙ second-number text at 0x24 i j _ h.here in
@@ -112,9 +113,9 @@ module _ (n : ℕ) (text : List ℕ) (at : ℕ) (sheet : List ℕ) where
       rw (broken) (rw (lowest-is n _ i (first-lowest n i j a b), lowest-is n _ j (second-lowest n i j a b), p, q) refl)
 
 -- 27
-pub not_named : (sheet : List ℕ) (n : ℕ) (K : Expr rule) → (r : Witness) → Unnamed 3 r → IfBroken sheet n r (not_rule K)
+pub not_named : (sheet : List ℕ) (n : ℕ) (K : Expr rule) → IfBroken sheet n Unnamed (not_rule K)
 unfolding breaks value witness
-not_named sheet n K r m broken = go (value (graph_of sheet) K) broken where
-  go : (b : Bool) → not b ≡ false → r ≡ witness n (cond b unnamed nothing)
-  go true e = witness-is r m
+not_named sheet n K broken = go (value (graph_of sheet) K) broken where
+  go : (b : Bool) → not b ≡ false → Unnamed ≡ witness n (cond b unnamed nothing)
+  go true e = refl
   go false e = cc

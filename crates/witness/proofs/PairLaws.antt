@@ -14,7 +14,7 @@ use Rattle.bitset.specs.Words.{set_of, member, combined}
 use Rattle.bitset.proofs.SetLaws.{set_of-empty, combined-sets}
 use Rattle.bitset.proofs.MemberLaws.{first-is-lowest}
 use Rattle.witness.specs.Witnessed.{witness}
-use Rattle.witness.specs.declared.Witness.{Witness}
+use Rattle.witness.specs.declared.Witness.TheVariants.{Nothing, LowestPair}
 
 -- what is in v and not in w
 abbrev pub outside : Nodes → Nodes → Nodes
@@ -37,13 +37,6 @@ word_none n v w d e h = sym (none-outside n v w) ∙ sym (set_of-empty n (outsid
 pub word_some : (n : ℕ) (v w : Nodes) (d : ℕ) → d ≡ set_of n (outside v w) → 0 < d → all_below n (λ i. implies (v i) (w i)) ≡ false
 word_some n v w d e h = sym (none-outside n v w) ∙ sym (set_of-empty n (outside v w)) ∙ ne_eqb _ 0 (λ (z : set_of n (outside v w) ≡ 0). omega (arith, e))
 
--- a witness without a name, of a kind
-abbrev pub Unnamed : ℕ → Witness → Type 0
-Unnamed k r = (r.kind ≡ k) × (r.first ≡ 0) × (r.second ≡ 0) × (r.nodes ≡ 0)
-
-pub witness-is : {k : ℕ} (r : Witness) → Unnamed k r → r ≡ record { kind = k; first = 0; second = 0; nodes = 0 }
-witness-is r (k, f, s, m) = λ t. record { kind = k t; first = f t; second = s t; nodes = m t }
-
 module _ (n : ℕ) (v w : Pairs) where
   -- row k of v is inside that of w
   abbrev pub row_in : Nodes
@@ -53,7 +46,7 @@ module _ (n : ℕ) (v w : Pairs) where
   pairs-some e = not-other (sym (all-not-any n row_in (λ i. any_below n (outside (v i) (w i))) (λ i l. sym (none-outside n (v i) (w i)))) ∙ e)
 
   pub pair_found : (i x : ℕ) (r : ℕ) → i < n → n ≤ 64 → all_below i row_in ≡ true → x ≡ set_of n (outside (v i) (w i)) → 0 < x → member x r ≡ true → r ≡ count_trailing_zeros 64 x
-      → record { kind = 2; first = i; second = r; nodes = 0 } ≡ witness n (cond (all_below n row_in) nothing (pairs (λ i j. v i j && not (w i j))))
+      → LowestPair i r ≡ witness n (cond (all_below n row_in) nothing (pairs (λ i j. v i j && not (w i j))))
   unfolding witness
   pair_found i x r l h before e some m t =
       let q : IsLowest n (outside (v i) (w i)) r = first-is-lowest n (outside (v i) (w i)) x r h e m t in
@@ -65,6 +58,5 @@ module _ (n : ℕ) (v w : Pairs) where
       let first = lowest-is n (λ i. any_below n (outside (v i) (w i))) i p in
       rw (all-stop row_in n i l (word_some n (v i) (w i) x e some)) (rw (first, lowest-is n (outside (v i) (w i)) r q) refl)
 
-  pub pair-none : (i : ℕ) → i ≤ n → n ≤ i → all_below i row_in ≡ true → (r : Witness) → Unnamed 0 r
-      → r ≡ witness n (cond (all_below n row_in) nothing (pairs (λ i j. v i j && not (w i j))))
-  pair-none i h l before r e = unfold witness in rw (all_end row_in n i h l before) (witness-is r e)
+  pub pair-none : (i : ℕ) → i ≤ n → n ≤ i → all_below i row_in ≡ true → Nothing ≡ witness n (cond (all_below n row_in) nothing (pairs (λ i j. v i j && not (w i j))))
+  pair-none i h l before = unfold witness in rw (all_end row_in n i h l before) refl

@@ -25,9 +25,7 @@ module _ (g : Graph) where
   unfolding witness
   of-nodes P b v e some = record {
     broken = b;
-    named = λ z. omega (arith, z);
-    node = λ z. rw (← e) (lowest-found n v some, refl);
-    pair = λ z. absurd (omega (arith, z));
+    named = rw (← e) (lowest-found n v some, refl);
   }
 
   of-pairs : (P : Expr rule) → value g P ≡ false → (v : Pairs) → v ≡ breaking_pairs g P → any_below n (λ i. any_below n (v i)) ≡ true → Told g P (witness n (pairs v))
@@ -36,13 +34,11 @@ module _ (g : Graph) where
       let first = lowest-found n (λ i. any_below n (v i)) some in
       record {
         broken = b;
-        named = λ z. omega (arith, z);
-        node = λ z. absurd (omega (arith, z));
-        pair = λ z. rw (← e) (first, lowest-found n (v (lowest_below n (λ i. any_below n (v i)))) first.is_in);
+        named = rw (← e) (first, lowest-found n (v (lowest_below n (λ i. any_below n (v i)))) first.is_in);
       }
 
   of_none : (P : Expr rule) → value g P ≡ false → Told g P (witness n unnamed)
-  of_none P b = unfold witness in record { broken = b; named = λ z. omega (arith, z); node = λ z. absurd (omega (arith, z)); pair = λ z. absurd (omega (arith, z)) }
+  of_none P b = unfold witness in record { broken = b; named = tt }
 
   -- what a witness says about a part that breaks, it says about the whole
   held : (P : Expr rule) (x : Bool) (b : Breaks) → x ≡ false → Told g P (witness n b) → Told g P (witness n (cond x nothing b))

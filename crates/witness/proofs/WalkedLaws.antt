@@ -1,10 +1,11 @@
 -- The walk to the part that breaks a rule, by what it found for the rules inside.
-use mathlib.Core.Path.{◌≡◌, refl, sym, ap, ◌∙◌}
+use mathlib.Core.Path.{◌≡◌, refl, sym, ap, ◌∙◌, subst}
 use mathlib.Core.Bool.{Bool, true, false, ◌&&◌, ◌||◌, cond}
 use mathlib.Core.List.{List}
 use Prim.Native.Nat.{ℕ, ◌+◌}
 use native.Mathlib.Omega.{arith}
 use lib.ListN.{length, get_or}
+use Rattle.std.specs.Prelude.{Option, Some, None}
 use Rattle.logic.specs.Syntax.{rule, Expr, both, either}
 use Rattle.logic.specs.Meaning.{value}
 use Rattle.logic.specs.Limits.{ranges, InRange}
@@ -17,74 +18,76 @@ use Rattle.witness.specs.Walked.{NoPair, Breaking, IsWalked}
 use Rattle.witness.proofs.RuleShapes.{operands}
 
 -- what was found for the rule e
-abbrev pub Finds : List ℕ → ℕ → List ℕ → ℕ → Bool → ℕ → ℕ → Expr rule → Type 0
-Finds sheet n text at x nx part e = IsWalked sheet n text at e x nx part
+abbrev pub Finds : List ℕ → ℕ → List ℕ → ℕ → Option ℕ → ℕ → Expr rule → Type 0
+Finds sheet n text at b nx e = IsWalked sheet n text at e b nx
 
 module _ (sheet : List ℕ) (n : ℕ) (text : List ℕ) (at : ℕ) where
   -- what was found for the rule at a place
-  abbrev pub Walks : ℕ → Bool → ℕ → ℕ → Type 0
-  Walks p x nx part = (f : Expr rule) → Stands (ranges n) text p f → IsWalked sheet n text p f x nx part
+  abbrev pub Walks : ℕ → Option ℕ → ℕ → Type 0
+  Walks p b nx = (f : Expr rule) → Stands (ranges n) text p f → IsWalked sheet n text p f b nx
+
+  -- the value of a rule that the evaluator judged, and of one that was skipped
+  abbrev pub Judges : ℕ → Bool → ℕ → Type 0
+  Judges p x nx = (f : Expr rule) → Stands (ranges n) text p f → IsTruth sheet p f x nx
+
+  abbrev pub Skips : ℕ → ℕ → Type 0
+  Skips nx ny = (f : Expr rule) → Stands (ranges n) text nx f → ny ≡ nx + length (code f)
 
   -- what breaks a rule inside breaks the whole
-  inside : {part : ℕ} {K : Expr rule} (e : Expr rule) → breaks (graph_of sheet) e ≡ breaks (graph_of sheet) K → Breaking sheet n text part K → Breaking sheet n text part e
-  inside e q b = record { part = b.part; stands = b.stands; broken = b.broken; same = q ∙ b.same; single = b.single }
+  inside : {place : ℕ} {K : Expr rule} (e : Expr rule) → value (graph_of sheet) e ≡ false → breaks (graph_of sheet) e ≡ breaks (graph_of sheet) K → Breaking sheet n text place K → Breaking sheet n text place e
+  inside e f q b = record { fails = f; part = b.part; stands = b.stands; broken = b.broken; same = q ∙ b.same; single = b.single }
 
   module _ (K L : Expr rule) where
     -- 25: the first rule is broken, and the second is skipped
-    pub both_first : Stands (ranges n) text at (both K L) → (x : Bool) (nx part ny : ℕ) → Walks (at + 1) x nx part → x ≡ false
-        → ((f : Expr rule) → Stands (ranges n) text nx f → ny ≡ nx + length (code f)) → IsWalked sheet n text at (both K L) false ny part
+    pub both_first : Stands (ranges n) text at (both K L) → (b : Option ℕ) (place nx ny : ℕ) → Walks (at + 1) b nx → b ≡ Some place → Skips nx ny → IsWalked sheet n text at (both K L) (Some place) ny
     unfolding breaks value code InRange
-    both_first h x nx part ny p broken q =
+    both_first h b place nx ny p broken q =
         let o = operands 0x25 K L refl h.range.0 h.range.1 h in let s = p K o.first in
-        let k : value (graph_of sheet) K ≡ false = sym s.truth ∙ broken in
+        let k : value (graph_of sheet) K ≡ false = (s.breaking place broken).fails in
         record {
-          truth = sym (ap (◌&& value (graph_of sheet) L) k);
+          holds = λ e. cc;
+          breaking = λ x e. inside (both K L) (ap (◌&& value (graph_of sheet) L) k) (ap (λ c. cond c (breaks (graph_of sheet) L) (breaks (graph_of sheet) K)) k) (s.breaking x (broken ∙ e));
           ends = omega (arith, s.ends, q L (o.second nx s.ends), o.size);
-          breaking = λ b. inside (both K L) (ap (λ c. cond c (breaks (graph_of sheet) L) (breaks (graph_of sheet) K)) k) (s.breaking broken);
         }
 
     -- 25: the first rule holds
-    pub both-second : Stands (ranges n) text at (both K L) → (x y : Bool) (nx px ny part : ℕ) → Walks (at + 1) x nx px → x ≡ true → Walks nx y ny part → IsWalked sheet n text at (both K L) y ny part
+    pub both-second : Stands (ranges n) text at (both K L) → (b d : Option ℕ) (nx ny : ℕ) → Walks (at + 1) b nx → b ≡ None → Walks nx d ny → IsWalked sheet n text at (both K L) d ny
     unfolding breaks value code InRange
-    both-second h x y nx px ny part p holds q =
+    both-second h b d nx ny p holds q =
         let o = operands 0x25 K L refl h.range.0 h.range.1 h in let s = p K o.first in let t = q L (o.second nx s.ends) in
-        let k : value (graph_of sheet) K ≡ true = sym s.truth ∙ holds in
+        let k : (value (graph_of sheet) K && value (graph_of sheet) L) ≡ value (graph_of sheet) L = ap (◌&& value (graph_of sheet) L) (s.holds holds) in
         record {
-          truth = t.truth ∙ sym (ap (◌&& value (graph_of sheet) L) k);
+          holds = λ e. k ∙ t.holds e;
+          breaking = λ x e. let f = t.breaking x e in inside (both K L) (k ∙ f.fails) (ap (λ c. cond c (breaks (graph_of sheet) L) (breaks (graph_of sheet) K)) (s.holds holds)) f;
           ends = omega (arith, s.ends, t.ends, o.size);
-          breaking = λ b. inside (both K L) (ap (λ c. cond c (breaks (graph_of sheet) L) (breaks (graph_of sheet) K)) k) (t.breaking b);
         }
 
     -- 26: the first rule holds, and the second is skipped
-    pub either_first : Stands (ranges n) text at (either K L) → (x : Bool) (nx ny : ℕ)
-        → ((f : Expr rule) → Stands (ranges n) text (at + 1) f → IsTruth sheet (at + 1) f x nx) → x ≡ true
-        → ((f : Expr rule) → Stands (ranges n) text nx f → ny ≡ nx + length (code f)) → IsWalked sheet n text at (either K L) true ny at
+    pub either_first : Stands (ranges n) text at (either K L) → (x : Bool) (nx ny : ℕ) → Judges (at + 1) x nx → x ≡ true → Skips nx ny → IsWalked sheet n text at (either K L) None ny
     unfolding breaks value code InRange
     either_first h x nx ny p holds q =
         let o = operands 0x26 K L refl h.range.0 h.range.1 h in let s = p K o.first in
         record {
-          truth = sym (ap (◌|| value (graph_of sheet) L) (sym s.truth ∙ holds));
+          holds = λ e. ap (◌|| value (graph_of sheet) L) (sym s.truth ∙ holds);
+          breaking = λ b e. cc;
           ends = omega (arith, s.ends, q L (o.second nx s.ends), o.size);
-          breaking = λ b. let z : ◌≡◌ {A = ℕ} 0 1 = cc in absurd (omega arith);
         }
 
     -- 26: the first rule is broken
-    pub either_second : Stands (ranges n) text at (either K L) → (x y : Bool) (nx ny part : ℕ)
-        → ((f : Expr rule) → Stands (ranges n) text (at + 1) f → IsTruth sheet (at + 1) f x nx) → x ≡ false → Walks nx y ny part → IsWalked sheet n text at (either K L) y ny part
+    pub either_second : Stands (ranges n) text at (either K L) → (x : Bool) (d : Option ℕ) (nx ny : ℕ) → Judges (at + 1) x nx → x ≡ false → Walks nx d ny → IsWalked sheet n text at (either K L) d ny
     unfolding breaks value code InRange
-    either_second h x y nx ny part p broken q =
+    either_second h x d nx ny p broken q =
         let o = operands 0x26 K L refl h.range.0 h.range.1 h in let s = p K o.first in let t = q L (o.second nx s.ends) in
-        let k : value (graph_of sheet) K ≡ false = sym s.truth ∙ broken in
+        let k : (value (graph_of sheet) K || value (graph_of sheet) L) ≡ value (graph_of sheet) L = ap (◌|| value (graph_of sheet) L) (sym s.truth ∙ broken) in
         record {
-          truth = t.truth ∙ sym (ap (◌|| value (graph_of sheet) L) k);
+          holds = λ e. k ∙ t.holds e;
+          breaking = λ b e. let f = t.breaking b e in inside (either K L) (k ∙ f.fails) (ap (λ c. cond c nothing (breaks (graph_of sheet) L)) (sym s.truth ∙ broken)) f;
           ends = omega (arith, s.ends, t.ends, o.size);
-          breaking = λ b. inside (either K L) (ap (λ c. cond c nothing (breaks (graph_of sheet) L)) k) (t.breaking b);
         }
 
   -- any other rule
-  pub alone : (e : Expr rule) → Stands (ranges n) text at e → NoPair (get_or text at 0) → (x : Bool) (nx : ℕ) → IsTruth sheet at e x nx → IsWalked sheet n text at e x nx at
-  alone e h s x nx t = record {
-    truth = t.truth;
-    ends = t.ends;
-    breaking = λ b. record { part = e; stands = h; broken = sym t.truth ∙ b; same = refl; single = s };
-  }
+  pub alone : (e : Expr rule) → Stands (ranges n) text at e → NoPair (get_or text at 0) → (x : Bool) (nx : ℕ) → IsTruth sheet at e x nx → (b : Option ℕ) → b ≡ cond x None (Some at) → IsWalked sheet n text at e b nx
+  alone e h s x nx t b is = rw is (go x t.truth) where
+    go : (x : Bool) → x ≡ value (graph_of sheet) e → IsWalked sheet n text at e (cond x None (Some at)) nx
+    go true q = record { holds = λ b. sym q; breaking = λ p b. cc; ends = t.ends }
+    go false q = record { holds = λ b. cc; breaking = λ p b. record { fails = sym q; part = e; stands = (let z : at ≡ p = cc in subst (λ (k : ℕ). Stands (ranges n) text k e) z h); broken = sym q; same = refl; single = (let z : at ≡ p = cc in subst (λ (k : ℕ). NoPair (get_or text k 0)) z s) }; ends = t.ends }

@@ -6,6 +6,7 @@ use Rattle.logic.specs.Meaning.{value}
 use Rattle.logic.specs.Witness.{IsLowest}
 use Rattle.bitset.specs.Words.{set_of}
 use Rattle.witness.specs.declared.Witness.{Witness}
+use Rattle.witness.specs.declared.Witness.TheVariants.{Nothing, LowestNode, LowestPair, Unnamed}
 
 -- The part of a broken rule that breaks it: for 25 that of its first rule or, where that one holds, of its second; for 26 that of its second.
 unfoldable pub breaking_part : Graph → Expr rule → Expr rule
@@ -36,10 +37,15 @@ breaking_pairs g (both K L) = λ k l. false
 breaking_pairs g (either K L) = λ k l. false
 breaking_pairs g (not_rule K) = λ k l. false
 
--- The part is broken. A witness of kind 1 is the lowest node that breaks it, and `nodes` are all such nodes;
--- a witness of kind 2 is the lowest pair, by its first node and then by its second.
+-- What a witness says of the nodes or pairs that break a part: a node is the lowest that does, and `nodes` are all that do;
+-- a pair is the lowest, by its first node and then by its second.
+abbrev pub Named : Graph → Expr rule → Witness → Type 0
+Named g P Nothing = ⊥
+Named g P (LowestNode first nodes) = IsLowest g.n (breaking_nodes g P) first × (nodes ≡ set_of g.n (breaking_nodes g P))
+Named g P (LowestPair first second) = IsLowest g.n (λ i. any_below g.n (breaking_pairs g P i)) first × IsLowest g.n (breaking_pairs g P first) second
+Named g P Unnamed = Unit {0}
+
+-- The part is broken, and the witness names what breaks it.
 pub record Told (g : Graph) (P : Expr rule) (w : Witness) : Type 0 where
   pub broken : value g P ≡ false
-  pub named : (w.kind ≡ 0) → ⊥
-  pub node : w.kind ≡ 1 → IsLowest g.n (breaking_nodes g P) w.first × (w.nodes ≡ set_of g.n (breaking_nodes g P))
-  pub pair : w.kind ≡ 2 → IsLowest g.n (λ i. any_below g.n (breaking_pairs g P i)) w.first × IsLowest g.n (breaking_pairs g P w.first) w.second
+  pub named : Named g P w

@@ -3,6 +3,7 @@
 #![tactic(auto)]
 
 ghost use Rattle.std.specs.Prelude.{◌≡◌, false, not, ◌&&◌, cond, ◌≤◌, ◌<◌, length, get_or};
+ghost use Rattle.answer.specs.Answers.{result_asked};
 ghost use Rattle.logic.specs.Syntax.{Expr, rule};
 ghost use Rattle.logic.specs.Graph.{Pairs, all_below, implies};
 ghost use Rattle.logic.specs.Meaning.{value};
@@ -12,39 +13,24 @@ ghost use Rattle.sheet.specs.Sheet.{graph_of, Rows};
 ghost use Rattle.sheet.specs.Questions.{Sound};
 ghost use Rattle.text.specs.Stands.{Stands, SomeStands};
 ghost use Rattle.eval.specs.Evaluated.{Opened};
-ghost use Rattle.witness.specs.Witnessed.{witness, WitnessOf, witness_asked, ask_witness};
+ghost use Rattle.witness.specs.Witnessed.{witness, WitnessOf, ask_witness};
 ghost use Rattle.witness.specs.Walked.{NoPair, IsWalked};
 
-use answer::{Answer, Refusal};
+use answer::Refusal;
 use sheet::Sheet;
 use text::Text;
 
-// 0: the rule holds; 1: `first` is the lowest node that breaks it and `nodes` are all; 2: `first` and `second` are the lowest pair; 3: nothing is named.
-#[derive(Drop)]
-pub struct Witness {
-    pub kind: usize,
-    pub first: usize,
-    pub second: usize,
-    pub nodes: u64,
-}
-
-// The witness, or the reason why there is none.
-#[derive(Drop)]
-pub enum Witnessed {
-    Found(Witness),
-    Refused(Refusal),
-}
-
-// A witness of that kind without a node or pair.
-fn unnamed(kind: usize) -> Witness
-    ensures { (result.kind ≡ kind) × (result.first ≡ 0) × (result.second ≡ 0) × (result.nodes ≡ 0) }
-{
-    Witness {
-        kind,
-        first: 0,
-        second: 0,
-        nodes: 0,
-    }
+// What breaks a rule; `witness_kind` and the three after it (specs/Witnessed.antt) give the papers' numbers of each case.
+#[derive(Clone, Copy)]
+pub enum Witness {
+    // the rule holds
+    Nothing,
+    // the lowest node that breaks it, and all that do
+    LowestNode { first: usize, nodes: u64 },
+    // the lowest pair
+    LowestPair { first: usize, second: usize },
+    // the rule is broken, but nothing can be named
+    Unnamed,
 }
 
 // 22: the lowest pair of a that is not in b.
@@ -53,20 +39,16 @@ fn first_pair(n: usize, a: &[u64], b: &[u64]) -> Witness
     ensures { (v w : Pairs) → Rows n v a.now → Rows n w b.now
         → result ≡ witness n (cond (all_below n (λ i. all_below n (λ j. implies (v i j) (w i j)))) nothing (pairs (λ i j. v i j && not (w i j)))) }
 {
-    let mut i = 0;
-    while i < n {
+    for i in 0..n {
         let x = bitset::minus(a[i], b[i]);
         if x > 0 {
-            return Witness {
-                kind: 2,
+            return Witness::LowestPair {
                 first: i,
                 second: bitset::first(x),
-                nodes: 0,
             };
         }
-        i += 1;
     }
-    unnamed(0)
+    Witness::Nothing
 }
 
 // 21: the nodes of the first expression that are not in the second.
@@ -78,14 +60,12 @@ fn outside_nodes(sheet: &[u8], n: usize, all: u64, text: &[u8], at: usize) -> Wi
     let f = eval::eval_node(sheet, n, all, text, e.next);
     let x = bitset::minus(e.set, f.set);
     if x > 0 {
-        Witness {
-            kind: 1,
+        Witness::LowestNode {
             first: bitset::first(x),
-            second: 0,
             nodes: x,
         }
     } else {
-        unnamed(0)
+        Witness::Nothing
     }
 }
 
@@ -101,13 +81,6 @@ fn outside_pairs(sheet: &[u8], n: usize, all: u64, text: &[u8], at: usize) -> Wi
     first_pair(n, &rows, &other)
 }
 
-// A number byte as a number.
-fn number(x: u8) -> usize
-    ensures { result ≡ x }
-{
-    x as usize
-}
-
 // The witness of a broken rule that is neither a 25 nor a 26. Inner, as are the two above: the rule stands at `at`.
 fn name_part(sheet: &[u8], n: usize, all: u64, text: &[u8], at: usize) -> Witness
     requires { Opened sheet.now n all × SomeStands (ranges n) text.now at rule × NoPair (get_or text.now at 0) }
@@ -119,59 +92,51 @@ fn name_part(sheet: &[u8], n: usize, all: u64, text: &[u8], at: usize) -> Witnes
     } else if c <= 0x22 {
         outside_pairs(sheet, n, all, text, at)
     } else if c <= 0x23 {
-        let i = number(text[at + 1]);
-        Witness {
-            kind: 1,
+        let i = usize::from(text[at + 1]);
+        Witness::LowestNode {
             first: i,
-            second: 0,
             nodes: bitset::only(i),
         }
     } else if c <= 0x24 {
-        Witness {
-            kind: 2,
-            first: number(text[at + 1]),
-            second: number(text[at + 2]),
-            nodes: 0,
+        Witness::LowestPair {
+            first: usize::from(text[at + 1]),
+            second: usize::from(text[at + 2]),
         }
     } else {
-        unnamed(3)
+        Witness::Unnamed
     }
 }
 
-// The result of a walk along a rule: whether the rule holds, where the text goes on and, if the rule is broken, where the part that breaks it stands.
-#[derive(Drop)]
+// The result of a walk along a rule: if the rule is broken, where the part that breaks it stands, and where the text goes on.
+#[derive(Clone, Copy)]
 struct Walked {
-    holds: bool,
+    broken: Option<usize>,
     next: usize,
-    part: usize,
 }
 
 // Walks to the part that breaks a rule: of a 25 into its first rule or, where that one holds, into its second; of a 26 into its second.
 // Each part is evaluated once. Inner: the rule stands at `at`; one call for each level.
 fn walk(sheet: &[u8], n: usize, all: u64, text: &[u8], at: usize) -> Walked
     requires { Opened sheet.now n all × SomeStands (ranges n) text.now at rule }
-    ensures { (e : Expr rule) → Stands (ranges n) text.now at e → IsWalked sheet.now n text.now at e result.holds result.next result.part }
+    ensures { (e : Expr rule) → Stands (ranges n) text.now at e → IsWalked sheet.now n text.now at e result.broken result.next }
 {
     let c = text[at];
     let first = at + 1;
     if c == 0x25 {
         let k = walk(sheet, n, all, text, first);
-        if k.holds {
-            walk(sheet, n, all, text, k.next)
-        } else {
-            Walked {
-                holds: false,
+        match k.broken {
+            None => walk(sheet, n, all, text, k.next),
+            Some(part) => Walked {
+                broken: Some(part),
                 next: ends::past(text, k.next),
-                part: k.part,
-            }
+            },
         }
     } else if c == 0x26 {
         let t = eval::eval_rule(sheet, n, all, text, first);
         if t.holds {
             Walked {
-                holds: true,
+                broken: None,
                 next: ends::past(text, t.next),
-                part: at,
             }
         } else {
             walk(sheet, n, all, text, t.next)
@@ -179,9 +144,8 @@ fn walk(sheet: &[u8], n: usize, all: u64, text: &[u8], at: usize) -> Walked
     } else {
         let t = eval::eval_rule(sheet, n, all, text, at);
         Walked {
-            holds: t.holds,
+            broken: if t.holds { None } else { Some(at) },
             next: t.next,
-            part: at,
         }
     }
 }
@@ -194,27 +158,19 @@ fn name_first(sheet: &[u8], text: &[u8]) -> Witness
     let n = Sheet::node_count(sheet);
     let all = Sheet::all_nodes(sheet);
     let w = walk(sheet, n, all, text, 0);
-    if w.holds {
-        unnamed(0)
-    } else {
-        name_part(sheet, n, all, text, w.part)
+    match w.broken {
+        None => Witness::Nothing,
+        Some(part) => name_part(sheet, n, all, text, part),
     }
 }
 
 // What breaks the first rule of a text, carried or not: questions 1 to 4 of the sheet, then 12 to 15 of the rule.
 // After 41 of enter the scratch begins with the carried rule: its witness on the sheet before the edit is the witness of the rule after the edit.
-pub fn find(sheet: &[u8], text: &[u8]) -> Witnessed
-    ensures { witness_asked result ≡ ask_witness sheet.now text.now }
+pub fn find(sheet: &[u8], text: &[u8]) -> Result<Witness, Refusal>
+    ensures { result_asked result ≡ ask_witness sheet.now text.now }
 {
-    let first = Sheet::check(sheet);
-    if let Answer::Refused(r) = first {
-        return Witnessed::Refused(r);
-    }
-    let end = Text::looked_at(text.len());
-    let seen = &text[0..end];
-    let second = Text::check_first_carried(seen, Sheet::node_count(sheet));
-    if let Answer::Refused(r) = second {
-        return Witnessed::Refused(r);
-    }
-    Witnessed::Found(name_first(sheet, seen))
+    Sheet::check(sheet).passed()?;
+    let seen = &text[..Text::looked_at(text.len())];
+    Text::check_first_carried(seen, Sheet::node_count(sheet)).passed()?;
+    Ok(name_first(sheet, seen))
 }

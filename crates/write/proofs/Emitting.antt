@@ -56,19 +56,27 @@ bare-wrote e u l = record { each = λ σ f i. wrote_as (untouched (found_as f i)
 pub bare-room : {edit stack : List ℕ} {j c k pos room : ℕ} → SomeName edit stack j c k pos room → j ≡ 0 → pos + 2 ≤ room
 bare-room w e = omega (arith, w.fits, ap length (untouched (found_as w.is w.stands) e))
 
--- where one does: the step, and the name under the steps below it
-module _ {edit work : List ℕ} {j c k pos room : ℕ} (l : 0 < j) (s : SomeLinks edit work j) (w : SomeName edit (stack_of work) j c k pos room) where
-  pub hit : Hit edit (stack_of work) w.steps c k (j - 1)
-  hit = (found_as w.is w.stands).some (j - 1) (omega arith)
+-- where the one at index i does
+pub named-wrote : {edit stack o o' : List ℕ} (i : ℕ) {j c k pos pos' : ℕ} → i + 1 ≡ j → ((σ : List Substitution) → i + 1 ≡ last_in edit stack (length σ) c k → StackIs edit stack σ → Wrote o pos (tree_code (env σ c k)) pos' o') → length o' ≡ length o
+    → NameWrote edit stack j c k o pos pos' o'
+named-wrote i e f l = record { each = λ σ a. f σ (e ∙ a); long = l }
 
-  pub hit-fits : pos + 1 + length (tree_code (env hit.below c k)) + length (inner (get_or edit (get_or work (64 + (j - 1)) 0) 0) []) + length (tree_code (graft (env hit.below) hit.s.what)) ≤ room
-  hit-fits = omega (arith, w.fits, simp length-append at (ap length (hit-bytes hit (get_or edit (get_or work (64 + (j - 1)) 0) 0) (hit-at s l hit).op_is)))
+pub some-as : {edit stack : List ℕ} (i : ℕ) {j c k pos room : ℕ} → i + 1 ≡ j → SomeName edit stack j c k pos room → SomeName edit stack (i + 1) c k pos room
+some-as i e w = record { steps = w.steps; is = e ∙ w.is; stands = w.stands; fits = w.fits }
 
-  pub older-some : {room' : ℕ} → room' ≡ room → SomeName edit (stack_of work) (get_or work (1430 + (j - 1)) 0) c k (pos + 1) room'
-  older-some e = record { steps = hit.below; is = (hit-older s w.is l hit).0; stands = hit.stands; fits = omega (arith, e, hit-fits) }
+-- there: the step, and the name under the steps below it
+module _ {edit work : List ℕ} (i : ℕ) {c k pos room : ℕ} (s : SomeLinks edit work (i + 1)) (w : SomeName edit (stack_of work) (i + 1) c k pos room) where
+  pub hit : Hit edit (stack_of work) w.steps c k i
+  hit = (found_as w.is w.stands).some i (omega arith)
 
-  pub older-count : {o o' : List ℕ} {p p' : ℕ} → NameWrote edit (stack_of work) (get_or work (1430 + (j - 1)) 0) c k o p p' o' → p' ≡ p + length (tree_code (env hit.below c k))
-  older-count u = (u.each hit.below (hit-older s w.is l hit).0 hit.stands).counted
+  pub hit-fits : pos + 1 + length (tree_code (env hit.below c k)) + length (inner (get_or edit (get_or work (64 + i) 0) 0) []) + length (tree_code (graft (env hit.below) hit.s.what)) ≤ room
+  hit-fits = omega (arith, w.fits, simp length-append at (ap length (hit-bytes hit (get_or edit (get_or work (64 + i) 0) 0) (hit-at s hit).op_is)))
+
+  pub older-some : {room' : ℕ} → room' ≡ room → SomeName edit (stack_of work) (get_or work (1430 + i) 0) c k (pos + 1) room'
+  older-some e = record { steps = hit.below; is = (hit-older s w.is hit).0; stands = hit.stands; fits = omega (arith, e, hit-fits) }
+
+  pub older-count : {o o' : List ℕ} {p p' : ℕ} → NameWrote edit (stack_of work) (get_or work (1430 + i) 0) c k o p p' o' → p' ≡ p + length (tree_code (env hit.below c k))
+  older-count u = (u.each hit.below (hit-older s w.is hit).0 hit.stands).counted
 
 -- The text of a tree under the steps passed, and of one that is not a name by its head and its operands.
 abbrev shown_by : List Substitution → Tree → List ℕ

@@ -3,6 +3,7 @@ use mathlib.Core.Path.{◌≡◌, refl, sym, ap, ap₂, ◌∙◌, subst}
 use mathlib.Core.Bool.{Bool, true, false, cond}
 use mathlib.Core.List.{List, [], ◌∷◌}
 use mathlib.Core.Logic.{◌⊎◌, inl, inr, ⊎_elim}
+use Rattle.std.specs.Prelude.{Option, None, Some}
 use Prim.Native.Nat.{ℕ, zero, suc, ◌+◌, ◌-◌, ◌<◌, ◌≤◌}
 use native.Mathlib.Omega.{arith}
 use native.Mathlib.Decide.{dec_lt}
@@ -21,7 +22,7 @@ use Rattle.ends.proofs.Kept.{kept_set, kept_more}
 use Rattle.write.proofs.Notes.{notes-set, notes-more}
 use Rattle.write.specs.Offsets.{StepAt, StackIs}
 use Rattle.write.specs.Work.{work_length, last_of, stack_of, links_of, behind_of}
-use Rattle.write.specs.Links.{code_at, number_at, last_in, Linked, LinkedIn, SomeLinks, link_step, Relinked, SameNotes}
+use Rattle.write.specs.Links.{link_to, code_at, number_at, last_in, Linked, LinkedIn, SomeLinks, link_step, Relinked, SameNotes}
 
 module _ (edit stack : List ℕ) where
   abbrev hits : ℕ → ℕ → ℕ → Bool
@@ -95,20 +96,21 @@ pub found_as : {edit stack : List ℕ} {σ : List Substitution} {c k j : ℕ} �
 found_as {edit} {stack} {σ} {c} {k} e i = subst (Found edit stack σ c k) (sym e) (found edit stack σ c k i)
 
 -- the previous step of its name, as the work array has it
-older-at : {edit work : List ℕ} {h j : ℕ} (c k m : ℕ) (w : SomeLinks edit work h) → j ≡ last_in edit (stack_of work) m c k → 0 < j → j - 1 < w.top → get_or work (1430 + (j - 1)) 0 ≡ last_in edit (stack_of work) (j - 1) c k
-older-at {edit} {work} {h} {j} c k m w e l r =
-    let q = last-hits edit (stack_of work) m c k (j - 1) (omega (arith, e)) in
+older-at : {edit work : List ℕ} {h i : ℕ} (c k m : ℕ) (w : SomeLinks edit work h) → i + 1 ≡ last_in edit (stack_of work) m c k → i < w.top → get_or work (1430 + i) 0 ≡ last_in edit (stack_of work) i c k
+older-at {edit} {work} {h} {i} c k m w e r =
+    let q = last-hits edit (stack_of work) m c k i (omega (arith, e)) in
     let b = same-eq c k _ _ q.1 in
-    sym (part_at 1430 1366 work (j - 1) (1430 + (j - 1)) (omega (arith, w.room)) refl) ∙ w.linked.olders (j - 1) r ∙ sym (ap₂ (last_in edit (stack_of work) (j - 1)) b.0 b.1)
+    sym (part_at 1430 1366 work i (1430 + i) (omega (arith, w.room)) refl) ∙ w.linked.olders i r ∙ sym (ap₂ (last_in edit (stack_of work) i) b.0 b.1)
 
-pub hit-at : {edit work : List ℕ} {σ : List Substitution} {c k j : ℕ} → SomeLinks edit work j → 0 < j → (H : Hit edit (stack_of work) σ c k (j - 1)) → StepAt edit (get_or work (64 + (j - 1)) 0) H.s
-hit-at {edit} {work} {σ} {c} {k} {j} w n H = subst (λ (o : ℕ). StepAt edit o H.s) (part_at 64 1366 work (j - 1) (64 + (j - 1)) (omega (arith, n, w.high, w.room)) refl) H.at
+-- the step that the stack has there
+pub hit-at : {edit work : List ℕ} {σ : List Substitution} {c k i : ℕ} → SomeLinks edit work (i + 1) → (H : Hit edit (stack_of work) σ c k i) → StepAt edit (get_or work (64 + i) 0) H.s
+hit-at {edit} {work} {σ} {c} {k} {i} w H = subst (λ (o : ℕ). StepAt edit o H.s) (part_at 64 1366 work i (64 + i) (omega (arith, w.high, w.room)) refl) H.at
 
-pub hit-older : {edit work : List ℕ} {σ : List Substitution} {c k j : ℕ} → SomeLinks edit work j → j ≡ last_in edit (stack_of work) (length σ) c k → 0 < j → (H : Hit edit (stack_of work) σ c k (j - 1))
-    → (get_or work (1430 + (j - 1)) 0 ≡ last_in edit (stack_of work) (length H.below) c k) × (get_or work (1430 + (j - 1)) 0 < j)
-hit-older {edit} {work} {σ} {c} {k} {j} w e n H =
-    let q = older-at c k (length σ) w e (omega (arith, n)) (omega (arith, n, w.high)) in
-    (q ∙ ap (λ (x : ℕ). last_in edit (stack_of work) x c k) H.len, omega (arith, q, n, last-low edit (stack_of work) (j - 1) c k))
+pub hit-older : {edit work : List ℕ} {σ : List Substitution} {c k i : ℕ} → SomeLinks edit work (i + 1) → i + 1 ≡ last_in edit (stack_of work) (length σ) c k → (H : Hit edit (stack_of work) σ c k i)
+    → (get_or work (1430 + i) 0 ≡ last_in edit (stack_of work) (length H.below) c k) × (get_or work (1430 + i) 0 ≤ i)
+hit-older {edit} {work} {σ} {c} {k} {i} w e H =
+    let q = older-at c k (length σ) w e (omega (arith, w.high)) in
+    (q ∙ ap (λ (x : ℕ). last_in edit (stack_of work) x c k) H.len, omega (arith, q, last-low edit (stack_of work) i c k))
 
 -- Down the links: j is the last of the first m steps that touches the name.
 pub record Following (edit work : List ℕ) (h c k j : ℕ) : Type 0 where
@@ -135,7 +137,7 @@ module _ {edit work : List ℕ} {h c k j : ℕ} (f : Following edit work h c k j
   lower-is l =
       let e : last_in edit (stack_of work) f.m c k ≡ suc (j - 1) = omega (arith, f.is) in
       let q = last-hits edit (stack_of work) f.m c k (j - 1) e in
-      (q.0, older-at c k f.m f.some f.is (omega arith) (omega (arith, q.0, f.below)))
+      (q.0, older-at c k f.m f.some (omega (arith, f.is)) (omega (arith, q.0, f.below)))
 
   pub following-more : h < j → Following edit work h c k (get_or work (1430 + (j - 1)) 0)
   following-more l = let q = lower-is l in record { some = f.some; m = j - 1; above = omega arith; below = omega (arith, q.0, f.below); is = q.1 }
@@ -232,3 +234,12 @@ linked-none edit work s = record { lasts = λ c k n. s.same (cell c k) (named-lt
 
 pub links-lower : {edit work : List ℕ} {h h' : ℕ} → h' ≤ h → SomeLinks edit work h → SomeLinks edit work h'
 links-lower l w = record { top = w.top; high = omega (arith, l, w.high); room = w.room; long = w.long; linked = w.linked }
+
+-- the step that a link names
+pub no-link : {r : Option ℕ} {l : ℕ} → link_to r ≡ l → r ≡ None → l ≡ 0
+unfolding link_to
+no-link e n = sym e ∙ ap link_to n
+
+pub some-link : {r : Option ℕ} {l i : ℕ} → link_to r ≡ l → r ≡ Some i → i + 1 ≡ l
+unfolding link_to
+some-link e n = sym (ap link_to n) ∙ e

@@ -34,6 +34,10 @@ laid-below o p (b ∷ bs) j h = laid-below (set o p b) (suc p) bs j (omega arith
 pub laid-fits : (o : List ℕ) (p : ℕ) (bs : List ℕ) → p + length bs ≤ length o → laid o p bs ≡ take p o ++ bs ++ drop (p + length bs) o
 laid-fits o p bs h = laid-sets o p bs ∙ sets-eq bs o p h
 
+-- put in as one part
+pub wrote-part : {o bs out : List ℕ} {p n : ℕ} → out ≡ take p o ++ bs ++ drop (p + n) o → n ≡ length bs → p + n ≤ length o → Wrote o p bs (p + n) out
+wrote-part {o} {bs} {out} {p} {n} e l h = record { counted = omega arith; stored = e ∙ ap (λ (k : ℕ). take p o ++ bs ++ drop (p + k) o) l ∙ sym (laid-fits o p bs (omega arith)) }
+
 pub wrote_none : (o : List ℕ) (p : ℕ) → Wrote o p [] p o
 wrote_none o p = unfold laid in record { counted = omega arith; stored = refl }
 

@@ -1,17 +1,18 @@
 -- Notes of 35s: kept where the work array changes before them, and one more put in.
-use mathlib.Core.Path.{◌≡◌, refl, sym, ap, ◌∙◌}
+use mathlib.Core.Path.{◌≡◌, sym, ap, ◌∙◌}
 use mathlib.Core.List.{List, ◌++◌}
 use mathlib.Core.Logic.{◌⊎◌, inl, inr}
 use Prim.Native.Nat.{ℕ, ◌+◌, ◌-◌, ◌*◌, ◌≤◌, ◌<◌}
 use native.Mathlib.Omega.{arith}
 use native.Mathlib.Decide.{dec_lt}
-use lib.ListN.{length, get_or, set, drop, length-set}
-use lib.Seq.{get_or-set_same, get_or-drop, get_or-append-add}
+use lib.ListN.{length, get_or, set, take, drop, replicate, length-set, length-append, length-take, length-drop, length-replicate, get_or-replicate}
+use lib.Seq.{get_or-set_same, get_or-drop, get_or-take, get_or-append-add, take_at, length_front}
+use Rattle.ends.specs.Kept.{Kept}
 use Rattle.ends.proofs.Kept.{elsewhere}
-use Rattle.write.specs.Work.{part, work_length}
-use Rattle.write.specs.Links.{SameNotes, Cleared}
+use Rattle.write.specs.Work.{part, work_length, last_of}
+use Rattle.write.specs.Links.{SameNotes}
 use Rattle.write.specs.Ways.{Ends, Noted, Renoted}
-use Rattle.write.proofs.WorkParts.{part-behind}
+use Rattle.write.proofs.WorkParts.{part-behind, names-long, last-kept-as, last-replaced}
 
 pub notes-set : (work : List ℕ) (k v : ℕ) → k < 4844 → SameNotes work (set work k v)
 notes-set work k v l = record { same = λ j m. elsewhere work k j v (λ e. omega (arith, e)) }
@@ -30,17 +31,37 @@ notes-front work e l = record {
 pub noted-same : {edit work work' : List ℕ} → SameNotes work work' → Noted edit work → Noted edit work'
 noted-same s n = record { each = λ i l. rw (s.same (4844 + 3 * i) (omega arith), s.same (4844 + 3 * i + 1) (omega arith), s.same (4844 + 3 * i + 2) (omega arith)) (n.each i l) }
 
-pub cleared-none : (work : List ℕ) → Cleared work work 4844
-cleared-none work = record { none = λ k m l. absurd (omega (arith, m, l)); same = record { same = λ i r. refl } }
+-- a work array with neither last steps nor notes
+pub record Emptied (work : List ℕ) : Type 0 where
+  pub long : length work ≡ work_length
+  pub lasts : Kept 64 (replicate 64 0) (last_of work)
+  pub notes : (k : ℕ) → k < 192 → get_or work (4844 + k) 0 ≡ 0
 
-pub cleared_more : (work work₁ : List ℕ) (i : ℕ) → 4844 ≤ i → i < length work₁ → Cleared work work₁ i → Cleared work (set work₁ i 0) (i + 1)
-cleared_more work work₁ i n l c = record { none = λ k m r. go k m r (dec_lt k i); same = record { same = λ j r. elsewhere work₁ i j 0 (λ e. omega (arith, e, n)) ∙ c.same.same j r } } where
-  go : (k : ℕ) → 4844 ≤ k → k < i + 1 → Dec (k < i) → get_or (set work₁ i 0) k 0 ≡ 0
-  go k m r (yes p) = elsewhere work₁ i k 0 (λ e. omega (arith, e, p)) ∙ c.none k m p
-  go k m r (no p) = let q : k ≡ i = omega (arith, r, p) in rw q (get_or-set_same work₁ i 0 0 l)
+-- its last steps e and its notes n filled with 0
+pub emptied : (work e n : List ℕ) → length work ≡ work_length → e ≡ replicate (length (take 64 work)) 0 → n ≡ replicate (length (take (length (e ++ drop 64 work) - 4844) (drop 4844 (e ++ drop 64 work)))) 0
+    → Emptied (take 4844 (e ++ drop 64 work) ++ (n ++ drop (length (e ++ drop 64 work) - 4844) (drop 4844 (e ++ drop 64 work))))
+emptied work e n l f g =
+    let x = e ++ drop 64 work in
+    let a : length (take 64 work) ≡ 64 = names-long work l in
+    let z : e ≡ replicate 64 0 = f ∙ ap (λ (k : ℕ). replicate k 0) a in
+    let m : length e ≡ 64 = ap length z ∙ length-replicate {A = ℕ} 64 0 in
+    let y : length x ≡ work_length = length_front work e 64 (m ∙ sym a) ∙ l in
+    let b : length (take (length x - 4844) (drop 4844 x)) ≡ 192 = omega (arith, length-take (length x - 4844) (drop 4844 x), length-drop 4844 x) in
+    let q : n ≡ replicate 192 0 = g ∙ ap (λ (k : ℕ). replicate k 0) b in
+    let r : length n ≡ 192 = ap length q ∙ length-replicate {A = ℕ} 192 0 in
+    let t : length (take 4844 x) ≡ 4844 = omega (arith, length-take 4844 x) in
+    let rest = drop (length x - 4844) (drop 4844 x) in
+    let w = take 4844 x ++ (n ++ rest) in
+    let k : Kept 4844 x w = record { same = λ i h. sym (get_or-take 4844 w i 0 h) ∙ ap (λ (v : List ℕ). get_or v i 0) (take_at (take 4844 x) (n ++ rest) 4844 t) ∙ get_or-take 4844 x i 0 h } in
+    record {
+      long = omega (arith, length-append (take 4844 x) (n ++ rest), length-append n rest, length-drop (length x - 4844) (drop 4844 x), length-drop 4844 x);
+      lasts = rw ((last-replaced work e m).last-is ∙ z) at (last-kept-as x w k);
+      notes = λ i h.
+          ap (λ (j : ℕ). get_or w (j + i) 0) (sym t) ∙ get_or-append-add (take 4844 x) (n ++ rest) i 0 ∙ sym (get_or-take 192 (n ++ rest) i 0 h) ∙ ap (λ (v : List ℕ). get_or v i 0) (take_at n rest 192 r ∙ q) ∙ get_or-replicate 192 i 0 0 h;
+    }
 
-pub noted-none : {edit work work' : List ℕ} → Cleared work work' 5036 → Noted edit work'
-noted-none c = record { each = λ i l. inl (c.none (4844 + 3 * i) (omega arith) (omega (arith, l))) }
+pub noted-none : {edit work : List ℕ} → Emptied work → Noted edit work
+noted-none c = record { each = λ i l. inl (c.notes (3 * i) (omega (arith, l))) }
 
 -- one note more
 module _ (edit work : List ℕ) (i first second next : ℕ) (l : i < 64) (long : length work ≡ work_length) where

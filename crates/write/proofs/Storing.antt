@@ -4,7 +4,7 @@ use mathlib.Core.List.{List, ◌∷◌, ◌++◌}
 use Prim.Native.Nat.{ℕ, ◌+◌, ◌<◌}
 use native.Mathlib.Omega.{arith}
 use lib.ListN.{length, get_or, set, take, drop, length-set}
-use lib.Seq.{length_front, length-take-le}
+use lib.Seq.{length_front}
 use Rattle.logic.specs.Syntax.{Edit}
 use Rattle.text.specs.Code.{edit_code}
 use Rattle.tree.specs.Tree.{Tree, tree_code, graft, size}
@@ -17,8 +17,7 @@ use Rattle.write.specs.Offsets.{StackIs}
 use Rattle.write.specs.Work.{work_length, stack_of, links_of, behind_of}
 use Rattle.write.specs.Links.{LinkedIn, Relinked, Fitting}
 use Rattle.write.specs.Ways.{Walked, Chosen, SomeCarried, WayWritten, Noted, Renoted}
-use Rattle.write.proofs.WorkParts.{part_at, part_length, last-first, behind-stored, last-replaced}
-use Rattle.ends.proofs.Kept.{kept_more}
+use Rattle.write.proofs.WorkParts.{part_at, part_length, names-long, last-first, behind-stored, last-replaced}
 use Rattle.write.proofs.Walking.{way-low, at-choice}
 use Rattle.write.proofs.Notes.{notes-set, notes-front, noted-same}
 use Rattle.write.proofs.Finding.{linked-kept}
@@ -73,14 +72,15 @@ pub record Again (text : List ℕ) (from : ℕ) (edit work : List ℕ) (at h d :
   pub kept : Kept h (links_of work) (links_of work')
   pub noted : Noted edit work'
 
-pub again : (work₁ : List ℕ) {text edit work o o' last last' : List ℕ} {from at h d pos pos' : ℕ} → LinkedIn edit work h → Fitting edit work → length work₁ ≡ length work
-    → WayWritten text from edit (stack_of work) (behind_of work) at h d o pos pos' (stack_of work₁) (behind_of work₁) o' → Kept h (links_of work) (links_of work₁) → Kept 64 (take 64 work) last → Kept 64 last last'
-    → length last' ≡ length (take 64 work₁) → Noted edit work₁ → Again text from edit work at h d o pos pos' (last' ++ drop 64 work₁) o'
-again work₁ {text} {edit} {work} {o} {o'} {last} {last'} {from} {at} {h} {d} w f l c t a b e g =
-    let r = last-replaced work₁ last' (e ∙ length-take-le 64 work₁ (omega (arith, l, f.long))) in
-    let k : LinkedIn edit (last' ++ drop 64 work₁) h = linked-kept (rw r.stack_is c.kept) (rw r.links-are t) (rw (r.last-is, last-first work) (kept_more (omega arith) a b)) w in
-    let n = length_front work₁ last' 64 e ∙ l ∙ f.long in
-    record { written = rw (r.stack_is, r.behind-is) c; linked = k; fits = record { short = f.short; long = n }; kept = rw r.links-are t; noted = noted-same (notes-front work₁ last' (e ∙ length-take-le 64 work₁ (omega (arith, l, f.long)))) g }
+pub again : (work₁ : List ℕ) {text edit work o o' last : List ℕ} {from at h d pos pos' : ℕ} → LinkedIn edit work h → Fitting edit work → length work₁ ≡ length work
+    → WayWritten text from edit (stack_of work) (behind_of work) at h d o pos pos' (stack_of work₁) (behind_of work₁) o' → Kept h (links_of work) (links_of work₁) → last ≡ take 64 work → Noted edit work₁
+    → Again text from edit work at h d o pos pos' (last ++ drop 64 work₁) o'
+again work₁ {text} {edit} {work} {o} {o'} {last} {from} {at} {h} {d} w f l c t a g =
+    let e : length last ≡ 64 = ap length a ∙ names-long work f.long in
+    let r = last-replaced work₁ last e in
+    let k : LinkedIn edit (last ++ drop 64 work₁) h = linked-kept (rw r.stack_is c.kept) (rw r.links-are t) (rw (r.last-is, last-first work) (kept_same a)) w in
+    let n = length_front work₁ last 64 (e ∙ sym (names-long work₁ (l ∙ f.long))) ∙ l ∙ f.long in
+    record { written = rw (r.stack_is, r.behind-is) c; linked = k; fits = record { short = f.short; long = n }; kept = rw r.links-are t; noted = noted-same (notes-front work₁ last e) g }
 
 -- after both, the offsets of the edits that follow are there again
 pub stored_back : (work₀ work₁ work : List ℕ) {text edit : List ℕ} {from at h d : ℕ} {o : List ℕ} {pos pos' : ℕ} {o' : List ℕ} {d' : ℕ} → d' < length (behind_of work₀) → length work₀ ≡ work_length → behind_of work₁ ≡ behind_of work₀

@@ -1,5 +1,5 @@
 -- The last step of each name and, for each step on the stack, the previous step of its name.
-use Rattle.std.specs.Prelude.{◌≡◌, cond, List, ℕ, zero, suc, ◌+◌, ◌<◌, ◌≤◌, length, get_or, set}
+use Rattle.std.specs.Prelude.{◌≡◌, cond, List, Option, None, Some, ℕ, zero, suc, ◌+◌, ◌<◌, ◌≤◌, length, get_or, set}
 use Rattle.tree.specs.Tree.{same}
 use Rattle.tree.specs.Stack.{touched}
 use Rattle.ends.specs.Shapes.{Named, cell}
@@ -13,7 +13,12 @@ code_at edit o = touched (get_or edit o 0)
 abbrev pub number_at : (edit : List ℕ) → ℕ → ℕ
 number_at edit o = get_or edit (o + 1) 0
 
--- one more than the index of the last of h steps that touches a name, or 0
+-- what a link holds: one more than the index of a step, or 0 for none
+unfoldable pub link_to : Option ℕ → ℕ
+link_to None = 0
+link_to (Some i) = i + 1
+
+-- the link to the last of h steps that touches a name
 unfoldable pub last_in : (edit stack : List ℕ) (h c k : ℕ) → ℕ
 last_in edit stack zero c k = 0
 last_in edit stack (suc j) c k = cond (same c k (code_at edit (get_or stack j 0)) (number_at edit (get_or stack j 0))) (suc j) (last_in edit stack j c k)
@@ -48,11 +53,6 @@ pub record Relinked (edit work work' : List ℕ) (h h' : ℕ) : Type 0 where
   pub kept : Kept h (links_of work) (links_of work')
   pub behind_same : behind_of work' ≡ behind_of work
   pub notes_same : SameNotes work work'
-
--- no notes up to a place
-pub record Cleared (work work' : List ℕ) (end : ℕ) : Type 0 where
-  pub none : (k : ℕ) → notes_start ≤ k → k < end → get_or work' k 0 ≡ 0
-  pub same : Kept notes_start work work'
 
 -- there is room for all offsets
 pub record Fitting (edit work : List ℕ) : Type 0 where

@@ -8,11 +8,7 @@ pub fn copy(text: &[u8], at: usize, n: usize, out: &mut [u8], pos: usize) -> usi
     requires { (at + n ≤ length text.now) × (pos + n ≤ length out.old) }
     ensures { Wrote out.old pos (take n (drop at text.now)) result out.new }
 {
-    let mut i = 0;
-    while i < n {
-        out[pos + i] = text[at + i];
-        i += 1;
-    }
+    out[pos..pos + n].copy_from_slice(&text[at..at + n]);
     pos + n
 }
 
@@ -49,10 +45,6 @@ pub fn again(out: &mut [u8], from: usize, n: usize, pos: usize) -> usize
     requires { (from + n ≤ pos) × (pos + n ≤ length out.old) }
     ensures { Wrote out.old pos (take n (drop from out.old)) result out.new }
 {
-    let mut i = 0;
-    while i < n {
-        out[pos + i] = out[from + i];
-        i += 1;
-    }
+    out.copy_within(from..from + n, pos);
     pos + n
 }

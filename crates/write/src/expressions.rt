@@ -16,13 +16,12 @@ use crate::{LINKS, Place, STACK, bytes, names};
 fn lead(op: u8) -> u8
     ensures { result ≡ lead op }
 {
-    if op == 0x31 {
-        return 0x07;
+    match op {
+        0x31 => 0x07,
+        0x32 => 0x06,
+        0x33 => 0x13,
+        _ => 0x15,
     }
-    if op == 0x32 {
-        return 0x06;
-    }
-    if op == 0x33 { 0x13 } else { 0x15 }
 }
 
 // Writes the 05 that a step 32 puts before its expression.
@@ -38,25 +37,21 @@ fn put_not(op: u8, out: &mut [u8], pos: usize) -> usize
     pos
 }
 
-// Writes a name under steps of which the one below index j is the last that touches it. A step's expression of one code or of one name, as most are,
+// Writes a name under steps of which the one at index i is the last that touches it. A step's expression of one code or of one name, as most are,
 // is written here.
 // Inner: the work array holds offsets of steps, with their links, and there is room; the room left falls with each call.
 #[cycle(emit_name)]
-fn name(edit: &[u8], work: &[u16], j: usize, of: Name, out: &mut [u8], pos: usize) -> usize
-    requires { (0 < j) × SomeName edit.now (stack_of work.now) j of.code of.number pos (length out.old) × SomeLinks edit.now work.now j }
-    ensures { (σ : List Substitution) → j ≡ last_in edit.now (stack_of work.now) (length σ) of.code of.number → StackIs edit.now (stack_of work.now) σ → Wrote out.old pos (tree_code (env σ of.code of.number)) result out.new }
+fn name(edit: &[u8], work: &[u16], i: usize, of: Name, out: &mut [u8], pos: usize) -> usize
+    requires { SomeName edit.now (stack_of work.now) (i + 1) of.code of.number pos (length out.old) × SomeLinks edit.now work.now (i + 1) }
+    ensures { (σ : List Substitution) → i + 1 ≡ last_in edit.now (stack_of work.now) (length σ) of.code of.number → StackIs edit.now (stack_of work.now) σ → Wrote out.old pos (tree_code (env σ of.code of.number)) result out.new }
 {
-    let below = j - 1;
-    let o = work[STACK + below] as usize;
+    let o = work[STACK + i] as usize;
     let op = edit[o];
     out[pos] = lead(op);
-    let older = work[LINKS + below] as usize;
-    let mut p = pos + 1;
-    if older == 0 {
-        p = bytes::put_two(of.code, of.number, out, p);
-    } else {
-        p = name(edit, work, older, of, out, p);
-    }
+    let p = match names::linked(work[LINKS + i]) {
+        None => bytes::put_two(of.code, of.number, out, pos + 1),
+        Some(older) => name(edit, work, older, of, out, pos + 1),
+    };
     let q = put_not(op, out, p);
     let at = o + 2;
     let code = edit[at];
@@ -67,13 +62,12 @@ fn name(edit: &[u8], work: &[u16], j: usize, of: Name, out: &mut [u8], pos: usiz
     if s >= 16 {
         let number = edit[at + 1];
         let whole = Name { code, number };
-        let i = names::find(edit, work, below, whole);
-        if i == 0 {
-            return bytes::put_two(code, number, out, q);
-        }
-        return name(edit, work, i, whole, out, q);
+        return match names::find(edit, work, i, whole) {
+            None => bytes::put_two(code, number, out, q),
+            Some(last) => name(edit, work, last, whole, out, q),
+        };
     }
-    emit(edit, edit, work, below, out, Place { at, pos: q }).pos
+    emit(edit, edit, work, i, out, Place { at, pos: q }).pos
 }
 
 // Writes an expression of a text under h steps, code by code: a name as the steps make it, any other code with its numbers as it stands.
@@ -93,12 +87,10 @@ pub fn emit(text: &[u8], edit: &[u8], work: &[u16], h: usize, out: &mut [u8], pl
         if s >= 16 {
             let number = text[p + 1];
             let of = Name { code: c, number };
-            let j = names::find(edit, work, h, of);
-            if j == 0 {
-                q = bytes::put_two(c, number, out, q);
-            } else {
-                q = name(edit, work, j, of, out, q);
-            }
+            q = match names::find(edit, work, h, of) {
+                None => bytes::put_two(c, number, out, q),
+                Some(i) => name(edit, work, i, of, out, q),
+            };
             p += 2;
             wanted -= 1;
         } else {

@@ -28,7 +28,7 @@ const NOTES: usize = 4844;
 pub const WORK: usize = 5036;
 
 // Where reading and writing have come to.
-#[derive(Drop)]
+#[derive(Clone, Copy)]
 pub struct Place {
     pub at: usize,
     pub pos: usize,
@@ -48,9 +48,8 @@ pub fn start(edit: &[u8], from: usize, work: &mut [u16]) -> Reached
     requires { SomeEdit edit.now from × Fitting edit.now work.old }
     ensures { Started edit.now from work.new result.at result.h result.d }
 {
-    let none = [0u16; 64];
-    names::copy_last(&none, &mut work[..64]);
-    ways::clear_notes(work);
+    work[..64].fill(0);
+    work[NOTES..].fill(0);
     ways::walk(
         edit,
         work,
@@ -78,9 +77,9 @@ pub fn write_rule(
         × Started edit.now from work.new rest.at rest.h rest.d }
 {
     let mut last = [0u16; 64];
-    names::copy_last(&work[..64], &mut last);
+    last.copy_from_slice(&work[..64]);
     let end = ways::write_way(text, edit, work, rest, out, place);
-    names::copy_last(&last, &mut work[..64]);
+    work[..64].copy_from_slice(&last);
     end
 }
 

@@ -2,9 +2,8 @@
 ghost use Rattle.std.specs.Prelude.{◌≡◌, ◌+◌, ◌<◌, ◌≤◌, length, get_or};
 ghost use Rattle.tree.specs.Stack.{touched};
 ghost use Rattle.ends.specs.Shapes.{Named};
-ghost use Rattle.ends.specs.Kept.{Kept};
 ghost use Rattle.write.specs.Work.{most_steps, work_length, stack_of};
-ghost use Rattle.write.specs.Links.{last_in, SomeLinks, link_step};
+ghost use Rattle.write.specs.Links.{link_to, last_in, SomeLinks, link_step};
 
 use crate::LINKS;
 
@@ -15,20 +14,28 @@ pub struct Name {
     pub number: u8,
 }
 
-// One more than the index of the last of h steps that touches a name, or 0: from the name's last step down its links.
+// The step that a link names: it holds one more than the step's index, or 0 for none.
+#[tactic(auto, unfolding(crate::specs::Links::link_to))]
+pub fn linked(link: u16) -> Option<usize>
+    ensures { link_to result ≡ link }
+{
+    (link as usize).checked_sub(1)
+}
+
+// The index of the last of h steps that touches a name: from the name's last step down its links.
 // Inner: the work array holds offsets of steps, with their links.
-pub fn find(edit: &[u8], work: &[u16], h: usize, of: Name) -> usize
+pub fn find(edit: &[u8], work: &[u16], h: usize, of: Name) -> Option<usize>
     requires { SomeLinks edit.now work.now h × Named of.code of.number }
-    ensures { (result ≡ last_in edit.now (stack_of work.now) h of.code of.number) × (result ≤ h) }
+    ensures { (link_to result ≡ last_in edit.now (stack_of work.now) h of.code of.number) × (link_to result ≤ h) }
 {
     let c = of.code;
     let k = of.number;
     let i = ends::cell_of(c, k);
-    let mut j = work[i] as usize;
-    while j > h {
-        j = work[LINKS + (j - 1)] as usize;
+    let mut j = work[i];
+    while j as usize > h {
+        j = work[LINKS + (j as usize - 1)];
     }
-    j
+    linked(j)
 }
 
 // Links the step at `at`, which is on top of h others, to the previous step of its name.
@@ -40,17 +47,4 @@ pub fn link(edit: &[u8], at: usize, work: &mut [u16], h: usize)
     let i = ends::cell_of(ends::name_code(edit[at]), edit[at + 1]);
     work[LINKS + h] = work[i];
     work[i] = (h + 1) as u16;
-}
-
-// Copies the last step of each name.
-// Inner: over the 64 names.
-pub fn copy_last(src: &[u16], out: &mut [u16])
-    requires { (length src.now ≡ 64) × (length out.old ≡ 64) }
-    ensures { Kept 64 src.now out.new }
-{
-    let mut i = 0;
-    while i < 64 {
-        out[i] = src[i];
-        i += 1;
-    }
 }

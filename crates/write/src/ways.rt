@@ -9,14 +9,14 @@ ghost use Rattle.ends.specs.Edits.{EditAt};
 ghost use Rattle.ends.specs.Books.{RuleAt};
 ghost use Rattle.ends.specs.Kept.{Kept};
 ghost use Rattle.write.specs.Laid.{Wrote};
-ghost use Rattle.write.specs.Work.{stack_of, links_of, behind_of, work_length};
+ghost use Rattle.write.specs.Work.{stack_of, links_of, behind_of};
 ghost use Rattle.write.specs.Offsets.{StackIs};
-ghost use Rattle.write.specs.Links.{SomeLinks, LinkedIn, Relinked, Fitting, Cleared};
+ghost use Rattle.write.specs.Links.{SomeLinks, LinkedIn, Relinked, Fitting};
 ghost use Rattle.write.specs.Ways.{SomeWay, resting, Passed, Walked, SomeTwo, Ends, Noted, Renoted, SomeCarried, WayWritten};
 ghost use Rattle.write.specs.Writing.{SomeShown};
 
 use crate::expressions::emit;
-use crate::{BEHIND, NOTES, Place, Reached, STACK, WORK, bytes, names};
+use crate::{BEHIND, NOTES, Place, Reached, STACK, bytes, names};
 
 // Whether a walk rests here: at a 35, or at the end.
 // Inner: the place is in the edit.
@@ -25,13 +25,7 @@ fn rests(edit: &[u8], at: usize, d: usize) -> bool
     ensures { result ≡ resting (get_or edit.now at 0) d }
 {
     let c = edit[at];
-    if c == 0x35 {
-        return true;
-    }
-    if c != 0x30 {
-        return false;
-    }
-    d == 0
+    c == 0x35 || c == 0x30 && d == 0
 }
 
 // The place after the expression of a step, as `ends::past` finds it. An expression of a single code is handled here: a rule passes each step, and most steps
@@ -89,21 +83,8 @@ pub fn walk(edit: &[u8], work: &mut [u16], from: Reached) -> Reached
     here
 }
 
-// No note.
-// Inner: over the whole work array.
-pub fn clear_notes(work: &mut [u16])
-    requires { length work.old ≡ work_length }
-    ensures { Cleared work.old work.new work_length }
-{
-    let mut i = NOTES;
-    while i < WORK {
-        work[i] = 0;
-        i += 1;
-    }
-}
-
 // Where the second way of a 35 stands, and what follows it.
-#[derive(Drop)]
+#[derive(Clone, Copy)]
 struct Ways {
     second: usize,
     next: usize,
@@ -178,13 +159,13 @@ pub fn write_way(
     let saved = work[top];
     work[top] = ways.next as u16;
     let mut last = [0u16; 64];
-    names::copy_last(&work[..64], &mut last);
+    last.copy_from_slice(&work[..64]);
     let at = place.at;
     let mut way = rest;
     way.d = rest.d + 1;
     way.at = k.at;
     let b = write_way(text, edit, work, way, out, Place { at, pos: a }).pos;
-    names::copy_last(&last, &mut work[..64]);
+    work[..64].copy_from_slice(&last);
     let test = place.pos + 3;
     let c = open_second(out, test, a - test, b);
     way.at = ways.second;

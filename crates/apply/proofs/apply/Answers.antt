@@ -6,9 +6,6 @@ returns-in_default c =
     let a = sheet-refused _ _ _ _ c.check-sheet_answer.ensures c.in_default.is in
     record { result_value = a.answer; sheet_after = a.sheet_is }
 
-pub node_count-requires : goal.node_count-requires
-node_count-requires c = sheet-sound _ _ c.check-sheet_answer.ensures c.in-Done.is
-
 pub returns-in_default-edit_answer : goal.returns-in_default-edit_answer
 returns-in_default-edit_answer c =
     let sound = sheet-sound _ _ c.check-sheet_answer.ensures c.in-Done.is in

@@ -8,23 +8,14 @@ use Rattle.apply.proofs.arrow_step.Goals as goal
 pub bounds-edit-at : goal.bounds-edit-at
 bounds-edit-at c = omega (arith, (as-arrow _ _ _ c.requires.1.what c.requires.1.stands c.requires.2 c.requires.3).room)
 
-pub overflow_add-a : goal.overflow_add-a
-overflow_add-a c = omega (arith, (as-arrow _ _ _ c.requires.1.what c.requires.1.stands c.requires.2 c.requires.3).room)
-
 pub bounds-edit-at-2 : goal.bounds-edit-at-2
 bounds-edit-at-2 c = omega (arith, (as-arrow _ _ _ c.requires.1.what c.requires.1.stands c.requires.2 c.requires.3).room)
-
-pub overflow_add-at : goal.overflow_add-at
-overflow_add-at c = omega (arith, (as-arrow _ _ _ c.requires.1.what c.requires.1.stands c.requires.2 c.requires.3).room)
 
 pub eval_arrow-next-requires : goal.eval_arrow-next-requires
 eval_arrow-next-requires c = let s = c in (opened _ _ _ s.requires.0, record { what = (as-arrow _ _ _ s.requires.1.what s.requires.1.stands s.requires.2 s.requires.3).what; stands = (as-arrow _ _ _ s.requires.1.what s.requires.1.stands s.requires.2 s.requires.3).first }, refl)
 
 pub arrow_rows-requires : goal.arrow_rows-requires
 arrow_rows-requires c = let s = c in let o = opened _ _ _ s.requires.0 in (o.sound, o.count, o.few, omega (arith, (as-arrow _ _ _ s.requires.1.what s.requires.1.stands s.requires.2 s.requires.3).range, (as-arrow _ _ _ s.requires.1.what s.requires.1.stands s.requires.2 s.requires.3).reads), search rules)
-
-pub combine_rows-requires : goal.combine_rows-requires
-combine_rows-requires c = ((opened _ _ _ c.requires.0).few, search rules, search rules)
 
 pub put_rows-requires : goal.put_rows-requires
 put_rows-requires c = let s = c in ((opened _ _ _ s.requires.0).sound, omega (arith, (as-arrow _ _ _ s.requires.1.what s.requires.1.stands s.requires.2 s.requires.3).range, (as-arrow _ _ _ s.requires.1.what s.requires.1.stands s.requires.2 s.requires.3).reads))

@@ -6,14 +6,8 @@ use Rattle.apply.proofs.label_step.Goals as goal
 pub bounds-edit-at : goal.bounds-edit-at
 bounds-edit-at c = omega (arith, (as-label _ _ _ c.requires.1.what c.requires.1.stands c.requires.2 c.requires.3).room)
 
-pub overflow_add-k : goal.overflow_add-k
-overflow_add-k c = omega (arith, (as-label _ _ _ c.requires.1.what c.requires.1.stands c.requires.2 c.requires.3).room)
-
 pub bounds-edit-at-2 : goal.bounds-edit-at-2
 bounds-edit-at-2 c = omega (arith, (as-label _ _ _ c.requires.1.what c.requires.1.stands c.requires.2 c.requires.3).room)
-
-pub overflow_add-at : goal.overflow_add-at
-overflow_add-at c = omega (arith, (as-label _ _ _ c.requires.1.what c.requires.1.stands c.requires.2 c.requires.3).room)
 
 pub eval_node-e-requires : goal.eval_node-e-requires
 eval_node-e-requires c = let s = c in (opened _ _ _ s.requires.0, record { what = (as-label _ _ _ s.requires.1.what s.requires.1.stands s.requires.2 s.requires.3).what; stands = (as-label _ _ _ s.requires.1.what s.requires.1.stands s.requires.2 s.requires.3).first })

@@ -1,12 +1,8 @@
 use mathlib.Core.Path.{sym, ap, ◌∙◌}
 use Prim.Native.Nat.{ℕ, ◌-◌}
 use native.Mathlib.Omega.{arith}
-use lib.Pow.{pow_pos}
 use Rattle.bitset.proofs.SetLaws.{shl_one, set_of-all, set_of-lowest}
 use Rattle.bitset.proofs.lowest.Goals as goal
-
-pub overflow_sub-result : goal.overflow_sub-result
-overflow_sub-result c = omega (arith, shl_one c.args.n c.requires, pow_pos c.args.n)
 
 pub returns : goal.returns
 returns c =

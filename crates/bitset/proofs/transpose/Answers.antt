@@ -1,12 +1,5 @@
-use Rattle.bitset.specs.Transpose.{Transposed}
 use Rattle.bitset.proofs.ExchangeLaws.{six, transposes}
 use Rattle.bitset.proofs.transpose.Goals as goal
-use Rattle.bitset.proofs.transpose.Goals.{After-slice_known-7-1}
-
-done : (c : After-slice_known-7-1) → Transposed c.args.rows.now c.exchange_blocks-6.new.rows
-done c =
-    transposes c.exchange_blocks.ensures.0 c.exchange_blocks-2.ensures.0 c.exchange_blocks-3.ensures.0
-    c.exchange_blocks-4.ensures.0 c.exchange_blocks-5.ensures.0 c.exchange_blocks-6.ensures.0
 
 pub exchange_blocks-requires : goal.exchange_blocks-requires
 exchange_blocks-requires c = (six.of-32, c.requires)
@@ -27,4 +20,8 @@ pub exchange_blocks-requires-6 : goal.exchange_blocks-requires-6
 exchange_blocks-requires-6 c = (six.of-1, c.exchange_blocks-5.ensures.1)
 
 pub returns : goal.returns
-returns c = (done c, c.exchange_blocks-6.ensures.1)
+returns c = (
+  transposes c.exchange_blocks.ensures.0 c.exchange_blocks-2.ensures.0 c.exchange_blocks-3.ensures.0
+      c.exchange_blocks-4.ensures.0 c.exchange_blocks-5.ensures.0 c.exchange_blocks-6.ensures.0,
+  c.exchange_blocks-6.ensures.1,
+)

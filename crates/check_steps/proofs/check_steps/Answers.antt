@@ -24,8 +24,8 @@ pub raise_numbers-requires : goal.raise_numbers-requires
 raise_numbers-requires c = rule-short _ (read _ c.check_carried_rule-answer.ensures c.in_default.is)
 
 -- It is in the work text.
-pub make_steps-outcome-requires : goal.make_steps-outcome-requires
-make_steps-outcome-requires c =
+pub make_steps-requires : goal.make_steps-requires
+make_steps-requires c =
     record { what = _; stands = rule-there _ (read _ c.check_carried_rule-answer.ensures c.in_default.is) _ (length-replicate {A = ℕ} 16384 0) c.raise_numbers.ensures }
 
 -- What the steps make of it: the text to compare, or the step that does not fit.
@@ -33,16 +33,16 @@ pub slice_bounds-compare-end : goal.slice_bounds-compare-end
 slice_bounds-compare-end c =
     let r = read _ c.check_carried_rule-answer.ensures c.in_default.is in
     let s = rule-there _ r _ (length-replicate {A = ℕ} 16384 0) c.raise_numbers.ensures in
-    (c.in-Length.ensures r.what s).stands.room
+    (c.in-Ok.ensures r.what s).stands.room
 
-pub returns-in-Length : goal.returns-in-Length
-returns-in-Length c =
+pub returns-in-Ok : goal.returns-in-Ok
+returns-in-Ok c =
     let r = read _ c.check_carried_rule-answer.ensures c.in_default.is in
     let s = rule-there _ r _ (length-replicate {A = ℕ} 16384 0) c.raise_numbers.ensures in
-    answer-compared _ r _ _ (c.in-Length.ensures r.what s) c.compare.result c.compare.ensures
+    answer-compared _ r _ _ (c.in-Ok.ensures r.what s) c.compare.result c.compare.ensures
 
-pub returns-in-Unfit : goal.returns-in-Unfit
-returns-in-Unfit c =
+pub returns-in-Err : goal.returns-in-Err
+returns-in-Err c =
     let r = read _ c.check_carried_rule-answer.ensures c.in_default.is in
     let s = rule-there _ r _ (length-replicate {A = ℕ} 16384 0) c.raise_numbers.ensures in
-    answer-unfit _ r _ _ (c.in-Unfit.ensures r.what s)
+    answer-unfit _ r _ _ (c.in-Err.ensures r.what s)

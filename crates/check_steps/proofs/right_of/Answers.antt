@@ -1,44 +1,21 @@
 use native.Mathlib.Omega.{arith}
 use mathlib.Core.Path.{ap, ◌∙◌}
 use Prim.Native.Nat.{◌-◌}
-use Rattle.check_steps.specs.Raised.{second_bytes_def}
+use Rattle.check_steps.specs.Raised.{second_bytes_def, found_at}
+use Rattle.check_steps.proofs.Places.{place-some}
 use Rattle.check_steps.proofs.Sides.{right-4, right-5, right-again, right-next}
 use Rattle.check_steps.proofs.right_of.Goals as goal
 
-pub contrary-requires : goal.contrary-requires
-contrary-requires c = (omega (arith, c.requires.0), c.requires.1)
+pub returns-in-4 : goal.returns-in-4
+returns-in-4 c = c.contrary.ensures ∙ ap found_at (right-4 _ _ _ c.in-4.is)
 
-pub returns-then-law-eq4 : goal.returns-then-law-eq4
-returns-then-law-eq4 c = c.contrary.ensures ∙ right-4 _ _ _ c.if-law-eq4.true
+pub returns-in-5 : goal.returns-in-5
+returns-in-5 c = place-some (λ z. omega (arith, c.behind.ensures)) (ap (◌- 1) c.behind.ensures ∙ right-5 _ _ _ (λ e. omega (arith, c.in-5.is)) c.in-5.is)
 
-pub overflow_add-at : goal.overflow_add-at
-overflow_add-at c = omega (arith, c.requires.0, c.requires.1)
-
-pub behind-requires : goal.behind-requires
-behind-requires c = (omega (arith, c.requires.0), c.requires.1)
-
-pub overflow_sub-result : goal.overflow_sub-result
-overflow_sub-result c = omega (arith, c.behind.ensures)
-
-pub returns-then-law-eq5 : goal.returns-then-law-eq5
-returns-then-law-eq5 c = ap (◌- 1) c.behind.ensures ∙ right-5 _ _ _ c.if-law-eq4.false c.if-law-eq5.true
-
-pub bounds-law : goal.bounds-law
-bounds-law c = omega (arith, c.requires.2)
-
-pub overflow_add-at-then-law-eq0 : goal.overflow_add-at-then-law-eq0
-overflow_add-at-then-law-eq0 c = omega (arith, c.requires.0, c.requires.1)
-
-pub again-requires : goal.again-requires
-again-requires c = (omega (arith, c.requires.0), c.requires.1, omega arith)
-
-pub returns-then-law-eq0 : goal.returns-then-law-eq0
+pub returns-in_default : goal.returns-in_default
 unfolding second_bytes_def
-returns-then-law-eq0 c = c.again.ensures ∙ right-again _ _ _ c.if-law-eq4.false c.if-law-eq5.false c.if-law-eq0.true
+returns-in_default c = c.again.ensures ∙ ap found_at (right-again _ _ _ (λ e. omega arith) (λ e. omega arith) c.if-law-eq0.true)
 
-pub overflow_add-result : goal.overflow_add-result
-overflow_add-result c = omega (arith, c.requires.0, c.requires.1)
-
-pub returns : goal.returns
+pub returns-in_default-2 : goal.returns-in_default-2
 unfolding second_bytes_def
-returns c = right-next _ _ _ c.if-law-eq4.false c.if-law-eq5.false c.if-law-eq0.false
+returns-in_default-2 c = place-some (λ z. omega arith) (right-next _ _ _ (λ e. omega arith) (λ e. omega arith) c.if-law-eq0.false)

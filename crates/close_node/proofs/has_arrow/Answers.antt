@@ -1,6 +1,6 @@
-use Rattle.std.proofs.Common.{◌≡◌, sym, ◌∙◌, arith, rules}
+use Rattle.std.proofs.Common.{◌≡◌, sym, ◌∙◌, below_more, arith}
 use Rattle.sheet.specs.Sheet.{graph_of}
-use Rattle.close_node.proofs.NodeTaken.{none-next, arrows_at, arrow-found, arrow-none}
+use Rattle.close_node.proofs.NodeTaken.{arrows_at, arrow-found, arrow-none}
 use Rattle.close_node.proofs.has_arrow.Goals as goal
 
 -- what `touched` answered for a kind, by the sheet's own count
@@ -12,7 +12,7 @@ returns-then-touched c =
 pub loop-a-preserved : goal.loop-a-preserved
 loop-a-preserved c =
     let kind : arrows_at (graph_of c.args.sheet.now) c.args.node.0 c.loop-a.a ≡ c.touched.result = rw (← c.node_count-n.ensures.0) (sym c.touched.ensures) in
-    (search rules, none-next _ _ c.loop-a.invariant.1 (kind ∙ c.if-touched.false))
+    below_more _ _ c.loop-a.invariant (kind ∙ c.if-touched.false)
 
 pub returns : goal.returns
-returns c = arrow-none _ _ (λ a l. c.loop-a.invariant.1 a (omega (arith, c.loop-a-test.false)))
+returns c = arrow-none _ _ (λ a l. c.loop-a.invariant a (omega (arith, c.loop-a-test.false)))

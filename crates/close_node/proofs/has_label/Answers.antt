@@ -1,7 +1,7 @@
-use Rattle.std.proofs.Common.{◌∙◌, arith, rules}
+use Rattle.std.proofs.Common.{◌∙◌, below_more, arith}
 use Rattle.sheet.specs.Sheet.{present}
 use Rattle.sheet.proofs.SoundWords.{sound-n}
-use Rattle.close_node.proofs.NodeTaken.{none-next, bit-of, label-found, label-none}
+use Rattle.close_node.proofs.NodeTaken.{bit-of, label-found, label-none}
 use Rattle.close_node.proofs.has_label.Goals as goal
 
 pub member-requires : goal.member-requires
@@ -16,7 +16,7 @@ returns-then-member c =
 pub loop-k-preserved : goal.loop-k-preserved
 loop-k-preserved c =
     let bit = bit-of _ _ _ _ _ c.requires.1 c.label_word.ensures c.member.ensures in
-    (search rules, none-next _ _ c.loop-k.invariant.1 (bit ∙ c.if-member.false))
+    below_more _ _ c.loop-k.invariant (bit ∙ c.if-member.false)
 
 pub returns : goal.returns
-returns c = label-none _ _ (λ k l. c.loop-k.invariant.1 k (omega (arith, c.loop-k-test.false)))
+returns c = label-none _ _ (λ k l. c.loop-k.invariant k (omega (arith, c.loop-k-test.false)))

@@ -1,22 +1,26 @@
-use mathlib.Core.Path.{sym, ap, ◌∙◌}
-use Prim.Native.Nat.{ℕ}
+use Rattle.std.proofs.Common.{rules, ℕ}
 use lib.ListN.{replicate, length-replicate}
-use Rattle.answer.specs.Answers.{asked}
+use Rattle.answer.specs.Asked.{◌>>=◌}
+use Rattle.answer.proofs.AnswerLaws.{not-learned}
 use Rattle.sheet.specs.Sheet.{sheet_bytes}
-use Rattle.count_small.proofs.CountStages.{found, refused_none, counts-are}
+use Rattle.count_small.specs.Questions.{ask_count, ask_four}
+use Rattle.count_small.proofs.CountStages.{found}
 use Rattle.count_small.proofs.SmallBuffer.{blank-loaded}
 use Rattle.count_small.proofs.count.Goals as goal
 
-pub returns-in_default : goal.returns-in_default
-returns-in_default c = record { answer_value = c.ask-answer.ensures; four_value = c.none.ensures ∙ refused_none _ _ _ _ _ c.ask-answer.ensures c.in_default.is }
+pub returns-in_err-ask : goal.returns-in_err-ask
+unfolding ask_four ◌>>=◌
+returns-in_err-ask c = let e = not-learned (ask_count c.args.n c.args.book.now c.args.edit.now) _ _ (c.in_err-ask.ensures) in search rules
 
-pub count_all-four-requires : goal.count_all-four-requires
-count_all-four-requires c =
-    let q = found _ _ _ (sym (ap asked c.in-Done.is) ∙ c.ask-answer.ensures) in
+pub count_all-requires : goal.count_all-requires
+count_all-requires c =
+    let q = found _ _ _ c.in_ok-ask.ensures in
     (blank-loaded _ q.some q.few (replicate {A = ℕ} sheet_bytes 0) _ c.blank.ensures.buf_after (length-replicate {A = ℕ} sheet_bytes 0), q.some, q.few, record { rules = q.texts.rules; what = q.texts.edit; stand = q.stand })
 
 pub returns : goal.returns
+unfolding ask_four ◌>>=◌
 returns c =
-    let e = sym (ap asked c.in-Done.is) ∙ c.ask-answer.ensures in
-    let q = found _ _ _ e in
-    record { answer_value = e; four_value = counts-are _ _ _ q _ (c.count_all-four.ensures q.texts.rules q.texts.edit q.stand) }
+    let q = found _ _ _ c.in_ok-ask.ensures in
+    let e = q.is_read in
+    let f = c.count_all.ensures q.texts.rules q.texts.edit q.stand in
+    search rules

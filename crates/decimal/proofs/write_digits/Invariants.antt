@@ -1,12 +1,9 @@
 use mathlib.Core.Path.{◌≡◌}
 use mathlib.Core.List.{◌++◌}
-use Prim.Native.Nat.{◌+◌, ◌-◌, ◌≤◌}
 use lib.ListN.{length, drop}
 use Rattle.decimal.specs.Digits.{digits}
 use Rattle.decimal.proofs.write_digits.Given as goal
 
-abbrev pub invariant-loop-at : goal.invariant-loop-at
-invariant-loop-at l = (l.at ≤ length l.out) × (length l.out ≡ length l.initial.out) × (digits l.at l.rest ++ drop l.at l.out ≡ digits (length l.initial.out) l.n)
-
-abbrev pub decreases-loop-at : goal.decreases-loop-at
-decreases-loop-at l = l.at
+-- the digits of the rest are still to come before those written
+abbrev pub invariant-loop-i : goal.invariant-loop-i
+invariant-loop-i l = digits l.i l.rest ++ drop l.i l.out ≡ digits (length l.initial.out) l.n

@@ -5,19 +5,11 @@ use native.Mathlib.Omega.{arith}
 use Rattle.text.specs.Code.{edit_code}
 use Rattle.tree.specs.Tree.{tree}
 use Rattle.ends.proofs.FirstSteps.{edit_tree, as_step, as-choose, edit-inside}
-use Rattle.ends.proofs.Ends.{rest-first, rest_more, rest_end, behind-step, behind-choose}
+use Rattle.ends.proofs.Ends.{rest_more, rest_end, behind-step, behind-choose}
 use Rattle.ends.proofs.+steps.Goals as goal
-
-pub end_of-loop-p-init : goal.end_of-loop-p-init
-end_of-loop-p-init t c = rest-first _ _ c.requires
 
 pub end_of-bounds-text-p : goal.end_of-bounds-text-p
 end_of-bounds-text-p t c = let r = c.loop-p.invariant.some in omega (arith, edit-inside _ _ r.what r.stands)
-
-pub end_of-next_step-p-requires : goal.end_of-next_step-p-requires
-end_of-next_step-p-requires t c =
-    let r = c.loop-p.invariant in
-    (omega (arith, c.decreases, r.le, edit-inside _ _ r.some.what r.some.stands), (r.some, c.loop-p-test.true))
 
 pub end_of-loop-p-smaller : goal.end_of-loop-p-smaller
 end_of-loop-p-smaller t c =
@@ -25,9 +17,6 @@ end_of-loop-p-smaller t c =
 
 pub end_of-loop-p-preserved : goal.end_of-loop-p-preserved
 end_of-loop-p-preserved t c = rest_more _ _ _ _ c.loop-p.invariant c.next_step-p.ensures
-
-pub end_of-overflow_add-result : goal.end_of-overflow_add-result
-end_of-overflow_add-result t c = let r = c.loop-p.invariant.some in omega (arith, edit-inside _ _ r.what r.stands, c.well_formed)
 
 pub end_of-returns : goal.end_of-returns
 end_of-returns t c = rest_end _ _ _ c.loop-p.invariant c.loop-p-test.false

@@ -16,21 +16,6 @@ write_rule-written-requires c = let p = c.requires.0 in let i = c.loop-at.invari
       record { short = c.requires.1.short; long = i.0 ∙ c.start-rest.auto.work ∙ c.requires.1.long },
     )
 
-pub loop-at-smaller-then-len-most : goal.loop-at-smaller-then-len-most
-loop-at-smaller-then-len-most c = let p = c.requires.0 in let i = c.loop-at.invariant in
-    let q = first-left c.loop-at-test.true (i.3 p.rules p.Z p.is p.Z-at) in
-    let y = (c.write_rule-written.ensures _ i.2).0 q.K p.Z q.K-at p.Z-at in
-    let f = rule_fits _ _ q.K q.K-at in omega (arith, y.read, f.0, f.1)
-
-pub loop-at-preserved-then-len-most : goal.loop-at-preserved-then-len-most
-loop-at-preserved-then-len-most c = let i = c.loop-at.invariant in let w = c.write_rule-written in (
-  w.auto.work ∙ i.0,
-  w.auto.out ∙ i.1,
-  (w.ensures _ i.2).1,
-  λ rules Z b h. let q = first-left c.loop-at-test.true (i.3 rules Z b h) in
-      let y = (w.ensures _ i.2).0 q.K Z q.K-at h in q.more _ _ y.read (omega (arith, c.if-len-most.true, y.wrote.counted)),
-)
-
 pub loop-at-smaller : goal.loop-at-smaller
 loop-at-smaller c = let p = c.requires.0 in let i = c.loop-at.invariant in
     let q = first-left c.loop-at-test.true (i.3 p.rules p.Z p.is p.Z-at) in
@@ -43,7 +28,7 @@ loop-at-preserved c = let i = c.loop-at.invariant in let w = c.write_rule-writte
   w.auto.out ∙ i.1,
   (w.ensures _ i.2).1,
   λ rules Z b h. let q = first-left c.loop-at-test.true (i.3 rules Z b h) in
-      let y = (w.ensures _ i.2).0 q.K Z q.K-at h in q.more _ _ y.read (omega (arith, c.if-len-most.false, y.wrote.counted)),
+      let y = (w.ensures _ i.2).0 q.K Z q.K-at h in q.more _ _ y.read (omega (arith, y.wrote.counted)),
 )
 
 pub returns : goal.returns

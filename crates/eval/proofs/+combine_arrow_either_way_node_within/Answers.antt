@@ -67,9 +67,6 @@ either_way-node_within-e-requires t c =
     let b = c.either_way-r-then-c-le22.ensures.0 q.A q.first in
     (omega (arith, c.decreases, q.inside, b.ends), (c.requires.0, all-used c.requires.0, operand-2 q b.ends))
 
-pub either_way-returns-then-c-le17 : goal.either_way-returns-then-c-le17
-either_way-returns-then-c-le17 t c = let r = c.arrow_kind-next.ensures in (λ e h. arrows.straight-way _ c.args.text.now _ _ e _ (r.0 e h), r.1)
-
 pub either_way-returns-then-c-le18 : goal.either_way-returns-then-c-le18
 either_way-returns-then-c-le18 t c =
     let r = c.either_way-r in
@@ -87,9 +84,6 @@ either_way-returns-then-c-le22 t c =
           a.ensures.0 c.node_within-e.ensures r.0,
       r.1,
     )
-
-pub either_way-returns-else-c-le22 : goal.either_way-returns-else-c-le22
-either_way-returns-else-c-le22 t c = let r = c.one_pair-next.ensures in (λ e h. arrows.straight-way _ c.args.text.now _ _ e _ (r.0 e h), r.1)
 
 pub node_within-past-requires : goal.node_within-past-requires
 node_within-past-requires t c = some-tree c.requires.2
@@ -126,20 +120,8 @@ node_within-node_within-f-requires t c =
     let left = minus-used _ _ _ _ (omega (arith, c.requires.0.few)) c.requires.1 (part-used c.requires.1 a) c.minus-then-c-le7.ensures in
     (omega (arith, c.decreases, q.inside, a.ends), (c.requires.0, left, operand-2 q a.ends))
 
-pub node_within-overflow_add-m : goal.node_within-overflow_add-m
-node_within-overflow_add-m t c =
-    let q = as-quantifier _ _ _ _ c.requires.2.stands c.if-c-le7.false _ c.ahead-k.ensures.0 c.ahead-k.ensures.1 in omega (arith, q.inside)
-
-pub node_within-overflow_sub-m : goal.node_within-overflow_sub-m
-node_within-overflow_sub-m t c =
-    let q = as-quantifier _ _ _ _ c.requires.2.stands c.if-c-le7.false _ c.ahead-k.ensures.0 c.ahead-k.ensures.1 in omega (arith, q.behind-code)
-
 pub node_within-bounds-text-at-else-c-le7 : goal.node_within-bounds-text-at-else-c-le7
 node_within-bounds-text-at-else-c-le7 t c =
-    let q = as-quantifier _ _ _ _ c.requires.2.stands c.if-c-le7.false _ c.ahead-k.ensures.0 c.ahead-k.ensures.1 in omega (arith, q.inside)
-
-pub node_within-overflow_add-at-else-c-le7 : goal.node_within-overflow_add-at-else-c-le7
-node_within-overflow_add-at-else-c-le7 t c =
     let q = as-quantifier _ _ _ _ c.requires.2.stands c.if-c-le7.false _ c.ahead-k.ensures.0 c.ahead-k.ensures.1 in omega (arith, q.inside)
 
 pub node_within-behind_turns-t-requires : goal.node_within-behind_turns-t-requires
@@ -188,10 +170,6 @@ node_within-quantified_kind-requires t c =
       omega (arith, c.if-c-le7.false),
       (c.straight.ensures c.if-straight.true).1,
     )
-
-pub node_within-overflow_add-at-else-straight : goal.node_within-overflow_add-at-else-straight
-node_within-overflow_add-at-else-straight t c =
-    let q = as-quantifier _ _ _ _ c.requires.2.stands c.if-c-le7.false _ c.ahead-k.ensures.0 c.ahead-k.ensures.1 in omega (arith, q.inside)
 
 pub node_within-either_way-r-requires : goal.node_within-either_way-r-requires
 node_within-either_way-r-requires t c =

@@ -7,9 +7,6 @@ use Rattle.eval.proofs.+settle_rule.Goals as goal
 pub bounds-text-at : goal.bounds-text-at
 bounds-text-at t c = omega (arith, some-inside c.requires.1)
 
-pub overflow_add-at : goal.overflow_add-at
-overflow_add-at t c = omega (arith, some-inside c.requires.1)
-
 pub settle_rule-k-requires : goal.settle_rule-k-requires
 settle_rule-k-requires t c =
     let q = as-two _ _ _ c.requires.1.what c.requires.1.stands c.if-c-le36.false c.if-c-le38.true in
@@ -32,9 +29,6 @@ settle_rule-l-requires t c =
     let q = as-two _ _ _ c.requires.1.what c.requires.1.stands c.if-c-le36.false c.if-c-le38.true in
     let a = c.past_rules.ensures _ _ (c.settle_rule-k.ensures q.A q.first).ends in
     (omega (arith, c.decreases, q.inside, a), (c.requires.0, operand-2 q a))
-
-pub overflow_add-at-else-c-le38 : goal.overflow_add-at-else-c-le38
-overflow_add-at-else-c-le38 t c = omega (arith, some-inside c.requires.1)
 
 pub settle_rule-k-requires-else-c-le38 : goal.settle_rule-k-requires-else-c-le38
 settle_rule-k-requires-else-c-le38 t c =

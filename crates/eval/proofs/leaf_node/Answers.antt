@@ -11,32 +11,17 @@ bounds-text-at c = omega (arith, some-inside c.requires.4)
 pub overflow_add-result : goal.overflow_add-result
 overflow_add-result c = omega (arith, some-inside c.requires.4)
 
-pub overflow_add-result-then-c-le2 : goal.overflow_add-result-then-c-le2
-overflow_add-result-then-c-le2 c = omega (arith, some-inside c.requires.4)
-
-pub overflow_add-at : goal.overflow_add-at
-overflow_add-at c = omega (arith, some-inside c.requires.4)
-
 pub bounds-text-at-then-c-le3 : goal.bounds-text-at-then-c-le3
 bounds-text-at-then-c-le3 c = let s = c in omega (arith, (as-label _ _ _ _ s.requires.4.stands c.if-c-le2.false c.if-c-le3.true).inside)
 
 pub label_word-requires : goal.label_word-requires
 label_word-requires c = let s = c in (s.requires.0, (as-label _ _ _ _ s.requires.4.stands c.if-c-le2.false c.if-c-le3.true).range)
 
-pub overflow_add-result-then-c-le3 : goal.overflow_add-result-then-c-le3
-overflow_add-result-then-c-le3 c = let s = c in omega (arith, (as-label _ _ _ _ s.requires.4.stands c.if-c-le2.false c.if-c-le3.true).inside)
-
-pub overflow_add-at-else-c-le3 : goal.overflow_add-at-else-c-le3
-overflow_add-at-else-c-le3 c = omega (arith, some-inside c.requires.4)
-
 pub bounds-text-at-else-c-le3 : goal.bounds-text-at-else-c-le3
 bounds-text-at-else-c-le3 c = let s = c in omega (arith, (as-nominal _ _ _ _ s.requires.4.stands c.if-c-le3.false s.requires.5).inside)
 
 pub nominal-requires : goal.nominal-requires
 nominal-requires c = let s = c in omega (arith, s.requires.2, (as-nominal _ _ _ _ s.requires.4.stands c.if-c-le3.false s.requires.5).range)
-
-pub overflow_add-result-else-c-le3 : goal.overflow_add-result-else-c-le3
-overflow_add-result-else-c-le3 c = let s = c in omega (arith, (as-nominal _ _ _ _ s.requires.4.stands c.if-c-le3.false s.requires.5).inside)
 
 pub returns-then-c-le1 : goal.returns-then-c-le1
 returns-then-c-le1 c e h = all_set _ _ _ _ _ _ c.requires.3 (as-all _ _ _ e h c.if-c-le1.true) refl

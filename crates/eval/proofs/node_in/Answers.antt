@@ -13,17 +13,11 @@ use Rattle.eval.proofs.node_in.Goals as goal
 case : {n at : ℕ} {text : List ℕ} (h : SomeStands (ranges n) text at rule) → 0x22 < get_or text at 0 → get_or text at 0 ≤ 0x23 → IsNodeIn n text at h.what
 case h l u = as-node-in _ _ _ h.what h.stands l u
 
-pub overflow_add-i : goal.overflow_add-i
-overflow_add-i c = omega (arith, (case c.requires.1 c.requires.2 c.requires.3).inside)
-
 pub bounds-text-at : goal.bounds-text-at
 bounds-text-at c = omega (arith, (case c.requires.1 c.requires.2 c.requires.3).inside)
 
 pub nominal-requires : goal.nominal-requires
 nominal-requires c = let s = c.requires in omega (arith, s.0.few, (case s.1 s.2 s.3).range)
-
-pub overflow_add-at : goal.overflow_add-at
-overflow_add-at c = omega (arith, (case c.requires.1 c.requires.2 c.requires.3).inside)
 
 pub node_within-e-requires : goal.node_within-e-requires
 node_within-e-requires c =

@@ -11,23 +11,14 @@ use Rattle.eval.proofs.one_pair.Goals as goal
 pair : {n at : ℕ} {text : List ℕ} (h : SomeStands (ranges n) text at arrow) → 0x16 < get_or text at 0 → IsPair n text at h.what
 pair h u = as-pair _ _ _ h.what h.stands u
 
-pub overflow_add-at : goal.overflow_add-at
-overflow_add-at c = omega (arith, (pair c.requires.1 c.requires.2).inside)
-
 pub bounds-text-at : goal.bounds-text-at
 bounds-text-at c = omega (arith, (pair c.requires.1 c.requires.2).inside)
-
-pub overflow_add-at-2 : goal.overflow_add-at-2
-overflow_add-at-2 c = omega (arith, (pair c.requires.1 c.requires.2).inside)
 
 pub bounds-text-at-2 : goal.bounds-text-at-2
 bounds-text-at-2 c = omega (arith, (pair c.requires.1 c.requires.2).inside)
 
 pub pair_rows-requires : goal.pair_rows-requires
 pair_rows-requires c = let s = c.requires in let p = pair s.1 s.2 in (omega (arith, s.0.few, p.range.0), omega (arith, s.0.few, p.range.1), s.3)
-
-pub overflow_add-result : goal.overflow_add-result
-overflow_add-result c = omega (arith, (pair c.requires.1 c.requires.2).inside)
 
 pub returns : goal.returns
 returns c = let s = c.requires in

@@ -13,17 +13,8 @@ use Rattle.eval.proofs.pair_in.Goals as goal
 case : {n at : ℕ} {text : List ℕ} (h : SomeStands (ranges n) text at rule) → 0x23 < get_or text at 0 → get_or text at 0 ≤ 0x24 → IsPairIn n text at h.what
 case h l u = as-pair-in _ _ _ h.what h.stands l u
 
-pub overflow_add-at : goal.overflow_add-at
-overflow_add-at c = omega (arith, (case c.requires.1 c.requires.2 c.requires.3).inside)
-
-pub overflow_add-at-2 : goal.overflow_add-at-2
-overflow_add-at-2 c = omega (arith, (case c.requires.1 c.requires.2 c.requires.3).inside)
-
 pub bounds-text-at : goal.bounds-text-at
 bounds-text-at c = omega (arith, (case c.requires.1 c.requires.2 c.requires.3).inside)
-
-pub overflow_add-at-3 : goal.overflow_add-at-3
-overflow_add-at-3 c = omega (arith, (case c.requires.1 c.requires.2 c.requires.3).inside)
 
 pub bounds-text-at-2 : goal.bounds-text-at-2
 bounds-text-at-2 c = omega (arith, (case c.requires.1 c.requires.2 c.requires.3).inside)

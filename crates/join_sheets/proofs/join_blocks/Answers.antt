@@ -27,7 +27,7 @@ pub loop-b-preserved : goal.loop-b-preserved
 loop-b-preserved c =
     let l = c.loop-b in
     let e : block_bytes * l.b + block_bytes - block_bytes * l.b ≡ block_bytes = omega arith in
-    one_more _ _ _ _ _ _ l.invariant c.join_rows.new.block _ c.loop-b-test.true e c.join_rows.ensures
+    one_more _ _ _ _ _ _ l.invariant c.join_rows.new.block _ (omega arith) c.loop-b-test.true e c.join_rows.ensures
 
 pub returns : goal.returns
 returns c =

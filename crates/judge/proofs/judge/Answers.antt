@@ -4,5 +4,5 @@ use Rattle.text.specs.Part.{Part}
 use Rattle.judge.proofs.PartLaws.{EndsBy, judged-inside}
 use Rattle.judge.proofs.judge.Goals as goal
 
-pub part_of-rule-requires : goal.part_of-rule-requires
-part_of-rule-requires c = subst (λ (p : Part). EndsBy p (length c.args.book.now)) (sym c.decide-v.ensures.1) (judged-inside _ _)
+pub part_of-requires : goal.part_of-requires
+part_of-requires c = subst (λ (p : Part). EndsBy p (length c.args.book.now)) (sym c.decide-v.ensures.1) (judged-inside _ _)

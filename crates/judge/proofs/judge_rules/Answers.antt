@@ -1,4 +1,6 @@
+use mathlib.Core.Path.{ap, ◌∙◌}
 use native.Mathlib.Omega.{arith}
+use Rattle.answer.specs.Answers.{asked}
 use borrow.Author.Rules.{rules}
 use Rattle.rows.proofs.OperationLaws.{not_is}
 use Rattle.judge.proofs.RulesJudged.{opened, for-count, first_of, ends-inside, reached-start, reached-next, broken, none-broken}
@@ -44,4 +46,6 @@ loop-at-preserved c =
     )
 
 pub returns : goal.returns
-returns c rules s = none-broken _ _ _ _ _ _ rules (c.loop-at.invariant.1 rules (for-count _ _ _ _ _ _ c.node_count-n.ensures.0 s)) c.loop-at-test.false
+returns c rules s =
+    let n = none-broken _ _ _ _ _ _ rules (c.loop-at.invariant.1 rules (for-count _ _ _ _ _ _ c.node_count-n.ensures.0 s)) c.loop-at-test.false in
+    let v = c.without_rule.ensures in (ap asked v.0 ∙ n.0, v.1 ∙ n.1)

@@ -1,16 +1,21 @@
 use mathlib.Core.Path.{sym, ◌∙◌}
 use Rattle.names.specs.Token.{ascii}
 use Rattle.lay_words.proofs.LayingLaws.{around-else, around-end, around-same}
+use Rattle.lay_words.proofs.ifs_around.Goals.{then-same, else-same}
 use Rattle.lay_words.proofs.ifs_around.Goals as goal
-
-pub returns-then-same : goal.returns-then-same
-unfolding ascii
-returns-then-same c = around-else _ _ (sym c.same.ensures ∙ c.if-same.true)
 
 pub returns-then-same-2 : goal.returns-then-same-2
 unfolding ascii
-returns-then-same-2 c = around-end _ _ (sym c.same.ensures ∙ c.if-same.false) (sym c.same-2.ensures ∙ c.if-same-2.true)
+returns-then-same-2 c =
+    c.saturating_sub.ensures ∙ elim c.if-same.branch [
+      | then-same w ↦ around-else _ _ (sym w.if-same.ensures)
+      | else-same w ↦ around-end _ _ (sym w.if-same.ensures) (sym w.same-else-same.ensures ∙ sym w.value-is ∙ c.if-same-2.true)
+    ]
 
-pub returns : goal.returns
+pub returns-else-same-2 : goal.returns-else-same-2
 unfolding ascii
-returns c = around-same _ _ (sym c.same.ensures ∙ c.if-same.false) (sym c.same-2.ensures ∙ c.if-same-2.false)
+returns-else-same-2 c =
+    elim c.if-same.branch [
+      | then-same w ↦ (let t = w.value-is ∙ w.if-same.true in let f = c.if-same-2.false in absurd cc)
+      | else-same w ↦ around-same _ _ (sym w.if-same.ensures) (sym w.same-else-same.ensures ∙ sym w.value-is ∙ c.if-same-2.false)
+    ]

@@ -1,13 +1,12 @@
-use mathlib.Core.Path.{refl}
-use lib.ListN.{take}
+use Rattle.std.proofs.Common.{refl}
+use Rattle.answer.specs.Asked.{asked_number, asked_place}
 use Rattle.log_blocks.specs.Round.{stopped}
-use Rattle.log_blocks.proofs.RoundLaws.{with-line}
 use Rattle.log_blocks.proofs.stop.Goals as goal
 
-pub returns-in_default : goal.returns-in_default
-returns-in_default c = unfold stopped in (λ edit sheet. rw c.in_default.is, refl)
+pub returns-in-Ok-clause-value : goal.returns-in-Ok-clause-value
+unfolding stopped
+returns-in-Ok-clause-value c held edit sheet = rw c.in-Ok.is refl
 
-pub returns : goal.returns
-returns c =
-    let s = c.args in
-    (λ edit sheet. with-line s.answer _ c.in-Refused.is _ c.line_of.ensures s.held.number (take s.held.kept edit) sheet, refl)
+pub returns-in-Err-clause-value : goal.returns-in-Err-clause-value
+unfolding stopped asked_number asked_place
+returns-in-Err-clause-value c held edit sheet = rw (c.line_of.ensures, c.in-Err.is) refl

@@ -5,7 +5,7 @@ use Prim.Native.Nat.{ℕ, ◌≤◌}
 use native.Mathlib.Omega.{arith}
 use lib.Dec.{ltb}
 use lib.ListN.{length, take}
-use Rattle.answer.specs.Asked.{passed}
+use Rattle.answer.specs.Asked.{passed, refused}
 use Rattle.seal.specs.Seal.{modulo257, seal_right_def}
 use Rattle.log_blocks.specs.Log.{fields_right_def, is_begun, ask_log_block}
 use Rattle.log_blocks.proofs.FieldLaws.{count-says, right}
@@ -25,7 +25,7 @@ pub returns-then-block-ne-BLOCK : goal.returns-then-block-ne-BLOCK
 returns-then-block-ne-BLOCK c =
     let s = c.args in
     let all = not_taken s.edit.now s.n s.number s.block.now 53 _ (cut_short _ s.number s.block.now c.if-block-ne-BLOCK.true) in
-    record { result_value = all.0; edit_after = all.1 }
+    record { result_value = (all.0, tt); edit_after = all.1 }
 
 pub returns-then-not-seal_right : goal.returns-then-not-seal_right
 returns-then-not-seal_right c =
@@ -33,24 +33,20 @@ returns-then-not-seal_right c =
     let all =
     not_taken s.edit.now s.n s.number s.block.now 52 _
     (sums-wrong _ s.number s.block.now c.if-block-ne-BLOCK.false (sym c.seal_right.ensures ∙ c.if-not-seal_right.true)) in
-    record { result_value = all.0; edit_after = all.1 }
+    record { result_value = (all.0, tt); edit_after = all.1 }
 
 pub returns-then-number-gt-LAST : goal.returns-then-number-gt-LAST
 returns-then-number-gt-LAST c =
     let s = c.args in
-    let all =
-    not_taken s.edit.now s.n s.number s.block.now 53 _
-    (too_many _ s.number s.block.now c.if-block-ne-BLOCK.false (sym c.seal_right.ensures ∙ c.if-not-seal_right.false) c.if-number-gt-LAST.true) in
-    record { result_value = all.0; edit_after = all.1 }
-
-pub returns-then-not-fields_right : goal.returns-then-not-fields_right
-returns-then-not-fields_right c =
-    let s = c.args in
-    let all =
-    not_taken s.edit.now s.n s.number s.block.now 53 _
-    (fields-wrong _ s.number s.block.now c.if-block-ne-BLOCK.false (sym c.seal_right.ensures ∙ c.if-not-seal_right.false) c.if-number-gt-LAST.false
-    (fields-are s.edit.now s.block.now s.n _ (omega (arith, c.requires.0, c.requires.1)) c.fields_right.ensures ∙ c.if-not-fields_right.true)) in
-    record { result_value = all.0; edit_after = all.1 }
+    let bad : ask_log_block (is_begun (take s.n s.edit.now)) s.number s.block.now ≡ refused 53 s.number =
+    elim c.then-number-gt-LAST.branch [
+      | goal.then-number-gt-LAST-via-then-number-gt-LAST w ↦ too_many _ s.number s.block.now c.if-block-ne-BLOCK.false (sym c.seal_right.ensures ∙ c.if-not-seal_right.false) w.if-number-gt-LAST.true
+      | goal.then-number-gt-LAST-via-else-number-gt-LAST+then-not-fields_right w ↦
+          fields-wrong _ s.number s.block.now c.if-block-ne-BLOCK.false (sym c.seal_right.ensures ∙ c.if-not-seal_right.false) w.if-number-gt-LAST.false
+          (fields-are s.edit.now s.block.now s.n _ (omega (arith, c.requires.0, c.requires.1)) w.fields_right.ensures ∙ w.if-not-fields_right.true)
+    ] in
+    let all = not_taken s.edit.now s.n s.number s.block.now 53 _ bad in
+    record { result_value = (all.0, tt); edit_after = all.1 }
 
 pub keep-m-requires : goal.keep-m-requires
 keep-m-requires c =
@@ -69,8 +65,8 @@ returns-then-is_last c =
       edit_after = c.keep-m.ensures.edit_after ∙ kept_then s.edit.now s.n s.number s.block.now p;
     }
 
-pub returns : goal.returns
-returns c =
+pub returns-else-is_last : goal.returns-else-is_last
+returns-else-is_last c =
     let s = c.args in
     let p =
     passes s.edit.now s.block.now s.n s.number (omega (arith, c.requires.0, c.requires.1)) c.if-block-ne-BLOCK.false (sym c.seal_right.ensures ∙ c.if-not-seal_right.false)

@@ -1,26 +1,23 @@
-use mathlib.Core.Path.{refl, sym, ◌∙◌}
-use borrow.Author.Rules.{rules}
-use borrow.Author.Tests.{eq-eqb, ne_eqb}
-use Rattle.log_blocks.proofs.FieldLaws.{zeros-step, zeros-end}
+use Rattle.std.proofs.Common.{◌≡◌, refl, sym, ap, ◌∙◌, rules, tests, arith, List, [], ◌∷◌, ℕ, ◌+◌, ◌-◌, ◌≤◌, eqb, ◌&&◌, take, drop}
+use Rattle.std.specs.List.{list_all}
+use Rattle.std.proofs.lemmas.Iterator.{YieldsList-from_slice}
+use Rattle.std.proofs.lemmas.Iterator.Search.{all_from_yields_List}
+use Rattle.std.proofs.lemmas.List.{drop-take}
+use Rattle.log_blocks.specs.Log.{all_zero}
 use Rattle.log_blocks.proofs.zeros_from.Goals as goal
 
-pub loop-i-init : goal.loop-i-init
-loop-i-init c = (c.requires.1, refl)
+all-zero-is : (bytes : List ℕ) → list_all (λ b. eqb b 0) bytes ≡ all_zero bytes
+unfolding all_zero
+all-zero-is [] = refl
+all-zero-is (b ∷ bs) = ap (λ r. eqb b 0 && r) (all-zero-is bs)
 
-pub returns-then-block-i-ne0 : goal.returns-then-block-i-ne0
-returns-then-block-i-ne0 c =
-    let s = c in
-    let l = c.loop-i in
-    sym (l.invariant.1 ∙ zeros-step s.args.block.now s.requires.0 l.i c.loop-i-test.true ∙ rw (ne_eqb _ _ c.if-block-i-ne0.true))
-
-pub loop-i-preserved : goal.loop-i-preserved
-loop-i-preserved c =
-    let s = c in
-    let l = c.loop-i in
-    (search rules, l.invariant.1 ∙ zeros-step s.args.block.now s.requires.0 l.i c.loop-i-test.true ∙ rw (eq-eqb _ _ c.if-block-i-ne0.false))
+-- the rest of the body, as the code cuts it
+rest : (k : List ℕ) (i : ℕ) → i ≤ 508 → take (508 - i) (drop i k) ≡ drop i (take 508 k)
+rest k i h = let e : 508 ≡ i + (508 - i) = omega arith in sym (ap (λ n. drop i (take n k)) e ∙ drop-take i (508 - i) k)
 
 pub returns : goal.returns
 returns c =
-    let s = c in
-    let l = c.loop-i in
-    sym (l.invariant.1 ∙ zeros-end s.args.block.now s.requires.0 l.i c.loop-i-test.false)
+    let k = c.args.block.now in
+    let i = c.args.from in
+    all_from_yields_List (λ b. eqb b 0) _ _ c.all.result c.all.ensures.ran (YieldsList-from_slice (take (508 - i) (drop i k)) cc) (λ x b q f. search (rules, tests)) ∙ all-zero-is _
+    ∙ ap all_zero (rest k i c.requires.1)

@@ -1,4 +1,5 @@
-use mathlib.Core.Path.{sym, ◌∙◌}
+use mathlib.Core.Path.{ap, ◌∙◌}
+use Prim.Native.Nat.{◌*◌}
 use mathlib.Core.List.{[], ◌∷◌}
 use native.Mathlib.Omega.{arith}
 use lib.ListN.{length}
@@ -24,11 +25,11 @@ returns-then-n-gt-LONGEST c =
 pub returns-then-output-size : goal.returns-then-output-size
 returns-then-output-size c =
     let s = c.args in
-    let all = not_written (ask_log_edit s.edit.now (length s.output.now)) s.output.now 33 _ (no_room s.edit.now _ c.if-n-lt1.false c.if-n-gt-LONGEST.false c.if-output-size.true) in
+    let all = not_written (ask_log_edit s.edit.now (length s.output.now)) s.output.now 33 _ (no_room s.edit.now _ c.if-n-lt1.false c.if-n-gt-LONGEST.false (ap (512 *◌) c.div_ceil-size.ensures) c.if-output-size.true) in
     record { result_value = all.0; output_after = all.1 }
 
 pub put_blocks-requires : goal.put_blocks-requires
-put_blocks-requires c = (c.if-n-lt1.false, c.if-n-gt-LONGEST.false, omega (arith, log-length c.args.edit.now c.if-n-lt1.false, c.if-output-size.false))
+put_blocks-requires c = (c.if-n-lt1.false, c.if-n-gt-LONGEST.false, omega (arith, log-length c.args.edit.now c.if-n-lt1.false, c.if-output-size.false, c.div_ceil-size.ensures))
 
 pub returns : goal.returns
 returns c =
@@ -36,5 +37,5 @@ returns c =
     let some = c.if-n-lt1.false in
     let all =
     is-written (ask_log_edit s.edit.now (length s.output.now)) s.output.now (log_of (s.edit.now ∷ [])) _
-    (enough s.edit.now _ some c.if-n-gt-LONGEST.false c.if-output-size.false) (sym (log-length s.edit.now some)) in
+    (enough s.edit.now _ some c.if-n-gt-LONGEST.false (ap (512 *◌) c.div_ceil-size.ensures) c.if-output-size.false) (omega (arith, log-length s.edit.now some, c.div_ceil-size.ensures)) in
     record { result_value = all.0; output_after = c.put_blocks.ensures ∙ all.1 }

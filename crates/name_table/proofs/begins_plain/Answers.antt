@@ -1,26 +1,24 @@
-use mathlib.Core.Path.{◌≡◌, sym, ◌∙◌, ap}
-use mathlib.Core.Bool.{Bool, true, false, ◌||◌}
+use mathlib.Core.Path.{sym, ◌∙◌}
+use Rattle.logic.proofs.Bools.{true-false}
 use Rattle.names.specs.Token.{ascii}
-use Rattle.names.specs.Names.{begins_plain_def}
+use Rattle.name_table.proofs.SpellingLaws.{begins-label, begins-arrow, begins-node}
+use Rattle.name_table.proofs.begins_plain.Goals.{then-starts_with, else-starts_with}
 use Rattle.name_table.proofs.begins_plain.Goals as goal
 
-first_so : {a : Bool} (b : Bool) → a ≡ true → true ≡ (a || b)
-first_so b e = sym (ap (◌|| b) e)
+pub returns-then-starts_with-2 : goal.returns-then-starts_with-2
+unfolding ascii
+returns-then-starts_with-2 c =
+    c.if-starts_with-2.true ∙ elim c.if-starts_with.branch [
+      | then-starts_with w ↦ begins-label _ w.if-starts_with.ensures.value
+      | else-starts_with w ↦ begins-arrow _ w.if-starts_with.ensures.value (sym c.if-starts_with-2.true ∙ w.value-is ∙ w.starts_with-else-starts_with.ensures.value)
+    ]
 
-next-so : {a : Bool} (b : Bool) → a ≡ false → b ≡ (a || b)
-next-so b e = sym (ap (◌|| b) e)
-
-pub returns-then-begins : goal.returns-then-begins
-unfolding begins_plain_def ascii
-returns-then-begins c = first_so _ (sym c.begins.ensures ∙ c.if-begins.true)
-
-pub returns-then-begins-2 : goal.returns-then-begins-2
-unfolding begins_plain_def ascii
-returns-then-begins-2 c = first_so _ (sym c.begins-2.ensures ∙ c.if-begins-2.true) ∙ next-so _ (sym c.begins.ensures ∙ c.if-begins.false)
-
-pub returns : goal.returns
-unfolding begins_plain_def ascii
-returns c =
-    c.begins-3.ensures
-    ∙ next-so _ (sym c.begins-2.ensures ∙ c.if-begins-2.false)
-    ∙ next-so _ (sym c.begins.ensures ∙ c.if-begins.false)
+pub returns-else-starts_with-2 : goal.returns-else-starts_with-2
+unfolding ascii
+returns-else-starts_with-2 c =
+    elim c.if-starts_with.branch [
+      | then-starts_with w ↦ true-false (w.value-is ∙ w.if-starts_with.true) c.if-starts_with-2.false
+      | else-starts_with w ↦
+          begins-node _ w.if-starts_with.ensures.value (sym c.if-starts_with-2.false ∙ w.value-is ∙ w.starts_with-else-starts_with.ensures.value)
+          c.starts_with-else-starts_with-2.ensures.value
+    ]

@@ -2,11 +2,13 @@ use mathlib.Core.Path.{◌≡◌, refl, sym, ◌∙◌, ap, subst}
 use mathlib.Core.List.{List, [], ◌∷◌}
 use Prim.Native.Nat.{ℕ}
 use native.Mathlib.Omega.{arith}
-use Rattle.answer.specs.Asked.{Asked, outcome, passed, refused}
+use borrow.Author.Rules.{rules}
+use Rattle.std.specs.Prelude.{Some, None, Ok, Err}
+use Rattle.answer.specs.declared.Refusal.{Refusal}
+use Rattle.answer.specs.Asked.{Asked, outcome, passed}
+use Rattle.answer.specs.Answers.{result_asked}
 use Rattle.names.specs.Names.{Entry, ask_names}
-use Rattle.name_table.specs.declared.Turn.{Turn}
-use Rattle.name_table.specs.declared.Turn.TheVariants.{End, Next, Wrong}
-use Rattle.name_table.specs.Entries.{Partly, Turned, Read}
+use Rattle.name_table.specs.Entries.{Turned, Read}
 use Rattle.name_table.proofs.read_entries.Invariants.{Sofar}
 use Rattle.name_table.proofs.read_entries.Goals as goal
 
@@ -14,43 +16,47 @@ module _ {text table : List ℕ} {at : ℕ} (i : Sofar text table at) where
   abbrev entries : List Entry
   entries = i.begun.entries
 
-  all_read : (after : List ℕ) → Turned text at entries after End → (◌≡◌ {A = Asked (Unit {0})} (passed tt) (outcome (ask_names text))) × Read (ask_names text) after
+  all_read : (after : List ℕ) → Turned text at entries after (Ok None) → (◌≡◌ {A = Asked (Unit {0})} (passed tt) (outcome (ask_names text))) × Read (ask_names text) after
   unfolding outcome
   all_read after t = let e = i.rest ∙ t.0 in (sym (ap outcome e), subst (λ a. Read a after) (sym e) t.1)
 
-  refused-at : (after : List ℕ) {p : ℕ} → Turned text at entries after (Wrong p) → (◌≡◌ {A = Asked (Unit {0})} (refused 63 p) (outcome (ask_names text))) × Read (ask_names text) after
+  refused-at : (after : List ℕ) (r : Refusal) → Turned text at entries after (Err r) → result_asked {A = Unit {0}} (Err r) ≡ outcome (ask_names text)
   unfolding outcome
-  refused-at after t = let e = i.rest ∙ t in (sym (ap outcome e), subst (λ a. Read a after) (sym e) tt)
+  refused-at after r t = sym (ap outcome (i.rest ∙ t))
 
-  next-read : {to : ℕ} (after : List ℕ) → Turned text at entries after (Next to) → Sofar text after to
+  next-read : {to : ℕ} (after : List ℕ) → Turned text at entries after (Ok (Some to)) → Sofar text after to
   next-read after t = record { begun = record { entries = t.entry ∷ entries; partly = t.partly }; rest = i.rest ∙ t.reads; inside = t.inside }
 
--- A turn, by its answer.
-turned : {text table : List ℕ} {at : ℕ} (i : Sofar text table at) (after : List ℕ) {t u : Turn} → ((es : List Entry) → Partly es table → Turned text at es after t) → t ≡ u
-    → Turned text at (entries i) after u
-turned {text} {table} {at} i after f e = subst (Turned text at (entries i) after) e (f (entries i) i.begun.partly)
-
-pub loop-place-init : goal.loop-place-init
+pub loop-to-init : goal.loop-to-init
 unfolding ask_names
-loop-place-init c = record { begun = record { entries = []; partly = c.requires }; rest = refl; inside = omega arith }
+loop-to-init c = record { begun = record { entries = []; partly = c.requires }; rest = refl; inside = omega arith }
 
-pub read_entry-turn-requires : goal.read_entry-turn-requires
-read_entry-turn-requires c = let i = c.loop-place.invariant in (i.inside, i.begun)
+pub read_entry-requires : goal.read_entry-requires
+read_entry-requires c = let i = c.loop-to.invariant in (i.inside, i.begun)
 
-pub returns-in-End : goal.returns-in-End
-returns-in-End c =
-    let i = c.loop-place.invariant in
-    let r = all_read i _ (turned i _ c.read_entry-turn.ensures c.in-End.is) in
-    record { result_value = r.0; read = r.1 }
+pub returns-in_err-to-clause-result_value : goal.returns-in_err-to-clause-result_value
+returns-in_err-to-clause-result_value c =
+    let i = c.loop-to.invariant in
+    let e = refused-at i c.read_entry.new.table _ (c.in_err-to.ensures (entries i) i.begun.partly) in
+    search rules
 
-pub returns-in-Wrong : goal.returns-in-Wrong
-returns-in-Wrong c =
-    let i = c.loop-place.invariant in
-    let r = refused-at i _ (turned i _ c.read_entry-turn.ensures c.in-Wrong.is) in
-    record { result_value = r.0; read = r.1 }
+pub loop-to-smaller : goal.loop-to-smaller
+loop-to-smaller c =
+    let i = c.loop-to.invariant in
+    let t : Turned c.args.text.now c.loop-to.at (entries i) c.read_entry.new.table (Ok (Some c.in-Some.to)) = subst (λ o. Turned c.args.text.now c.loop-to.at (entries i) c.read_entry.new.table (Ok o)) c.in-Some.is (c.in_ok-to.ensures (entries i) i.begun.partly) in
+    omega (arith, t.on, t.inside)
 
-pub loop-place-smaller : goal.loop-place-smaller
-loop-place-smaller c = let t = turned c.loop-place.invariant _ c.read_entry-turn.ensures c.in-Next.is in omega (arith, t.on, t.inside)
+pub loop-to-preserved : goal.loop-to-preserved
+loop-to-preserved c =
+    let i = c.loop-to.invariant in
+    next-read i _ (subst (λ o. Turned c.args.text.now c.loop-to.at (entries i) c.read_entry.new.table (Ok o)) c.in-Some.is (c.in_ok-to.ensures (entries i) i.begun.partly))
 
-pub loop-place-preserved : goal.loop-place-preserved
-loop-place-preserved c = let i = c.loop-place.invariant in next-read i _ (turned i _ c.read_entry-turn.ensures c.in-Next.is)
+pub returns-clause-result_value : goal.returns-clause-result_value
+returns-clause-result_value c =
+    let i = c.loop-to.invariant in
+    (all_read i _ (subst (λ o. Turned c.args.text.now c.loop-to.at (entries i) c.read_entry.new.table (Ok o)) c.in_default.is (c.in_ok-to.ensures (entries i) i.begun.partly))).0
+
+pub returns-clause-read : goal.returns-clause-read
+returns-clause-read c =
+    let i = c.loop-to.invariant in
+    (all_read i _ (subst (λ o. Turned c.args.text.now c.loop-to.at (entries i) c.read_entry.new.table (Ok o)) c.in_default.is (c.in_ok-to.ensures (entries i) i.begun.partly))).1

@@ -13,8 +13,8 @@ pub record Sofar (text table : List ℕ) (at : ℕ) : Type 0 where
   pub rest : ask_names text ≡ ask_entries (length text) (tokens_from text at) begun.entries
   pub inside : at ≤ length text
 
-abbrev pub invariant-loop-place : goal.invariant-loop-place
-invariant-loop-place l = Sofar l.text l.table l.at
+abbrev pub invariant-loop-to : goal.invariant-loop-to
+invariant-loop-to l = Sofar l.text l.table l.at
 
-abbrev pub decreases-loop-place : goal.decreases-loop-place
-decreases-loop-place l = length l.text - l.at
+abbrev pub decreases-loop-to : goal.decreases-loop-to
+decreases-loop-to l = length l.text - l.at

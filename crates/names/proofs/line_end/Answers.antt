@@ -1,6 +1,7 @@
-use mathlib.Core.Path.{refl, ◌∙◌}
-use Prim.Native.Nat.{◌-◌}
+use mathlib.Core.Path.{◌≡◌, refl, ◌∙◌, subst}
 use native.Mathlib.Omega.{arith}
+use lib.ListN.{length}
+use Rattle.names.specs.Scanned.{LineEnded}
 use Rattle.names.proofs.ScannerLaws.{comment-on, comment-stops, comment-ends}
 use Rattle.names.proofs.line_end.Goals as goal
 
@@ -20,4 +21,5 @@ loop-p-preserved c =
 pub returns : goal.returns
 returns c =
     let l = c.loop-p in
-    record { same = l.invariant.2 ∙ comment-ends _ l.p (omega arith); on = omega arith; inside = omega arith }
+    let e : l.p ≡ length c.args.text.now = omega arith in
+    subst (λ p. LineEnded c.args.text.now c.args.at p) e (record { same = l.invariant.2 ∙ comment-ends _ l.p (omega arith); on = omega arith; inside = omega arith })

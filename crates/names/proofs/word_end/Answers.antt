@@ -1,6 +1,7 @@
-use mathlib.Core.Path.{sym, ◌∙◌}
-use Prim.Native.Nat.{◌-◌}
+use mathlib.Core.Path.{◌≡◌, sym, ◌∙◌, subst}
 use native.Mathlib.Omega.{arith}
+use lib.ListN.{length}
+use Rattle.names.specs.Scanned.{WordEnded}
 use Rattle.names.proofs.ScannerLaws.{word-starts, word_on, word-ends, word-ends-text}
 use Rattle.names.proofs.word_end.Goals as goal
 
@@ -20,4 +21,5 @@ loop-p-preserved c =
 pub returns : goal.returns
 returns c =
     let l = c.loop-p in
-    record { same = l.invariant.2 ∙ word-ends-text _ l.p _ _ (omega arith); forward = omega arith; inside = omega arith }
+    let e : l.p ≡ length c.args.text.now = omega arith in
+    subst (λ p. WordEnded c.args.text.now c.args.from p) e (record { same = l.invariant.2 ∙ word-ends-text _ l.p _ _ (omega arith); forward = omega arith; inside = omega arith })

@@ -20,8 +20,8 @@ member-requires c = let k = name-told _ _ (sym c.ask_name-named.ensures ∙ ap a
 
 pub returns-then-member : goal.returns-then-member
 unfolding is
-returns-then-member c = filled-asked _ _ (sym c.ask_name-named.ensures ∙ ap asked c.in-Done.is) c.wide.ensures.0 _ (sym c.member.ensures ∙ c.if-member.true)
+returns-then-member c = filled-asked _ _ (sym c.ask_name-named.ensures ∙ ap asked c.in-Done.is) c.from.ensures _ (sym c.member.ensures ∙ c.if-member.true)
 
 pub returns : goal.returns
 unfolding is
-returns c = filled-asked _ _ (sym c.ask_name-named.ensures ∙ ap asked c.in-Done.is) c.wide.ensures.0 _ (sym c.member.ensures ∙ c.if-member.false)
+returns c = filled-asked _ _ (sym c.ask_name-named.ensures ∙ ap asked c.in-Done.is) c.from.ensures _ (sym c.member.ensures ∙ c.if-member.false)

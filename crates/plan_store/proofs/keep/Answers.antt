@@ -30,25 +30,20 @@ returns-in_default-named c =
 pub overflow_sub-place : goal.overflow_sub-place
 overflow_sub-place c = let k = name-told _ _ (sym c.ask_name-named.ensures ∙ ap asked c.in-Done-named.is) in omega arith
 
-pub overflow_mul-from : goal.overflow_mul-from
-overflow_mul-from c = let k = name-told _ _ (sym c.ask_name-named.ensures ∙ ap asked c.in-Done-named.is) in omega arith
+pub slice_bounds-copy_from_slice-end : goal.slice_bounds-copy_from_slice-end
+slice_bounds-copy_from_slice-end c = let k = name-told _ _ (sym c.ask_name-named.ensures ∙ ap asked c.in-Done-named.is) in omega arith
 
-pub overflow_add-from : goal.overflow_add-from
-overflow_add-from c = let k = name-told _ _ (sym c.ask_name-named.ensures ∙ ap asked c.in-Done-named.is) in omega arith
+pub place_range-requires : goal.place_range-requires
+place_range-requires c = (name-told _ _ (sym c.ask_name-named.ensures ∙ ap asked c.in-Done-named.is)).place
 
-pub overflow_add-to : goal.overflow_add-to
-overflow_add-to c = let k = name-told _ _ (sym c.ask_name-named.ensures ∙ ap asked c.in-Done-named.is) in omega arith
-
-pub slice_bounds-copy-end : goal.slice_bounds-copy-end
-slice_bounds-copy-end c = let k = name-told _ _ (sym c.ask_name-named.ensures ∙ ap asked c.in-Done-named.is) in omega arith
-
-pub copy-requires : goal.copy-requires
-copy-requires c =
+pub copy_from_slice-requires : goal.copy_from_slice-requires
+copy_from_slice-requires c =
     let store = c.args.store.now in
     let place = c.args.name - 1 in
+    let r = c.place_range.ensures in
     let k = name-told store c.args.name (sym c.ask_name-named.ensures ∙ ap asked c.in-Done-named.is) in
     let sound = sym c.check-sound.ensures ∙ ap asked c.in-Done.is in
-    ap length (place-part store place) ∙ length-place store k.size place k.place ∙ sym (sound-length present _ sound)
+    ap length (place-part store place _ _ r.0 r.1) ∙ length-place store k.size place k.place ∙ sym (sound-length present _ sound)
 
 -- the sheet is copied to its place
 pub put_name-requires : goal.put_name-requires
@@ -56,10 +51,11 @@ put_name-requires c =
     let store = c.args.store.now in
     let sheet = c.args.sheet.now in
     let place = c.args.name - 1 in
+    let r = c.place_range.ensures in
     let k = name-told store c.args.name (sym c.ask_name-named.ensures ∙ ap asked c.in-Done-named.is) in
     let sound = sym c.check-sound.ensures ∙ ap asked c.in-Done.is in
-    let plan = sheet-plan sheet c.copy.new.to (λ p. search rules) sound c.copy.ensures in
-    let w = place-written store (λ p. search rules) k.sound place k.place (filled (graph_of sheet)) c.copy.new.to plan in
+    let plan = sheet-plan sheet c.copy_from_slice.new.self (λ p. search rules) sound c.copy_from_slice.ensures.after in
+    let w = place-written store (λ p. search rules) k.sound place k.place _ _ r.0 r.1 (filled (graph_of sheet)) c.copy_from_slice.new.self plan in
     (w.head-size, w.head-right, k.place)
 
 pub returns : goal.returns
@@ -68,10 +64,11 @@ returns c =
     let store = c.args.store.now in
     let sheet = c.args.sheet.now in
     let place = c.args.name - 1 in
+    let r = c.place_range.ensures in
     let passes = sym c.ask_name-named.ensures ∙ ap asked c.in-Done-named.is in
     let k = name-told store c.args.name passes in
     let sound = sym c.check-sound.ensures ∙ ap asked c.in-Done.is in
-    let plan = sheet-plan sheet c.copy.new.to (λ p. search rules) sound c.copy.ensures in
-    let w = place-written store (λ p. search rules) k.sound place k.place (filled (graph_of sheet)) c.copy.new.to plan in
+    let plan = sheet-plan sheet c.copy_from_slice.new.self (λ p. search rules) sound c.copy_from_slice.ensures.after in
+    let w = place-written store (λ p. search rules) k.sound place k.place _ _ r.0 r.1 (filled (graph_of sheet)) c.copy_from_slice.new.self plan in
     let g = goes _ _ _ (then-on sound _ ∙ passes) (w.headed _ c.put_name.ensures) in
     record { result_value = g.0; store_after = g.1 }

@@ -1,12 +1,13 @@
 use native.Mathlib.Omega.{arith}
+use Rattle.keywords.proofs.PickLaws.{phrase-below}
 use Rattle.read_words.proofs.MeetLaws.{bare-meets, phrase-meets}
 use Rattle.read_words.proofs.begin.Goals as goal
 
-pub returns-then-p-ge-PHRASES : goal.returns-then-p-ge-PHRASES
-returns-then-p-ge-PHRASES c = bare-meets _ (omega arith) c.phrase_for-p.ensures (omega arith) c.bare.ensures
+pub returns-in_default : goal.returns-in_default
+returns-in_default c = bare-meets _ (omega arith) c.in_default.ensures c.bare.ensures
 
-pub row_of-requires : goal.row_of-requires
-row_of-requires c = c.phrase_for-p.ensures.inside (omega arith)
+pub code_at-requires : goal.code_at-requires
+code_at-requires c = phrase-below _ _ c.in-Some.ensures.1
 
 pub returns : goal.returns
-returns c = phrase-meets _ (omega arith) c.phrase_for-p.ensures (omega arith) c.code_at.ensures c.row_of.ensures
+returns c = phrase-meets _ (omega arith) c.in-Some.ensures c.code_at.ensures c.row_of.ensures

@@ -76,24 +76,24 @@ pub slice_bounds-meet-end : goal.slice_bounds-meet-end
 slice_bounds-meet-end c = omega (arith, c.next-token-in-loop-row.ensures.inside)
 
 -- what the calls require
-pub meet-m-requires : goal.meet-m-requires
-meet-m-requires c =
+pub meet-requires : goal.meet-requires
+meet-requires c =
     let f = first-item _ _ c.loop-row.invariant.here.items c.if-row-eq0.false in
     (c.requires.0, f.from, f.known)
 
 -- a token: it begins nothing; it is a mark, a name or a count; it begins a thing one level deeper, or at the level of the row
-pub returns-then-m : goal.returns-then-m
-returns-then-m c =
+pub returns-in_default : goal.returns-in_default
+returns-in_default c =
     let s = c.loop-row.invariant in
     let w = c.wrong.ensures in
     let a = refuses _ _ _ _ _ s c.wrong.result
-    (λ name h. token-wrong _ _ _ _ _ s c.next-token-in-loop-row.ensures c.if-row-eq0.false c.if-from-words.false c.meet-m.ensures c.if-m.true name h ∙ sym (ap₂ refused w.0 w.1)) in
+    (λ name h. token-wrong _ _ _ _ _ s c.next-token-in-loop-row.ensures c.if-row-eq0.false c.if-from-words.false c.in_default.ensures name h ∙ sym (ap₂ refused w.0 w.1)) in
     record { result_value = a.0; codes_after = a.1 }
 
 pub put_codes-size-requires : goal.put_codes-size-requires
 put_codes-size-requires c =
     let n = c.next-token-in-loop-row.ensures in
-    let s = c.meet-m.ensures.short in
+    let s = c.in-Some.ensures.fits.short in
     (s, omega (arith, s, n.forward c.if-from-words.false, n.on, n.inside, c.loop-row.invariant.short, c.well_formed))
 
 -- a token is not empty
@@ -103,14 +103,14 @@ loop-row-smaller-then-item-lt9 c =
 
 pub loop-row-preserved-then-item-lt9 : goal.loop-row-preserved-then-item-lt9
 loop-row-preserved-then-item-lt9 c =
-    small-taken _ _ _ _ _ c.loop-row.invariant c.next-token-in-loop-row.ensures c.if-row-eq0.false c.if-from-words.false c.meet-m.ensures c.if-m.false
+    small-taken _ _ _ _ _ c.loop-row.invariant c.next-token-in-loop-row.ensures c.if-row-eq0.false c.if-from-words.false c.in-Some.ensures
     c.if-item-lt9.true c.put_codes-size.ensures.value c.put_codes-size.ensures.codes_after
 
 pub returns-then-level-ge-DEEPEST : goal.returns-then-level-ge-DEEPEST
 returns-then-level-ge-DEEPEST c =
     let s = c.loop-row.invariant in
     let a = refuses _ _ _ _ _ s (WordsLevel c.next-token-in-loop-row.result.from)
-    (λ name h. too-deep _ _ _ _ _ s c.next-token-in-loop-row.ensures c.if-row-eq0.false c.if-from-words.false c.meet-m.ensures c.if-m.false
+    (λ name h. too-deep _ _ _ _ _ s c.next-token-in-loop-row.ensures c.if-row-eq0.false c.if-from-words.false c.in-Some.ensures
     c.if-item-lt9.false c.if-item-lt14.true c.if-level-ge-DEEPEST.true name h) in
     record { result_value = a.0; codes_after = a.1 }
 
@@ -129,8 +129,8 @@ loop-row-smaller-else-level-ge-DEEPEST c =
 
 pub loop-row-preserved-else-level-ge-DEEPEST : goal.loop-row-preserved-else-level-ge-DEEPEST
 loop-row-preserved-else-level-ge-DEEPEST c =
-    deeper _ _ _ _ _ c.loop-row.invariant c.next-token-in-loop-row.ensures c.if-row-eq0.false c.if-from-words.false c.meet-m.ensures c.if-m.false
-    c.if-item-lt9.false c.if-item-lt14.true c.if-level-ge-DEEPEST.false (omega (arith, c.meet-m.type_inv)) c.put_codes-size.ensures.value c.put_codes-size.ensures.codes_after
+    deeper _ _ _ _ _ c.loop-row.invariant c.next-token-in-loop-row.ensures c.if-row-eq0.false c.if-from-words.false c.in-Some.ensures
+    c.if-item-lt9.false c.if-item-lt14.true c.if-level-ge-DEEPEST.false (omega (arith, c.meet.type_inv)) c.put_codes-size.ensures.value c.put_codes-size.ensures.codes_after
 
 pub loop-row-smaller : goal.loop-row-smaller
 loop-row-smaller c =
@@ -138,5 +138,5 @@ loop-row-smaller c =
 
 pub loop-row-preserved : goal.loop-row-preserved
 loop-row-preserved c =
-    on-level _ _ _ _ _ c.loop-row.invariant c.next-token-in-loop-row.ensures c.if-row-eq0.false c.if-from-words.false c.meet-m.ensures c.if-m.false
-    c.if-item-lt14.false (omega (arith, c.meet-m.type_inv)) c.put_codes-size.ensures.value c.put_codes-size.ensures.codes_after
+    on-level _ _ _ _ _ c.loop-row.invariant c.next-token-in-loop-row.ensures c.if-row-eq0.false c.if-from-words.false c.in-Some.ensures
+    c.if-item-lt14.false (omega (arith, c.meet.type_inv)) c.put_codes-size.ensures.value c.put_codes-size.ensures.codes_after

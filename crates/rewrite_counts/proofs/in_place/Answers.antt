@@ -7,23 +7,17 @@ use Rattle.rewrite_counts.proofs.in_place.Goals as goal
 pub bounds-book-at : goal.bounds-book-at
 bounds-book-at c = inside _ _ _ c.requires.stands
 
-pub overflow_add-at : goal.overflow_add-at
-overflow_add-at c = unfold shapes in omega (arith, (count_at _ _ _ c.requires.stands (ap shape_of c.if-code-eq10.true)).room)
+pub bounds-book-at-in-10 : goal.bounds-book-at-in-10
+bounds-book-at-in-10 c = unfold shapes in omega (arith, (count_at _ _ _ c.requires.stands (ap shape_of c.in-10.is)).room)
 
-pub bounds-book-at-then-code-eq10 : goal.bounds-book-at-then-code-eq10
-bounds-book-at-then-code-eq10 c = unfold shapes in omega (arith, (count_at _ _ _ c.requires.stands (ap shape_of c.if-code-eq10.true)).room)
+pub bounds-book-at-in-11 : goal.bounds-book-at-in-11
+bounds-book-at-in-11 c = unfold shapes in omega (arith, (count_at _ _ _ c.requires.stands (ap shape_of c.in-11.is)).room)
 
-pub returns-then-code-eq10 : goal.returns-then-code-eq10
-returns-then-code-eq10 c = λ t h. c.least_in_place.ensures ∙ least-here _ _ t h c.if-code-eq10.true
+pub returns-in-10 : goal.returns-in-10
+returns-in-10 c = λ t h. c.least_in_place.ensures ∙ least-here _ _ t h c.in-10.is
 
-pub overflow_add-at-then-code-eq11 : goal.overflow_add-at-then-code-eq11
-overflow_add-at-then-code-eq11 c = unfold shapes in omega (arith, (count_at _ _ _ c.requires.stands (ap shape_of c.if-code-eq11.true)).room)
+pub returns-in-11 : goal.returns-in-11
+returns-in-11 c = λ t h. c.most_in_place.ensures ∙ most-here _ _ t h c.in-11.is
 
-pub bounds-book-at-then-code-eq11 : goal.bounds-book-at-then-code-eq11
-bounds-book-at-then-code-eq11 c = unfold shapes in omega (arith, (count_at _ _ _ c.requires.stands (ap shape_of c.if-code-eq11.true)).room)
-
-pub returns-then-code-eq11 : goal.returns-then-code-eq11
-returns-then-code-eq11 c = λ t h. c.most_in_place.ensures ∙ most-here _ _ t h c.if-code-eq11.true
-
-pub returns : goal.returns
-returns c = λ t h. nothing-here _ _ t h c.if-code-eq10.false c.if-code-eq11.false
+pub returns-in_default : goal.returns-in_default
+returns-in_default c = λ t h. nothing-here _ _ t h (λ e. omega arith) (λ e. omega arith)

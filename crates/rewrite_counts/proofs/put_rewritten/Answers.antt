@@ -13,22 +13,22 @@ pub overflow_sub-here : goal.overflow_sub-here
 overflow_sub-here c = let n = next-turn (c.loop-p.invariant c.requires.rules c.requires.is).left c.loop-p-test.true c.turn_at-here.ensures in omega (arith, n.on)
 
 pub copy-q-requires : goal.copy-q-requires
-copy-q-requires c = let n = next-turn (c.loop-p.invariant c.requires.rules c.requires.is).left c.loop-p-test.true c.turn_at-here.ensures in (omega (arith, n.on, n.in-text), omega (arith, n.on, stored-room (c.loop-p.invariant c.requires.rules c.requires.is) n c.requires.fits, (n.copied c.if-here-eq0.true).1))
+copy-q-requires c = let n = next-turn (c.loop-p.invariant c.requires.rules c.requires.is).left c.loop-p-test.true c.turn_at-here.ensures in (omega (arith, n.on, n.in-text), omega (arith, n.on, stored-room (c.loop-p.invariant c.requires.rules c.requires.is) n c.requires.fits, (n.copied c.in-None.is).1))
 
 pub bounds-out-q : goal.bounds-out-q
-bounds-out-q c = let n = next-turn (c.loop-p.invariant c.requires.rules c.requires.is).left c.loop-p-test.true c.turn_at-here.ensures in omega (arith, stored-room (c.loop-p.invariant c.requires.rules c.requires.is) n c.requires.fits, ap length (n.put c.if-here-eq0.false))
+bounds-out-q c = let n = next-turn (c.loop-p.invariant c.requires.rules c.requires.is).left c.loop-p-test.true c.turn_at-here.ensures in omega (arith, stored-room (c.loop-p.invariant c.requires.rules c.requires.is) n c.requires.fits, ap length (n.put _ c.in-Some.is))
 
 pub overflow_add-q : goal.overflow_add-q
 overflow_add-q c = let n = next-turn (c.loop-p.invariant c.requires.rules c.requires.is).left c.loop-p-test.true c.turn_at-here.ensures in
-    omega (arith, stored-room (c.loop-p.invariant c.requires.rules c.requires.is) n c.requires.fits, ap length (n.put c.if-here-eq0.false), stored-length (c.loop-p.invariant c.requires.rules c.requires.is), c.well_formed.0.1)
+    omega (arith, stored-room (c.loop-p.invariant c.requires.rules c.requires.is) n c.requires.fits, ap length (n.put _ c.in-Some.is), stored-length (c.loop-p.invariant c.requires.rules c.requires.is), c.well_formed.0.1)
 
-pub loop-p-smaller-then-here-eq0 : goal.loop-p-smaller-then-here-eq0
-loop-p-smaller-then-here-eq0 c = let n = next-turn (c.loop-p.invariant c.requires.rules c.requires.is).left c.loop-p-test.true c.turn_at-here.ensures in omega (arith, n.on, n.in-text)
+pub loop-p-smaller-in-None : goal.loop-p-smaller-in-None
+loop-p-smaller-in-None c = let n = next-turn (c.loop-p.invariant c.requires.rules c.requires.is).left c.loop-p-test.true c.turn_at-here.ensures in omega (arith, n.on, n.in-text)
 
-pub loop-p-preserved-then-here-eq0 : goal.loop-p-preserved-then-here-eq0
-loop-p-preserved-then-here-eq0 c = λ rules b.
+pub loop-p-preserved-in-None : goal.loop-p-preserved-in-None
+loop-p-preserved-in-None c = λ rules b.
     let n = next-turn (c.loop-p.invariant rules b).left c.loop-p-test.true c.turn_at-here.ensures in
-    stored_next (c.loop-p.invariant rules b) n (wrote_as (sym (n.copied c.if-here-eq0.true).0) c.copy-q.ensures)
+    stored_next (c.loop-p.invariant rules b) n (wrote_as (sym (n.copied c.in-None.is).0) c.copy-q.ensures)
 
 pub loop-p-smaller : goal.loop-p-smaller
 loop-p-smaller c = let n = next-turn (c.loop-p.invariant c.requires.rules c.requires.is).left c.loop-p-test.true c.turn_at-here.ensures in omega (arith, n.on, n.in-text)
@@ -36,7 +36,7 @@ loop-p-smaller c = let n = next-turn (c.loop-p.invariant c.requires.rules c.requ
 pub loop-p-preserved : goal.loop-p-preserved
 loop-p-preserved c = λ rules b.
     let n = next-turn (c.loop-p.invariant rules b).left c.loop-p-test.true c.turn_at-here.ensures in
-    stored_next (c.loop-p.invariant rules b) n (wrote_as (sym (n.put c.if-here-eq0.false)) (wrote_one _ _ _))
+    stored_next (c.loop-p.invariant rules b) n (wrote_as (sym (n.put _ c.in-Some.is)) (wrote_one _ _ _))
 
 pub returns : goal.returns
 returns c = λ rules b. stored-end (c.loop-p.invariant rules b) c.loop-p-test.false (omega (arith, stored-size (c.loop-p.invariant c.requires.rules c.requires.is) c.loop-p-test.false, c.requires.fits))

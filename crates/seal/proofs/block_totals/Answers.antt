@@ -1,7 +1,7 @@
 use mathlib.Core.Path.{◌≡◌, ap₂, ◌∙◌, subst}
 use mathlib.Core.List.{List}
 use Prim.Native.Nat.{ℕ, ◌≤◌, ◌-◌, ◌*◌, ◌%◌, ◌+◌, ◌/◌}
-use native.Mathlib.Nat.{mul-le-mul, le_antisymm}
+use native.Mathlib.Nat.{mul-le-mul}
 use native.Mathlib.Numerals.{add-one}
 use native.Mathlib.Omega.{arith}
 use lib.ListN.{length}
@@ -23,14 +23,14 @@ less : (x w p off : ℕ) → x ≡ w + p → off ≡ p → (off ≤ x) × (x - o
 less x w p off e f = omega arith
 
 -- the totals, and what is subtracted from t, from the lanes after all eight words of each part
-right : (k : List ℕ) → length k ≡ block_bytes → (first second before odds z j : ℕ) → Inv k first second before odds z j → 8 ≤ j → (p q : ℕ) → p ≡ lane_sum_def before → q ≡ lane_sum_def first
+right : (k : List ℕ) → length k ≡ block_bytes → (first second before odds z j : ℕ) → Inv k first second before odds z j → j ≡ 8 → (p q : ℕ) → p ≡ lane_sum_def before → q ≡ lane_sum_def first
     → (lane_sum_def (first + second) ≡ total k) × (8 * (z + 8 * (p + 4 * q)) ≡ weighed k + lane_places (first + second) odds)
 right k h first second before odds z j v end p q e f =
-    let both = counted-all k h (subst (Counted k first second before odds z) (le_antisymm v.within end) v.counted) in
+    let both = counted-all k h (subst (Counted k first second before odds z) end v.counted) in
     (both.0, ap₂ (λ x y. 8 * (z + 8 * (x + 4 * y))) e f ∙ both.1)
 
 pub loop-j-init : goal.loop-j-init
-loop-j-init c = record { within = omega arith; low = omega arith; z-low = omega arith; counted = counted_none _ }
+loop-j-init c = record { low = omega arith; z-low = omega arith; counted = counted_none _ }
 
 pub loop-j-preserved : goal.loop-j-preserved
 loop-j-preserved c =
@@ -44,7 +44,6 @@ loop-j-preserved c =
     let eight = x.result.sum + y.result.sum in
     rw (add-one l.j)
     (record {
-      within = c.loop-j-test.true;
       low = omega (arith, l.invariant.low, x.ensures.sum_bound, y.ensures.sum_bound);
       z-low = omega (arith, l.invariant.z-low, product (eight + eight / 0x100000000 + (eight + eight / 0x100000000) / 0x10000) l.j);
       counted =
@@ -55,11 +54,11 @@ loop-j-preserved c =
 pub overflow_sub-result : goal.overflow_sub-result
 overflow_sub-result c =
     let l = c.loop-j in
-    let both = right c.args.block.now c.requires _ _ _ _ _ _ l.invariant c.loop-j-test.false _ _ c.lane_sum.ensures.0 c.lane_sum-2.ensures.0 in
+    let both = right c.args.block.now c.requires _ _ _ _ _ _ l.invariant (omega arith) _ _ c.lane_sum.ensures.0 c.lane_sum-2.ensures.0 in
     (less _ _ _ _ both.1 c.places.ensures.0).0
 
 pub returns : goal.returns
 returns c =
     let l = c.loop-j in
-    let both = right c.args.block.now c.requires _ _ _ _ _ _ l.invariant c.loop-j-test.false _ _ c.lane_sum.ensures.0 c.lane_sum-2.ensures.0 in
+    let both = right c.args.block.now c.requires _ _ _ _ _ _ l.invariant (omega arith) _ _ c.lane_sum.ensures.0 c.lane_sum-2.ensures.0 in
     (c.lane_sum-3.ensures.0 ∙ both.0, (less _ _ _ _ both.1 c.places.ensures.0).1)

@@ -1,8 +1,10 @@
 use native.Mathlib.Omega.{arith}
-use Rattle.seal.proofs.LaneLaws.{lanes-read}
+use Rattle.seal.proofs.LaneLaws.{pairs-are, odds-are}
+use Rattle.bitset.specs.Words.{Bytes}
 use Rattle.seal.proofs.lanes.Goals as goal
 
-pub returns : goal.returns
-returns c =
-    let read = lanes-read c.args.s.now (λ p. omega (arith, c.type_inv.s p)) c.args.at c.requires _ c.load-w.ensures in
-    record { pairs_value = read.0; pairs_bound = read.1 }
+pub returns-clause-pairs_value : goal.returns-clause-pairs_value
+returns-clause-pairs_value c =
+    let s = c.args.s.now in
+    let small : Bytes s = λ p. omega (arith, c.type_inv.s p) in
+    (pairs-are s small c.args.at c.requires _ c.load-w.ensures, odds-are s small c.args.at c.requires _ c.load-w.ensures)

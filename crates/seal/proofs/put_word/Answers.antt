@@ -39,7 +39,7 @@ overflow_sub-moved-2 c =
     let r = c.store.new.s in
     let small : Bytes k = λ p. search rules in
     let small' : Bytes r = λ p. search rules in
-    let v = changed k r c.args.at c.args.x c.requires.0 c.requires.1 c.requires.2 c.store.ensures small small' _ _ c.pair-s.ensures.0 c.pair-t.ensures.0
+    let v = changed k r c.args.at c.args.x c.requires.0 c.requires.1 c.requires.2 c.store.ensures small small' _ _ (c.from-s.ensures ∙ c.pair.ensures) (c.from-t.ensures ∙ c.pair-2.ensures)
     _ _ _ _ c.lanes-before.ensures.pairs_value c.lanes-after.ensures.pairs_value _ _ c.lane_sum-d.ensures.0 c.places.ensures.0 in
     le_trans v.there (le-add_left _ _)
 
@@ -49,7 +49,7 @@ returns c =
     let r = c.store.new.s in
     let small : Bytes k = λ p. search rules in
     let small' : Bytes r = λ p. search rules in
-    let v = changed k r c.args.at c.args.x c.requires.0 c.requires.1 c.requires.2 c.store.ensures small small' _ _ c.pair-s.ensures.0 c.pair-t.ensures.0
+    let v = changed k r c.args.at c.args.x c.requires.0 c.requires.1 c.requires.2 c.store.ensures small small' _ _ (c.from-s.ensures ∙ c.pair.ensures) (c.from-t.ensures ∙ c.pair-2.ensures)
     _ _ _ _ c.lanes-before.ensures.pairs_value c.lanes-after.ensures.pairs_value _ _ c.lane_sum-d.ensures.0 c.places.ensures.0 in
     c.put_sums.ensures
     ∙ ap₂ (λ y z. take 508 r ++ stored modulo257 (record { s = y; t = z })) c.left.ensures.0 c.left-2.ensures.0

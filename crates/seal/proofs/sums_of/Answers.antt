@@ -23,13 +23,10 @@ overflow_cast-all c = record { fits = omega (arith, c.totals_to-all.ensures.0, (
 pub overflow_cast-all-2 : goal.overflow_cast-all-2
 overflow_cast-all-2 c = record { fits = omega (arith, c.totals_to-all.ensures.1, (totals-fit c.args.block.now c.requires (λ p. omega (arith, c.type_inv.block p))).1) }
 
-pub returns : goal.returns
-returns c =
+pub returns-clause-s_value : goal.returns-clause-s_value
+returns-clause-s_value c =
     let k = c.args.block.now in
-    let r = c.totals_to-all.ensures in
-    let s = c.left.ensures in
-    let t = c.left-2.ensures in
-    record {
-      s_value = (s.0 ∙ ap (◌% 257) r.0 ∙ sym (sums-total modulo257 (take 508 k)), t.0 ∙ ap (◌% 257) r.1 ∙ sym (sums-weighed modulo257 (take 508 k)));
-      s_lt_modulus = (s.1, t.1);
-    }
+    let r = c.totals_to-all.ensures in (
+      c.left.ensures.0 ∙ ap (◌% 257) r.0 ∙ sym (sums-total modulo257 (take 508 k)),
+      c.left-2.ensures.0 ∙ ap (◌% 257) r.1 ∙ sym (sums-weighed modulo257 (take 508 k)),
+    )

@@ -1,6 +1,6 @@
 use native.Mathlib.Omega.{arith}
 use mathlib.Core.Path.{sym, ◌∙◌, subst}
-use Prim.Native.Nat.{◌<◌, ◌-◌}
+use Prim.Native.Nat.{◌<◌}
 use Rattle.text.proofs.Entries.{pattern-small}
 use Rattle.text.proofs.Remaining.{no-patterns, patterns-set, to-begin, ended, pattern-above, missing, number-bad, number-good, code-wrong, code-on, code-deep, code-down}
 use Rattle.text.proofs.read.Goals as goal
@@ -11,15 +11,6 @@ loop-limits-init c = (to-begin _ _ _ _ _ (omega arith) (omega arith), omega arit
 pub returns-then-level-eq0 : goal.returns-then-level-eq0
 returns-then-level-eq0 c = ended _ _ _ _ _ _ c.if-item-lt3.true c.if-level-eq0.true ∙ c.loop-limits.invariant.0
 
-pub bounds-patterns-level : goal.bounds-patterns-level
-bounds-patterns-level c = omega (arith, c.loop-limits.invariant.2, c.loop-limits.invariant.3)
-
-pub overflow_cast-pattern : goal.overflow_cast-pattern
-overflow_cast-pattern c = omega (arith, c.loop-limits.invariant.4.small (c.loop-limits.level - 1))
-
-pub loop-limits-smaller-then-item-lt3 : goal.loop-limits-smaller-then-item-lt3
-loop-limits-smaller-then-item-lt3 c = omega (arith, c.if-level-eq0.false)
-
 pub loop-limits-preserved-then-item-lt3 : goal.loop-limits-preserved-then-item-lt3
 loop-limits-preserved-then-item-lt3 c =
     let l = c.loop-limits in
@@ -29,9 +20,6 @@ pub returns-then-text-p : goal.returns-then-text-p
 returns-then-text-p c =
     let l = c.loop-limits in
     missing _ _ _ _ _ _ l.invariant.1 c.if-item-lt3.false (omega (arith, l.invariant.2, l.invariant.3, l.invariant.4.all)) c.if-text-p.true ∙ l.invariant.0
-
-pub loop-limits-smaller-then-in_range : goal.loop-limits-smaller-then-in_range
-loop-limits-smaller-then-in_range c = omega (arith, c.if-text-p.false)
 
 pub loop-limits-preserved-then-in_range : goal.loop-limits-preserved-then-in_range
 loop-limits-preserved-then-in_range c =
@@ -56,9 +44,6 @@ returns-then-sort_of-item c =
     code-wrong _ _ _ _ _ _ l.invariant.1 c.if-item-lt3.false c.if-item-lt8.false
     c.if-text-p.false (omega (arith, l.invariant.2, l.invariant.3, l.invariant.4.all)) (λ e. c.if-sort_of-item.true (c.sort_of.ensures ∙ e)) ∙ l.invariant.0
 
-pub loop-limits-smaller-then-item-ge12 : goal.loop-limits-smaller-then-item-ge12
-loop-limits-smaller-then-item-ge12 c = omega (arith, c.if-text-p.false)
-
 pub loop-limits-preserved-then-item-ge12 : goal.loop-limits-preserved-then-item-ge12
 loop-limits-preserved-then-item-ge12 c =
     let l = c.loop-limits in (
@@ -78,12 +63,6 @@ returns-then-level-limits c =
     c.if-item-lt8.false c.if-text-p.false
     (sym c.sort_of.ensures ∙ c.if-sort_of-item.false) c.if-item-ge12.false
     (omega (arith, l.invariant.2, l.invariant.3, l.invariant.4.all)) c.if-level-limits.true ∙ l.invariant.0
-
-pub bounds-patterns-level-else-level-limits : goal.bounds-patterns-level-else-level-limits
-bounds-patterns-level-else-level-limits c = omega (arith, c.loop-limits.invariant.2, c.loop-limits.invariant.3)
-
-pub loop-limits-smaller : goal.loop-limits-smaller
-loop-limits-smaller c = omega (arith, c.if-text-p.false)
 
 pub loop-limits-preserved : goal.loop-limits-preserved
 loop-limits-preserved c =

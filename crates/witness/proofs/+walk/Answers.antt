@@ -46,25 +46,30 @@ walk-requires-else-t t c =
     let a = c.eval_rule-t.ensures q.A q.first in
     (omega (arith, c.decreases, q.inside, a.ends), (s.0, record { what = q.B; stands = q.second _ a.ends }))
 
-pub returns-then-k : goal.returns-then-k
-returns-then-k t c k h =
-    shapes.as-both _ _ _ (Finds _ _ _ _ _ _ _) k h c.if-c-eq37.true
-    (λ K L i. both-second _ _ _ _ K L i _ _ _ _ _ _ c.walk-k.ensures c.if-k.true c.walk.ensures)
+pub returns-in-None : goal.returns-in-None
+returns-in-None t c k h =
+    shapes.as-both _ _ _ (Finds _ _ _ _ _ _) k h c.if-c-eq37.true
+    (λ K L i. both-second _ _ _ _ K L i _ _ _ _ c.walk-k.ensures c.in-None.is c.walk.ensures)
 
-pub returns-else-k : goal.returns-else-k
-returns-else-k t c k h =
-    shapes.as-both _ _ _ (Finds _ _ _ _ _ _ _) k h c.if-c-eq37.true
-    (λ K L i. both_first _ _ _ _ K L i _ _ _ _ c.walk-k.ensures c.if-k.false (λ f j. behind-stands _ c.past.ensures f j))
+pub returns-in-Some : goal.returns-in-Some
+returns-in-Some t c k h =
+    shapes.as-both _ _ _ (Finds _ _ _ _ _ _) k h c.if-c-eq37.true
+    (λ K L i. both_first _ _ _ _ K L i _ _ _ _ c.walk-k.ensures c.in-Some.is (λ f j. behind-stands _ c.past.ensures f j))
 
 pub returns-then-t : goal.returns-then-t
 returns-then-t t c k h =
-    shapes.as-either _ _ _ (Finds _ _ _ _ _ _ _) k h c.if-c-eq38.true
+    shapes.as-either _ _ _ (Finds _ _ _ _ _ _) k h c.if-c-eq38.true
     (λ K L i. either_first _ _ _ _ K L i _ _ _ c.eval_rule-t.ensures c.if-t.true (λ f j. behind-stands _ c.past-then-t.ensures f j))
 
 pub returns-else-t : goal.returns-else-t
 returns-else-t t c k h =
-    shapes.as-either _ _ _ (Finds _ _ _ _ _ _ _) k h c.if-c-eq38.true
-    (λ K L i. either_second _ _ _ _ K L i _ _ _ _ _ c.eval_rule-t.ensures c.if-t.false c.walk-else-t.ensures)
+    shapes.as-either _ _ _ (Finds _ _ _ _ _ _) k h c.if-c-eq38.true
+    (λ K L i. either_second _ _ _ _ K L i _ _ _ _ c.eval_rule-t.ensures c.if-t.false c.walk-else-t.ensures)
 
-pub returns-else-c-eq38 : goal.returns-else-c-eq38
-returns-else-c-eq38 t c k h = alone _ _ _ _ k h (c.if-c-eq37.false, c.if-c-eq38.false) _ _ (c.eval_rule-t-else-c-eq38.ensures k h)
+pub returns-then-t-2 : goal.returns-then-t-2
+returns-then-t-2 t c k h =
+    alone _ _ _ _ k h (c.if-c-eq37.false, c.if-c-eq38.false) _ _ (c.eval_rule-t-else-c-eq38.ensures k h) _ (rw c.if-t-2.true)
+
+pub returns-else-t-2 : goal.returns-else-t-2
+returns-else-t-2 t c k h =
+    alone _ _ _ _ k h (c.if-c-eq37.false, c.if-c-eq38.false) _ _ (c.eval_rule-t-else-c-eq38.ensures k h) _ (rw c.if-t-2.false)

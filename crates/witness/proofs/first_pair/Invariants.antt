@@ -1,6 +1,5 @@
 use mathlib.Core.Bool.{true}
 use mathlib.Core.Path.{◌≡◌}
-use Prim.Native.Nat.{◌≤◌, ◌-◌}
 use Rattle.logic.specs.Graph.{Pairs, all_below}
 use Rattle.sheet.specs.Sheet.{Rows}
 use Rattle.witness.proofs.PairLaws.{row_in}
@@ -8,7 +7,4 @@ use Rattle.witness.proofs.first_pair.Given as goal
 
 -- The rows before i are inside.
 abbrev pub invariant-loop-i : goal.invariant-loop-i
-invariant-loop-i l = (l.i ≤ l.n) × ((v w : Pairs) → Rows l.n v l.a → Rows l.n w l.b → all_below l.i (row_in l.n v w) ≡ true)
-
-abbrev pub decreases-loop-i : goal.decreases-loop-i
-decreases-loop-i l = l.n - l.i
+invariant-loop-i l = (v w : Pairs) → Rows l.n v l.a → Rows l.n w l.b → all_below l.i (row_in l.n v w) ≡ true

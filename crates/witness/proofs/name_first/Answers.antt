@@ -13,14 +13,14 @@ walk-w-requires c =
 pub name_part-requires : goal.name_part-requires
 name_part-requires c =
     let s = c.requires in let n = c.node_count-n.ensures in
-    let b = (c.walk-w.ensures _ (for-count _ _ _ n.0 _ s.1.stands)).breaking c.if-w.false in (
+    let b = (c.walk-w.ensures _ (for-count _ _ _ n.0 _ s.1.stands)).breaking _ c.in-Some.is in (
       opened _ _ _ (λ p. omega (arith, c.type_inv.sheet p)) s.0 n.0 n.2 c.all_nodes-all.ensures,
       record { what = b.part; stands = b.stands },
       b.single,
     )
 
-pub returns-then-w : goal.returns-then-w
-returns-then-w c e h = names-none _ _ _ c.node_count-n.ensures.0 e h c.walk-w.ensures _ c.if-w.true c.unnamed.ensures
+pub returns-in-None : goal.returns-in-None
+returns-in-None c e h = names-none _ _ _ c.node_count-n.ensures.0 e h c.walk-w.ensures c.in-None.is
 
-pub returns-else-w : goal.returns-else-w
-returns-else-w c e h = names-part _ _ _ c.node_count-n.ensures.0 e h c.walk-w.ensures _ c.if-w.false c.name_part.ensures
+pub returns-in-Some : goal.returns-in-Some
+returns-in-Some c e h = names-part _ _ _ c.node_count-n.ensures.0 e h c.walk-w.ensures _ _ c.in-Some.is c.name_part.ensures

@@ -24,4 +24,4 @@ returns-then-x-gt0 c e h =
 pub returns-else-x-gt0 : goal.returns-else-x-gt0
 returns-else-x-gt0 c e h =
     shapes.as-sub-nodes _ _ _ (WitnessOf _ _ _) e h c.requires.2
-    (λ E F k. nodes-none _ _ _ _ _ c.requires.0 E F k _ _ _ _ _ c.eval_node-e.ensures c.eval_node-f.ensures c.minus-x.ensures _ c.if-x-gt0.false c.unnamed.ensures)
+    (λ E F k. nodes-none _ _ _ _ _ c.requires.0 E F k _ _ _ _ _ c.eval_node-e.ensures c.eval_node-f.ensures c.minus-x.ensures c.if-x-gt0.false)

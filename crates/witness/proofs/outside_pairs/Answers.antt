@@ -1,14 +1,10 @@
 use mathlib.Core.Path.{refl}
 use native.Mathlib.Omega.{arith}
-use borrow.Author.Rules.{rules}
 use Rattle.eval.proofs.RuleCases as cases
 use Rattle.witness.specs.Witnessed.{WitnessOf}
 use Rattle.witness.proofs.RuleShapes as shapes
 use Rattle.witness.proofs.NamedParts.{pairs-named}
 use Rattle.witness.proofs.outside_pairs.Goals as goal
-
-pub overflow_add-at : goal.overflow_add-at
-overflow_add-at c = let s = c.requires in let q = cases.as-sub-arrows _ _ _ s.1.what s.1.stands s.2 s.3 in omega (arith, q.inside)
 
 pub eval_arrow-second-requires : goal.eval_arrow-second-requires
 eval_arrow-second-requires c =
@@ -19,9 +15,6 @@ pub eval_arrow-requires : goal.eval_arrow-requires
 eval_arrow-requires c =
     let s = c.requires in let q = cases.as-sub-arrows _ _ _ s.1.what s.1.stands s.2 s.3 in
     (s.0, record { what = q.B; stands = q.second _ (c.eval_arrow-second.ensures.0 q.A q.first).ends }, refl)
-
-pub first_pair-requires : goal.first_pair-requires
-first_pair-requires c = (c.requires.0.few, search rules, search rules)
 
 pub returns : goal.returns
 returns c e h = let s = c.requires in

@@ -4,15 +4,6 @@ use Rattle.bitset.proofs.SetLaws.{shl_one}
 use Rattle.count_small.proofs.Counting.{few_bits}
 use Rattle.count_small.proofs.small.how_many.Goals as goal
 
-pub overflow_mul-result : goal.overflow_mul-result
-overflow_mul-result c = omega (arith, few_bits c.args.n c.requires)
-
-pub overflow_add-result : goal.overflow_add-result
-overflow_add-result c = omega (arith, few_bits c.args.n c.requires)
-
-pub overflow_shl-result : goal.overflow_shl-result
-overflow_shl-result c = omega (arith, few_bits c.args.n c.requires)
-
 pub returns : goal.returns
 returns c =
     let k = few_bits c.args.n c.requires in

@@ -1,11 +1,7 @@
-use native.Mathlib.Omega.{arith}
 use borrow.Author.Rules.{rules}
 use Rattle.count_small.proofs.Counting.{label_is}
 use Rattle.count_small.proofs.SmallBuffer.{loaded-sound, label-put, label-loaded, rows-put}
 use Rattle.count_small.proofs.small.put_small.Goals as goal
-
-pub part-requires : goal.part-requires
-part-requires c = (search rules, omega (arith, c.requires.1))
 
 pub put_label-requires : goal.put_label-requires
 put_label-requires c = (loaded-sound _ _ c.requires.0, search rules)

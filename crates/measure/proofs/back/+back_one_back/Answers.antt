@@ -3,7 +3,6 @@ use Rattle.tree.specs.Tree.{tree}
 use Rattle.ends.proofs.FirstSteps.{as-choose, edit-inside, code-pos}
 use Rattle.ends.proofs.Kept.{kept_more}
 use Rattle.measure.proofs.Puts.{end-here}
-use Rattle.measure.proofs.Loops.{kept-holds}
 use Rattle.measure.proofs.EditWalks.{backing-first, backing-next, backing-end, parted, choice-measured, choice-prefixed}
 use Rattle.measure.proofs.back.+back_one_back.Goals as goal
 
@@ -12,18 +11,18 @@ back-end_before-pos-requires t c = let p = c.requires in (omega (arith, p.0.room
 
 pub back-loop-top-init : goal.back-loop-top-init
 back-loop-top-init t c = let e = c.end_before-pos.ensures in let p = c.requires in
-    backing-first _ (record { what = p.0.what; stands = p.0.stands; room = omega (arith, p.0.room, e.start) }) p.5 refl c.push-top.ensures.0 (record { same = λ i r. refl }) (end-here _ _ _ _ e)
+    backing-first _ (record { what = p.0.what; stands = p.0.stands; room = omega (arith, p.0.room, e.start) }) p.5 refl c.push-end.ensures.0 (record { same = λ i r. refl }) (end-here _ _ _ _ e)
 
 pub back-offset_bounds-stack-top : goal.back-offset_bounds-stack-top
 back-offset_bounds-stack-top t c = let i = c.loop-top.invariant in let q = backing-next c.loop-top-test.true i in omega (arith, q.lower, edit-inside _ _ q.what.what q.what.stands, c.requires.3)
 
 pub back-bounds-stack-top : goal.back-bounds-stack-top
-back-bounds-stack-top t c = let i = c.loop-top.invariant in let q = backing-next c.loop-top-test.true i in omega (arith, q.lower, edit-inside _ _ q.what.what q.what.stands, c.requires.2, i.room, c.push-top.auto.stack)
+back-bounds-stack-top t c = let i = c.loop-top.invariant in let q = backing-next c.loop-top-test.true i in omega (arith, q.lower, edit-inside _ _ q.what.what q.what.stands, c.requires.2, i.room, c.push-end.auto.stack)
 
 pub back-one_back-pos-requires : goal.back-one_back-pos-requires
 back-one_back-pos-requires t c = let i = c.loop-top.invariant in let q = backing-next c.loop-top-test.true i in let e = c.end_before-pos in let p = c.requires in (
   omega (arith, c.decreases, q.above, edit-inside _ _ q.what.what q.what.stands),
-  (q.what, q.step, q.lower, omega (arith, p.2, i.room, c.push-top.auto.stack), p.3, p.4, q.held, omega (arith, p.6, i.below, i.wide, e.ensures.start, e.auto.out)),
+  (q.what, q.step, q.lower, omega (arith, p.2, i.room, c.push-end.auto.stack), p.3, p.4, q.held, omega (arith, p.6, i.below, i.wide, e.ensures.start, e.auto.out)),
 )
 
 pub back-loop-top-preserved : goal.back-loop-top-preserved
@@ -31,7 +30,7 @@ back-loop-top-preserved t c = let i = c.loop-top.invariant in let q = backing-ne
     q.more _ _ _ _ k.stack k.state k.out c.one_back-pos.ensures.0 c.one_back-pos.ensures.1
 
 pub back-returns : goal.back-returns
-back-returns t c = (backing-end c.loop-top-test.false c.loop-top.invariant c.end_before-pos.ensures, kept_more (omega arith) c.push-top.ensures.1 c.loop-top.invariant.kept)
+back-returns t c = (backing-end c.loop-top-test.false c.loop-top.invariant c.end_before-pos.ensures, kept_more (omega arith) c.push-end.ensures.1 c.loop-top.invariant.kept)
 
 pub one_back-bounds-text-at : goal.one_back-bounds-text-at
 one_back-bounds-text-at t c = let p = c.requires in omega (arith, edit-inside _ _ p.0.what p.0.stands)
@@ -61,14 +60,14 @@ one_back-back-p-requires t c = let p = c.requires in let q = parted c.if-text-at
         omega (arith, p.3, k.stack),
         p.4,
         p.5,
-        record { long = c.copy.auto.out; M = p.6.M; holds = kept-holds _ _ _ c.copy.ensures p.6.holds },
+        rw c.copy_from_slice.ensures.after p.6,
         omega (arith, p.7, w.low, k.out),
       ),
     )
 
 pub one_back-choose_ways-requires : goal.one_back-choose_ways-requires
 one_back-choose_ways-requires t c = let p = c.requires in let q = parted c.if-text-at-ne53.false c.past-first.ensures c.end_of-second.ensures _ p.0.stands in
-    (record { what = tree q.parts.K; stands = q.parts.what }, p.4, p.5, c.back-p.auto.state ∙ c.copy.auto.out, c.back-q.auto.state ∙ p.6.long)
+    (record { what = tree q.parts.K; stands = q.parts.what }, p.4, p.5, c.back-p.auto.state ∙ c.copy_from_slice.ensures.len, c.back-q.auto.state ∙ p.6.long)
 
 pub one_back-put_before-requires : goal.one_back-put_before-requires
 one_back-put_before-requires t c = let p = c.requires in let q = parted c.if-text-at-ne53.false c.past-first.ensures c.end_of-second.ensures _ p.0.stands in
@@ -76,7 +75,7 @@ one_back-put_before-requires t c = let p = c.requires in let q = parted c.if-tex
     (omega (arith, q), omega (arith, q), omega (arith, p.0.room, q, w.room, v.room), omega (arith, p.7, w.low, v.low, c.back-q.auto.out, c.back-p.auto.out))
 
 pub one_back-returns : goal.one_back-returns
-one_back-returns t c = let m = c.if-text-at-ne53.false in let a = c.past-first.ensures in let e = c.end_of-second.ensures in let k = c.copy.ensures in (
+one_back-returns t c = let m = c.if-text-at-ne53.false in let a = c.past-first.ensures in let e = c.end_of-second.ensures in let k = c.copy_from_slice.ensures.after in (
   λ Z h. (
     choice-measured m a e _ k c.back-q.ensures.0 c.back-p.ensures.0 c.choose_ways.ensures Z h,
     choice-prefixed m a e _ k c.back-q.ensures.0 c.back-p.ensures.0 c.put_before.ensures Z h,

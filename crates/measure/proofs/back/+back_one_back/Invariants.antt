@@ -9,7 +9,4 @@ abbrev pub decreases-one_back : goal.decreases-one_back
 decreases-one_back l = 2 * (length l.text.now - l.spot.at)
 
 abbrev pub invariant-back-loop-top : goal.invariant-back-loop-top
-invariant-back-loop-top l = Backing l.text l.spot.at l.rules l.spot.top l.initial.stack l.stack l.initial.state l.state l.initial.out l.out l.initial.pos l.top l.pos
-
-abbrev pub decreases-back-loop-top : goal.decreases-back-loop-top
-decreases-back-loop-top l = l.top
+invariant-back-loop-top l = Backing l.text l.fn.spot.at l.rules l.fn.spot.top l.initial.stack l.stack l.initial.state l.state l.initial.out l.out l.initial.pos l.top l.pos

@@ -4,9 +4,6 @@ use Rattle.ends.proofs.TreePlaces.{fits}
 use Rattle.measure.proofs.Loops.{choice-held}
 use Rattle.measure.proofs.back.choose_ways.Goals as goal
 
-pub scan-next-requires : goal.scan-next-requires
-scan-next-requires c = let p = c.requires in (p.0, omega arith, c.merge.auto.state ∙ p.4)
-
 pub overflow_sub-next : goal.overflow_sub-next
 overflow_sub-next c = let p = c.requires in omega (arith, (c.scan-next.ensures p.0.what p.0.stands).ends, fits _ _ p.0.what p.0.stands, p.1)
 
@@ -18,9 +15,6 @@ overflow_add-next c = let p = c.requires in omega (arith, (c.scan-next.ensures p
 
 pub overflow_mul-rules-2 : goal.overflow_mul-rules-2
 overflow_mul-rules-2 c = let p = c.requires in let e : 4 + 2 * (c.scan-next.result - c.args.at) ≤ 8196 = omega (arith, (c.scan-next.ensures p.0.what p.0.stands).ends, fits _ _ p.0.what p.0.stands, p.1) in omega (arith, mul-le-mul p.2 e)
-
-pub lengthen-requires : goal.lengthen-requires
-lengthen-requires c = c.scan-next.auto.state ∙ c.merge.auto.state ∙ c.requires.4
 
 pub returns : goal.returns
 returns c = choice-held (c.scan-next.auto.state ∙ c.merge.auto.state ∙ c.requires.4) c.merge.ensures c.scan-next.ensures refl c.lengthen.ensures

@@ -21,9 +21,6 @@ bounds-stack-n c = let g = c.loop-p.invariant in omega (arith, edit-inside _ _ g
 pub overflow_add-n : goal.overflow_add-n
 overflow_add-n c = let g = c.loop-p.invariant in omega (arith, edit-inside _ _ g.some.what g.some.stands, g.np, c.well_formed.0.0)
 
-pub next_step-p-requires : goal.next_step-p-requires
-next_step-p-requires c = (c.loop-p.invariant.some, c.loop-p-test.true)
-
 pub loop-p-smaller : goal.loop-p-smaller
 loop-p-smaller c = let r = c.loop-p.invariant.some in omega (arith, edit-inside _ _ r.what r.stands, (c.next_step-p.ensures r.what r.stands).on)
 

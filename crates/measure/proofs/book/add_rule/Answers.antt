@@ -11,8 +11,5 @@ scan-next-requires c = let s = c in (record { what = tree s.requires.0.what; sta
 pub overflow_sub-next : goal.overflow_sub-next
 overflow_sub-next c = let s = c in omega (arith, (c.scan-next.ensures (tree s.requires.0.what) (rule-at _ _ s.requires.0.what s.requires.0.stands)).ends)
 
-pub lengthen-requires : goal.lengthen-requires
-lengthen-requires c = c.scan-next.auto.state ∙ c.requires.1
-
 pub returns : goal.returns
 returns c = λ K h. let a = c.scan-next in rule-added _ _ K h _ _ _ _ (a.auto.state ∙ c.requires.1) a.ensures _ refl c.lengthen.ensures

@@ -57,9 +57,6 @@ loop-s-preserved t c = let turned : (c.loop-s.p < c.if-s-ge8.p) × Scanning c.ar
     ] in
     (c.shape-s-in-loop-s.ensures, turned.1)
 
-pub rise-requires : goal.rise-requires
-rise-requires t c = c.loop-s.invariant.1.long
-
 pub bounds-text-p-then-s-ge16 : goal.bounds-text-p-then-s-ge16
 bounds-text-p-then-s-ge16 t c = omega (arith, inside _ _ c.loop-s.invariant.1.some.what c.loop-s.invariant.1.some.stands)
 

@@ -1,4 +1,3 @@
-use Prim.Native.Nat.{◌-◌, ◌≤◌}
 use Rattle.sheet.specs.Sheet.{graph_of}
 use Rattle.pages.specs.Typed.{block_shown}
 use Rattle.pages.specs.Prints.{set_at}
@@ -6,7 +5,4 @@ use Rattle.pages.proofs.PageLaws.{Grown}
 use Rattle.pages.proofs.print.put_lines.Given as goal
 
 abbrev pub invariant-loop-x : goal.invariant-loop-x
-invariant-loop-x l = (l.x ≤ l.m) × Grown l.initial.out l.n (set_at (graph_of l.sheet) (block_shown l.shown)) l.x l.out
-
-abbrev pub decreases-loop-x : goal.decreases-loop-x
-decreases-loop-x l = l.m - l.x
+invariant-loop-x l = Grown l.initial.out l.n (set_at (graph_of l.sheet) (block_shown l.shown)) l.x l.out

@@ -3,17 +3,8 @@ use Rattle.std.proofs.Common.{arith}
 use Rattle.answer.proofs.AskedLaws.{refused-not-passed}
 use Rattle.sheet.specs.Sheet.{graph_of}
 use Rattle.pages.specs.Typed.{block_shown}
-use Rattle.pages.proofs.TypeLaws.{part_length, none_read, line_set, line-asked, line-wrong, line_read, all_read}
+use Rattle.pages.proofs.TypeLaws.{line_set, line-asked, line-wrong, line_read, all_read}
 use Rattle.pages.proofs.typed.read_lines.Goals as goal
-
-pub loop-x-init : goal.loop-x-init
-loop-x-init c = none_read _ _ _ _ _ c.requires.3
-
-pub marks_of-requires : goal.marks_of-requires
-marks_of-requires c = (part_length c.args.page.now c.loop-x.x c.args.m c.loop-x-test.true c.requires.2, c.node_count-n.ensures.2)
-
-pub line_is-requires : goal.line_is-requires
-line_is-requires c = part_length c.args.page.now c.loop-x.x c.args.m c.loop-x-test.true c.requires.2
 
 -- the line's set, and whether the line is right
 pub returns-then-not-line_is : goal.returns-then-not-line_is

@@ -1,20 +1,20 @@
-use mathlib.Core.Path.{sym, ap, ◌∙◌}
-use Rattle.answer.specs.Answers.{asked}
-use Rattle.sheet.specs.Questions.{Sound}
-use Rattle.judge.proofs.SheetAndBook.{sheet-refused, book-refused, book-learned}
-use Rattle.play.proofs.PlayStages.{both-stop, goal-last}
+use Rattle.std.proofs.Common.{sym, ◌∙◌, rules}
+use Rattle.std.proofs.lemmas.Result.{err_from_is_err_and}
+use Rattle.play.proofs.PlayStages.{sheet-stops, book-stops, goal-last}
 use Rattle.play.proofs.questions.check_aims.Goals as goal
 
-pub returns-in_default : goal.returns-in_default
-returns-in_default c = both-stop _ _ _ (sheet-refused _ _ c.check-sound.ensures c.in_default.is) c.in_default.is
+pub returns-in_err-passed : goal.returns-in_err-passed
+returns-in_err-passed c =
+    let p = err_from_is_err_and c.from_residual.result c.from_residual.ensures.1 in
+    rw (p.1, p.2) (sheet-stops _ _ _ _ _ (c.in_err-passed.ensures ∙ c.check.ensures))
 
-pub returns-in_default-rules : goal.returns-in_default-rules
-returns-in_default-rules c =
-    let sound : Sound c.args.sheet.now = sym c.check-sound.ensures ∙ ap asked c.in-Done.is in
-    both-stop _ _ _ (book-refused _ _ sound c.node_count-n.ensures.0 c.check_book-rules.ensures c.in_default-rules.is) c.in_default-rules.is
+pub returns-in_err-passed-2 : goal.returns-in_err-passed-2
+returns-in_err-passed-2 c =
+    let p = err_from_is_err_and c.from_residual-in_err-passed-2.result c.from_residual-in_err-passed-2.ensures.1 in
+    rw (p.1, p.2)
+    (book-stops _ _ _ (sym c.check.ensures ∙ sym c.in_ok-passed.ensures) c.node_count-n.ensures.0 _ _ (c.in_err-passed-2.ensures ∙ c.check_book.ensures))
 
 pub returns : goal.returns
 returns c =
-    let sound : Sound c.args.sheet.now = sym c.check-sound.ensures ∙ ap asked c.in-Done.is in
-    let n = c.node_count-n.ensures.0 in
-    goal-last _ _ _ n (book-learned _ _ sound n c.check_book-rules.ensures c.in-Done-rules.is) _ (cc)
+    goal-last _ _ _ (sym c.check.ensures ∙ sym c.in_ok-passed.ensures) c.node_count-n.ensures.0 (c.in_ok-passed-2.ensures ∙ c.check_book.ensures)
+    (search rules)

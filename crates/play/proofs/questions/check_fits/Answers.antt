@@ -23,59 +23,52 @@ next : {edits : List ℕ} {count i at end : ℕ} → ((Zs : List Edit) (e : Edit
 next s l f Zs e = let b : _ = omega (arith, l, e.enough) in record { from = s Zs e; below = b; ends = f _ (next_at (s Zs e) b) }
 
 pub loop-i-init : goal.loop-i-init
-loop-i-init c = (omega arith, (λ Zs e. record { stand = e.stand }), λ rules Zs h e. fits-first rules Zs c.args.count)
+loop-i-init c = ((λ Zs e. record { stand = e.stand }), λ rules Zs h e. fits-first rules Zs c.args.count)
 
 pub end_of-end-requires : goal.end_of-end-requires
 end_of-end-requires c =
     let q = c.requires.1 in
-    record { what = _; stands = next_at (c.loop-i.invariant.1 q.what q.are) (omega (arith, c.loop-i-test.true, q.are.enough)) }
+    record { what = _; stands = next_at (c.loop-i.invariant.0 q.what q.are) (omega (arith, c.loop-i-test.true, q.are.enough)) }
 
 pub slice_bounds-fits-count : goal.slice_bounds-fits-count
 slice_bounds-fits-count c =
     let q = c.requires.1 in
-    let n = next c.loop-i.invariant.1 c.loop-i-test.true c.end_of-end.ensures q.what q.are in
+    let n = next c.loop-i.invariant.0 c.loop-i-test.true c.end_of-end.ensures q.what q.are in
     omega (arith, (part_in n.from n.below n.ends).0)
 
 pub slice_bounds-fits-start : goal.slice_bounds-fits-start
 slice_bounds-fits-start c =
     let q = c.requires.1 in
-    let n = next c.loop-i.invariant.1 c.loop-i-test.true c.end_of-end.ensures q.what q.are in
+    let n = next c.loop-i.invariant.0 c.loop-i-test.true c.end_of-end.ensures q.what q.are in
     omega (arith, (part_in n.from n.below n.ends).0)
 
 pub slice_bounds-fits-end : goal.slice_bounds-fits-end
 slice_bounds-fits-end c =
     let q = c.requires.1 in
-    let n = next c.loop-i.invariant.1 c.loop-i-test.true c.end_of-end.ensures q.what q.are in
+    let n = next c.loop-i.invariant.0 c.loop-i-test.true c.end_of-end.ensures q.what q.are in
     omega (arith, (part_in n.from n.below n.ends).1)
 
-pub fits-answer-requires : goal.fits-answer-requires
-fits-answer-requires c =
+pub fits-requires : goal.fits-requires
+fits-requires c =
     let q = c.requires.1 in
-    let n = next c.loop-i.invariant.1 c.loop-i-test.true c.end_of-end.ensures q.what q.are in
+    let n = next c.loop-i.invariant.0 c.loop-i-test.true c.end_of-end.ensures q.what q.are in
     (c.requires.0, record { what = _; stands = part_at n.from n.below n.ends }, part-short n.from n.below n.ends)
 
 -- the book carried back through it was measured
-pub returns-in_default : goal.returns-in_default
-returns-in_default c =
-    let n = next c.loop-i.invariant.1 c.loop-i-test.true c.end_of-end.ensures in
+pub returns-in-Err : goal.returns-in-Err
+returns-in-Err c =
+    let n = next c.loop-i.invariant.0 c.loop-i-test.true c.end_of-end.ensures in
     let fit = λ (rules : List (Expr rule)) (Zs : List Edit) (h : BookIs c.args.book.now rules) (e : EditsAt c.args.edits.now c.args.count Zs).
-    c.fits-answer.ensures rules _ h (part_at (n Zs e).from (n Zs e).below (n Zs e).ends) in
-    record {
-      answer_value = λ rules Zs h e. (fits-stop rules Zs _ e.enough (c.loop-i.invariant.2 rules Zs h e) c.loop-i-test.true _ (fit rules Zs h e) c.in_default.is).0;
-      edit_value = λ rules Zs h e. (fits-stop rules Zs _ e.enough (c.loop-i.invariant.2 rules Zs h e) c.loop-i-test.true _ (fit rules Zs h e) c.in_default.is).1;
-    }
+    fits-stop rules Zs _ e.enough (c.loop-i.invariant.1 rules Zs h e) c.loop-i-test.true _ _ (c.in-Err.ensures rules _ h (part_at (n Zs e).from (n Zs e).below (n Zs e).ends)) in
+    record { value = λ rules Zs h e. (fit rules Zs h e).0; edit_value = λ rules Zs h e. (fit rules Zs h e).1 }
 
 pub loop-i-preserved : goal.loop-i-preserved
 loop-i-preserved c =
-    let n = next c.loop-i.invariant.1 c.loop-i-test.true c.end_of-end.ensures in (
-      omega (arith, c.loop-i-test.true),
+    let n = next c.loop-i.invariant.0 c.loop-i-test.true c.end_of-end.ensures in (
       (λ Zs e. others-stand (n Zs e).from (n Zs e).below (n Zs e).ends),
       λ rules Zs h e.
-          fits-pass rules Zs _ e.enough (c.loop-i.invariant.2 rules Zs h e) c.loop-i-test.true _ (c.fits-answer.ensures rules _ h (part_at (n Zs e).from (n Zs e).below (n Zs e).ends)) c.in-Done.is,
+          fits-pass rules Zs _ e.enough (c.loop-i.invariant.1 rules Zs h e) c.loop-i-test.true (c.in_default.ensures rules _ h (part_at (n Zs e).from (n Zs e).below (n Zs e).ends)),
     )
 
 pub returns : goal.returns
-returns c = record {
-  answer_value = λ rules Zs h e. (fits-end rules Zs _ e.enough (c.loop-i.invariant.2 rules Zs h e) c.loop-i-test.false).0;
-  edit_value = λ rules Zs h e. (fits-end rules Zs _ e.enough (c.loop-i.invariant.2 rules Zs h e) c.loop-i-test.false).1;
-}
+returns c = record { value = λ rules Zs h e. fits-end rules Zs _ e.enough (c.loop-i.invariant.1 rules Zs h e) c.loop-i-test.false; edit_value = λ rules Zs h e. tt }

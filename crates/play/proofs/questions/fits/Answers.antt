@@ -1,14 +1,11 @@
-use mathlib.Core.Path.{sym, ◌∙◌}
 use Rattle.play.proofs.FitsTold.{fits-length, fits-no-room, fits_not}
 use Rattle.play.proofs.questions.fits.Goals as goal
 
-pub returns-in-Length : goal.returns-in-Length
-returns-in-Length c rules Z h g = fits-length _ _ _ _ (c.carry_into.ensures rules Z h g) _ c.in-Length.is
+pub returns-in_default : goal.returns-in_default
+returns-in_default c rules Z h g = fits-length _ _ _ _ (c.carry_into.ensures rules Z h g) _ c.in_default.is
 
-pub returns-then-refusal_number-eq33 : goal.returns-then-refusal_number-eq33
-returns-then-refusal_number-eq33 c rules Z h g =
-    fits-no-room _ _ _ _ (c.carry_into.ensures rules Z h g) _ c.in-Refused.is (sym c.refusal_number.ensures ∙ c.if-refusal_number-eq33.true)
+pub returns-in-OutputLength : goal.returns-in-OutputLength
+returns-in-OutputLength c rules Z h g = fits-no-room _ _ _ _ (c.carry_into.ensures rules Z h g) _ c.in-Err.is _ c.in-OutputLength.is
 
-pub returns-else-refusal_number-eq33 : goal.returns-else-refusal_number-eq33
-returns-else-refusal_number-eq33 c rules Z h g =
-    fits_not _ _ _ _ (c.carry_into.ensures rules Z h g) _ c.in-Refused.is (λ e. c.if-refusal_number-eq33.false (c.refusal_number.ensures ∙ e))
+pub returns-in_default-refusal : goal.returns-in_default-refusal
+returns-in_default-refusal c rules Z h g = fits_not _ _ _ _ (c.carry_into.ensures rules Z h g) _ c.in-Err.is c.in_default-refusal.not-OutputLength

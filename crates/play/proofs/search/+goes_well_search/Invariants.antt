@@ -1,5 +1,5 @@
 -- Each call has fewer moves left, or as many and is that of the search.
-use Rattle.std.proofs.Common.{◌≡◌, ◌*◌, ◌+◌, ◌-◌, ◌≤◌, length}
+use Rattle.std.proofs.Common.{◌≡◌, ◌*◌, ◌+◌, ◌-◌, length}
 use Rattle.sheet.specs.Sheet.{sheet_bytes, graph_of}
 use Rattle.game.specs.Game.{Game}
 use Rattle.play.specs.Standing.{GameStands}
@@ -14,8 +14,5 @@ decreases-search l = 2 * l.moves
 
 abbrev pub invariant-search-loop-i : goal.invariant-search-loop-i
 invariant-search-loop-i l =
-    (l.i ≤ l.count) × (length l.copy ≡ sheet_bytes)
+    (length l.copy ≡ sheet_bytes)
     × ((G : Game) → GameStands (graph_of l.sheet).n l.book l.goal l.edits l.lists G → Trying l.edits l.ours (l.moves - 1) (graph_of l.sheet).n (graph_of l.sheet) G l.i l.at l.made)
-
-abbrev pub decreases-search-loop-i : goal.decreases-search-loop-i
-decreases-search-loop-i l = l.count - l.i

@@ -109,7 +109,7 @@ pub opens-opened-requires : goal.opens-opened-requires
 opens-opened-requires c = (c.if-item-lt9.false, (first-item 1 _ c.loop-row.invariant.known.items c.if-row-eq0.false).known)
 
 pub put_word-state-requires : goal.put_word-state-requires
-put_word-state-requires c = (short-room _ _ c.loop-row.invariant.printing.short, c.opens-opened.ensures.word_most)
+put_word-state-requires c = (short-room _ _ c.loop-row.invariant.printing.short, c.opens-opened.ensures.is_word)
 
 pub offset_bounds-rows-level-then-item-lt14 : goal.offset_bounds-rows-level-then-item-lt14
 offset_bounds-rows-level-then-item-lt14 c = record { fits = omega (arith, c.loop-row.invariant.most) }

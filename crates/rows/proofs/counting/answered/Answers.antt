@@ -1,17 +1,11 @@
 use mathlib.Core.Path.{refl, ◌∙◌}
 use mathlib.Core.Bool.{not, ◌&&◌}
-use borrow.Author.Tests.{eq-eqb, ne_eqb}
+use borrow.Author.Rules.{rules}
 use Rattle.rows.proofs.Quantifiers.{answered-sets}
 use Rattle.rows.proofs.counting.answered.Goals as goal
 
-pub returns-then-c-eq8 : goal.returns-then-c-eq8
-returns-then-c-eq8 c n p h l e = c.both.ensures ∙ answered-sets c.args.c n _ _ ◌&&◌ p h l e refl (λ a b. rw (eq-eqb _ 0x08 c.if-c-eq8.true))
+pub returns-in-8 : goal.returns-in-8
+returns-in-8 c n p h l e = c.both.ensures ∙ answered-sets c.args.c n _ _ ◌&&◌ p h l e refl (λ a b. search rules)
 
-pub returns-then-c-eq9 : goal.returns-then-c-eq9
-returns-then-c-eq9 c n p h l e = c.minus.ensures ∙ answered-sets c.args.c n _ _ (λ a b. a && not b) p h l e refl (λ a b. rw (ne_eqb _ 0x08 c.if-c-eq8.false, eq-eqb _ 0x09 c.if-c-eq9.true))
-
-pub returns-then-c-eq10 : goal.returns-then-c-eq10
-returns-then-c-eq10 c n p h l e = c.both-then-c-eq10.ensures ∙ answered-sets c.args.c n _ _ ◌&&◌ p h l e refl (λ a b. rw (ne_eqb _ 0x08 c.if-c-eq8.false, ne_eqb _ 0x09 c.if-c-eq9.false, eq-eqb _ 0x0A c.if-c-eq10.true))
-
-pub returns-else-c-eq10 : goal.returns-else-c-eq10
-returns-else-c-eq10 c n p h l e = c.minus-else-c-eq10.ensures ∙ answered-sets c.args.c n _ _ (λ a b. a && not b) p h l e refl (λ a b. rw (ne_eqb _ 0x08 c.if-c-eq8.false, ne_eqb _ 0x09 c.if-c-eq9.false, ne_eqb _ 0x0A c.if-c-eq10.false))
+pub returns-in_default : goal.returns-in_default
+returns-in_default c n p h l e = c.minus.ensures ∙ answered-sets c.args.c n _ _ (λ a b. a && not b) p h l e refl (λ a b. search rules)

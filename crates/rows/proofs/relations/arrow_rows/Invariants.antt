@@ -1,5 +1,4 @@
 use mathlib.Core.Path.{◌≡◌}
-use Prim.Native.Nat.{◌≤◌, ◌-◌}
 use lib.ListN.{length}
 use Rattle.bitset.specs.Words.{set_of}
 use Rattle.sheet.specs.Sheet.{graph_of}
@@ -7,7 +6,4 @@ use Rattle.rows.proofs.OperationLaws.{Changed}
 use Rattle.rows.proofs.relations.arrow_rows.Given as goal
 
 abbrev pub invariant-loop-i : goal.invariant-loop-i
-invariant-loop-i l = (l.i ≤ l.n) × (length l.out ≡ 64) × Changed l.i l.initial.out l.out (λ k. set_of (graph_of l.sheet).n ((graph_of l.sheet).joined l.a.0 k))
-
-abbrev pub decreases-loop-i : goal.decreases-loop-i
-decreases-loop-i l = l.n - l.i
+invariant-loop-i l = (length l.out ≡ 64) × Changed l.i l.initial.out l.out (λ k. set_of (graph_of l.sheet).n ((graph_of l.sheet).joined l.a.0 k))

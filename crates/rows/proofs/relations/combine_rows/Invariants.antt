@@ -1,5 +1,4 @@
 use mathlib.Core.Path.{◌≡◌}
-use Prim.Native.Nat.{◌≤◌, ◌-◌}
 use lib.ListN.{length, get_or}
 use Rattle.rows.specs.Operations.{arrow_operation}
 use Rattle.rows.proofs.OperationLaws.{Changed}
@@ -7,7 +6,4 @@ use Rattle.bitset.specs.Words.{combined}
 use Rattle.rows.proofs.relations.combine_rows.Given as goal
 
 abbrev pub invariant-loop-i : goal.invariant-loop-i
-invariant-loop-i l = (l.i ≤ l.n) × (length l.a ≡ 64) × Changed l.i l.initial.a l.a (λ k. combined (arrow_operation l.c) (get_or l.initial.a k 0) (get_or l.b k 0))
-
-abbrev pub decreases-loop-i : goal.decreases-loop-i
-decreases-loop-i l = l.n - l.i
+invariant-loop-i l = (length l.a ≡ 64) × Changed l.i l.initial.a l.a (λ k. combined (arrow_operation l.c) (get_or l.initial.a k 0) (get_or l.b k 0))

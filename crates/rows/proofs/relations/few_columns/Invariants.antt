@@ -1,12 +1,8 @@
 use mathlib.Core.Path.{◌≡◌}
-use Prim.Native.Nat.{◌≤◌, ◌-◌}
 use lib.ListN.{length}
 use Rattle.sheet.specs.Sheet.{Rows}
 use Rattle.rows.proofs.ColumnLaws.{Cols}
 use Rattle.rows.proofs.relations.few_columns.Given as goal
 
 abbrev pub invariant-loop-i : goal.invariant-loop-i
-invariant-loop-i l = (l.i ≤ l.n) × (length l.out ≡ 64) × Rows 64 (Cols l.rows l.i) l.out
-
-abbrev pub decreases-loop-i : goal.decreases-loop-i
-decreases-loop-i l = l.n - l.i
+invariant-loop-i l = (length l.out ≡ 64) × Rows 64 (Cols l.rows l.i) l.out

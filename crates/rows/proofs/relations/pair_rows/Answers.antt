@@ -4,11 +4,5 @@ use lib.ListN.{length, length-set}
 use Rattle.rows.proofs.OperationLaws.{rows-pair}
 use Rattle.rows.proofs.relations.pair_rows.Goals as goal
 
-pub offset_bounds-out-at : goal.offset_bounds-out-at
-offset_bounds-out-at c = omega (arith, c.index-at.ensures, c.requires)
-
-pub bounds-out-at : goal.bounds-out-at
-bounds-out-at c = omega (arith, c.index-at.ensures, c.requires, ap length c.requires.2)
-
 pub returns : goal.returns
 returns c = (λ n nodes h a. rows-pair n nodes _ _ _ _ _ c.requires.2 c.index-at.ensures (omega (arith, c.requires)) (λ l. c.pair_row.ensures n nodes h l a), simp length-set (ap length c.requires.2))

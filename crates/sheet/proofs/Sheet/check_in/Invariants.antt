@@ -7,7 +7,4 @@ use Rattle.sheet.specs.Sheet.{block_count}
 use Rattle.sheet.proofs.Sheet.check_in.Given as goal
 
 abbrev pub invariant-loop-b : goal.invariant-loop-b
-invariant-loop-b l = (l.b ≤ block_count) × (0 < l.b → l.n ≤ max_nodes) × (ask_sheet_in (form_in l.sums l.held) l.sheet ≡ ask_blocks (form_in l.sums l.held) l.sheet (block_count - l.b) l.b)
-
-abbrev pub decreases-loop-b : goal.decreases-loop-b
-decreases-loop-b l = block_count - l.b
+invariant-loop-b l = (0 < l.b → l.n ≤ max_nodes) × (ask_sheet_in (form_in l.sums l.held) l.sheet ≡ ask_blocks (form_in l.sums l.held) l.sheet (block_count - l.b) l.b)

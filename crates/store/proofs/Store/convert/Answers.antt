@@ -3,9 +3,10 @@ use mathlib.Core.List.{◌++◌}
 use Prim.Native.Nat.{◌+◌, ◌-◌, ◌*◌}
 use native.Mathlib.Omega.{arith}
 use borrow.Author.Rules.{rules}
+use lib.Dec.{ltb}
 use lib.ListN.{length, drop}
 use Rattle.answer.specs.Answers.{asked}
-use Rattle.bitset.specs.Words.{Bytes}
+use Rattle.bitset.specs.Words.{Bytes, set_of}
 use Rattle.seal.specs.Seal.{block_bytes, reseal}
 use Rattle.seal.specs.Forms.{form_of}
 use Rattle.sheet.specs.Sheet.{present, former, store, graph_in}
@@ -40,21 +41,17 @@ loop-b-init c =
     let f = form_of c.args.sums in
     let card = c.args.card.now in
     let small : Bytes card = λ p. search rules in
-    let begun = c.store.new.s ++ drop block_bytes card in (
-      omega arith,
-      upto-none (resealed begun) begun
-          (begun-length f card small (sym c.check_in-answer.ensures ∙ ap asked c.in-Done.is) (body-fits c.args.sums) c.store.new.s c.lowest.result c.lowest.ensures c.store.ensures),
-    )
+    let begun = c.store.new.s ++ drop block_bytes card in
+    upto-none (resealed begun) begun
+    (begun-length f card small (sym c.check_in-answer.ensures ∙ ap asked c.in-Done.is) (body-fits c.args.sums) c.store.new.s c.lowest.result (c.lowest.ensures ∙ ap (λ n. set_of 64 (λ i. ltb i n)) c.from-n.ensures) c.store.ensures)
 
 pub loop-b-preserved : goal.loop-b-preserved
 loop-b-preserved c =
     let l = c.loop-b in
     let t = c.store.new.s ++ drop block_bytes c.args.card.now in
-    let block = part-is l.card l.b in (
-      omega arith,
-      upto-more (resealed t) t l.card c.seal.new.block l.b (block_bytes * l.b) (block_bytes * l.b + block_bytes - block_bytes * l.b) l.invariant.1 c.loop-b-test.true refl (omega arith)
-          (c.seal.auto.block ∙ ap length block ∙ length-block l.card l.invariant.1.size l.b c.loop-b-test.true) (c.seal.ensures ∙ ap (reseal present.sums) (block ∙ l.invariant.1.left l.b (omega arith))),
-    )
+    let block = part-is l.card l.b in
+    upto-more (resealed t) t l.card c.seal.new.block l.b (block_bytes * l.b) (block_bytes * l.b + block_bytes - block_bytes * l.b) l.invariant c.loop-b-test.true refl (omega arith)
+    (c.seal.auto.block ∙ ap length block ∙ length-block l.card l.invariant.size l.b c.loop-b-test.true) (c.seal.ensures ∙ ap (reseal present.sums) (block ∙ l.invariant.left l.b (omega arith)))
 
 pub returns-clause-card_after : goal.returns-clause-card_after
 returns-clause-card_after c =
@@ -65,5 +62,5 @@ returns-clause-card_after c =
     let g = graph_in (former f) card in
     let l = c.loop-b in
     let t = c.store.new.s ++ drop block_bytes card in
-    upto_all (resealed t) t l.card (store g) l.b l.invariant.1 c.loop-b-test.false (length-store present g)
-    (each-made f card small sound (body-fits c.args.sums) c.store.new.s c.lowest.result c.lowest.ensures c.store.ensures) ∙ sym (converted-is f card small sound)
+    upto_all (resealed t) t l.card (store g) l.b l.invariant c.loop-b-test.false (length-store present g)
+    (each-made f card small sound (body-fits c.args.sums) c.store.new.s c.lowest.result (c.lowest.ensures ∙ ap (λ n. set_of 64 (λ i. ltb i n)) c.from-n.ensures) c.store.ensures) ∙ sym (converted-is f card small sound)

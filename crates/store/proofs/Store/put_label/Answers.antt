@@ -1,6 +1,6 @@
 use mathlib.Core.Path.{ap, ◌∙◌}
 use mathlib.Core.List.{◌++◌}
-use Prim.Native.Nat.{ℕ}
+use Prim.Native.Nat.{ℕ, ◌+◌, ◌*◌}
 use native.Mathlib.Omega.{arith}
 use borrow.Author.Rules.{rules}
 use lib.ListN.{take, drop}
@@ -22,6 +22,6 @@ pub returns : goal.returns
 returns c = λ v q.
     let t = c.args.sheet.now in
     let o = sound-is-stored present t (λ p. search rules) c.requires.0 in
-    let placed = ap (λ (p : ℕ). reseal present.sums (put_word_def (take block_bytes t) p c.args.x)) c.word_place.ensures in
+    let placed = ap (λ (p : ℕ). reseal present.sums (put_word_def (take block_bytes t) p c.args.x)) (c.word_place.ensures ∙ ap (λ (j : ℕ). 16 + 8 * j) c.from.ensures) in
     ap (◌++ drop block_bytes t) (c.put_word.ensures ∙ placed)
     ∙ relabelled present (graph_of t) v c.args.k.0 c.args.x t c.requires.1 o.stored q

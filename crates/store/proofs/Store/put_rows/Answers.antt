@@ -18,7 +18,7 @@ pub returns : goal.returns
 returns c = λ v inside r.
     let t = c.args.sheet.now in
     let a = c.args.a.0 in
-    let from : ℕ = block_bytes * a + block_bytes in
+    let from : ℕ = block_bytes * c.from.result + block_bytes in
     let o = sound-is-stored present t (λ p. search rules) c.requires.0 in
-    rejoined present (graph_of t) o.within v inside a c.requires.1 c.args.rows r t _ from (from + block_bytes - from) o.stored (omega arith) (omega arith)
+    rejoined present (graph_of t) o.within v inside a c.requires.1 c.args.rows r t _ from (from + block_bytes - from) o.stored (omega (arith, c.from.ensures)) (omega arith)
     (c.put_words.ensures ∙ ap (λ (m : ℕ). reseal present.sums (put_rows_def m c.args.rows (take (from + block_bytes - from) (drop from t)))) c.node_count-n.ensures.0)

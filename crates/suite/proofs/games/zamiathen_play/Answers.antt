@@ -1,8 +1,6 @@
-use Rattle.answer.proofs.AnswerLaws.{numbers_of}
+use Rattle.std.proofs.Common.{◌∙◌}
+use Rattle.suite.proofs.NumberLaws.{play-numbers}
 use Rattle.suite.proofs.games.zamiathen_play.Goals as goal
 
 pub returns : goal.returns
-returns c =
-    let v = c.play-played in
-    let n = numbers_of v.result.answer _ v.ensures.answer_value in
-    cc
+returns c = c.from.ensures ∙ play-numbers _ _ _ c.play.ensures.value c.play.ensures.edit_value

@@ -7,7 +7,7 @@ use Rattle.suite.proofs.sets.zamiathen_label_set.Goals as goal
 pub returns : goal.returns
 returns c =
     let t = c.args.sheet.now in
-    c.set_numbers.ensures
+    c.from.ensures
     ∙ ap set_numbers_def
     (c.label_set.ensures
     ∙ ap (ask_label_set t) c.byte.ensures

@@ -7,7 +7,7 @@ use Rattle.suite.proofs.sets.zamiathen_row_set.Goals as goal
 pub returns : goal.returns
 returns c =
     let t = c.args.sheet.now in
-    c.set_numbers.ensures
+    c.from.ensures
     ∙ ap set_numbers_def
     (c.row_set.ensures
     ∙ ap₂ (ask_row_set t) c.byte.ensures c.byte-2.ensures

@@ -10,4 +10,4 @@ returns c =
     let bytes-asked : ask_arrow_bit t c.byte.result c.byte-2.result c.byte-3.result ≡ ask_arrow_bit t c.args.arrow c.args.from c.args.to =
     rw (c.byte.ensures, c.byte-2.ensures, c.byte-3.ensures)
     (arrow-bit-byte t (λ p. omega (arith, c.type_inv.sheet p)) c.args.arrow c.args.from c.args.to) in
-    c.bit_numbers.ensures ∙ ap bit_numbers_def (c.arrow_bit.ensures ∙ bytes-asked)
+    c.from.ensures ∙ ap bit_numbers_def (c.arrow_bit.ensures ∙ bytes-asked)

@@ -7,7 +7,7 @@ use Rattle.suite.proofs.sheets.zamiathen_label_bit.Goals as goal
 pub returns : goal.returns
 returns c =
     let t = c.args.sheet.now in
-    c.bit_numbers.ensures
+    c.from.ensures
     ∙ ap bit_numbers_def
     (c.label_bit.ensures
     ∙ ap₂ (ask_label_bit t) c.byte.ensures c.byte-2.ensures

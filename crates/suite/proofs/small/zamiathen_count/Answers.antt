@@ -1,8 +1,7 @@
-use Rattle.answer.proofs.AnswerLaws.{numbers_of}
+use Rattle.std.proofs.Common.{ap, ◌∙◌}
+use Rattle.suite.specs.CountNumbers.{four_numbers}
+use Rattle.suite.proofs.NumberLaws.{counts-numbers}
 use Rattle.suite.proofs.small.zamiathen_count.Goals as goal
 
 pub returns : goal.returns
-returns c =
-    let v = c.count-counted in
-    let n = numbers_of v.result.answer _ v.ensures.answer_value in
-    cc
+returns c = c.from.ensures ∙ ap four_numbers c.count.ensures ∙ counts-numbers c.args.n c.args.book.now c.args.edit.now

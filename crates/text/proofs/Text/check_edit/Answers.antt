@@ -1,5 +1,4 @@
-use mathlib.Core.Path.{sym, ap, ◌∙◌}
-use Rattle.text.specs.Patterns.{turn_answer}
+use mathlib.Core.Path.{sym, ◌∙◌}
 use Rattle.text.proofs.TextStages.{one-long, one-stopped, one-done, one-extra}
 use Rattle.text.specs.Reading.{edit}
 use Rattle.text.proofs.Text.check_edit.Goals as goal
@@ -7,16 +6,11 @@ use Rattle.text.proofs.Text.check_edit.Goals as goal
 pub returns-then-edit-limits : goal.returns-then-edit-limits
 returns-then-edit-limits c = one-long _ _ 20 edit c.limits_for-limits.ensures c.if-edit-limits.true
 
-pub returns-in_default : goal.returns-in_default
-returns-in_default c =
-    c.edit_answer.ensures
-    ∙ ap (turn_answer 20) c.read-turn.ensures
-    ∙ one-stopped _ _ 20 edit c.limits_for-limits.ensures c.if-edit-limits.false (sym c.read-turn.ensures ∙ c.in_default.is)
+pub returns-in-Ok : goal.returns-in-Ok
+returns-in-Ok c = one-extra _ _ 20 edit c.limits_for-limits.ensures c.if-edit-limits.false (sym c.read.ensures ∙ c.in-Ok.is) c.if-p-edit.true
 
-pub returns-then-p-edit : goal.returns-then-p-edit
-returns-then-p-edit c =
-    one-extra _ _ 20 edit c.limits_for-limits.ensures c.if-edit-limits.false (sym c.read-turn.ensures ∙ c.in-Next.is) c.if-p-edit.true
+pub returns-in-Ok-2 : goal.returns-in-Ok-2
+returns-in-Ok-2 c = one-done _ _ 20 edit c.limits_for-limits.ensures c.if-edit-limits.false (sym c.read.ensures ∙ c.in-Ok.is) c.if-p-edit.false
 
-pub returns : goal.returns
-returns c =
-    one-done _ _ 20 edit c.limits_for-limits.ensures c.if-edit-limits.false (sym c.read-turn.ensures ∙ c.in-Next.is) c.if-p-edit.false
+pub returns-in-Err : goal.returns-in-Err
+returns-in-Err c = c.in_edit.ensures ∙ one-stopped _ _ 20 edit c.limits_for-limits.ensures c.if-edit-limits.false (sym c.read.ensures ∙ c.in-Err.is)

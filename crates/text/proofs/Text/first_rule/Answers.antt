@@ -18,15 +18,15 @@ pub returns-in_default : goal.returns-in_default
 unfolding first_part
 returns-in_default c =
     let text = c.args.text.now in
-    let size = no-rule text _ c.limits_for-limits.ensures c.if-text-limits.false (sym c.read-turn.ensures ∙ c.in_default.is) in
+    let size = no-rule text _ c.limits_for-limits.ensures c.if-text-limits.false (sym c.read.ensures ∙ c.in_default.is) in
     record { memory = search rules; starts = search rules; contents = ap (λ (l : List ℕ). take (length l) text) size }
 
 pub slice_bounds-result-end-2 : goal.slice_bounds-result-end-2
-slice_bounds-result-end-2 c = rule-inside _ _ c.limits_for-limits.ensures c.if-text-limits.false (sym c.read-turn.ensures ∙ c.in-Next.is)
+slice_bounds-result-end-2 c = rule-inside _ _ c.limits_for-limits.ensures c.if-text-limits.false (sym c.read.ensures ∙ c.in-Ok.is)
 
 pub returns : goal.returns
 unfolding first_part
 returns c =
     let text = c.args.text.now in
-    let size = the-rule text _ c.limits_for-limits.ensures c.if-text-limits.false (sym c.read-turn.ensures ∙ c.in-Next.is) in
+    let size = the-rule text _ c.limits_for-limits.ensures c.if-text-limits.false (sym c.read.ensures ∙ c.in-Ok.is) in
     record { memory = search rules; starts = search rules; contents = ap (λ (k : ℕ). take k text) size }

@@ -1,24 +1,16 @@
-use native.Mathlib.Omega.{arith}
-use Rattle.write.proofs.Laying.{coded_none, coded-more, coded-end, coded-long}
+use Rattle.std.proofs.Common.{ℕ, ◌≡◌, ◌+◌, ◌-◌, ◌∙◌, ap, sym, arith, length, take, drop}
+use mathlib.Core.List.{append_assoc}
+use lib.ListN.{length-take, length-drop}
+use Rattle.std.proofs.lemmas.Slice.{put_mid-paste}
+use Rattle.std.proofs.lemmas.List.Edits.{paste_all}
+use Rattle.write.proofs.Laying.{wrote-part}
 use Rattle.write.proofs.bytes.copy.Goals as goal
 
-pub loop-i-init : goal.loop-i-init
-loop-i-init c = (omega arith, coded_none _ _ _ _ _ c.requires.0)
-
-pub overflow_add-out : goal.overflow_add-out
-overflow_add-out c = omega (arith, c.loop-i.invariant.0, c.loop-i-test.true, c.requires.0, c.well_formed.0.0)
-
-pub bounds-text-at : goal.bounds-text-at
-bounds-text-at c = omega (arith, c.loop-i-test.true, c.requires.0)
-
-pub overflow_add-out-in-loop-i : goal.overflow_add-out-in-loop-i
-overflow_add-out-in-loop-i c = omega (arith, c.loop-i-test.true, c.requires.1)
-
-pub bounds-out-pos : goal.bounds-out-pos
-bounds-out-pos c = omega (arith, c.loop-i-test.true, c.requires.1, coded-long c.loop-i.invariant.1)
-
-pub loop-i-preserved : goal.loop-i-preserved
-loop-i-preserved c = (omega (arith, c.loop-i-test.true), coded-more c.loop-i.invariant.1 c.loop-i-test.true)
-
 pub returns : goal.returns
-returns c = coded-end c.loop-i.invariant.1 c.loop-i-test.false
+returns c =
+    let a = c.args in
+    let bs = take a.n (drop a.at a.text.now) in
+    let l : a.n ≡ length bs = omega (arith, length-take a.n (drop a.at a.text.now), length-drop a.at a.text.now) in
+    let m : a.at + a.n - a.at ≡ a.n = omega arith in
+    let s = c.copy_from_slice.ensures.after ∙ ap (λ (k : ℕ). take k (drop a.at a.text.now)) m in
+    wrote-part (put_mid-paste a.pos _ a.out.now _ bs a.n s (omega arith) l ∙ paste_all a.out.now a.pos bs a.n l ∙ sym (append_assoc (take a.pos a.out.now) bs (drop (a.pos + a.n) a.out.now))) l (omega arith)

@@ -1,4 +1,5 @@
 use native.Mathlib.Omega.{arith}
+use mathlib.Core.Path.{◌∙◌}
 use Prim.Native.Nat.{◌+◌, ◌-◌}
 use Rattle.ends.proofs.NameCells.{named-lt}
 use Rattle.write.proofs.Finding.{following-first, following-low, following-more, following-less, following-end}
@@ -35,4 +36,4 @@ pub loop-j-preserved : goal.loop-j-preserved
 loop-j-preserved c = following-more c.loop-j.invariant c.loop-j-test.true
 
 pub returns : goal.returns
-returns c = (following-end c.loop-j.invariant c.loop-j-test.false, c.loop-j-test.false)
+returns c = (c.linked.ensures ∙ following-end c.loop-j.invariant c.loop-j-test.false, omega (arith, c.linked.ensures))

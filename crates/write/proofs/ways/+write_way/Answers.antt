@@ -1,5 +1,5 @@
 use native.Mathlib.Omega.{arith}
-use mathlib.Core.Path.{refl, ◌∙◌}
+use mathlib.Core.Path.{refl, sym, ◌∙◌}
 use Prim.Native.Nat.{◌+◌}
 use lib.ListN.{get_or}
 use Rattle.tree.specs.Tree.{tree}
@@ -100,21 +100,21 @@ bounds-work-top-2 t c =
     let l = way-low r.way c.requires.1.short in
     omega (arith, l.1, c.ways_at-ways.auto.work, k.auto.work, c.requires.1.long)
 
-pub slice_bounds-copy_last-end-2 : goal.slice_bounds-copy_last-end-2
-slice_bounds-copy_last-end-2 t c =
+pub slice_bounds-copy_from_slice-end-3 : goal.slice_bounds-copy_from_slice-end-3
+slice_bounds-copy_from_slice-end-3 t c =
     let k = c.walk-rest in
     let u = c.open_first-k in
     let w = c.ways_at-ways in
     let b = branch c.requires.0 c.requires.1 k.auto.work k.ensures.0 k.ensures.1 c.if-edit-p-eq48.false u.ensures w.ensures.0.0 w.ensures.0.1 w.ensures.1 w.auto.work in
     omega (arith, names-long _ b.fits.long)
 
-pub copy_last-requires : goal.copy_last-requires
-copy_last-requires t c =
+pub copy_from_slice-requires : goal.copy_from_slice-requires
+copy_from_slice-requires t c =
     let k = c.walk-rest in
     let u = c.open_first-k in
     let w = c.ways_at-ways in
     let b = branch c.requires.0 c.requires.1 k.auto.work k.ensures.0 k.ensures.1 c.if-edit-p-eq48.false u.ensures w.ensures.0.0 w.ensures.0.1 w.ensures.1 w.auto.work in
-    (names-long _ b.fits.long, refl)
+    sym (names-long _ b.fits.long)
 
 pub write_way-b-requires : goal.write_way-b-requires
 write_way-b-requires t c =
@@ -125,8 +125,8 @@ write_way-b-requires t c =
     let f = first-further b.chosen b.low b.some b.opened b.behind u.auto.out in
     (omega (arith, c.decreases, f.on, f.inside, u.auto.out), (f.some, b.fits, b.linked, b.noted))
 
-pub slice_bounds-copy_last-end-6 : goal.slice_bounds-copy_last-end-6
-slice_bounds-copy_last-end-6 t c =
+pub slice_bounds-copy_from_slice-end-5 : goal.slice_bounds-copy_from_slice-end-5
+slice_bounds-copy_from_slice-end-5 t c =
     let k = c.walk-rest in
     let u = c.open_first-k in
     let w = c.ways_at-ways in
@@ -134,14 +134,14 @@ slice_bounds-copy_last-end-6 t c =
     let v = c.write_way-b in
     omega (arith, names-long v.new.work (v.auto.work ∙ b.fits.long))
 
-pub copy_last-requires-2 : goal.copy_last-requires-2
-copy_last-requires-2 t c =
+pub copy_from_slice-requires-2 : goal.copy_from_slice-requires-2
+copy_from_slice-requires-2 t c =
     let k = c.walk-rest in
     let u = c.open_first-k in
     let w = c.ways_at-ways in
     let b = branch c.requires.0 c.requires.1 k.auto.work k.ensures.0 k.ensures.1 c.if-edit-p-eq48.false u.ensures w.ensures.0.0 w.ensures.0.1 w.ensures.1 w.auto.work in
     let v = c.write_way-b in
-    (c.copy_last.auto.out, names-long v.new.work (v.auto.work ∙ b.fits.long))
+    names-long v.new.work (v.auto.work ∙ b.fits.long) ∙ sym c.copy_from_slice.auto.self
 
 pub overflow_sub-a : goal.overflow_sub-a
 overflow_sub-a t c =
@@ -158,7 +158,7 @@ open_second-c-requires t c =
     let w = c.ways_at-ways in
     let b = branch c.requires.0 c.requires.1 k.auto.work k.ensures.0 k.ensures.1 c.if-edit-p-eq48.false u.ensures w.ensures.0.0 w.ensures.0.1 w.ensures.1 w.auto.work in
     let v = c.write_way-b in
-    let a = again v.new.work b.linked b.fits v.auto.work v.ensures.0 v.ensures.1 c.copy_last.ensures c.copy_last-2.ensures c.copy_last-2.auto.out v.ensures.2 in
+    let a = again v.new.work b.linked b.fits v.auto.work v.ensures.0 v.ensures.1 (c.copy_from_slice-2.ensures.after ∙ c.copy_from_slice.ensures.after) v.ensures.2 in
     second-room b.chosen b.low b.some b.opened b.behind a.written (v.auto.out ∙ u.auto.out)
 
 pub write_way-end-requires : goal.write_way-end-requires
@@ -168,7 +168,7 @@ write_way-end-requires t c =
     let w = c.ways_at-ways in
     let b = branch c.requires.0 c.requires.1 k.auto.work k.ensures.0 k.ensures.1 c.if-edit-p-eq48.false u.ensures w.ensures.0.0 w.ensures.0.1 w.ensures.1 w.auto.work in
     let v = c.write_way-b in
-    let a = again v.new.work b.linked b.fits v.auto.work v.ensures.0 v.ensures.1 c.copy_last.ensures c.copy_last-2.ensures c.copy_last-2.auto.out v.ensures.2 in
+    let a = again v.new.work b.linked b.fits v.auto.work v.ensures.0 v.ensures.1 (c.copy_from_slice-2.ensures.after ∙ c.copy_from_slice.ensures.after) v.ensures.2 in
     let o = c.open_second-c in
     let f = second-further b.chosen b.low b.some b.opened b.behind a.written refl o.ensures (o.auto.out ∙ v.auto.out ∙ u.auto.out) in
     (omega (arith, c.decreases, f.on, f.inside, o.auto.out ∙ v.auto.out ∙ u.auto.out), (f.some, a.fits, a.linked, a.noted))
@@ -189,7 +189,7 @@ bounds-work-top-3 t c =
     let w = c.ways_at-ways in
     let b = branch c.requires.0 c.requires.1 k.auto.work k.ensures.0 k.ensures.1 c.if-edit-p-eq48.false u.ensures w.ensures.0.0 w.ensures.0.1 w.ensures.1 w.auto.work in
     let v = c.write_way-b in
-    let a = again v.new.work b.linked b.fits v.auto.work v.ensures.0 v.ensures.1 c.copy_last.ensures c.copy_last-2.ensures c.copy_last-2.auto.out v.ensures.2 in
+    let a = again v.new.work b.linked b.fits v.auto.work v.ensures.0 v.ensures.1 (c.copy_from_slice-2.ensures.after ∙ c.copy_from_slice.ensures.after) v.ensures.2 in
     omega (arith, l.1, a.fits.long, c.write_way-end.auto.work)
 
 pub returns : goal.returns
@@ -201,7 +201,7 @@ returns t c =
     let w = c.ways_at-ways in
     let b = branch c.requires.0 c.requires.1 k.auto.work k.ensures.0 k.ensures.1 c.if-edit-p-eq48.false u.ensures w.ensures.0.0 w.ensures.0.1 w.ensures.1 w.auto.work in
     let v = c.write_way-b in
-    let a = again v.new.work b.linked b.fits v.auto.work v.ensures.0 v.ensures.1 c.copy_last.ensures c.copy_last-2.ensures c.copy_last-2.auto.out v.ensures.2 in
+    let a = again v.new.work b.linked b.fits v.auto.work v.ensures.0 v.ensures.1 (c.copy_from_slice-2.ensures.after ∙ c.copy_from_slice.ensures.after) v.ensures.2 in
     let z = c.write_way-end in
     let e = z.ensures in
     let o = second-opened b.chosen b.low b.some b.opened b.behind a.written refl c.open_second-c.ensures in

@@ -1,16 +1,16 @@
-use Rattle.std.proofs.Common.{ℕ, sym, ap}
-use borrow.Author.Tests.{eq-eqb, ne_eqb}
+use Rattle.std.proofs.Common.{arith}
+use Rattle.std.proofs.lemmas.Grind.{common_steps}
 use Rattle.write.specs.Ways.{resting}
 use Rattle.write.proofs.ways.rests.Goals as goal
 
 pub returns-then-c-eq53 : goal.returns-then-c-eq53
 unfolding resting
-returns-then-c-eq53 c = simp (eq-eqb _ _ c.if-c-eq53.true)
+returns-then-c-eq53 c = grind (arith, common_steps)
 
-pub returns-then-c-ne48 : goal.returns-then-c-ne48
+pub returns-then-c-eq48 : goal.returns-then-c-eq48
 unfolding resting
-returns-then-c-ne48 c = simp (ne_eqb _ _ c.if-c-eq53.false, ne_eqb _ _ c.if-c-ne48.true)
+returns-then-c-eq48 c = grind (arith, common_steps)
 
-pub returns : goal.returns
+pub returns-else-c-eq48 : goal.returns-else-c-eq48
 unfolding resting
-returns c = sym (ap (λ (x : ℕ). resting x c.args.d) c.if-c-ne48.false)
+returns-else-c-eq48 c = grind (arith, common_steps)

@@ -1,9 +1,0 @@
-use mathlib.Core.Path.{◌∙◌}
-use Rattle.rows.proofs.Quantifiers.{any-wanted}
-use Rattle.rows.proofs.over_rows.ends.Goals as goal
-
-pub returns-then-e-all : goal.returns-then-e-all
-returns-then-e-all c v a p = c.all_ends.ensures v p ∙ any-wanted _ c.args.e _ v c.if-e-all.true a
-
-pub returns-else-e-all : goal.returns-else-e-all
-returns-else-e-all c v a p = c.ends_of_one.ensures v p

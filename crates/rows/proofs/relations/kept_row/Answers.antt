@@ -1,8 +1,0 @@
-use mathlib.Core.Path.{sym, ◌∙◌}
-use Rattle.rows.proofs.relations.kept_row.Goals as goal
-
-pub returns-then-member : goal.returns-then-member
-returns-then-member c = rw (sym c.member.ensures ∙ c.if-member.true)
-
-pub returns-else-member : goal.returns-else-member
-returns-else-member c = rw (sym c.member.ensures ∙ c.if-member.false)

@@ -1,8 +1,0 @@
-use mathlib.Core.Path.{◌∙◌}
-use Rattle.logic.specs.Syntax.{rule}
-use Rattle.text.proofs.TextStages.{one_same}
-use Rattle.text.specs.Reading.{expr}
-use Rattle.text.proofs.Text.check_rule.Goals as goal
-
-pub returns : goal.returns
-returns c = c.rule_within.ensures ∙ one_same _ _ 10 (expr rule) c.limits_for-limits.ensures
