@@ -7,7 +7,7 @@ ghost use Rattle.names.specs.Token.{same, first_below};
 ghost use Rattle.buffers.specs.Slots.{Slots, slot_at, put_slot_def, found_option};
 ghost use Rattle.buffers.specs.Filled.{filled_from};
 
-// Whether two words are the same. `==` does not compare a slice with an array, as `same(word, b"else")` does.
+// Whether two words are the same. The callers compare with literals: `word == b"else".as_slice()` in its place is no plainer.
 pub fn same(a: &[u8], b: &[u8]) -> bool
     ensures { result ≡ same a.now b.now }
 {
@@ -21,7 +21,7 @@ pub fn slot(table: &[u8], width: usize, i: usize) -> &[u8]
 {
     let head = width * i;
     let from = head + 1;
-    let to = from + table[head] as usize;
+    let to = from + usize::from(table[head]);
     &table[from..to]
 }
 

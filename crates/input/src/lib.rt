@@ -1,8 +1,10 @@
-// The input of the programs: a sheet, then texts, each with its length before it. Only the bytes due are read, and none after them. And their output.
+// The input of the programs: a sheet, then texts, each with its length before it. Only the bytes due are read, and none after them.
+// Also writes their output.
 
 #![tactic(auto)]
 
-ghost use Rattle.std.specs.Prelude.{◌≡◌, ◌+◌, ◌*◌, ◌≤◌, length, IfSome};
+ghost use Rattle.std.specs.Prelude.{◌≡◌, ◌+◌, ◌*◌, ◌≤◌, true, length, IfSome};
+ghost use Rattle.std.specs.Io.KnownBytes.{Appends};
 ghost use Rattle.input.specs.Input.{text_bytes};
 
 use std::io::{ErrorKind, Read, Write};
@@ -10,7 +12,7 @@ use std::io::{ErrorKind, Read, Write};
 // The longest text that a length of two bytes can announce.
 pub const TEXT_BYTES: usize = 65535;
 
-// The length in two bytes, the low one first.
+// The length in two bytes, the low one first. A function of its own, since the contract of `read_text` cannot say which bytes were read.
 fn text_length(low: u8, high: u8) -> usize
     ensures value { result ≡ low + 256 * high }
     ensures upper_bound { result ≤ text_bytes }
@@ -18,7 +20,8 @@ fn text_length(low: u8, high: u8) -> usize
     usize::from(u16::from_le_bytes([low, high]))
 }
 
-// Reads into the buffer as far as the input goes, and returns how many bytes came. An error ends the input, as its end does.
+// Reads into the buffer as far as the input goes, and returns how many bytes came. An error ends the input, as its end does. A loop that
+// reads must be seen to end, so it has a bound, of more reads than there is time for.
 pub fn read_up_to<R: Read>(input: &mut R, buf: &mut [u8]) -> usize
     ensures { result ≤ length buf.new }
 {
@@ -70,7 +73,9 @@ pub fn read_sheet_and_book<R: Read>(
     read_text(input, book)
 }
 
-// Writes bytes to the output. A write that fails is let go: its reader has gone, and nobody is left to tell.
-pub fn write<W: Write>(out: &mut W, bytes: &[u8]) {
-    let _failed = out.write_all(bytes).is_err();
+// Writes bytes to the output, and returns whether all went out. The programs let a failure go: their reader has gone, and nobody is left to tell.
+pub fn write<W: Write>(out: &mut W, bytes: &[u8]) -> bool
+    ensures { result ≡ true → Appends (W.contents out.old) (W.contents out.new) bytes.now }
+{
+    out.write_all(bytes).is_ok()
 }

@@ -55,7 +55,8 @@ const CODES: [u8; PHRASES] = *b"\
 
 // What follows a word, a byte for each item, the first item in the lowest byte. 01 to 03 are the marks ( , and ); 04 to 06 the name of a label, an arrow,
 // a node; 07, 08 the counts of 0A and 0B; 09 nodes, 0A arrows, 0B a rule, 0C steps up to `else`, 0D steps up to `end`, one level deeper; at the word's
-// own level 0E steps up to `else`, 0F up to `end`, 10 up to the text's end, 11 a rule. As bytes of a table, items stay numbers.
+// own level 0E steps up to `else`, 0F up to `end`, 10 up to the text's end, 11 a rule. Items stay numbers: each is a byte of a row, and one
+// from 09 on, less 9, a place in the tables below, so that an enum would be made of the byte at each read and turned back into a number for them.
 const ROWS: [u64; PHRASES] = [
     0x00000000000000, // all
     0x00000000000000, // none

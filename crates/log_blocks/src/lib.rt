@@ -33,7 +33,8 @@ enum Taken {
     Finished(usize),
 }
 
-// What is held between blocks: the number of the next one, and how many bytes of the begun edit are kept.
+// What is held between blocks: the number of the next one, and how many bytes of the begun edit are kept. That is the true count: a begun edit has at
+// least one byte, so 0 are kept exactly where none is begun.
 #[derive(Clone, Copy)]
 pub struct Held {
     pub number: usize,

@@ -1,15 +1,13 @@
 -- The bytes of a name, and how it may not begin.
-use mathlib.Core.Path.{◌≡◌, refl, ◌∙◌, ap, ap₂}
+use mathlib.Core.Path.{◌≡◌, refl, sym, ◌∙◌, ap, ap₂}
 use mathlib.Core.Bool.{Bool, true, false, not, ◌&&◌, ◌||◌}
 use mathlib.Core.List.{[], ◌∷◌}
-use Prim.Native.Nat.{ℕ, suc, ◌+◌, ◌≤◌, ◌<◌}
+use Prim.Native.Nat.{ℕ, ◌≤◌, ◌<◌}
 use native.Mathlib.Omega.{arith}
-use native.Mathlib.Numerals.{add-one}
 use lib.Dec.{eqb, leb}
-use lib.ListN.{length, get_or, drop}
-use lib.Seq.{drop-cons, drop-length}
+use lib.ListN.{length, drop}
 use borrow.Author.Tests.{le-leb, lt-leb}
-use Rattle.std.specs.List.{starts_with}
+use Rattle.std.specs.List.{starts_with, list_all}
 use Rattle.names.specs.Token.{Token, ascii}
 use Rattle.names.specs.Scan.{is_letter_def, letters, is_word_def}
 use Rattle.names.specs.Names.{name_bytes, longest_name, begins_with, begins_plain_def}
@@ -29,19 +27,11 @@ spelled-cons : (b : ℕ) (t : Token) → spelled (b ∷ t) ≡ (name_byte b && s
 unfolding letters name_bytes name_byte
 spelled-cons b t = both-and (is_letter_def b) (letters t) (leb 0x21 b && not (eqb b 0x7F)) (name_bytes t)
 
-module _ (t : Token) (i : ℕ) (h : i < length t) where
-  spelled_at : spelled (drop i t) ≡ (name_byte (get_or t i 0) && spelled (drop (i + 1) t))
-  spelled_at = rw (add-one i) (ap spelled (drop-cons t i 0 h) ∙ spelled-cons (get_or t i 0) (drop (suc i) t))
-
-  pub spelled-on : name_byte (get_or t i 0) ≡ true → spelled (drop i t) ≡ spelled (drop (i + 1) t)
-  spelled-on e = spelled_at ∙ ap (◌&& spelled (drop (i + 1) t)) e
-
-  pub spelled-not : name_byte (get_or t i 0) ≡ false → spelled (drop i t) ≡ false
-  spelled-not e = spelled_at ∙ ap (◌&& spelled (drop (i + 1) t)) e
-
-pub spelled-end : (t : Token) (i : ℕ) → i ≡ length t → spelled (drop i t) ≡ true
+-- what a test of each byte says
+pub all-spelled : (t : Token) → list_all name_byte t ≡ spelled t
 unfolding letters name_bytes
-spelled-end t i e = ap (λ n. spelled (drop n t)) e ∙ ap spelled (drop-length t)
+all-spelled [] = refl
+all-spelled (b ∷ t) = ap (name_byte b &&◌) (all-spelled t) ∙ sym (spelled-cons b t)
 
 pub well-none : (t : Token) → length t ≡ 0 → well_spelled t ≡ false
 unfolding well_spelled is_word_def

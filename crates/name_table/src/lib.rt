@@ -25,7 +25,8 @@ const WIDTH: usize = 65;
 // How many slots labels, arrows and nodes have; those of counts follow.
 const NAMES: usize = 124;
 
-// By item, from item 4 on: the slot of number 0, the least number, and how many numbers there are.
+// By item, from item 4 on: the slot of number 0, the least number, and how many numbers there are. Items are the bytes of the rows in keywords, so
+// they stay numbers.
 const BASE: [usize; 5] = [0, 48, 64, 124, 124];
 
 const LEAST: [usize; 5] = [0, 0, 0, 1, 0];
@@ -85,15 +86,7 @@ fn is_name_byte(b: u8) -> bool
 fn is_spelled(word: &[u8]) -> bool
     ensures { result ≡ well_spelled word.now }
 {
-    if word.len() == 0 || word.len() > 64 {
-        return false;
-    }
-    for b in word {
-        if !is_name_byte(*b) {
-            return false;
-        }
-    }
-    true
+    word.len() != 0 && word.len() <= 64 && word.iter().all(|b| is_name_byte(*b))
 }
 
 // Whether a word begins as plain names do.

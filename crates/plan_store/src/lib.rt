@@ -65,11 +65,7 @@ fn place_right(store: &[u8], place: usize) -> bool
 {
     let at = place_range(place);
     if bitset::member(u64::from(store[1]), place) {
-        // not `matches!`: must-fail/kept_sheet_not_asked.edit changes the second line alone
-        match Sheet::check(&store[at]) {
-            Answer::Done => true,
-            Answer::Refused(_) => false,
-        }
+        matches!(Sheet::check(&store[at]), Answer::Done)
     } else {
         zeros(store, at.start, Sheet::BYTES / 8)
     }

@@ -21,7 +21,8 @@ const MOST_EDITS: usize = 4;
 
 const MOST_MOVES: usize = 6;
 
-// A refusal, and the edit that it is about, by its place in the list; 0 where it is about none.
+// A refusal, and the edit that it is about, by its place in the list. The papers' answer has a number there always, 0 where the refusal is about no edit
+// (`faulty_edit`), so it is no Option.
 #[derive(Clone, Copy)]
 pub struct AtEdit {
     pub refusal: Refusal,

@@ -36,7 +36,21 @@ built (both K L) = (K, L, refl)
 built (either K L) = (K, L, refl)
 built (not_rule K) = (K, refl)
 
+-- A rule's code byte is 21 or above.
+least : (e : Expr rule) → 0x20 < code_byte e
+unfolding code
+least (sub_nodes E F) = omega arith
+least (sub_arrows R S) = omega arith
+least (node_in i E) = omega arith
+least (pair_in i j R) = omega arith
+least (both K L) = omega arith
+least (either K L) = omega arith
+least (not_rule K) = omega arith
+
 module _ (n : ℕ) (text : List ℕ) (at : ℕ) where
+  pub rule-code : (e : Expr rule) → Stands (ranges n) text at e → 0x20 < get_or text at 0
+  rule-code e h = by_byte (ranges n) text at e h (λ c f. 0x20 < c) (least e) _ refl
+
   -- What holds for a rule built in this way holds for the rule that stands here.
   module _ (P : Expr rule → Type 0) (e : Expr rule) (h : Stands (ranges n) text at e) where
     shown : (c : ℕ) → get_or text at 0 ≡ c → Built c e

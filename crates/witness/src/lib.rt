@@ -86,24 +86,21 @@ fn name_part(sheet: &[u8], n: usize, all: u64, text: &[u8], at: usize) -> Witnes
     requires { Opened sheet.now n all × SomeStands (ranges n) text.now at rule × NoPair (get_or text.now at 0) }
     ensures { (e : Expr rule) → Stands (ranges n) text.now at e → value (graph_of sheet.now) e ≡ false → WitnessOf sheet.now n result e }
 {
-    let c = text[at];
-    if c <= 0x21 {
-        outside_nodes(sheet, n, all, text, at)
-    } else if c <= 0x22 {
-        outside_pairs(sheet, n, all, text, at)
-    } else if c <= 0x23 {
-        let i = usize::from(text[at + 1]);
-        Witness::LowestNode {
-            first: i,
-            nodes: bitset::only(i),
+    match text[at] {
+        0x21 => outside_nodes(sheet, n, all, text, at),
+        0x22 => outside_pairs(sheet, n, all, text, at),
+        0x23 => {
+            let i = usize::from(text[at + 1]);
+            Witness::LowestNode {
+                first: i,
+                nodes: bitset::only(i),
+            }
         }
-    } else if c <= 0x24 {
-        Witness::LowestPair {
+        0x24 => Witness::LowestPair {
             first: usize::from(text[at + 1]),
             second: usize::from(text[at + 2]),
-        }
-    } else {
-        Witness::Unnamed
+        },
+        _ => Witness::Unnamed,
     }
 }
 

@@ -11,4 +11,4 @@ part from n l = ap (λ k. take k (drop from l)) (let e : from + n - from ≡ n =
 
 pub returns : goal.returns
 unfolding slot_at
-returns c = let a = c.args in part (a.width * a.i + 1) (get_or a.table.now (a.width * a.i) 0) a.table.now
+returns c = let a = c.args in rw c.from.ensures (part (a.width * a.i + 1) (get_or a.table.now (a.width * a.i) 0) a.table.now)

@@ -1,30 +1,22 @@
-use mathlib.Core.Path.{sym, ◌∙◌}
-use native.Mathlib.Omega.{arith}
-use Rattle.name_table.proofs.SpellingLaws.{spelled-on, spelled-not, spelled-end, well-none, well-long, well-by}
-use Rattle.name_table.proofs.is_spelled.Goals.{then-word-eq0-via-then-word-eq0, then-word-eq0-via-else-word-eq0+then-word-gt64}
+use Rattle.std.proofs.Common.{sym, ap, ◌∙◌, rules, tests, not, eqb}
+use mathlib.Core.Logic.{inl, inr}
+use borrow.Author.Tests.{lt-leb}
+use Rattle.std.proofs.lemmas.Iterator.{YieldsList-from_slice}
+use Rattle.std.proofs.lemmas.Iterator.Search.{all_from_yields_List}
+use Rattle.name_table.specs.Entries.{name_byte}
+use Rattle.name_table.proofs.SpellingLaws.{all-spelled, well-none, well-long, well-by}
+use Rattle.name_table.proofs.is_spelled.Goals.{then-word-ne0, else-word-ne0}
 use Rattle.name_table.proofs.is_spelled.Goals as goal
 
-pub returns-then-word-eq0 : goal.returns-then-word-eq0
-returns-then-word-eq0 c =
-    elim c.then-word-eq0.branch [
-      | then-word-eq0-via-then-word-eq0 w ↦ sym (well-none _ w.if-word-eq0.true)
-      | then-word-eq0-via-else-word-eq0+then-word-gt64 w ↦ sym (well-long _ w.if-word-gt64.true)
+pub returns-then-word-le64 : goal.returns-then-word-le64
+returns-then-word-le64 c =
+    let t = c.args.word.now in
+    let p = c.if-word-le64.true in
+    all_from_yields_List name_byte _ _ c.all.result c.all.ensures.ran (YieldsList-from_slice t cc) (λ x b q f. search (rules, tests)) ∙ all-spelled t ∙ sym (well-by t p.0 p.1)
+
+pub returns-else-word-le64 : goal.returns-else-word-le64
+returns-else-word-le64 c =
+    elim c.if-word-ne0.branch [
+      | then-word-ne0 w ↦ elim c.if-word-le64.either [ inl p ↦ w.t-3-is ∙ lt-leb _ _ p.1 ∙ sym (well-long _ p.1) | inr z ↦ absurd (w.if-word-ne0.true z) ]
+      | else-word-ne0 w ↦ w.t-3-is ∙ ap (λ n. not (eqb n 0)) w.if-word-ne0.false ∙ sym (well-none _ w.if-word-ne0.false)
     ]
-
-pub loop-b-init : goal.loop-b-init
-loop-b-init c = well-by _ c.if-word-eq0.false c.if-word-gt64.false
-
-pub returns-then-not-is_name_byte : goal.returns-then-not-is_name_byte
-returns-then-not-is_name_byte c =
-    let l = c.loop-b in
-    sym (l.invariant ∙ spelled-not _ l.b-index (omega arith) (sym c.if-not-is_name_byte.ensures))
-
-pub loop-b-preserved : goal.loop-b-preserved
-loop-b-preserved c =
-    let l = c.loop-b in
-    l.invariant ∙ spelled-on _ l.b-index (omega arith) (sym c.if-not-is_name_byte.ensures)
-
-pub returns : goal.returns
-returns c =
-    let l = c.loop-b in
-    sym (l.invariant ∙ spelled-end _ l.b-index (omega arith))

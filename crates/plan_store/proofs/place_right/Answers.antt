@@ -19,8 +19,8 @@ returns-in-Done c =
     let checked = place-filled _ _ _ c.from.ensures c.check.result _ (sym c.member.ensures ∙ c.if-member.true) (place-part c.args.store.now c.args.place _ _ r.0 r.1) c.check.ensures in
     sym (ap (λ (a : Answer). is_passed (asked a)) c.in-Done.is) ∙ checked
 
-pub returns-in-Refused : goal.returns-in-Refused
-returns-in-Refused c =
+pub returns-in_default : goal.returns-in_default
+returns-in_default c =
     let r = c.place_range-at.ensures in
     let checked = place-filled _ _ _ c.from.ensures c.check.result _ (sym c.member.ensures ∙ c.if-member.true) (place-part c.args.store.now c.args.place _ _ r.0 r.1) c.check.ensures in
-    sym (ap (λ (a : Answer). is_passed (asked a)) c.in-Refused.is) ∙ checked
+    sym (ap (λ (a : Answer). is_passed (asked a)) c.in_default.is) ∙ checked
