@@ -4,10 +4,10 @@
 
 #![tactic(auto)]
 
-ghost use Rattle.std.specs.Prelude.{◌≡◌};
+ghost use Rattle.std.specs.Prelude.{◌≡◌, IfOk};
 ghost use Rattle.answer.specs.Answers.{result_asked};
 ghost use Rattle.answer.specs.Asked.{outcome};
-ghost use Rattle.count_small.specs.Questions.{ask_count, ask_four};
+ghost use Rattle.count_small.specs.Questions.{ask_count, ask_four, counts_of};
 
 use answer::Refusal;
 use sheet::Sheet;
@@ -45,7 +45,8 @@ fn ask(n: usize, book: &[u8], edit: &[u8]) -> Result<(), Refusal>
 
 // Counts the small sheets of n nodes by whether they keep the book before the edit, and after it.
 pub fn count(n: usize, book: &[u8], edit: &[u8]) -> Result<Four, Refusal>
-    ensures { result_asked result ≡ ask_four n book.now edit.now }
+    ensures value { result_asked result ≡ ask_four n book.now edit.now }
+    ensures four_value { IfOk result (λ four. four ≡ counts_of n book.now edit.now) }
 {
     ask(n, book, edit)?;
     let mut sheet = [0u8; Sheet::BYTES];

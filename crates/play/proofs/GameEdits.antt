@@ -10,7 +10,7 @@ use lib.ListN.{length, take, drop, get_or, take-append-drop, drop_of_length-le}
 use lib.Seq.{drop-cons, drop-drop, take-append_seam}
 use borrow.Author.Tests.{eq-eqb, ne_eqb}
 use Rattle.answer.specs.Asked.{Asked, passed, refused, ◌>>=◌, ◌>>◌, after, outcome}
-use Rattle.answer.proofs.AskedLaws.{passed-same, bind-passed}
+use Rattle.answer.proofs.AskedLaws.{passed-same, bind-passed, then-passed}
 use Rattle.logic.specs.Syntax.{Expr, rule, Edit, finish}
 use Rattle.logic.specs.Carry.{carried_book}
 use Rattle.logic.specs.Limits.{Ranges, ranges}
@@ -188,6 +188,11 @@ module _ {r : Ranges} {text : List ℕ} {Zs : List Edit} {i at : ℕ} (s : FromH
 module _ (rules : List (Expr rule)) (Zs : List Edit) (count : ℕ) where
   abbrev fitting : Edit → Asked (Unit {0})
   fitting Z = ask_carried (carried_book Z rules)
+
+  pub none-refused : (Ys : List Edit) → passed tt ≡ ask_fits rules Ys → first_refused_def fitting Ys ≡ length Ys
+  unfolding ask_fits first_refused_def after
+  none-refused [] e = refl
+  none-refused (Y ∷ Ys) e = let (a, one, others) = then-passed (fitting Y) (ask_fits rules Ys) tt (sym e) in rw one (ap suc (none-refused Ys (sym others)))
 
   abbrev pub FitsLeft : ℕ → Type 0
   FitsLeft i = Walk fitting (ask_fits rules) (take count Zs) i (take (count - i) (drop i Zs))

@@ -6,7 +6,9 @@ use Prim.Native.Nat.{ℕ, ◌-◌, ◌≤◌}
 use native.Mathlib.Omega.{arith}
 use lib.Dec.{leb}
 use lib.ListN.{length, take, drop}
+use lib.Seq.{length-take-le}
 use borrow.Author.Tests.{eqb-true, leb-true}
+use Rattle.std.specs.Prelude.{Result, Ok, Err, IfOk}
 use Rattle.answer.specs.Asked.{Asked, passed, refused, ◌>>=◌, ◌>>◌, is, after, outcome}
 use Rattle.answer.proofs.AnswerLaws.{Learned, learned, not-learned}
 use Rattle.answer.proofs.AskedLaws.{passed-same, is-then, bind-passed, then-passed, outcome-bind}
@@ -25,8 +27,9 @@ use Rattle.game.specs.Game.{Game}
 use Rattle.logic.proofs.Bools.{and_left, and_right}
 use Rattle.carry.specs.Carrying.{ask_carried}
 use Rattle.play.specs.Questions.{most_edits, most_moves, in_range, total, lists_right_def, ask_aims, cut, ask_edits, ask_fits, ask_game, first_refused_def, faulty_edit}
-use Rattle.play.specs.Standing.{EditsAt, SomeEdits}
-use Rattle.play.proofs.GameEdits.{edits-stand}
+use Rattle.play.specs.declared.questions.AtEdit.{AtEdit}
+use Rattle.play.specs.Standing.{EditsAt, SomeEdits, at_edit_asked}
+use Rattle.play.proofs.GameEdits.{edits-stand, none-refused}
 
 -- Lists and moves in their ranges, and lengths that fill the edits.
 module _ (edits lengths : List ℕ) (d moves : ℕ) (ok : lists_right_def edits lengths d moves ≡ true) where
@@ -113,6 +116,14 @@ module _ (sheet book goal edits lengths : List ℕ) (d moves : ℕ) where
         pub fits-faulty : (edit : ℕ) → edit ≡ first_refused_def (λ Z. ask_carried (carried_book Z A.what.0)) (take d E.what) → edit ≡ faulty_edit sheet book goal edits lengths d moves
         unfolding faulty_edit is ◌>>◌ after
         fits-faulty edit f = rw (ok, A.is, E.is) f
+
+        -- None is refused: the number is that of the dispatcher's edits.
+        pub none-faulty : (r : Result (Unit {0}) AtEdit) → at_edit_asked r ≡ ask_fits A.what.0 (take d E.what) → IfOk r (λ u. faulty_edit sheet book goal edits lengths d moves ≡ d)
+        none-faulty (Ok u) s =
+            let many = (edits-stand (graph_of sheet).n edits lengths E.what E.is).many in
+            let all : length (take d E.what) ≡ d = length-take-le d E.what (omega (arith, many, enough edits lengths d moves ok)) in
+            sym (fits-faulty d (sym (none-refused A.what.0 E.what d (take d E.what) s ∙ all)))
+        none-faulty (Err e) s = tt
 
     -- What carrying back requires of book and edits.
     module _ (E : Learned (ask_edits reads (cut edits lengths))) where

@@ -1,4 +1,5 @@
--- For the inner functions: edits that stand one after the other in a text, a game whose texts have been read, and what a search has found.
+-- For the inner functions: edits that stand one after the other in a text, a game whose texts have been read, and what a search has found; and what the
+-- call's result says about its questions (`found_asked`).
 use Rattle.std.specs.Prelude.{◌≡◌, Bool, cond, List, [], ◌∷◌, ℕ, ◌+◌, ◌≤◌, length, Result, Ok, Err}
 use Rattle.answer.specs.Asked.{Asked, passed, refused}
 use Rattle.answer.specs.Answers.{refusal_number_def, refusal_place_def}

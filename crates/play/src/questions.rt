@@ -1,5 +1,5 @@
 // The questions of a game, in order.
-ghost use Rattle.std.specs.Prelude.{◌≡◌, List, ◌≤◌, eqb, length, take, drop, IfErr};
+ghost use Rattle.std.specs.Prelude.{◌≡◌, List, ◌≤◌, eqb, length, take, drop, IfOk, IfErr};
 ghost use Rattle.answer.specs.Answers.{result_asked};
 ghost use Rattle.answer.specs.Asked.{outcome};
 ghost use Rattle.logic.specs.Syntax.{Expr, rule, Edit};
@@ -21,7 +21,7 @@ const MOST_EDITS: usize = 4;
 
 const MOST_MOVES: usize = 6;
 
-// A refusal, and the edit that it is about, by its place in the list. The papers' answer has a number there always, 0 where the refusal is about no edit
+// A refusal, and the edit that it is about, by its place in the list. C's answer has a number there always, 0 where the refusal is about no edit
 // (`faulty_edit`), so it is no Option.
 #[derive(Clone, Copy)]
 pub struct AtEdit {
@@ -156,6 +156,7 @@ pub fn ask(
 ) -> Result<(), AtEdit>
     ensures value { at_edit_asked result ≡ outcome (ask_game sheet.now book.now goal.now edits.now lengths.now dispatchers moves) }
     ensures edit_value { IfErr result (λ e. e.edit ≡ faulty_edit sheet.now book.now goal.now edits.now lengths.now dispatchers moves) }
+    ensures none_value { IfOk result (λ _. faulty_edit sheet.now book.now goal.now edits.now lengths.now dispatchers moves ≡ dispatchers) }
 {
     if !lists_right(edits, lengths, dispatchers, moves) {
         return Err(AtEdit::from(Refusal::GameRange { place: 0 }));
