@@ -4,10 +4,11 @@ use mathlib.Core.List.{List, [], ◌∷◌, ◌++◌, append_assoc}
 use Prim.Native.Nat.{ℕ, suc, ◌+◌, ◌-◌, ◌≤◌, ◌<◌, min}
 use native.Mathlib.Omega.{arith}
 use native.Mathlib.Nat.{add-zero}
+use native.Mathlib.Numerals.{add-one}
 use native.Mathlib.Decide.{dec_lt}
 use borrow.Rule.Slice.PartMut.{put_mid}
-use lib.ListN.{length, set, take, drop, length-set, length-take, take-append-drop}
-use lib.Seq.{sets, sets-eq, length-sets, set_out, length-take-le, take_all, drop-drop}
+use lib.ListN.{length, get_or, set, take, drop, length-set, length-take, take-append-drop}
+use lib.Seq.{sets, sets-eq, length-sets, set_out, length-take-le, take-suc, take_all, drop-drop}
 use Rattle.answer.specs.Outputs.{written_at_start}
 use Rattle.buffers.specs.Filled.{filled_from}
 
@@ -32,8 +33,17 @@ filled-out at (x ∷ bytes) b h = filled-out (suc at) bytes (set b at x) (omega 
 pub filled-at-start : (bytes b : List ℕ) → length bytes ≤ length b → filled_from 0 bytes b ≡ written_at_start bytes b
 filled-at-start bytes b h = unfold filled_from in sets-eq bytes b 0 (omega arith) ∙ ap (λ (n : ℕ). bytes ++ drop n b) (let e : 0 + length bytes ≡ length bytes = omega arith in e)
 
--- the first i of the bytes, if the rest does not fit
 module _ (at : ℕ) (bytes b : List ℕ) (i : ℕ) (h : i < length bytes) where
+  -- one more of the bytes is written
+  pub filled_next : {o : List ℕ} → o ≡ filled_from at (take i bytes) b → set o (at + i) (get_or bytes i 0) ≡ filled_from at (take (i + 1) bytes) b
+  unfolding filled_from
+  filled_next {o} e =
+      let n : length (take i bytes) ≡ i = length-take i bytes ∙ (omega arith) in
+      ap₂ (λ z (k : ℕ). filled_from (at + k) (get_or bytes i 0 ∷ []) z) e (sym n)
+      ∙ filled_more at (take i bytes) (get_or bytes i 0 ∷ []) b
+      ∙ ap (λ l. filled_from at l b) (sym (take-suc bytes i 0 h) ∙ ap (λ k. take k bytes) (sym (add-one i)))
+
+  -- the first i of the bytes, if the rest does not fit
   pub filled-rest : {o : List ℕ} → o ≡ filled_from at (take i bytes) b → length o ≤ at + i → o ≡ filled_from at bytes b
   filled-rest {o} e k =
       let n : length (take i bytes) ≡ i = length-take i bytes ∙ (omega arith) in

@@ -38,16 +38,27 @@ pub fn find(table: &[u8], width: usize, base: usize, count: usize, word: &[u8]) 
     None
 }
 
+// So many bytes are written one by one, since most tokens are short: copying them as a slice costs a call.
+const FEW: usize = 8;
+
 // Writes bytes from a place on, as far as there is room, and returns where they end. Inner: that place fits into a usize.
 pub fn put(output: &mut [u8], at: usize, bytes: &[u8]) -> usize
     requires { at + length bytes.now < 2 ^ 64 }
     ensures value { result ≡ at + length bytes.now }
     ensures output_after { output.new ≡ filled_from at bytes.now output.old }
 {
-    let from = at.min(output.len());
-    let to = (at + bytes.len()).min(output.len());
-    output[from..to].copy_from_slice(&bytes[..to - from]);
-    at + bytes.len()
+    let end = at + bytes.len();
+    if bytes.len() > FEW && end <= output.len() {
+        output[at..end].copy_from_slice(bytes);
+        return end;
+    }
+    for (i, &byte) in bytes.iter().enumerate() {
+        if at + i >= output.len() {
+            break;
+        }
+        output[at + i] = byte;
+    }
+    end
 }
 
 // Puts a word into a slot. Inner: the table has the slot, and the word fits into it and has at most 255 bytes.
