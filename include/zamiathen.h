@@ -66,7 +66,7 @@ size_t zamiathen_version(void);
 #define ZAMIATHEN_RULE_WORDS_BYTES 662372 /* the longest carried rule in words */
 #define ZAMIATHEN_LINE_BYTES 64       /* a line of a page, with its line feed */
 #define ZAMIATHEN_PAGE_BYTES 3904     /* the longest page: an arrow kind, 60 nodes; a label page has 3200 */
-#define ZAMIATHEN_STACK_BYTES 262144  /* measured: 189,976, with a carried rule of 255 levels, the most */
+#define ZAMIATHEN_STACK_BYTES 262144  /* measured: 189,960, with a carried rule of 255 levels, the most */
 #define ZAMIATHEN_THREAD_BYTES 393216 /* the whole stack of a thread */
 
 /* Limits. A sheet has n nodes, where n is 1 to ZAMIATHEN_MAX_NODES and stands in its byte 2. Nodes, labels and arrow

@@ -19,8 +19,8 @@ witness n (nodes v) = LowestNode (lowest_below n v) (set_of n v)
 witness n (pairs v) = let i = lowest_below n (λ i. any_below n (v i)) in LowestPair i (lowest_below n (v i))
 witness n unnamed = Unnamed
 
--- The papers' numbers of a witness, each 0 where it has none: kind 0, the rule holds; kind 1, a node and the set of all; kind 2, a pair; kind 3, nothing
--- is named.
+-- The numbers of a witness, as C sees them, each 0 where it has none: kind 0, the rule holds; kind 1, a node and the set of all; kind 2, a pair; kind 3,
+-- nothing is named.
 abbrev pub witness_kind : Witness → ℕ
 witness_kind Nothing = 0
 witness_kind (LowestNode i all) = 1

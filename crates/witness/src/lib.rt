@@ -20,7 +20,7 @@ use answer::Refusal;
 use sheet::Sheet;
 use text::Text;
 
-// What breaks a rule; `witness_kind` and the three after it (specs/Witnessed.antt) give the papers' numbers of each case.
+// What breaks a rule; `witness_kind` and the three after it (specs/Witnessed.antt) give the numbers of each case, which C sees.
 #[derive(Clone, Copy)]
 pub enum Witness {
     // the rule holds
